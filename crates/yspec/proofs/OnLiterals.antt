@@ -1,0 +1,18 @@
+-- What an answer unfolds to compute the definitions on a literal.
+use Rattle.std.specs.Prelude.{⊤}
+use Rattle.std.specs.Str.{chars, is_utf8}
+use Rattle.std.specs.Str.Lossy.{utf8_valid_len}
+use Rattle.std.specs.Fmt.{digits}
+use Rattle.serde_json.proofs.OnLiterals.{serde_json_on_literals}
+use Rattle.yspec.specs.Token.{tokens_from, joined_breaks, trimmed_ends, stripped_starts, unescaped, bad_escape_line}
+use Rattle.yspec.specs.Statement.{pieces, statements, module_of}
+use Rattle.yspec.specs.Schema.{data_size, nodes_from}
+use Rattle.yspec.specs.Breaks.{grammar_breaks, name_breaks, compiled}
+use Rattle.yspec.specs.Reading.{member_visits, node_visits, stored_rows, document_of}
+use Rattle.yspec.specs.Play.{items_in_play}
+use Rattle.yspec.specs.Faults.{told_in}
+use Rattle.yspec.specs.Output.{outcome}
+
+unfoldable pub yspec_on_literals : ⊤
+unfolding digits chars is_utf8 utf8_valid_len serde_json_on_literals tokens_from joined_breaks trimmed_ends stripped_starts unescaped bad_escape_line pieces statements module_of data_size nodes_from grammar_breaks name_breaks compiled member_visits node_visits stored_rows document_of items_in_play told_in outcome
+yspec_on_literals = tt

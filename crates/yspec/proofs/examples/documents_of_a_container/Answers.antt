@@ -1,0 +1,7 @@
+use Rattle.std.proofs.Common.{refl}
+use Rattle.yspec.proofs.OnLiterals.{yspec_on_literals}
+use Rattle.yspec.proofs.examples.documents_of_a_container.Goals as goal
+
+pub returns : goal.returns
+unfolding yspec_on_literals
+returns c = record { missing = refl; out_of_range = refl; good = refl; implied = refl }

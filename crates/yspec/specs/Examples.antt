@@ -1,0 +1,38 @@
+-- Worked examples: modules and documents whose faults and refusals are known from the standard's rules.
+use Rattle.std.specs.Prelude.{◌++◌, [], ◌∷◌, codes, Some}
+use Rattle.yspec.specs.Text.{Text}
+use Rattle.yspec.specs.Output.{Outcome, validate, outcome, found}
+
+-- a module of a name, of which these lines stand from line 5 on
+abbrev pub module_text : Text → Text → Text
+module_text name lines = codes "module " ++ (name ++ (codes " {\n  yang-version 1.1;\n  namespace \"urn:" ++ (name
+    ++ (codes "\";\n  prefix " ++ (name ++ (codes ";\n" ++ (lines ++ codes "}\n")))))))
+
+-- a container of a mandatory number, whose type is given, and a note
+abbrev pub container_module : Text → Text
+container_module type = module_text (codes "p") (codes "  container c {\n    leaf id { type "
+    ++ (type ++ codes "; mandatory true; }\n    leaf note { type string; }\n  }\n"))
+
+abbrev pub module_p : Text
+module_p = container_module (codes "uint8")
+
+-- a mandatory leaf in a container in a container
+abbrev pub nested_module : Text
+nested_module = module_text (codes "q") (codes "  container a {\n    container b {\n"
+    ++ codes "      leaf c { type uint8; mandatory true; }\n    }\n    leaf d { type string; }\n  }\n")
+
+-- what `validate d.json m.yang` prints of a module's text and a document's
+abbrev pub shown : Text → Text → Outcome
+shown module_bytes document =
+    outcome (validate (codes "d.json") (codes "m.yang" ∷ [])) (Some module_bytes ∷ Some document ∷ [])
+
+-- the same of module p
+abbrev pub shown_by_p : Text → Outcome
+shown_by_p document = shown module_p document
+
+-- the same, of an empty document under a module with these lines from line 5 on
+abbrev pub compiled_alone : Text → Outcome
+compiled_alone lines = shown (module_text (codes "p") lines) (codes "{}")
+
+abbrev pub without_faults : Outcome
+without_faults = found 0 (codes "0 faults\n")

@@ -1,0 +1,56 @@
+-- Rows of trees, as one plain recursive type: nothing, or a first label with the forest below it and the forest after
+-- it. Statements, schema nodes and stored nodes are three such forests.
+use Rattle.std.specs.Prelude.{ℕ, suc, ◌+◌, List, [], ◌∷◌, ◌++◌, Bool, if◌then◌else◌, Option, Some, None, max}
+
+pub data Forest (L : Type 0) : Type 0 where
+  end : Forest L
+  node : L → Forest L → Forest L → Forest L
+
+module _ {L : Type 0} where
+  -- how many labels there are
+  abbrev pub size : Forest L → ℕ
+  size end = 0
+  size (node l below after) = suc (size below + size after)
+
+  -- how many labels stand on the longest way down
+  abbrev pub levels : Forest L → ℕ
+  levels end = 0
+  levels (node l below after) = max (suc (levels below)) (levels after)
+
+  -- the labels of the row itself, and all labels in preorder
+  abbrev pub row : Forest L → List L
+  row end = []
+  row (node l below after) = l ∷ row after
+
+  abbrev pub preorder : Forest L → List L
+  preorder end = []
+  preorder (node l below after) = l ∷ (preorder below ++ preorder after)
+
+  -- one row after another
+  abbrev pub join : Forest L → Forest L → Forest L
+  join end others = others
+  join (node l below after) others = node l below (join after others)
+
+  -- the sum of what each label weighs
+  abbrev pub weigh : (L → ℕ) → Forest L → ℕ
+  weigh weight end = 0
+  weigh weight (node l below after) = weight l + (weigh weight below + weigh weight after)
+
+  abbrev first_of : Option L → Option L → Option L
+  first_of (Some l) other = Some l
+  first_of None other = other
+
+  -- the first label in preorder that passes a test, and what stands below it
+  abbrev pub find_label : (L → Bool) → Forest L → Option L
+  find_label test end = None
+  find_label test (node l below after) =
+      if test l then Some l else first_of (find_label test below) (find_label test after)
+
+  abbrev joined_below : Option (Forest L) → Option (Forest L) → Option (Forest L)
+  joined_below (Some f) other = Some f
+  joined_below None other = other
+
+  abbrev pub find_below : (L → Bool) → Forest L → Option (Forest L)
+  find_below test end = None
+  find_below test (node l below after) =
+      if test l then Some below else joined_below (find_below test below) (find_below test after)

@@ -1,0 +1,16 @@
+pub mod Forest
+pub mod Text
+pub mod Token
+pub mod Statement
+pub mod Grammar
+pub mod Types
+pub mod Schema
+pub mod Breaks
+pub mod Document
+pub mod Path
+pub mod Reading
+pub mod Play
+pub mod Faults
+pub mod Edit
+pub mod Output
+pub mod Examples

@@ -1,0 +1,71 @@
+//! Worked examples, from the bytes of a module and a document to the bytes that are printed.
+
+ghost use Rattle.std.specs.Prelude.{◌≡◌, ◌++◌, [], ◌∷◌, codes, Some, None};
+ghost use Rattle.yspec.specs.Output.{found, failed, validate, outcome};
+ghost use Rattle.yspec.specs.Examples.{shown, shown_by_p, compiled_alone, without_faults, module_p, nested_module, container_module};
+
+/// A missing mandatory leaf, a number out of range, a good document, and a container that is in play though it isn't stored.
+pub fn documents_of_a_container()
+    ensures missing { shown_by_p (codes "{\"p:c\":{\"note\":\"x\"}}")
+        ≡ found 1 (codes "V3 data-missing - /p:c/id -\n1 faults\n") }
+    ensures out_of_range { shown_by_p (codes "{\"p:c\":{\"id\":256}}")
+        ≡ found 1 (codes "V1 invalid-value - /p:c/id -\n1 faults\n") }
+    ensures good { shown_by_p (codes "{\"p:c\":{\"id\":255}}") ≡ without_faults }
+    ensures implied { shown_by_p (codes "{}")
+        ≡ found 1 (codes "V3 data-missing - /p:c/id -\n1 faults\n") }
+{}
+
+/// Faults stand in order of definition.
+pub fn two_faults()
+    ensures both { shown_by_p (codes "{\"p:c\":{\"id\":256,\"note\":5}}")
+        ≡ found 1 (codes "V1 invalid-value - /p:c/id -\n"
+        ++ codes "V1 invalid-value - /p:c/note -\n2 faults\n") }
+    ensures whatever_the_order_of_members { shown_by_p (codes "{\"p:c\":{\"note\":5,\"id\":256}}")
+        ≡ shown_by_p (codes "{\"p:c\":{\"id\":256,\"note\":5}}") }
+{}
+
+/// A mandatory leaf two containers deep is missing whichever of them are stored.
+pub fn nested_containers()
+    ensures none_stored { shown nested_module (codes "{}")
+        ≡ found 1 (codes "V3 data-missing - /q:a/b/c -\n1 faults\n") }
+    ensures one_stored { shown nested_module (codes "{\"q:a\":{\"d\":[null]}}")
+        ≡ found 1 (codes "V3 data-missing - /q:a/b/c -\n"
+        ++ codes "V1 invalid-value - /q:a/d -\n2 faults\n") }
+    ensures both_stored { shown nested_module (codes "{\"q:a\":{\"b\":{}}}")
+        ≡ found 1 (codes "V3 data-missing - /q:a/b/c -\n1 faults\n") }
+    ensures good { shown nested_module (codes "{\"q:a\":{\"b\":{\"c\":0}}}") ≡ without_faults }
+{}
+
+/// Each refusal of a document, with its place.
+pub fn refused_documents()
+    ensures no_json { shown_by_p [] ≡ failed 2 (codes "d.json: J1 /") }
+    ensures no_object { shown_by_p (codes "[]") ≡ failed 2 (codes "d.json: J2 /") }
+    ensures unknown { shown_by_p (codes "{\"p:d\":1}") ≡ failed 2 (codes "d.json: J3 /") }
+    ensures unqualified { shown_by_p (codes "{\"c\":{}}") ≡ failed 2 (codes "d.json: J4 /") }
+    ensures qualified { shown_by_p (codes "{\"p:c\":{\"p:id\":1}}") ≡ failed 2 (codes "d.json: J4 /p:c") }
+    ensures wrong_kind { shown_by_p (codes "{\"p:c\":{\"id\":{}}}") ≡ failed 2 (codes "d.json: J5 /p:c/id") }
+    ensures fraction { shown_by_p (codes "{\"p:c\":{\"id\":1.5}}") ≡ failed 2 (codes "d.json: J6 /p:c/id") }
+{}
+
+/// Refusals of a module, each with its line.
+pub fn refused_modules()
+    ensures type_outside { shown (container_module (codes "int32")) (codes "{}") ≡ failed 2 (codes "m.yang:6: C1") }
+    ensures two_types { compiled_alone (codes "  leaf a { type string;\n type uint8; }\n")
+        ≡ failed 2 (codes "m.yang:5: C2") }
+    ensures no_name { compiled_alone (codes "  container;\n") ≡ failed 2 (codes "m.yang:5: C3") }
+    ensures other_version { shown (codes "\nmodule a { namespace b; prefix c; yang-version 1; }") (codes "{}")
+        ≡ failed 2 (codes "m.yang:2: C4") }
+    ensures one_name_twice { compiled_alone (codes "  leaf a { type string; }\n  container a;\n")
+        ≡ failed 2 (codes "m.yang:6: C13") }
+    ensures least_line { compiled_alone (codes "  leaf a;\n  leaf a { type int8; }\n")
+        ≡ failed 2 (codes "m.yang:5: C2") }
+    ensures text { shown [] (codes "{}") ≡ failed 2 (codes "m.yang:1: L6") }
+{}
+
+/// The first file that can't be read is told, and nothing else.
+pub fn unread_files()
+    ensures of_a_document { outcome (validate (codes "d.json") (codes "m.yang" ∷ [])) (Some module_p ∷ None ∷ [])
+        ≡ failed 4 (codes "cannot read d.json") }
+    ensures of_a_module { outcome (validate (codes "d.json") (codes "m.yang" ∷ [])) (None ∷ [])
+        ≡ failed 4 (codes "cannot read m.yang") }
+{}

@@ -1,0 +1,6 @@
+//! Every definition that yanglive claims something about: what a module's text, a schema, a value, a document, a
+//! fault and a program's output are. They stand in `specs/`; the functions here have no code, and their contracts are
+//! worked examples of those definitions.
+#![tactic(auto)]
+
+pub mod examples;
