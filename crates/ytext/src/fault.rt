@@ -1,0 +1,50 @@
+//! Why a module's text isn't read.
+
+ghost use Rattle.std.specs.Prelude.{◌≡◌};
+ghost use Rattle.ytext.specs.declared.fault.TextFault.TheVariants.{Memory};
+
+use std::alloc::{AllocError, AllocFailed};
+
+/// What is wrong with a text.
+#[derive(Clone, Copy, Debug, PartialEq, Eq)]
+pub enum TextCode {
+    /// It isn't UTF-8.
+    L1 = 1,
+    /// A character isn't allowed in it.
+    L2 = 2,
+    /// A quote or a comment isn't closed.
+    L3 = 3,
+    /// A backslash in double quotes stands before another character than `n`, `t`, `"` and `\`.
+    L4 = 4,
+    /// A token is out of place.
+    L5 = 5,
+    /// The text isn't one statement: a `}` too many, an early end, no statement, or a second one.
+    L6 = 6,
+    /// The text is too long, or a block nests too deep.
+    L7 = 7,
+    /// A keyword isn't formed as one.
+    L8 = 8,
+}
+
+/// Why a text isn't read, and in which line, counted from 1.
+#[derive(Clone, Copy, Debug, PartialEq, Eq)]
+pub enum TextFault {
+    Refused { code: TextCode, line: u32 },
+    Memory,
+}
+
+impl From<AllocError> for TextFault {
+    ghost from_gives = { λ _ e. e ≡ Memory };
+
+    fn from(_e: AllocError) -> TextFault {
+        TextFault::Memory
+    }
+}
+
+impl<T: Drop> From<AllocFailed<T>> for TextFault {
+    ghost from_gives = { λ _ e. e ≡ Memory };
+
+    fn from(_e: AllocFailed<T>) -> TextFault {
+        TextFault::Memory
+    }
+}
