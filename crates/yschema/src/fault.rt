@@ -1,0 +1,85 @@
+//! Why a set of modules isn't compiled.
+
+ghost use Rattle.std.specs.Prelude.{◌≡◌};
+ghost use Rattle.yschema.specs.declared.fault.CompileFault.TheVariants.{Memory};
+
+use std::alloc::{AllocError, AllocFailed};
+
+/// Which rule a module breaks.
+#[derive(Clone, Copy, Debug, PartialEq, Eq, PartialOrd, Ord)]
+pub enum CompileCode {
+    /// A statement or a type that isn't known, or that may not stand there.
+    C1 = 1,
+    /// Too many or too few of a substatement.
+    C2 = 2,
+    /// An argument is missing or not of its form.
+    C3 = 3,
+    /// `yang-version` is missing or not `1.1`.
+    C4 = 4,
+    /// Two children of one name.
+    C13 = 13,
+    /// A limit is passed: 65,535 schema nodes, 60 levels.
+    C18 = 18,
+}
+
+/// Why a set of modules isn't compiled: the rule, the module by its place in the set, and the line, counted from 1.
+#[derive(Clone, Copy, Debug, PartialEq, Eq)]
+pub enum CompileFault {
+    Refused {
+        code: CompileCode,
+        module: usize,
+        line: u32,
+    },
+    Memory,
+}
+
+impl From<AllocError> for CompileFault {
+    ghost from_gives = { λ _ e. e ≡ Memory };
+
+    fn from(_e: AllocError) -> CompileFault {
+        CompileFault::Memory
+    }
+}
+
+impl<T: Drop> From<AllocFailed<T>> for CompileFault {
+    ghost from_gives = { λ _ e. e ≡ Memory };
+
+    fn from(_e: AllocFailed<T>) -> CompileFault {
+        CompileFault::Memory
+    }
+}
+
+/// A broken rule. The order is that in which one is told before another: by module, line and number.
+#[derive(Clone, Copy, Debug, PartialEq, Eq, PartialOrd, Ord)]
+pub(crate) struct Break {
+    pub module: usize,
+    pub line: u32,
+    pub code: CompileCode,
+}
+
+impl From<Break> for CompileFault {
+    fn from(broken: Break) -> CompileFault {
+        CompileFault::Refused {
+            code: broken.code,
+            module: broken.module,
+            line: broken.line,
+        }
+    }
+}
+
+/// The lesser of one so far and another.
+pub(crate) fn least(so_far: Option<Break>, found: Break) -> Option<Break> {
+    match so_far {
+        Some(first) if first <= found => Some(first),
+        _ => Some(found),
+    }
+}
+
+/// The least so far, and another where a condition holds.
+pub(crate) fn least_when(condition: bool, so_far: Option<Break>, found: Break) -> Option<Break> {
+    if condition {
+        least(so_far, found)
+    } else {
+        so_far
+    }
+}
