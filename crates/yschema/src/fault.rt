@@ -67,19 +67,15 @@ impl From<Break> for CompileFault {
     }
 }
 
-/// The lesser of one so far and another.
-pub(crate) fn least(so_far: Option<Break>, found: Break) -> Option<Break> {
-    match so_far {
-        Some(first) if first <= found => Some(first),
-        _ => Some(found),
-    }
-}
+impl Break {
+    ghost use Rattle.std.specs.Prelude.{◌≡◌};
+    ghost use Rattle.yspec.specs.Breaks as spec;
+    ghost use Rattle.yschema.specs.Told.{view};
 
-/// The least so far, and another where a condition holds.
-pub(crate) fn least_when(condition: bool, so_far: Option<Break>, found: Break) -> Option<Break> {
-    if condition {
-        least(so_far, found)
-    } else {
-        so_far
+    /// Whether this one is told before another.
+    pub(crate) fn is_before(&self, other: &Break) -> bool
+        ensures { result ≡ spec.is_before (view self.now) (view other.now) }
+    {
+        self < other
     }
 }

@@ -3,6 +3,7 @@
 
 mod fault;
 mod grammar;
+mod least;
 mod limits;
 mod names;
 

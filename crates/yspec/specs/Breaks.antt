@@ -15,10 +15,10 @@ pub record Break : Type 0 where
   pub module_number : ℕ
   pub line : ℕ
 
-abbrev broken : ℕ → ℕ → ℕ → List Break
+abbrev pub broken : ℕ → ℕ → ℕ → List Break
 broken code module_number line = record { code = code; module_number = module_number; line = line } ∷ []
 
-abbrev when : Bool → List Break → List Break
+abbrev pub when : Bool → List Break → List Break
 when condition breaks = if condition then breaks else []
 
 -- ---- which of several is told: the least by module, line and number
@@ -27,7 +27,7 @@ abbrev pub is_before : Break → Break → Bool
 is_before a b = nat_lt a.module_number b.module_number || (a.module_number == b.module_number
     && (nat_lt a.line b.line || (a.line == b.line && nat_lt a.code b.code)))
 
-abbrev lesser : Option Break → Break → Break
+abbrev pub lesser : Option Break → Break → Break
 lesser None b = b
 lesser (Some a) b = if is_before b a then b else a
 
@@ -36,7 +36,7 @@ abbrev pub least_from : Option Break → List Break → Option Break
 least_from so_far [] = so_far
 least_from so_far (b ∷ bs) = least_from (Some (lesser so_far b)) bs
 
-abbrev or_told : List Break → Option Break → Option Break
+abbrev pub or_told : List Break → Option Break → Option Break
 or_told [] later = later
 or_told (b ∷ bs) later = least_from (Some b) bs
 
@@ -54,44 +54,52 @@ abbrev pub occurrences : Text → Forest Statement → ℕ
 occurrences keyword statements = count_by (λ s. is_text s.keyword keyword) (row statements)
 
 -- an argument that is missing or not of its form
-abbrev argument_breaks : ℕ → Form → Statement → List Break
+abbrev pub argument_breaks : ℕ → Form → Statement → List Break
 argument_breaks m form s = when (not (option_map_or (fits form) s.argument false)) (broken 3 m s.line)
 
 -- a name of a type that isn't known
-abbrev type_breaks : ℕ → Statement → List Break
-type_breaks m s = when (is_text s.keyword (codes "type") && (option_map_or (fits Form.name) s.argument false
-    && not (is_some (built_in (argument_text s))))) (broken 1 m s.line)
+abbrev pub is_unknown_type : Statement → Bool
+is_unknown_type s = is_text s.keyword (codes "type") && (option_map_or (fits Form.name) s.argument false
+    && not (is_some (built_in (argument_text s))))
+
+abbrev pub type_breaks : ℕ → Statement → List Break
+type_breaks m s = when (is_unknown_type s) (broken 1 m s.line)
 
 -- `yang-version` missing, or not `1.1` (RFC 7950, 7.1.2)
-abbrev is_current_version : Statement → Bool
+abbrev pub is_current_version : Statement → Bool
 is_current_version s =
     is_text s.keyword (codes "yang-version") && option_map_or (λ t. is_text t (codes "1.1")) s.argument false
 
-abbrev version_breaks : ℕ → Statement → Forest Statement → List Break
-version_breaks m s below =
-    when (is_text s.keyword (codes "module") && not (list_any is_current_version (row below))) (broken 4 m s.line)
+abbrev pub is_unversioned : Statement → Forest Statement → Bool
+is_unversioned s below = is_text s.keyword (codes "module") && not (list_any is_current_version (row below))
 
-abbrev is_wrong_count : Count → ℕ → Bool
+abbrev pub version_breaks : ℕ → Statement → Forest Statement → List Break
+version_breaks m s below = when (is_unversioned s below) (broken 4 m s.line)
+
+abbrev pub is_wrong_count : Count → ℕ → Bool
 is_wrong_count exactly_one n = not (n == 1)
 is_wrong_count at_most_one n = nat_lt 1 n
 is_wrong_count any_number n = false
 
 -- a missing `yang-version` is told by its own code
-abbrev is_missing_version : Allowed → ℕ → Bool
+abbrev pub is_missing_version : Allowed → ℕ → Bool
 is_missing_version a n = is_text a.keyword (codes "yang-version") && n == 0
 
-abbrev count_breaks : ℕ → Statement → Forest Statement → List Allowed → List Break
-count_breaks m s below allowed = when (list_any (λ a. is_wrong_count a.count (occurrences a.keyword below)
-    && not (is_missing_version a (occurrences a.keyword below))) allowed) (broken 2 m s.line)
+abbrev pub is_miscounted : Forest Statement → Allowed → Bool
+is_miscounted below a = is_wrong_count a.count (occurrences a.keyword below)
+    && not (is_missing_version a (occurrences a.keyword below))
 
-abbrev statement_breaks : ℕ → Rule → Statement → Forest Statement → List Break
+abbrev pub count_breaks : ℕ → Statement → Forest Statement → List Allowed → List Break
+count_breaks m s below allowed = when (list_any (is_miscounted below) allowed) (broken 2 m s.line)
+
+abbrev pub statement_breaks : ℕ → Rule → Statement → Forest Statement → List Break
 statement_breaks m r s below = argument_breaks m r.form s ++ (type_breaks m s
     ++ (version_breaks m s below ++ count_breaks m s below r.substatements))
 
-abbrev substatements_of : Text → List Allowed
+abbrev pub substatements_of : Text → List Allowed
 substatements_of keyword = option_map_or (λ r. r.substatements) (rule_of keyword) []
 
-abbrev own_breaks : ℕ → Statement → Forest Statement → List Break
+abbrev pub own_breaks : ℕ → Statement → Forest Statement → List Break
 own_breaks m s below = option_map_or (λ r. statement_breaks m r s below) (rule_of s.keyword) []
 
 -- What stands below a misplaced or unknown statement isn't judged.
@@ -101,12 +109,12 @@ grammar_breaks m allowed (node s below after) = (if is_known_substatement s.keyw
     then own_breaks m s below ++ grammar_breaks m (substatements_of s.keyword) below else broken 1 m s.line)
     ++ grammar_breaks m allowed after
 
-abbrev at_top : List Allowed
+abbrev pub at_top : List Allowed
 at_top = record { keyword = codes "module"; count = any_number } ∷ []
 
 -- ---- C13: two children of one name
 
-abbrev doubled : ℕ → List Text → Statement → List Break
+abbrev pub doubled : ℕ → List Text → Statement → List Break
 doubled m before s = when (list_any (is_text (argument_text s)) before) (broken 13 m s.line)
 
 -- each data node whose name one before it in its row has, and so on below
@@ -124,7 +132,7 @@ node_limit = 65535
 abbrev pub level_limit : ℕ
 level_limit = 60
 
-abbrev data_size_of_all : Forest Statement → ℕ
+abbrev pub data_size_of_all : Forest Statement → ℕ
 data_size_of_all end = 0
 data_size_of_all (node s below after) = data_size below + data_size_of_all after
 
@@ -134,18 +142,18 @@ last_module m end = None
 last_module m (node s below end) = Some (m, s.line)
 last_module m (node s below (node t inner after)) = last_module (m + 1) (node t inner after)
 
-abbrev limit_breaks : Bool → Forest Statement → List Break
+abbrev pub limit_breaks : Bool → Forest Statement → List Break
 limit_breaks is_passed modules =
     when is_passed (option_map_or (λ last. broken 18 last.0 last.1) (last_module 0 modules) [])
 
 -- ---- the phases
 
-abbrev by_module : (ℕ → Forest Statement → List Break) → ℕ → Forest Statement → List Break
+abbrev pub by_module : (ℕ → Forest Statement → List Break) → ℕ → Forest Statement → List Break
 by_module breaks m end = []
 by_module breaks m (node s below after) = breaks m (node s below end) ++ by_module breaks (m + 1) after
 
 -- the same, of what stands below each module's statement
-abbrev by_body : (ℕ → Forest Statement → List Break) → ℕ → Forest Statement → List Break
+abbrev pub by_body : (ℕ → Forest Statement → List Break) → ℕ → Forest Statement → List Break
 by_body breaks m end = []
 by_body breaks m (node s below after) = breaks m below ++ by_body breaks (m + 1) after
 

@@ -28,7 +28,7 @@ pub record Fault : Type 0 where
 abbrev pub tag_of : ℕ → Text
 tag_of code = if code == 1 then codes "invalid-value" else codes "data-missing"
 
-abbrev fault : ℕ → Option Text → List Step → Fault
+abbrev pub fault : ℕ → Option Text → List Step → Fault
 fault code app_tag steps =
     record { code = code; tag = tag_of code; app_tag = app_tag; steps = steps; info = no_info }
 
@@ -43,11 +43,11 @@ Answers = Question → ℕ
 
 -- ---- the faults at one stored node
 
-abbrev value_faults : YangType → Raw → List Fault
+abbrev pub value_faults : YangType → Raw → List Fault
 value_faults type raw = if is_some (taken type raw) then [] else fault 1 (app_tag_of type raw) [] ∷ []
 
 -- no type of today asks a question
-abbrev kind_faults : Answers → Kind → Option Raw → List Fault
+abbrev pub kind_faults : Answers → Kind → Option Raw → List Fault
 kind_faults answers (container presence) value = []
 kind_faults answers (leaf type default_value mandatory) value = option_map_or (value_faults type) value []
 
@@ -70,7 +70,7 @@ abbrev pub faults_of_instances : List Told → ℕ → List Fault
 faults_of_instances instances number =
     flat_map (λ t. t.faults) (filter (λ t. t.schema_number == number) instances)
 
-abbrev item_faults : List Told → Item → List Fault
+abbrev pub item_faults : List Told → Item → List Fault
 item_faults instances (tell code steps) = fault code None steps ∷ []
 item_faults instances (in_use number) = []
 item_faults instances (visit number) = faults_of_instances instances number
@@ -79,10 +79,10 @@ item_faults instances (visit number) = faults_of_instances instances number
 abbrev pub woven : List Item → List Told → List Fault
 woven items instances = flat_map (item_faults instances) items
 
-abbrev step_to : Stored → Step
+abbrev pub step_to : Stored → Step
 step_to s = record { schema_number = s.schema_number; position = None }
 
-abbrev told : Stored → List Fault → Told
+abbrev pub told : Stored → List Fault → Told
 told s faults = record { schema_number = s.schema_number; faults = map (under (step_to s)) faults }
 
 -- each node of a row with its faults and those below it
@@ -107,17 +107,17 @@ faults_of schema tree = faults_by (answers_of schema tree) schema tree
 
 -- ---- lines
 
-abbrev or_dash : Text → Text
+abbrev pub or_dash : Text → Text
 or_dash [] = codes "-"
 or_dash (x ∷ xs) = x ∷ xs
 
-abbrev info_text : Info → Text
+abbrev pub info_text : Info → Text
 info_text no_info = []
 info_text (choice_name name) = name
 info_text (unique_number n) = decimal n
 
 -- a module's text may have white space in an error-app-tag, which would part the columns
-abbrev printed_tag : Text → Text
+abbrev pub printed_tag : Text → Text
 printed_tag t = map (λ x. if nat_le x 32 then 95 else x) t
 
 -- the code, the error-tag, the error-app-tag, the path and the info, with `-` for none

@@ -36,7 +36,7 @@ module _ {L : Type 0} where
   weigh weight end = 0
   weigh weight (node l below after) = weight l + (weigh weight below + weigh weight after)
 
-  abbrev first_of : Option L → Option L → Option L
+  abbrev pub first_of : Option L → Option L → Option L
   first_of (Some l) other = Some l
   first_of None other = other
 
@@ -46,7 +46,7 @@ module _ {L : Type 0} where
   find_label test (node l below after) =
       if test l then Some l else first_of (find_label test below) (find_label test after)
 
-  abbrev joined_below : Option (Forest L) → Option (Forest L) → Option (Forest L)
+  abbrev pub joined_below : Option (Forest L) → Option (Forest L) → Option (Forest L)
   joined_below (Some f) other = Some f
   joined_below None other = other
 

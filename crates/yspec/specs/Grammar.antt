@@ -1,6 +1,6 @@
 -- The table of statements: which argument each takes, and which substatements, how many of each (RFC 7950, 7 and 14).
 use Rattle.std.specs.Prelude.{Bool, true, ◌||◌, List, [], ◌∷◌, codes, Option}
-use Rattle.std.specs.Prelude.{find}
+use Rattle.std.specs.Prelude.{find, option_map}
 use Rattle.yspec.specs.Text.{Text, is_text, is_identifier, is_name}
 
 -- the form of an argument
@@ -21,7 +21,6 @@ pub record Allowed : Type 0 where
   pub count : Count
 
 pub record Rule : Type 0 where
-  pub keyword : Text
   pub form : Form
   pub substatements : List Allowed
 
@@ -31,22 +30,22 @@ fits name t = is_name t
 fits flag t = is_text t (codes "true") || is_text t (codes "false")
 fits any_text t = true
 
-abbrev one : Text → Allowed
+abbrev pub one : Text → Allowed
 one keyword = record { keyword = keyword; count = exactly_one }
 
-abbrev perhaps : Text → Allowed
+abbrev pub perhaps : Text → Allowed
 perhaps keyword = record { keyword = keyword; count = at_most_one }
 
-abbrev many : Text → Allowed
+abbrev pub many : Text → Allowed
 many keyword = record { keyword = keyword; count = any_number }
 
 abbrev pub data_nodes : List Allowed
 data_nodes = many (codes "container") ∷ many (codes "leaf") ∷ []
 
-abbrev rule : Text → Form → List Allowed → Rule
-rule keyword form substatements = record { keyword = keyword; form = form; substatements = substatements }
+abbrev pub rule : Text → Form → List Allowed → Text × Rule
+rule keyword form substatements = (keyword, record { form = form; substatements = substatements })
 
-abbrev pub table : List Rule
+abbrev pub table : List (Text × Rule)
 table = rule (codes "module") identifier
     (one (codes "yang-version") ∷ one (codes "namespace") ∷ one (codes "prefix") ∷ data_nodes)
     ∷ rule (codes "yang-version") any_text []
@@ -59,4 +58,4 @@ table = rule (codes "module") identifier
     ∷ []
 
 abbrev pub rule_of : Text → Option Rule
-rule_of keyword = find (λ r. is_text r.keyword keyword) table
+rule_of keyword = option_map (λ r. r.1) (find (λ r. is_text keyword r.0) table)

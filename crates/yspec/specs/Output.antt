@@ -34,10 +34,10 @@ failed status errors = record { output = []; errors = errors ++ codes "\n"; stat
 abbrev pub files_of : Request → List Text
 files_of (validate document modules) = modules ++ document ∷ []
 
-abbrev unread : Text → Outcome
+abbrev pub unread : Text → Outcome
 unread name = failed 4 (codes "cannot read " ++ name)
 
-abbrev with_contents : Text → Option (List ℕ) → (List ℕ → Outcome) → Outcome
+abbrev pub with_contents : Text → Option (List ℕ) → (List ℕ → Outcome) → Outcome
 with_contents name None next = unread name
 with_contents name (Some bytes) next = next bytes
 
@@ -57,7 +57,7 @@ abbrev pub break_line : List Text → Break → List ℕ
 break_line names b = unwrap_or (slice_get names b.module_number) []
     ++ (codes ":" ++ (decimal b.line ++ (codes ": C" ++ decimal b.code)))
 
-abbrev with_module : Text → Result (Forest Statement) Slip → (Forest Statement → Outcome) → Outcome
+abbrev pub with_module : Text → Result (Forest Statement) Slip → (Forest Statement → Outcome) → Outcome
 with_module name (Err s) next = failed 2 (slip_line name s)
 with_module name (Ok top) next = next top
 
@@ -68,7 +68,7 @@ with_modules (name ∷ names) [] next = next end []
 with_modules (name ∷ names) (bytes ∷ files) next =
     with_module name (module_of bytes) (λ top. with_modules names files (λ rest. next (join top rest)))
 
-abbrev with_compiled : List Text → Result Schema Break → (Schema → Outcome) → Outcome
+abbrev pub with_compiled : List Text → Result Schema Break → (Schema → Outcome) → Outcome
 with_compiled names (Err b) next = failed 2 (break_line names b)
 with_compiled names (Ok schema) next = next schema
 
@@ -78,11 +78,11 @@ abbrev pub refusal_line : Schema → Text → Refusal → List ℕ
 refusal_line schema name r =
     name ++ (codes ": J" ++ (decimal r.code ++ (codes " " ++ path_text schema r.place)))
 
-abbrev with_tree : Schema → Text → Result Tree Refusal → (Tree → Outcome) → Outcome
+abbrev pub with_tree : Schema → Text → Result Tree Refusal → (Tree → Outcome) → Outcome
 with_tree schema name (Err r) next = failed 2 (refusal_line schema name r)
 with_tree schema name (Ok tree) next = next tree
 
-abbrev first_file : List (List ℕ) → List ℕ
+abbrev pub first_file : List (List ℕ) → List ℕ
 first_file [] = []
 first_file (bytes ∷ files) = bytes
 
@@ -92,7 +92,7 @@ first_file (bytes ∷ files) = bytes
 abbrev pub report : Schema → List Fault → List ℕ
 report schema faults = flat_map (line_of schema) faults ++ (decimal (length faults) ++ codes " faults\n")
 
-abbrev judged : Schema → Tree → Outcome
+abbrev pub judged : Schema → Tree → Outcome
 judged schema tree =
     let faults = faults_of schema tree in found (if length faults == 0 then 0 else 1) (report schema faults)
 

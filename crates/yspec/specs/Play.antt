@@ -15,12 +15,12 @@ pub data Item : Type 0 where
   -- the stored instances of this schema node
   visit : ℕ → Item
 
-abbrev leaf_items : SchemaNode → List Step → Bool → Bool → List Item
+abbrev pub leaf_items : SchemaNode → List Step → Bool → Bool → List Item
 leaf_items n steps has_default mandatory =
     if mandatory then tell 3 steps ∷ [] else (if has_default then in_use n.number ∷ [] else [])
 
 -- A container without presence is in play though it isn't stored; `inside` are the items below it.
-abbrev absent_items : Kind → SchemaNode → List Step → List Item → List Item
+abbrev pub absent_items : Kind → SchemaNode → List Step → List Item → List Item
 absent_items (container presence) n steps inside = if presence then [] else inside
 absent_items (leaf type default_value mandatory) n steps inside =
     leaf_items n steps (option_map_or (λ _. Bool.true) default_value Bool.false) mandatory

@@ -23,13 +23,13 @@ pub data Visit : Type 0 where
 
 -- ---- values of leafs
 
-abbrev raw_number : Num → Option Raw
+abbrev pub raw_number : Num → Option Raw
 raw_number (unsigned n) = Some (int (pos n))
 raw_number (negative z) = Some (int z)
 raw_number (float x) = None
 
 -- an array whose one item is null (RFC 7951, 6.9)
-abbrev raw_array : Items → Option Raw
+abbrev pub raw_array : Items → Option Raw
 raw_array (item null no_items) = Some empty
 raw_array _ = None
 
@@ -42,7 +42,7 @@ raw_of (array ds) = raw_array ds
 raw_of (object ms) = None
 
 -- a number that is held as a floating one, or another value that no leaf has
-abbrev refused_value : Data → ℕ
+abbrev pub refused_value : Data → ℕ
 refused_value (number n) = 6
 refused_value _ = 5
 
@@ -54,7 +54,7 @@ pub data Named : Type 0 where
   other_form : Named
   unknown : Named
 
-abbrev other_or : Bool → Named → Named
+abbrev pub other_or : Bool → Named → Named
 other_or is_other (child n below) = child n below
 other_or true later = other_form
 other_or false later = later
@@ -64,25 +64,25 @@ named schema parent name end = unknown
 named schema parent name (node n below after) = if is_text name (written_name schema parent n) then child n below
     else other_or (is_text name (other_name schema parent n)) (named schema parent name after)
 
-abbrev at_named : Named → List Step → (SchemaNode → Forest SchemaNode → List Visit) → List Visit
+abbrev pub at_named : Named → List Step → (SchemaNode → Forest SchemaNode → List Visit) → List Visit
 at_named (child n below) place visits = visits n below
 at_named other_form place visits = wrong 4 place ∷ []
 at_named unknown place visits = wrong 3 place ∷ []
 
 -- ---- visits
 
-abbrev below_place : List Step → SchemaNode → List Step
+abbrev pub below_place : List Step → SchemaNode → List Step
 below_place place n = place ++ record { schema_number = n.number; position = None } ∷ []
 
-abbrev leaf_visit : List Step → Data → List Visit
+abbrev pub leaf_visit : List Step → Data → List Visit
 leaf_visit place d = option_map_or (λ _. right place ∷ []) (raw_of d) (wrong (refused_value d) place ∷ [])
 
-abbrev value_visit : Kind → List Step → Data → List Visit
+abbrev pub value_visit : Kind → List Step → Data → List Visit
 value_visit (container presence) place d = wrong 5 place ∷ []
 value_visit (leaf type in_use mandatory) place d = leaf_visit place d
 
 -- `inner` are the visits of the object's members
-abbrev object_visit : Kind → List Step → List Visit → List Visit
+abbrev pub object_visit : Kind → List Step → List Visit → List Visit
 object_visit (container presence) place inner = right place ∷ inner
 object_visit (leaf type in_use mandatory) place inner = wrong 5 place ∷ []
 
@@ -118,19 +118,19 @@ verdict schema d = first_wrong (visits schema d)
 
 -- ---- the tree that a value denotes
 
-abbrev members_of : Data → Members
+abbrev pub members_of : Data → Members
 members_of (object ms) = ms
 members_of _ = no_members
 
-abbrev value_of : Kind → Data → Option Raw
+abbrev pub value_of : Kind → Data → Option Raw
 value_of (container presence) d = None
 value_of (leaf type in_use mandatory) d = raw_of d
 
-abbrev stored_node : SchemaNode → Data → Stored
+abbrev pub stored_node : SchemaNode → Data → Stored
 stored_node n d = record { schema_number = n.number; value = value_of n.kind d }
 
 -- `inner` is what stands below the node, where the value is there
-abbrev placed : SchemaNode → Option Data → (Data → Tree) → Tree → Tree
+abbrev pub placed : SchemaNode → Option Data → (Data → Tree) → Tree → Tree
 placed n None inner rest = rest
 placed n (Some d) inner rest = node (stored_node n d) (inner d) rest
 
@@ -149,7 +149,7 @@ denoted schema d = stored_rows schema None schema.nodes (members_of d)
 abbrev pub json_of : List ℕ → Option Data
 json_of bytes = if is_utf8 bytes then read bytes else None
 
-abbrev tree_or_refusal : Schema → Data → Result Tree Refusal
+abbrev pub tree_or_refusal : Schema → Data → Result Tree Refusal
 tree_or_refusal schema d = option_map_or Err (verdict schema d) (Ok (denoted schema d))
 
 -- the document that bytes denote, or the first refusal

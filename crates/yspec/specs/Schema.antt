@@ -57,14 +57,14 @@ data_size end = 0
 data_size (node s below after) =
     if is_data_definition s.keyword then suc (data_size below + data_size after) else data_size after
 
-abbrev leaf_kind : Forest Statement → Kind
+abbrev pub leaf_kind : Forest Statement → Kind
 leaf_kind below = leaf (unwrap_or (option_and_then built_in (argument_of (codes "type") below)) string_type) None
     (option_map_or (λ t. is_text t (codes "true")) (argument_of (codes "mandatory") below) false)
 
-abbrev kind_of : Statement → Forest Statement → Kind
+abbrev pub kind_of : Statement → Forest Statement → Kind
 kind_of s below = if is_text s.keyword (codes "container") then container false else leaf_kind below
 
-abbrev schema_node : ℕ → ℕ → Statement → Forest Statement → SchemaNode
+abbrev pub schema_node : ℕ → ℕ → Statement → Forest Statement → SchemaNode
 schema_node module_number number s below = record {
   number = number;
   module_number = module_number;
@@ -82,15 +82,15 @@ nodes_from module_number next (node s below after) = if is_data_definition s.key
     (nodes_from module_number (next + 1 + data_size below) after)
     else nodes_from module_number next after
 
-abbrev schema_module : Statement → Forest Statement → SchemaModule
+abbrev pub schema_module : Statement → Forest Statement → SchemaModule
 schema_module s below =
     record { name = argument_text s; prefix = unwrap_or (argument_of (codes "prefix") below) [] }
 
-abbrev modules_of : Forest Statement → List SchemaModule
+abbrev pub modules_of : Forest Statement → List SchemaModule
 modules_of end = []
 modules_of (node s below after) = schema_module s below ∷ modules_of after
 
-abbrev all_nodes : ℕ → ℕ → Forest Statement → Forest SchemaNode
+abbrev pub all_nodes : ℕ → ℕ → Forest Statement → Forest SchemaNode
 all_nodes module_number next end = end
 all_nodes module_number next (node s below after) =
     join (nodes_from module_number next below) (all_nodes (module_number + 1) (next + data_size below) after)
@@ -116,7 +116,7 @@ module_name schema number = option_map_or (λ m. m.name) (slice_get schema.modul
 abbrev pub qualified_name : Schema → SchemaNode → Text
 qualified_name schema n = module_name schema n.module_number ++ codes ":" ++ n.name
 
-abbrev is_module : ℕ → Option ℕ → Bool
+abbrev pub is_module : ℕ → Option ℕ → Bool
 is_module m None = false
 is_module m (Some parent) = m == parent
 

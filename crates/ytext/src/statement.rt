@@ -14,3 +14,39 @@ pub struct Stmt {
     pub line: u32,
     pub subs: Vec<Stmt>,
 }
+
+impl Stmt {
+    ghost use Rattle.std.specs.Prelude.{◌≡◌, option_map};
+    ghost use Rattle.ytext.specs.View.{view, row_view};
+
+    /// The keyword.
+    pub fn keyword(&self) -> &str
+        ensures { result.now ≡ (view self.now).0.keyword }
+    {
+        self.keyword.as_str()
+    }
+
+    /// The argument, where there is one.
+    pub fn argument(&self) -> Option<&str>
+        ensures { option_map (λ t. t.now) result ≡ (view self.now).0.argument }
+    {
+        match &self.arg {
+            Some(text) => Some(text.as_str()),
+            None => None,
+        }
+    }
+
+    /// The line of the keyword, counted from 1.
+    pub fn line(&self) -> u32
+        ensures { result ≡ (view self.now).0.line }
+    {
+        self.line
+    }
+
+    /// The substatements, in order.
+    pub fn substatements(&self) -> &[Stmt]
+        ensures { row_view result.now ≡ (view self.now).1 }
+    {
+        self.subs.as_slice()
+    }
+}
