@@ -7,7 +7,7 @@ ghost use Rattle.yspec.specs.Forest.{row};
 ghost use Rattle.yspec.specs.Grammar as spec;
 ghost use Rattle.yspec.specs.Schema.{argument_text};
 ghost use Rattle.yspec.specs.Types.{built_in};
-ghost use Rattle.yspec.specs.Breaks.{least_from, is_known_substatement, occurrences, is_miscounted, is_current_version, is_unknown_type, is_unversioned, argument_breaks, own_breaks, statement_breaks, grammar_breaks};
+ghost use Rattle.yspec.specs.Breaks.{least_from, is_known_substatement, occurrences, is_miscounted, is_current_version, is_unknown_type, is_unversioned, argument_breaks, statement_breaks, breaks_at, substatements_of, grammar_breaks};
 ghost use Rattle.ytext.specs.View.{view, row_view};
 ghost use Rattle.yschema.specs.Table.{form_view, count_view, allowed_view, allowed_views, rule_view};
 ghost use Rattle.yschema.specs.Told.{seen};
@@ -259,4 +259,47 @@ fn judge_alone(module: usize, rule: Rule, statement: &Stmt, so_far: Option<Break
     );
     let miscounted = has_wrong_counts(rule.substatements, statement.substatements());
     least_when(miscounted, told, broken(CompileCode::C2, module, statement))
+}
+
+/// The least rule broken by a statement that stands where these are allowed, and below it.
+#[cycle(judge)]
+#[tactic(auto, using(yspec::proofs::LeastLemmas::least_of_both))]
+fn judge(
+    module: usize,
+    allowed: &[Allowed],
+    statement: &Stmt,
+    so_far: Option<Break>,
+) -> Option<Break>
+    ensures { let s = view statement.now in seen result ≡ least_from (seen so_far)
+        (breaks_at «module» (allowed_views allowed.now) s.0 s.1 (grammar_breaks «module» (substatements_of s.0.keyword) s.1)) }
+{
+    if !is_known(statement.keyword(), allowed) {
+        return least(so_far, broken(CompileCode::C1, module, statement));
+    }
+    match rule_of(statement.keyword()) {
+        None => judge_row(module, &[], &statement.subs, so_far),
+        Some(rule) => {
+            let told = judge_alone(module, rule, statement, so_far);
+            judge_row(module, rule.substatements, &statement.subs, told)
+        }
+    }
+}
+
+/// The least rule broken by statements that stand in one block, and below them.
+#[cycle(judge)]
+#[tactic(auto, using(yspec::proofs::LeastLemmas::least_of_both), unfolding(yspec::specs::Breaks::grammar_breaks))]
+fn judge_row(
+    module: usize,
+    allowed: &[Allowed],
+    statements: &[Stmt],
+    so_far: Option<Break>,
+) -> Option<Break>
+    ensures { seen result
+        ≡ least_from (seen so_far) (grammar_breaks «module» (allowed_views allowed.now) (row_view statements.now)) }
+{
+    let mut told = so_far;
+    for statement in statements {
+        told = judge(module, allowed, statement, told);
+    }
+    told
 }

@@ -102,12 +102,15 @@ substatements_of keyword = option_map_or (λ r. r.substatements) (rule_of keywor
 abbrev pub own_breaks : ℕ → Statement → Forest Statement → List Break
 own_breaks m s below = option_map_or (λ r. statement_breaks m r s below) (rule_of s.keyword) []
 
--- What stands below a misplaced or unknown statement isn't judged.
+-- What stands below a misplaced or unknown statement isn't judged; `inner` are the rules broken below.
+abbrev pub breaks_at : ℕ → List Allowed → Statement → Forest Statement → List Break → List Break
+breaks_at m allowed s below inner =
+    if is_known_substatement s.keyword allowed then own_breaks m s below ++ inner else broken 1 m s.line
+
 unfoldable pub grammar_breaks : ℕ → List Allowed → Forest Statement → List Break
 grammar_breaks m allowed end = []
-grammar_breaks m allowed (node s below after) = (if is_known_substatement s.keyword allowed
-    then own_breaks m s below ++ grammar_breaks m (substatements_of s.keyword) below else broken 1 m s.line)
-    ++ grammar_breaks m allowed after
+grammar_breaks m allowed (node s below after) =
+    breaks_at m allowed s below (grammar_breaks m (substatements_of s.keyword) below) ++ grammar_breaks m allowed after
 
 abbrev pub at_top : List Allowed
 at_top = record { keyword = codes "module"; count = any_number } ∷ []
