@@ -17,6 +17,8 @@ pub enum Raw {
 impl Clone for Raw {
     ghost use Rattle.ytype.specs.View.{raw_of};
 
+    ghost is_clone = { λ raw copy. raw_of copy ≡ raw_of raw };
+
     fn clone(&self) -> Result<Raw, AllocError>
         ensures { IfOk result (λ raw. raw_of raw ≡ raw_of self.now) }
     {

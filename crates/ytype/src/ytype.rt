@@ -10,7 +10,7 @@ ghost use Rattle.ytype.specs.Words.{Checks};
 use crate::fault::{BadValue, NarrowFault};
 use crate::raw::Raw;
 use crate::val::{Content, Val};
-use std::alloc::Global;
+use std::alloc::{AllocError, Global};
 use std::marker::Model;
 
 /// A type of values.
@@ -33,6 +33,18 @@ impl Model for YType {
     ghost use Rattle.ytype.specs.View.{type_of};
 
     ghost view = { λ t. type_of t.kind };
+}
+
+impl Clone for YType {
+    ghost use Rattle.std.specs.Prelude.{◌≡◌};
+
+    ghost is_clone = { λ type copy. copy ≡ type };
+
+    fn clone(&self) -> Result<YType, AllocError>
+        ensures { IfOk result (λ copy. copy ≡ self.now) }
+    {
+        Ok(YType { kind: self.kind })
+    }
 }
 
 fn is_string_char(c: char) -> bool
