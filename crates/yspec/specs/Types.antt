@@ -1,5 +1,5 @@
 -- Types, and the values that they take (RFC 7950, 9; the forms of JSON by RFC 7951, 6).
-use Rattle.std.specs.Prelude.{ℤ, pos, negsuc, Bool, ◌||◌, ◌==◌, Option, Some, None, codes, if◌then◌else◌, nat_lt}
+use Rattle.std.specs.Prelude.{ℕ, ℤ, pos, negsuc, Bool, ◌||◌, ◌==◌, Option, Some, None, codes, if◌then◌else◌, nat_lt}
 use Rattle.std.specs.List.{list_all}
 use Rattle.std.specs.Str.{chars}
 use Rattle.yspec.specs.Text.{Text, is_text, is_yang_char, carriage_return}
@@ -26,8 +26,11 @@ built_in name = if is_text name (codes "string") then Some string_type
     else (if is_text name (codes "uint8") then Some uint8_type else None)
 
 -- A string holds the characters of a module's text, and carriage returns anywhere (RFC 7950, 9.4).
+abbrev pub is_string_char : ℕ → Bool
+is_string_char c = is_yang_char c || c == carriage_return
+
 abbrev pub is_string_value : Text → Bool
-is_string_value t = list_all (λ c. is_yang_char c || c == carriage_return) (chars t)
+is_string_value t = list_all is_string_char (chars t)
 
 abbrev string_taken : Raw → Option Val
 string_taken (text t) = if is_string_value t then Some (text_value t) else None

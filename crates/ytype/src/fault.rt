@@ -1,0 +1,54 @@
+//! Why a value or a restriction isn't taken.
+
+ghost use Rattle.std.specs.Prelude.{◌≡◌};
+ghost use Rattle.ytype.specs.declared.fault.BadValue.TheVariants as bad_value;
+ghost use Rattle.ytype.specs.declared.fault.NarrowFault.TheVariants as narrow_fault;
+
+use std::alloc::{AllocError, AllocFailed};
+
+/// Why a type gives no value.
+#[derive(Debug, Drop)]
+pub enum BadValue {
+    /// The type doesn't take it. The error-app-tag is that of the restriction which excludes it, where it bears one.
+    Refused { app_tag: Option<String> },
+    Memory,
+}
+
+impl From<AllocError> for BadValue {
+    ghost from_gives = { λ _ e. e ≡ bad_value.Memory };
+
+    fn from(_e: AllocError) -> BadValue {
+        BadValue::Memory
+    }
+}
+
+impl<T: Drop> From<AllocFailed<T>> for BadValue {
+    ghost from_gives = { λ _ e. e ≡ bad_value.Memory };
+
+    fn from(_e: AllocFailed<T>) -> BadValue {
+        BadValue::Memory
+    }
+}
+
+/// Why there is no such type.
+#[derive(Clone, Copy, Debug, PartialEq, Eq)]
+pub enum NarrowFault {
+    Refused,
+    Memory,
+}
+
+impl From<AllocError> for NarrowFault {
+    ghost from_gives = { λ _ e. e ≡ narrow_fault.Memory };
+
+    fn from(_e: AllocError) -> NarrowFault {
+        NarrowFault::Memory
+    }
+}
+
+impl<T: Drop> From<AllocFailed<T>> for NarrowFault {
+    ghost from_gives = { λ _ e. e ≡ narrow_fault.Memory };
+
+    fn from(_e: AllocFailed<T>) -> NarrowFault {
+        NarrowFault::Memory
+    }
+}
