@@ -1,8 +1,12 @@
 //! Module text: from bytes to statements.
 #![tactic(auto)]
 
+mod count;
 mod fault;
+mod sink;
 mod statement;
 
+pub use count::FailureCount;
 pub use fault::{TextCode, TextFault};
+pub use sink::{Cut, Sink, SinkFault, write_all};
 pub use statement::{Module, Stmt};
