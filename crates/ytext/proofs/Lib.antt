@@ -1,1 +1,3 @@
 pub mod ViewLemmas
+pub mod Walks
+pub mod SinkSteps
