@@ -277,10 +277,10 @@ fn judge(
         return least(so_far, broken(CompileCode::C1, module, statement));
     }
     match rule_of(statement.keyword()) {
-        None => judge_row(module, &[], &statement.subs, so_far),
+        None => judge_row(module, &[], statement.substatements(), so_far),
         Some(rule) => {
             let told = judge_alone(module, rule, statement, so_far);
-            judge_row(module, rule.substatements, &statement.subs, told)
+            judge_row(module, rule.substatements, statement.substatements(), told)
         }
     }
 }

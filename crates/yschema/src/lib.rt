@@ -8,3 +8,4 @@ mod limits;
 mod names;
 
 pub use fault::{CompileCode, CompileFault};
+pub use limits::{LEVEL_LIMIT, NODE_LIMIT};

@@ -1,5 +1,5 @@
 -- The rules that a set of modules breaks, phase by phase, and which one is told.
-use Rattle.std.specs.Prelude.{ℕ, ◌+◌, ◌==◌, ◌&&◌, ◌||◌, Bool, false, not, List, [], ◌∷◌, ◌++◌, codes, Option, Some, None, is_some, Result, Ok, Err, if◌then◌else◌, nat_lt, count_by}
+use Rattle.std.specs.Prelude.{ℕ, ◌+◌, ◌==◌, ◌&&◌, ◌||◌, Bool, false, not, List, [], ◌∷◌, ◌++◌, codes, Option, Some, None, is_some, Result, Ok, Err, if◌then◌else◌, nat_lt, max, count_by}
 use Rattle.std.specs.List.{list_any}
 use Rattle.std.specs.Option.{option_map_or}
 use Rattle.yspec.specs.Forest.{Forest, end, node, row, levels}
@@ -7,7 +7,7 @@ use Rattle.yspec.specs.Text.{Text, is_text}
 use Rattle.yspec.specs.Statement.{Statement}
 use Rattle.yspec.specs.Grammar.{Form, Count, exactly_one, at_most_one, any_number, Allowed, Rule, fits, rule_of}
 use Rattle.yspec.specs.Types.{built_in}
-use Rattle.yspec.specs.Schema.{Schema, schema_of, argument_text, is_data_definition, data_size}
+use Rattle.yspec.specs.Schema.{Schema, schema_of, argument_text, is_data_definition, data_size, data_levels}
 
 -- a broken rule: the number behind the `C`, the module by its place in the set, and the line
 pub record Break : Type 0 where
@@ -139,6 +139,10 @@ abbrev pub data_size_of_all : Forest Statement → ℕ
 data_size_of_all end = 0
 data_size_of_all (node s below after) = data_size below + data_size_of_all after
 
+abbrev pub data_levels_of_all : Forest Statement → ℕ
+data_levels_of_all end = 0
+data_levels_of_all (node s below after) = max (data_levels below) (data_levels_of_all after)
+
 -- the `module` statement given last
 abbrev pub last_module : ℕ → Forest Statement → Option (ℕ × ℕ)
 last_module m end = None
@@ -165,7 +169,7 @@ abbrev pub phases : Forest Statement → List (List Break)
 phases modules = by_module (λ m s. grammar_breaks m at_top s) 0 modules
     ∷ limit_breaks (nat_lt node_limit (data_size_of_all modules)) modules
     ∷ by_body (λ m s. name_breaks m [] s) 0 modules
-    ∷ limit_breaks (nat_lt level_limit (levels (schema_of modules).nodes)) modules
+    ∷ limit_breaks (nat_lt level_limit (data_levels_of_all modules)) modules
     ∷ []
 
 -- the schema of a set of modules, or what is told

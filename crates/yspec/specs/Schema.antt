@@ -1,5 +1,5 @@
 -- The schema tree of a set of modules (RFC 7950, 4.2.2 and 7).
-use Rattle.std.specs.Prelude.{ℕ, suc, ◌+◌, ◌==◌, Bool, true, false, List, [], ◌∷◌, codes, Option, Some, None, option_map, option_and_then, unwrap_or, if◌then◌else◌, find, slice_get, ◌||◌, ◌++◌}
+use Rattle.std.specs.Prelude.{ℕ, suc, ◌+◌, ◌==◌, Bool, true, false, List, [], ◌∷◌, codes, Option, Some, None, option_map, option_and_then, unwrap_or, if◌then◌else◌, find, slice_get, ◌||◌, ◌++◌, max}
 use Rattle.std.specs.Option.{option_map_or}
 use Rattle.yspec.specs.Forest.{Forest, end, node, row, join, find_label, find_below}
 use Rattle.yspec.specs.Text.{Text, is_text}
@@ -56,6 +56,12 @@ unfoldable pub data_size : Forest Statement → ℕ
 data_size end = 0
 data_size (node s below after) =
     if is_data_definition s.keyword then suc (data_size below + data_size after) else data_size after
+
+-- how many levels of them there are
+unfoldable pub data_levels : Forest Statement → ℕ
+data_levels end = 0
+data_levels (node s below after) = if is_data_definition s.keyword then max (suc (data_levels below)) (data_levels after)
+    else data_levels after
 
 abbrev pub leaf_kind : Forest Statement → Kind
 leaf_kind below = leaf (unwrap_or (option_and_then built_in (argument_of (codes "type") below)) string_type) None

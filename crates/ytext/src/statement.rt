@@ -16,8 +16,10 @@ pub struct Stmt {
 }
 
 impl Stmt {
-    ghost use Rattle.std.specs.Prelude.{◌≡◌, option_map};
+    ghost use Rattle.std.specs.Prelude.{◌≡◌, ◌<◌, option_map};
     ghost use Rattle.ytext.specs.View.{view, row_view};
+    ghost use Rattle.ytext.specs.declared.statement.Stmt.{size-Stmt};
+    ghost use denote.Param.Weighed.{most};
 
     /// The keyword.
     pub fn keyword(&self) -> &str
@@ -43,9 +45,10 @@ impl Stmt {
         self.line
     }
 
-    /// The substatements, in order.
+    /// The substatements, in order. Each is smaller than the statement, so a recursion over them ends.
     pub fn substatements(&self) -> &[Stmt]
-        ensures { row_view result.now ≡ (view self.now).1 }
+        ensures below { row_view result.now ≡ (view self.now).1 }
+        ensures smaller { most (λ s. size-Stmt s) result.now < size-Stmt self.now }
     {
         self.subs.as_slice()
     }

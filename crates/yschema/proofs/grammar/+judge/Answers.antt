@@ -9,9 +9,9 @@ use Rattle.yschema.proofs.grammar.+judge.Goals as goal
 pub judge-returns-in-Some : goal.judge-returns-in-Some
 judge-returns-in-Some t c =
     let s = c.args.statement.now in
-    judged_known c.args.«module» (allowed_views c.args.allowed.now) (view s).0 (view s).1 (row_view c.deref-in-Some.result.now)
+    judged_known c.args.«module» (allowed_views c.args.allowed.now) (view s).0 (view s).1 (row_view c.substatements-in-Some.result.now)
     (rule_view c.in-Some.rule) (seen c.args.so_far) (seen c.judge_alone-told.result) (seen c.judge_row-in-Some.result)
-    (search rules) (search rules) c.judge_alone-told.ensures (ap row_view c.deref-in-Some.ensures.value ∙ row_of_substatements s)
+    (search rules) (search rules) c.judge_alone-told.ensures c.substatements-in-Some.ensures.below
     c.judge_row-in-Some.ensures
 
 pub judge_row-loop-statement-preserved : goal.judge_row-loop-statement-preserved
