@@ -34,3 +34,41 @@ fn count_nodes(statements: &[Stmt], so_far: usize) -> usize
     }
     count
 }
+
+/// Whether modules have more data nodes than a schema may have.
+pub(crate) fn has_too_many_nodes(modules: &[Module]) -> bool
+    ensures { result ≡ nat_lt NODE_LIMIT (data_size_of_all (modules_view modules.now)) }
+{
+    let mut count = 0;
+    for module in modules {
+        count = count_nodes(module.top.substatements(), count);
+    }
+    count > NODE_LIMIT
+}
+
+/// Whether data nodes nest deeper than so many levels.
+#[tactic(auto, unfolding(yspec::specs::Schema::data_levels))]
+fn nests_deeper(statements: &[Stmt], levels: usize) -> bool
+    ensures { result ≡ nat_lt levels (data_levels (row_view statements.now)) }
+{
+    for statement in statements {
+        if is_data_node(statement)
+            && (levels == 0 || nests_deeper(statement.substatements(), levels - 1))
+        {
+            return true;
+        }
+    }
+    false
+}
+
+/// Whether modules' data nodes nest deeper than those of a schema may.
+pub(crate) fn has_too_many_levels(modules: &[Module]) -> bool
+    ensures { result ≡ nat_lt LEVEL_LIMIT (data_levels_of_all (modules_view modules.now)) }
+{
+    for module in modules {
+        if nests_deeper(module.top.substatements(), LEVEL_LIMIT) {
+            return true;
+        }
+    }
+    false
+}
