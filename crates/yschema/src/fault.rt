@@ -4,6 +4,7 @@ ghost use Rattle.std.specs.Prelude.{◌≡◌};
 ghost use Rattle.yschema.specs.declared.fault.CompileFault.TheVariants.{Memory};
 
 use std::alloc::{AllocError, AllocFailed};
+use ytype::NarrowFault;
 
 /// Which rule a module breaks.
 #[derive(Clone, Copy, Debug, PartialEq, Eq, PartialOrd, Ord)]
@@ -55,6 +56,15 @@ pub(crate) struct Break {
     pub module: usize,
     pub line: u32,
     pub code: CompileCode,
+}
+
+// A built-in type of this stage is refused for want of memory alone.
+impl From<NarrowFault> for CompileFault {
+    ghost from_gives = { λ _ e. e ≡ Memory };
+
+    fn from(_fault: NarrowFault) -> CompileFault {
+        CompileFault::Memory
+    }
 }
 
 impl From<Break> for CompileFault {

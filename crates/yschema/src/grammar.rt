@@ -14,7 +14,7 @@ ghost use Rattle.yschema.specs.Told.{seen};
 
 use crate::fault::{Break, CompileCode};
 use crate::least::{least, least_when};
-use ytext::{Stmt, is_identifier, is_name};
+use ytext::{Module, Stmt, is_identifier, is_name};
 
 /// The form of an argument.
 #[derive(Clone, Copy)]
@@ -205,7 +205,7 @@ fn is_known_type(statement: &Stmt) -> bool
     matches!(statement.argument(), Some("string") | Some("uint8"))
 }
 
-fn broken(code: CompileCode, module: usize, statement: &Stmt) -> Break
+pub(crate) fn broken(code: CompileCode, module: usize, statement: &Stmt) -> Break
     ensures { result ≡ record { code = code; «module» = «module»; line = (view statement.now).0.line } }
 {
     Break {
@@ -300,6 +300,15 @@ fn judge_row(
     let mut told = so_far;
     for statement in statements {
         told = judge(module, allowed, statement, told);
+    }
+    told
+}
+
+/// The least rule of the table that modules break.
+pub(crate) fn judge_modules(modules: &[Module]) -> Option<Break> {
+    let mut told = None;
+    for (module, text) in modules.iter().enumerate() {
+        told = judge(module, AT_TOP, &text.top, told);
     }
     told
 }

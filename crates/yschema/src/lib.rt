@@ -1,11 +1,17 @@
 //! The schema of a set of modules: which rules the modules break, and the schema tree where they break none.
 #![tactic(auto)]
 
+mod building;
 mod fault;
 mod grammar;
 mod least;
 mod limits;
 mod names;
+mod node;
+mod schema;
 
+pub use building::compile;
 pub use fault::{CompileCode, CompileFault};
 pub use limits::{LEVEL_LIMIT, NODE_LIMIT};
+pub use node::{Kind, SchemaId, SchemaNode, Status};
+pub use schema::{Children, Schema, SchemaModule};
