@@ -87,6 +87,11 @@ impl Schema {
         self.children.get(&key).copied()
     }
 
+    /// How many modules the set has.
+    pub fn modules(&self) -> usize {
+        self.modules.len()
+    }
+
     /// The place of the module of a name.
     pub fn module(&self, name: &str) -> Option<usize> {
         self.modules
