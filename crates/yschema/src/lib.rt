@@ -2,6 +2,7 @@
 #![tactic(auto)]
 
 mod building;
+mod children;
 mod fault;
 mod grammar;
 mod least;
@@ -11,7 +12,8 @@ mod node;
 mod schema;
 
 pub use building::compile;
+pub use children::Children;
 pub use fault::{CompileCode, CompileFault};
 pub use limits::{LEVEL_LIMIT, NODE_LIMIT};
 pub use node::{Kind, SchemaId, SchemaNode, Status};
-pub use schema::{Children, Schema, SchemaModule};
+pub use schema::{Schema, SchemaModule};

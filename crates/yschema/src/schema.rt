@@ -1,8 +1,8 @@
 //! The schema of a set of modules, and what can be asked of it.
 
-ghost use Rattle.std.specs.Prelude.{◌-◌};
-ghost use Rattle.std.specs.Iterator.{at_most};
+ghost use Rattle.std.specs.Prelude.{◌≡◌, ◌+◌, ◌<◌, vec_len, IsSome, OnSome};
 
+use crate::children::Children;
 use crate::node::{SchemaId, SchemaNode};
 use indexmap::{IndexMap, IndexSet};
 use std::alloc::{AllocError, AllocFailed, Global};
@@ -34,6 +34,8 @@ pub struct Schema {
 }
 
 impl Schema {
+    ghost use Rattle.yschema.specs.Rows.{node_count, first_place};
+
     pub(crate) fn empty(alloc: Global) -> Schema {
         Schema {
             modules: Vec::new(alloc),
@@ -45,35 +47,33 @@ impl Schema {
     }
 
     /// How many nodes it has.
-    pub fn nodes(&self) -> usize {
+    pub fn nodes(&self) -> usize
+        ensures { result ≡ node_count self.now }
+    {
         self.nodes.len()
     }
 
     /// All that it holds of a node; nothing of a number that no node has.
-    pub fn kind(&self, id: SchemaId) -> Option<&SchemaNode> {
+    pub fn kind(&self, id: SchemaId) -> Option<&SchemaNode>
+        ensures known { OnSome result (id.0 < node_count self.now) }
+    {
         self.nodes.get(id.number())
     }
 
     /// The top nodes, in order of definition.
     pub fn roots(&self) -> Children<'_> {
-        Children {
-            ends: self.ends.as_slice(),
-            next: 0,
-            end: self.nodes.len(),
-        }
+        Children::new(self.ends.as_slice(), 0, self.nodes.len())
     }
 
     /// The children of a node, in order of definition; none of a number that no node has.
-    pub fn children(&self, id: SchemaId) -> Children<'_> {
+    pub fn children(&self, id: SchemaId) -> Children<'_>
+        ensures behind { id.0 < first_place result }
+    {
         let end = match self.ends.get(id.number()) {
             Some(end) => *end as usize,
             None => 0,
         };
-        Children {
-            ends: self.ends.as_slice(),
-            next: id.number() + 1,
-            end,
-        }
+        Children::new(self.ends.as_slice(), id.number() + 1, end)
     }
 
     /// The child of a node, or the top node, of a module and a name.
@@ -154,29 +154,5 @@ impl Schema {
                 self.ends[number] = end;
             }
         }
-    }
-}
-
-/// The children of a node, in order of definition.
-#[derive(Clone, Copy, Drop)]
-pub struct Children<'a> {
-    ends: &'a [u32],
-    next: usize,
-    end: usize,
-}
-
-impl<'a> Iterator for Children<'a> {
-    type Item = SchemaId;
-
-    ghost remaining = { λ c. at_most (c.end - c.next) };
-
-    fn next(&mut self) -> Option<SchemaId> {
-        if self.next >= self.end {
-            return None;
-        }
-        let number = u32::try_from(self.next).ok()?;
-        let end = *self.ends.get(self.next)?;
-        self.next = (end as usize).max(self.next + 1);
-        Some(SchemaId::new(number))
     }
 }
