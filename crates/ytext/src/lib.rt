@@ -2,11 +2,20 @@
 #![tactic(auto)]
 
 mod count;
+mod cursor;
 mod fault;
+mod parse;
+mod quoted;
+mod reader;
+mod scan;
 mod sink;
 mod statement;
 
+#[cfg(test)]
+mod tests;
+
 pub use count::FailureCount;
 pub use fault::{TextCode, TextFault};
+pub use parse::parse;
 pub use sink::{Cut, Sink, SinkFault, write_all};
 pub use statement::{Module, Stmt};
