@@ -1,1 +1,3 @@
+pub mod Reading
 pub mod Sink
+pub mod View

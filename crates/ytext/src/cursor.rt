@@ -1,8 +1,8 @@
 //! The tokens of a text, one after another (RFC 7950, 6.1).
-ghost use Rattle.std.specs.Prelude.{◌≡◌, ℕ, ◌+◌, ◌≤◌, length};
+ghost use Rattle.std.specs.Prelude.{◌≡◌, ℕ, ◌+◌, ◌<◌, ◌≤◌, true, false, length, slice_index};
 ghost use Rattle.std.specs.Str.{IsCharBoundary};
 
-use crate::scan::{comment_end, double_end, is_white, line_end, single_end, stands_at, word_end};
+use crate::scan::{behind_ascii, comment_end, double_end, is_white, line_end, single_end, stands_at, word_end};
 
 /// What stands at a place: a word, a quoted string without its quotes, `;`, `{`, `}`, or what ends the text.
 #[derive(Clone, Copy)]
@@ -51,6 +51,8 @@ pub(crate) struct Cursor<'a> {
 }
 
 impl<'a> Cursor<'a> {
+    ghost use Rattle.ytext.specs.View.{ends_text, GoesOn};
+
     /// The beginning of a text.
     pub(crate) fn new(text: &'a str) -> Cursor<'a> {
         Cursor {
@@ -65,6 +67,8 @@ impl<'a> Cursor<'a> {
     fn moved(self, end: usize) -> Cursor<'a>
         requires forward { self.at ≤ end }
         requires place { IsCharBoundary self.text.now end }
+        ensures text { result.text.now ≡ self.entry.text.now }
+        ensures at { result.at ≡ end }
     {
         let bytes = self.text.as_bytes();
         let mut line = self.line;
@@ -92,12 +96,19 @@ impl<'a> Cursor<'a> {
         &self.text[start..end]
     }
 
-    fn word(self) -> Front<'a> {
+    fn word(self) -> Front<'a>
+        requires { self.at < length self.text.now }
+        ensures later { GoesOn self.entry.text.now self.entry.at result }
+    {
         let end = word_end(self.text.as_bytes(), self.at + 1);
         Front::Token(Lexeme::Word(self.between(self.at, end)), end)
     }
 
-    fn slash(self) -> Front<'a> {
+    fn slash(self) -> Front<'a>
+        requires slash { slice_index self.text.now self.at ≡ 47 }
+        requires within { self.at < length self.text.now }
+        ensures later { GoesOn self.entry.text.now self.entry.at result }
+    {
         let bytes = self.text.as_bytes();
         if stands_at(bytes, self.at + 1, b'/') {
             Front::Gap(line_end(bytes, self.at + 2))
@@ -111,41 +122,70 @@ impl<'a> Cursor<'a> {
         }
     }
 
-    fn single(self) -> Front<'a> {
+    fn single(self) -> Front<'a>
+        requires quote { slice_index self.text.now self.at ≡ 39 }
+        requires within { self.at < length self.text.now }
+        ensures later { GoesOn self.entry.text.now self.entry.at result }
+    {
         match single_end(self.text.as_bytes(), self.at + 1) {
-            Some(end) => Front::Token(Lexeme::Single(self.between(self.at + 1, end)), end + 1),
-            None => Front::Last(Lexeme::UnclosedQuote),
-        }
-    }
-
-    fn double(self) -> Front<'a> {
-        let bytes = self.text.as_bytes();
-        match double_end(bytes, self.at + 1) {
             Some(end) => {
-                let before = &bytes[self.line_start..self.at];
-                let raw = self.between(self.at + 1, end);
-                Front::Token(Lexeme::Double { before, raw }, end + 1)
+                let raw = self.between(behind_ascii(self.text, self.at), end);
+                Front::Token(Lexeme::Single(raw), behind_ascii(self.text, end))
             }
             None => Front::Last(Lexeme::UnclosedQuote),
         }
     }
 
-    fn front(self, byte: u8) -> Front<'a> {
-        let behind = self.at + 1;
+    fn double(self) -> Front<'a>
+        requires quote { slice_index self.text.now self.at ≡ 34 }
+        requires within { self.at < length self.text.now }
+        ensures later { GoesOn self.entry.text.now self.entry.at result }
+    {
+        let bytes = self.text.as_bytes();
+        match double_end(bytes, self.at + 1) {
+            Some(end) => {
+                let before = &bytes[self.line_start..self.at];
+                let raw = self.between(behind_ascii(self.text, self.at), end);
+                Front::Token(Lexeme::Double { before, raw }, behind_ascii(self.text, end))
+            }
+            None => Front::Last(Lexeme::UnclosedQuote),
+        }
+    }
+
+    fn front(self, byte: u8) -> Front<'a>
+        requires byte { slice_index self.text.now self.at ≡ byte }
+        requires within { self.at < length self.text.now }
+        ensures later { GoesOn self.entry.text.now self.entry.at result }
+    {
+        let place = self.at;
         match byte {
-            b' ' | b'\t' | b'\n' | b'\r' => Front::Gap(behind),
+            b' ' | b'\t' | b'\n' | b'\r' => Front::Gap(behind_ascii(self.text, place)),
             b'/' => self.slash(),
             b'\'' => self.single(),
             b'"' => self.double(),
-            b';' => Front::Token(Lexeme::Semi, behind),
-            b'{' => Front::Token(Lexeme::Open, behind),
-            b'}' => Front::Token(Lexeme::Close, behind),
-            b'*' if stands_at(self.text.as_bytes(), behind, b'/') => Front::Last(Lexeme::StrayEnd),
+            b';' => Front::Token(Lexeme::Semi, behind_ascii(self.text, place)),
+            b'{' => Front::Token(Lexeme::Open, behind_ascii(self.text, place)),
+            b'}' => Front::Token(Lexeme::Close, behind_ascii(self.text, place)),
+            b'*' => self.star(),
             _ => self.word(),
         }
     }
 
-    fn lexed(self, lexeme: Lexeme<'a>) -> Lexed<'a> {
+    fn star(self) -> Front<'a>
+        requires { self.at < length self.text.now }
+        ensures later { GoesOn self.entry.text.now self.entry.at result }
+    {
+        if stands_at(self.text.as_bytes(), self.at + 1, b'/') {
+            Front::Last(Lexeme::StrayEnd)
+        } else {
+            self.word()
+        }
+    }
+
+    fn lexed(self, lexeme: Lexeme<'a>) -> Lexed<'a>
+        ensures lexeme { result.lexeme ≡ lexeme.entry }
+        ensures line { result.line ≡ self.entry.line }
+    {
         Lexed {
             line: self.line,
             lexeme,
@@ -153,7 +193,11 @@ impl<'a> Cursor<'a> {
     }
 
     /// The next token, and the place behind it. What ends the text is met again and again.
-    pub(crate) fn next(self) -> (Lexed<'a>, Cursor<'a>) {
+    pub(crate) fn next(self) -> (Lexed<'a>, Cursor<'a>)
+        ensures text { result.1.text.now ≡ self.entry.text.now }
+        ensures at { self.entry.at ≤ result.1.at }
+        ensures later { ends_text result.0.lexeme ≡ false → self.entry.at < result.1.at }
+    {
         let bytes = self.text.as_bytes();
         let mut cursor = self;
         while cursor.at < bytes.len() {

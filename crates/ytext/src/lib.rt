@@ -4,18 +4,19 @@
 mod count;
 mod cursor;
 mod fault;
-mod parse;
+
 mod quoted;
 mod reader;
 mod scan;
 mod sink;
 mod statement;
+mod text;
 
 #[cfg(test)]
 mod tests;
 
 pub use count::FailureCount;
 pub use fault::{TextCode, TextFault};
-pub use parse::parse;
+pub use text::parse;
 pub use sink::{Cut, Sink, SinkFault, write_all};
 pub use statement::{Module, Stmt};

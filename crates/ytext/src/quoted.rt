@@ -1,6 +1,10 @@
 //! What a quoted string says (RFC 7950, 6.1.3).
+ghost use Rattle.std.specs.Prelude.{◌≡◌, ◌+◌, ◌<◌, ◌≤◌, length, slice_index, true, false, IsSome};
+ghost use Rattle.std.specs.Str.{IsCharBoundary};
+ghost use Rattle.yspec.specs.Text.{is_blank};
+
 use crate::fault::{TextCode, TextFault};
-use crate::scan::stands_at;
+use crate::scan::{behind_ascii, stands_at};
 use std::alloc::AllocError;
 
 // The column behind these bytes of a line. A tab counts eight columns, another character one.
@@ -17,7 +21,9 @@ fn column_behind(bytes: &[u8]) -> usize {
 }
 
 // What a backslash and this character stand for.
-fn escape(byte: u8) -> Option<char> {
+fn escape(byte: u8) -> Option<char>
+    ensures ascii { IsSome result → byte < 128 }
+{
     match byte {
         b'n' => Some('\n'),
         b't' => Some('\t'),
@@ -27,47 +33,49 @@ fn escape(byte: u8) -> Option<char> {
     }
 }
 
-/// The line of the first backslash that another character follows.
-pub(crate) fn bad_escape_line(raw: &[u8], line: u64) -> Option<u64> {
-    let mut line = line;
-    let mut is_escaped = false;
-    for byte in raw {
-        if is_escaped && escape(*byte).is_none() {
-            return Some(line);
-        }
-        if *byte == b'\n' {
-            line = line.saturating_add(1);
-        }
-        is_escaped = !is_escaped && *byte == b'\\';
-    }
-    None
-}
-
-// Where the spaces and tabs end that begin at this place.
-fn blanks_end(bytes: &[u8], from: usize) -> usize {
-    let mut at = from;
-    while at < bytes.len() && is_blank(bytes[at]) {
-        at += 1;
-    }
-    at
-}
-
-// Where the characters end that stand for themselves.
-fn plain_end(bytes: &[u8], from: usize) -> usize {
-    let mut at = from;
-    while at < bytes.len() && is_plain(bytes[at]) {
-        at += 1;
-    }
-    at
-}
-
-fn is_blank(byte: u8) -> bool {
+fn is_blank(byte: u8) -> bool
+    ensures cases { result ≡ is_blank byte }
+    ensures ascii { result ≡ true → byte < 128 }
+{
     byte == b' ' || byte == b'\t'
 }
 
 // Whether a character of a double-quoted string stands for itself wherever it is.
-fn is_plain(byte: u8) -> bool {
-    !is_blank(byte) && byte != b'\n' && byte != b'\r' && byte != b'\\'
+fn is_plain(byte: u8) -> bool
+    ensures { result ≡ false → byte < 128 }
+{
+    match byte {
+        b' ' | b'\t' | b'\n' | b'\r' | b'\\' => false,
+        _ => true,
+    }
+}
+
+// Where the spaces and tabs end that go on at this place.
+fn blanks_end(raw: &str, from: usize) -> usize
+    requires { IsCharBoundary raw.now from }
+    ensures forward { from ≤ result }
+    ensures place { IsCharBoundary raw.now result }
+{
+    let bytes = raw.as_bytes();
+    let mut at = from;
+    while at < bytes.len() && is_blank(bytes[at]) {
+        at = behind_ascii(raw, at);
+    }
+    at
+}
+
+// Where the characters end that stand for themselves, the first of which is at this place.
+fn plain_end(raw: &str, from: usize) -> usize
+    requires { from < length raw.now }
+    ensures forward { from < result }
+    ensures place { IsCharBoundary raw.now result }
+{
+    let bytes = raw.as_bytes();
+    let mut at = from + 1;
+    while at < bytes.len() && is_plain(bytes[at]) {
+        at += 1;
+    }
+    at
 }
 
 // Whether a line break begins at this place.
@@ -75,31 +83,45 @@ fn breaks_at(bytes: &[u8], at: usize) -> bool {
     stands_at(bytes, at, b'\n') || (stands_at(bytes, at, b'\r') && stands_at(bytes, at + 1, b'\n'))
 }
 
-/// Adds what a single-quoted string says: each of its characters, a line break being a line feed.
-pub(crate) fn push_single(text: &mut String, raw: &str) -> Result<(), TextFault> {
+// Where the next carriage return stands, or the end.
+fn return_place(raw: &str, from: usize) -> usize
+    requires { from ≤ length raw.now }
+    ensures forward { from ≤ result }
+    ensures place { IsCharBoundary raw.now result }
+    ensures ascii { result < length raw.now → slice_index raw.now result ≡ 13 }
+{
     let bytes = raw.as_bytes();
-    let mut at = 0;
-    while at < bytes.len() {
-        let end = line_end_before(bytes, at);
-        text.push_str(&raw[at..end])?;
-        at = end;
-        if at < bytes.len() {
-            if !stands_at(bytes, at + 1, b'\n') {
-                text.push('\r')?;
-            }
-            at += 1;
-        }
-    }
-    Ok(())
-}
-
-// Where the next carriage return stands.
-fn line_end_before(bytes: &[u8], from: usize) -> usize {
     let mut at = from;
     while at < bytes.len() && bytes[at] != b'\r' {
         at += 1;
     }
     at
+}
+
+// The text between two places.
+fn between(raw: &str, start: usize, end: usize) -> &str
+    requires order { start ≤ end }
+    requires start { IsCharBoundary raw.now start }
+    requires end { IsCharBoundary raw.now end }
+{
+    &raw[start..end]
+}
+
+/// Adds what a single-quoted string says: each of its characters, a line break being a line feed.
+pub(crate) fn push_single(text: &mut String, raw: &str) -> Result<(), TextFault> {
+    let mut at = 0;
+    while at < raw.len() {
+        let end = return_place(raw, at);
+        text.push_str(between(raw, at, end))?;
+        at = end;
+        if at < raw.len() {
+            if !stands_at(raw.as_bytes(), at + 1, b'\n') {
+                text.push('\r')?;
+            }
+            at = behind_ascii(raw, at);
+        }
+    }
+    Ok(())
 }
 
 // Adds so many spaces.
@@ -110,63 +132,69 @@ fn push_spaces(text: &mut String, count: usize) -> Result<(), AllocError> {
     Ok(())
 }
 
+// Adds the spaces and tabs between two places, without so many columns of them.
+fn push_blanks(text: &mut String, raw: &str, start: usize, end: usize, left: usize) -> Result<(), AllocError>
+    requires order { start ≤ end }
+    requires start { IsCharBoundary raw.now start }
+    requires end { IsCharBoundary raw.now end }
+{
+    let bytes = raw.as_bytes();
+    let mut left = left;
+    let mut at = start;
+    while at < end && left > 0 && is_blank(bytes[at]) {
+        let width = if bytes[at] == b'\t' { 8usize } else { 1 };
+        push_spaces(text, width.saturating_sub(left))?;
+        left = left.saturating_sub(width);
+        at = behind_ascii(raw, at);
+    }
+    text.push_str(between(raw, at, end))
+}
+
 /// Adds what a double-quoted string says, its opening quote standing in a line behind these bytes: its lines
 /// stripped, and its escapes replaced.
 pub(crate) fn push_double(text: &mut String, before: &[u8], raw: &str, line: u64) -> Result<(), TextFault> {
     let bytes = raw.as_bytes();
-    if let Some(line) = bad_escape_line(bytes, line) {
-        return Err(TextFault::refused(TextCode::L4, line));
-    }
     let width = column_behind(before);
+    let mut line = line;
     let mut left = 0;
     let mut at = 0;
     while at < bytes.len() {
         let byte = bytes[at];
         if is_plain(byte) {
-            let end = plain_end(bytes, at);
-            text.push_str(&raw[at..end])?;
-            at = end;
+            let end = plain_end(raw, at);
+            text.push_str(between(raw, at, end))?;
             left = 0;
+            at = end;
         } else if is_blank(byte) {
-            let end = blanks_end(bytes, at);
+            let end = blanks_end(raw, behind_ascii(raw, at));
             if !breaks_at(bytes, end) {
-                push_blanks(text, &raw[at..end], left)?;
+                push_blanks(text, raw, at, end, left)?;
                 left = 0;
             }
             at = end;
         } else if byte == b'\n' {
             text.push('\n')?;
+            line = line.saturating_add(1);
             left = width;
-            at += 1;
-        } else if byte == b'\r' {
+            at = behind_ascii(raw, at);
+        } else if byte == b'\\' {
+            let next = behind_ascii(raw, at);
+            if next == bytes.len() {
+                return Ok(());
+            }
+            let Some(stands_for) = escape(bytes[next]) else {
+                return Err(TextFault::refused(TextCode::L4, line));
+            };
+            text.push(stands_for)?;
+            left = 0;
+            at = behind_ascii(raw, next);
+        } else {
             if !stands_at(bytes, at + 1, b'\n') {
                 text.push('\r')?;
                 left = 0;
             }
-            at += 1;
-        } else if at + 1 < bytes.len() {
-            if let Some(stands_for) = escape(bytes[at + 1]) {
-                text.push(stands_for)?;
-            }
-            left = 0;
-            at += 2;
-        } else {
-            at += 1;
+            at = behind_ascii(raw, at);
         }
     }
     Ok(())
-}
-
-// Adds spaces and tabs, without so many columns of them.
-fn push_blanks(text: &mut String, blanks: &str, left: usize) -> Result<(), AllocError> {
-    let bytes = blanks.as_bytes();
-    let mut left = left;
-    let mut at = 0;
-    while at < bytes.len() && left > 0 {
-        let width = if bytes[at] == b'\t' { 8usize } else { 1 };
-        push_spaces(text, width.saturating_sub(left))?;
-        left = left.saturating_sub(width);
-        at += 1;
-    }
-    text.push_str(&blanks[at..])
 }

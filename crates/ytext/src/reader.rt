@@ -1,4 +1,6 @@
 //! Statements, read from a text's tokens (RFC 7950, 6.3 and 14).
+ghost use Rattle.std.specs.Prelude.{◌≡◌, ◌<◌, ◌≤◌, false, IsTrue, OnOk};
+
 use crate::cursor::{Cursor, Lexed, Lexeme};
 use crate::fault::{TextCode, TextFault, line_number};
 use crate::quoted::{push_double, push_single};
@@ -20,6 +22,8 @@ pub(crate) struct Reader<'a> {
 }
 
 impl<'a> Lexed<'a> {
+    ghost use Rattle.ytext.specs.View.{ends_text};
+
     // What is wrong where this token may not stand.
     fn misplaced(self) -> TextFault {
         let code = match self.lexeme {
@@ -37,7 +41,9 @@ impl<'a> Lexed<'a> {
         }
     }
 
-    fn is_plus(self) -> bool {
+    fn is_plus(self) -> bool
+        ensures { IsTrue result → ends_text self.entry.lexeme ≡ false }
+    {
         match self.lexeme {
             Lexeme::Word(word) => matches!(word.as_bytes(), [b'+']),
             _ => false,
@@ -46,6 +52,9 @@ impl<'a> Lexed<'a> {
 }
 
 impl<'a> Reader<'a> {
+    ghost use Rattle.ytext.specs.View.{ends_text};
+    ghost use Rattle.ytext.specs.Reading.{ahead};
+
     pub(crate) fn new(alloc: Global, text: &'a str) -> Reader<'a> {
         let (token, cursor) = Cursor::new(text).next();
         Reader {
@@ -56,14 +65,19 @@ impl<'a> Reader<'a> {
     }
 
     // Goes on to the next token.
-    fn step(&mut self) {
+    fn step(&mut self)
+        requires { ends_text self.old.token.lexeme ≡ false }
+        ensures { ahead self.new < ahead self.old }
+    {
         let (token, cursor) = self.cursor.next();
         self.token = token;
         self.cursor = cursor;
     }
 
     // Adds what the quoted string at hand says.
-    fn push_piece(&self, text: &mut String) -> Result<(), TextFault> {
+    fn push_piece(&self, text: &mut String) -> Result<(), TextFault>
+        ensures { OnOk result (ends_text self.now.token.lexeme ≡ false) }
+    {
         match self.token.lexeme {
             Lexeme::Single(raw) => push_single(text, raw),
             Lexeme::Double { before, raw } => push_double(text, before, raw, self.token.line),
@@ -72,7 +86,9 @@ impl<'a> Reader<'a> {
     }
 
     // Quoted strings with `+` between them.
-    fn pieces(&mut self) -> Result<String, TextFault> {
+    fn pieces(&mut self) -> Result<String, TextFault>
+        ensures { OnOk result (ahead self.new < ahead self.old) }
+    {
         let mut text = String::new(self.alloc);
         self.push_piece(&mut text)?;
         self.step();
@@ -88,7 +104,9 @@ impl<'a> Reader<'a> {
         Ok(text)
     }
 
-    fn argument(&mut self) -> Result<Option<String>, TextFault> {
+    fn argument(&mut self) -> Result<Option<String>, TextFault>
+        ensures { OnOk result (ahead self.new ≤ ahead self.old) }
+    {
         if let Lexeme::Word(word) = self.token.lexeme {
             let text = String::from_str(self.alloc, word)?;
             self.step();
@@ -102,7 +120,9 @@ impl<'a> Reader<'a> {
 
     // `;`, or a block.
     #[cycle(reading)]
-    fn body(&mut self, level: u32) -> Result<Vec<Stmt>, TextFault> {
+    fn body(&mut self, level: u32) -> Result<Vec<Stmt>, TextFault>
+        ensures { OnOk result (ahead self.new < ahead self.old) }
+    {
         match self.token.lexeme {
             Lexeme::Semi => {
                 self.step();
@@ -121,7 +141,9 @@ impl<'a> Reader<'a> {
         }
     }
 
-    fn close(&mut self) -> Result<(), TextFault> {
+    fn close(&mut self) -> Result<(), TextFault>
+        ensures { OnOk result (ahead self.new < ahead self.old) }
+    {
         match self.token.lexeme {
             Lexeme::Close => {
                 self.step();
@@ -133,7 +155,10 @@ impl<'a> Reader<'a> {
 
     // The statement whose keyword is at hand.
     #[cycle(reading)]
-    fn statement(&mut self, word: &str, level: u32) -> Result<Stmt, TextFault> {
+    fn statement(&mut self, word: &str, level: u32) -> Result<Stmt, TextFault>
+        requires { ends_text self.old.token.lexeme ≡ false }
+        ensures { OnOk result (ahead self.new < ahead self.old) }
+    {
         let line = self.token.line;
         if !is_name(word.as_bytes()) {
             return Err(TextFault::refused(TextCode::L8, line));
@@ -152,7 +177,9 @@ impl<'a> Reader<'a> {
 
     // Statements up to a `}` or the end of the text, so many blocks being open.
     #[cycle(reading)]
-    fn statements(&mut self, level: u32) -> Result<Vec<Stmt>, TextFault> {
+    fn statements(&mut self, level: u32) -> Result<Vec<Stmt>, TextFault>
+        ensures { OnOk result (ahead self.new ≤ ahead self.old) }
+    {
         let mut subs = Vec::new(self.alloc);
         while let Lexeme::Word(word) = self.token.lexeme {
             let sub = self.statement(word, level)?;

@@ -1,7 +1,18 @@
 //! How far each piece of a text goes (RFC 7950, 6.1). Places are indices into the bytes of the whole text.
-ghost use Rattle.std.specs.Prelude.{◌≡◌, ℕ, ◌+◌, ◌≤◌, ◌<◌, length, drop, slice_index, false, IsTrue, not, ◌==◌, ◌&&◌, Option, Some, None, option_map};
+ghost use Rattle.std.specs.Prelude.{◌≡◌, ℕ, ◌+◌, ◌≤◌, ◌<◌, length, drop, slice_index, false, IsTrue, not, ◌==◌, ◌&&◌, Option, Some, None, IfSome, option_map, ◌-◌};
+ghost use Rattle.std.specs.Str.{IsCharBoundary};
 ghost use Rattle.yspec.specs.Text.{begins, is_white, star, slash};
 ghost use Rattle.yspec.specs.Token.{is_delimiter, ends_word, word_length, line_comment_length, comment_rest_length, single_length, double_length};
+
+/// The place behind an ASCII character, where a text may be cut.
+pub(crate) fn behind_ascii(text: &str, at: usize) -> usize
+    requires within { at < length text.now }
+    requires ascii { slice_index text.now at < 128 }
+    ensures next { result ≡ at + 1 }
+    ensures place { IsCharBoundary text.now result }
+{
+    at + 1
+}
 
 /// Whether a byte stands at a place.
 pub(crate) fn stands_at(bytes: &[u8], at: usize, byte: u8) -> bool
@@ -27,7 +38,8 @@ fn is_delimiter(byte: u8) -> bool
 // Whether a word ends before this place.
 fn ends_word(bytes: &[u8], at: usize) -> bool
     requires { at < length bytes.now }
-    ensures { result ≡ ends_word (slice_index bytes.now at) (drop (at + 1) bytes.now) }
+    ensures cases { result ≡ ends_word (slice_index bytes.now at) (drop (at + 1) bytes.now) }
+    ensures ascii { IsTrue result → slice_index bytes.now at < 128 }
 {
     let byte = bytes[at];
     is_delimiter(byte)
@@ -41,6 +53,7 @@ pub(crate) fn word_end(bytes: &[u8], from: usize) -> usize
     requires { from ≤ length bytes.now }
     ensures length { result ≡ from + word_length (drop from bytes.now) }
     ensures within { result ≤ length bytes.now }
+    ensures ascii { result < length bytes.now → slice_index bytes.now result < 128 }
 {
     let mut at = from;
     while at < bytes.len() && !ends_word(bytes, at) {
@@ -54,6 +67,7 @@ pub(crate) fn line_end(bytes: &[u8], from: usize) -> usize
     requires { from ≤ length bytes.now }
     ensures length { result ≡ from + line_comment_length (drop from bytes.now) }
     ensures within { result ≤ length bytes.now }
+    ensures ascii { result < length bytes.now → slice_index bytes.now result < 128 }
 {
     let mut at = from;
     while at < bytes.len() && bytes[at] != b'\n' {
@@ -66,7 +80,7 @@ pub(crate) fn line_end(bytes: &[u8], from: usize) -> usize
 fn ends_comment(bytes: &[u8], at: usize) -> bool
     requires { at < length bytes.now }
     ensures cases { result ≡ (slice_index bytes.now at == star && begins slash (drop (at + 1) bytes.now)) }
-    ensures within { IsTrue result → at + 2 ≤ length bytes.now }
+    ensures within { IsTrue result → (at + 2 ≤ length bytes.now) × (slice_index bytes.now (at + 1) ≡ 47) }
 {
     bytes[at] == b'*' && stands_at(bytes, at + 1, b'/')
 }
@@ -75,7 +89,8 @@ fn ends_comment(bytes: &[u8], at: usize) -> bool
 /// Where the comment ends, behind its `*/`.
 pub(crate) fn comment_end(bytes: &[u8], from: usize) -> Option<usize>
     requires { from ≤ length bytes.now }
-    ensures { result ≡ option_map (λ n. from + n) (comment_rest_length (drop from bytes.now)) }
+    ensures length { result ≡ option_map (λ n. from + n) (comment_rest_length (drop from bytes.now)) }
+    ensures within { IfSome result (λ end. (from < end) × (end ≤ length bytes.now) × (slice_index bytes.now (end - 1) ≡ 47)) }
 {
     let mut at = from;
     while at < bytes.len() {
@@ -90,7 +105,8 @@ pub(crate) fn comment_end(bytes: &[u8], from: usize) -> Option<usize>
 /// Where the next single quote stands.
 pub(crate) fn single_end(bytes: &[u8], from: usize) -> Option<usize>
     requires { from ≤ length bytes.now }
-    ensures { result ≡ option_map (λ n. from + n) (single_length (drop from bytes.now)) }
+    ensures length { result ≡ option_map (λ n. from + n) (single_length (drop from bytes.now)) }
+    ensures within { IfSome result (λ end. (from ≤ end) × (end < length bytes.now) × (slice_index bytes.now end ≡ 39)) }
 {
     let mut at = from;
     while at < bytes.len() {
@@ -112,7 +128,8 @@ pub(crate) fn is_unescaped(is_escaped: bool, byte: u8, wanted: u8) -> bool
 /// Where the next double quote stands that no backslash escapes.
 pub(crate) fn double_end(bytes: &[u8], from: usize) -> Option<usize>
     requires { from ≤ length bytes.now }
-    ensures { result ≡ option_map (λ n. from + n) (double_length false (drop from bytes.now)) }
+    ensures length { result ≡ option_map (λ n. from + n) (double_length false (drop from bytes.now)) }
+    ensures within { IfSome result (λ end. (from ≤ end) × (end < length bytes.now) × (slice_index bytes.now end ≡ 34)) }
 {
     let mut at = from;
     let mut is_escaped = false;
