@@ -1,3 +1,4 @@
 pub mod ViewLemmas
 pub mod Walks
+pub mod ScanSteps
 pub mod SinkSteps

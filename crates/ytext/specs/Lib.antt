@@ -1,2 +1,3 @@
-pub mod View
+pub mod Reading
 pub mod Sink
+pub mod View

@@ -1,10 +1,40 @@
--- Statements as the specification's: a label, and the row of what stands below it.
-use Rattle.std.specs.Prelude.{ℕ, List, [], ◌∷◌, map, Option, option_map, String, string_bytes}
+-- What the code's tokens and statements are as values of the definitions.
+use Rattle.std.specs.Prelude.{ℕ, ◌<◌, ◌≡◌, Bool, true, false, List, [], ◌∷◌, map, Option, option_map, String, string_bytes}
+use Rattle.std.specs.Str.{IsCharBoundary}
+use Rattle.ytext.specs.declared.cursor.Lexeme.{Lexeme}
+use Rattle.ytext.specs.declared.cursor.Lexeme.TheVariants.{Word, Single, Double, Semi, Open, Close, End, UnclosedQuote, UnclosedComment, StrayEnd}
+use Rattle.ytext.specs.declared.cursor.Front.{Front}
+use Rattle.ytext.specs.declared.cursor.Front.TheVariants as front
 use Rattle.yspec.specs.Forest.{Forest, end, node}
 use Rattle.yspec.specs.Statement.{Statement}
 use Rattle.ytext.specs.declared.statement.Stmt.{Stmt, fold-Stmt}
 use Rattle.ytext.specs.declared.statement.Stmt.TheOpen.{Stmt-F}
 use Rattle.ytext.specs.declared.statement.Module.{Module}
+
+-- nothing follows it
+abbrev pub ends_text : Lexeme → Bool
+ends_text (Word w) = false
+ends_text (Single raw) = false
+ends_text (Double before raw) = false
+ends_text Semi = false
+ends_text Open = false
+ends_text Close = false
+ends_text End = true
+ends_text UnclosedQuote = true
+ends_text UnclosedComment = true
+ends_text StrayEnd = true
+
+-- a later place where a text may be cut
+abbrev pub IsLater : List ℕ → ℕ → ℕ → Type 0
+IsLater text at later = (at < later) × IsCharBoundary text later
+
+-- what stands at a place goes on to a later one, or ends the text
+abbrev pub GoesOn : List ℕ → ℕ → Front → Type 0
+GoesOn text at (front.Gap later) = IsLater text at later
+GoesOn text at (front.Token lexeme later) = (ends_text lexeme ≡ false) × IsLater text at later
+GoesOn text at (front.Last lexeme) = ends_text lexeme ≡ true
+
+-- ---- statements: a label, and the row of what stands below it
 
 abbrev pub Labelled : Type 0
 Labelled = Statement × Forest Statement

@@ -2,13 +2,21 @@
 #![tactic(auto)]
 
 mod count;
+mod cursor;
 mod fault;
 mod name;
+mod quoted;
+mod reader;
+mod scan;
 mod sink;
 mod statement;
+#[cfg(test)]
+mod tests;
+mod text;
 
 pub use count::FailureCount;
 pub use fault::{TextCode, TextFault};
 pub use name::{is_identifier, is_name};
 pub use sink::{Cut, Sink, SinkFault, write_all};
 pub use statement::{Module, Stmt};
+pub use text::parse;
