@@ -3,7 +3,7 @@
 use crate::fault::{ErrorTag, Fault, FaultCode, Info};
 use std::alloc::{AllocError, Global};
 use yinst::{Step, Stored, Tree};
-use yschema::{Children, Kind, Schema, SchemaId};
+use yschema::{Child, Children, Kind, Schema, SchemaId};
 use ytype::{BadValue, Raw, YType};
 
 /// The faults that are found, and the steps to the node at hand.
@@ -51,7 +51,7 @@ pub fn faults(alloc: Global, schema: &Schema, tree: &Tree) -> Result<Vec<Fault>,
         steps: Vec::new(alloc),
         faults: Vec::new(alloc),
     };
-    check_row(schema, schema.roots(), tree.nodes(), &mut findings)?;
+    check_row(schema.roots(), tree.nodes(), &mut findings)?;
     let Findings { faults, .. } = findings;
     Ok(faults)
 }
@@ -59,19 +59,18 @@ pub fn faults(alloc: Global, schema: &Schema, tree: &Tree) -> Result<Vec<Fault>,
 /// Checks a row of schema nodes against the stored nodes of that row.
 #[cycle(check)]
 fn check_row(
-    schema: &Schema,
     children: Children<'_>,
     row: &[Stored],
     findings: &mut Findings,
 ) -> Result<(), AllocError> {
     let mut rest = row;
-    for id in children {
+    for child in children {
         match rest.split_first() {
-            Some((first, others)) if first.id() == id => {
-                check_node(schema, id, first, findings)?;
+            Some((first, others)) if first.id() == child.id() => {
+                check_node(child, first, findings)?;
                 rest = others;
             }
-            _ => check_absent(schema, id, findings)?,
+            _ => check_absent(child, findings)?,
         }
     }
     Ok(())
@@ -80,19 +79,15 @@ fn check_row(
 /// Checks a stored node and what is stored below it.
 #[cycle(check)]
 fn check_node(
-    schema: &Schema,
-    id: SchemaId,
+    child: Child<'_>,
     stored: &Stored,
     findings: &mut Findings,
 ) -> Result<(), AllocError> {
-    let Some(node) = schema.kind(id) else {
-        return Ok(());
-    };
-    findings.enter(id)?;
-    if let (Kind::Leaf { leaf_type, .. }, Some(raw)) = (&node.kind, stored.value()) {
+    findings.enter(child.id())?;
+    if let (Kind::Leaf { leaf_type, .. }, Some(raw)) = (&child.node().kind, stored.value()) {
         check_value(leaf_type, raw, findings)?;
     }
-    check_row(schema, schema.children(id), stored.below(), findings)?;
+    check_row(child.children(), stored.below(), findings)?;
     findings.leave();
     Ok(())
 }
@@ -109,22 +104,15 @@ fn check_value(leaf_type: &YType, raw: &Raw, findings: &mut Findings) -> Result<
 
 /// Checks what is in play of a node that isn't stored.
 #[cycle(check)]
-fn check_absent(schema: &Schema, id: SchemaId, findings: &mut Findings) -> Result<(), AllocError> {
-    let Some(node) = schema.kind(id) else {
-        return Ok(());
-    };
-    findings.enter(id)?;
-    match &node.kind {
+fn check_absent(child: Child<'_>, findings: &mut Findings) -> Result<(), AllocError> {
+    findings.enter(child.id())?;
+    match &child.node().kind {
         Kind::Container { presence: true } => {}
-        Kind::Container { presence: false } => {
-            check_row(schema, schema.children(id), &[], findings)?;
-        }
+        Kind::Container { presence: false } => check_row(child.children(), &[], findings)?,
         Kind::Leaf {
             mandatory: true,
             ..
-        } => {
-            findings.tell(FaultCode::V3, ErrorTag::DataMissing, None)?;
-        }
+        } => findings.tell(FaultCode::V3, ErrorTag::DataMissing, None)?,
         Kind::Leaf {
             mandatory: false,
             ..

@@ -1,13 +1,13 @@
 //! From bytes to a document.
 
 use crate::fault::{DocCode, DocFault};
-use crate::names::{module_of, written_name};
+use crate::names::written_name;
 use crate::tree::{Stored, Tree};
 use crate::values::raw_of;
 use crate::visits::visit_members;
 use serde_json::{Map, Value};
 use std::alloc::{AllocError, Global};
-use yschema::{Children, Schema, SchemaId};
+use yschema::{Child, Children, Schema};
 
 /// The document that JSON bytes denote under a schema, or the first refusal: J1 and J2, then J3 to J6 depth first, members
 /// in byte order of their names (RFC 7951).
@@ -42,13 +42,10 @@ fn rows_of(
     members: &Map<String, Value>,
 ) -> Result<Vec<Stored>, AllocError> {
     let mut nodes = Vec::new(alloc);
-    for id in children {
-        let Some(node) = schema.kind(id) else {
-            continue;
-        };
-        let name = written_name(alloc, schema, parent_module, node)?;
+    for child in children {
+        let name = written_name(alloc, schema, parent_module, child.node())?;
         if let Some(value) = members.get(name.as_str()) {
-            nodes.push(stored(alloc, schema, id, value)?)?;
+            nodes.push(stored(alloc, schema, child, value)?)?;
         }
     }
     Ok(nodes)
@@ -58,20 +55,15 @@ fn rows_of(
 fn stored(
     alloc: Global,
     schema: &Schema,
-    id: SchemaId,
+    child: Child<'_>,
     value: &Value,
 ) -> Result<Stored, AllocError> {
     match value {
         Value::Object(members) => {
-            let below = rows_of(
-                alloc,
-                schema,
-                module_of(schema, id),
-                schema.children(id),
-                members,
-            )?;
-            Ok(Stored::new(id, None, below))
+            let module = Some(child.node().module);
+            let below = rows_of(alloc, schema, module, child.children(), members)?;
+            Ok(Stored::new(child.id(), None, below))
         }
-        _ => Ok(Stored::new(id, raw_of(alloc, value)?, Vec::new(alloc))),
+        _ => Ok(Stored::new(child.id(), raw_of(alloc, value)?, Vec::new(alloc))),
     }
 }

@@ -1,3 +1,3 @@
-pub mod Told
 pub mod Table
-pub mod Rows
+pub mod Told
+pub mod View

@@ -2,7 +2,7 @@
 
 use crate::fault::{Break, CompileCode, CompileFault};
 use crate::grammar::judge_modules;
-use crate::limits::{has_too_many_levels, has_too_many_nodes, is_data_node};
+use crate::limits::{count_nodes, has_too_many_levels, has_too_many_nodes, is_data_node};
 use crate::names::{name_of, repeated_name};
 use crate::node::{Kind, SchemaId, SchemaNode, Status};
 use crate::schema::{Schema, SchemaModule};
@@ -89,12 +89,11 @@ fn add_node(
         return Ok(());
     }
     let node = node_of(alloc, module, statement)?;
-    let Some(id) = schema.add_node(parent, node)? else {
-        return Ok(());
-    };
-    add_nodes(alloc, schema, module, Some(id), statement.substatements())?;
-    schema.end_node(id);
-    Ok(())
+    let statements = statement.substatements();
+    match schema.add_node(parent, node, count_nodes(statements, 0))? {
+        Some(id) => add_nodes(alloc, schema, module, Some(id), statements),
+        None => Ok(()),
+    }
 }
 
 fn node_of(alloc: Global, module: usize, statement: &Stmt) -> Result<SchemaNode, CompileFault> {

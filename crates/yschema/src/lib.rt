@@ -12,7 +12,7 @@ mod node;
 mod schema;
 
 pub use building::compile;
-pub use children::Children;
+pub use children::{Child, Children};
 pub use fault::{CompileCode, CompileFault};
 pub use limits::{LEVEL_LIMIT, NODE_LIMIT};
 pub use node::{Kind, SchemaId, SchemaNode, Status};

@@ -22,7 +22,7 @@ pub(crate) fn is_data_node(statement: &Stmt) -> bool
 
 /// How many data nodes there are, counted on from a number, and no further than one past the limit.
 #[tactic(auto, unfolding(yspec::specs::Schema::data_size))]
-fn count_nodes(statements: &[Stmt], so_far: usize) -> usize
+pub(crate) fn count_nodes(statements: &[Stmt], so_far: usize) -> usize
     requires { so_far ≤ NODE_LIMIT + 1 }
     ensures { result ≡ min (so_far + data_size (row_view statements.now)) (NODE_LIMIT + 1) }
 {

@@ -1,8 +1,9 @@
 //! The schema of a set of modules, and what can be asked of it.
 
-ghost use Rattle.std.specs.Prelude.{◌≡◌, ◌+◌, ◌<◌, vec_len, IsSome, OnSome};
+ghost use Rattle.std.specs.Prelude.{◌≡◌, ◌+◌, ◌<◌, ◌^◌, vec_len};
 
-use crate::children::Children;
+use crate::children::{Children, Row};
+use crate::limits::NODE_LIMIT;
 use crate::node::{SchemaId, SchemaNode};
 use indexmap::{IndexMap, IndexSet};
 use std::alloc::{AllocError, AllocFailed, Global};
@@ -22,58 +23,66 @@ struct ChildKey {
     name: usize,
 }
 
-/// The schema tree of a set of modules (RFC 7950, 4.2.2). Nodes lie in preorder.
+/// The schema tree of a set of modules (RFC 7950, 4.2.2).
 #[derive(Drop)]
 pub struct Schema {
     modules: Vec<SchemaModule>,
-    nodes: Vec<SchemaNode>,
-    // For each node, the number behind those below it.
-    ends: Vec<u32>,
+    // The nodes in preorder.
+    rows: Vec<Row>,
     names: IndexSet<String>,
     children: IndexMap<ChildKey, SchemaId>,
+    ghost numbered: { vec_len rows < 2 ^ 32 },
 }
 
 impl Schema {
-    ghost use Rattle.yschema.specs.Rows.{node_count, first_place};
+    ghost use Rattle.std.specs.Prelude.{◌≡◌, option_map};
+    ghost use Rattle.yspec.specs.Forest.{size};
+    ghost use Rattle.yschema.specs.View.{view, row_view};
 
     pub(crate) fn empty(alloc: Global) -> Schema {
         Schema {
             modules: Vec::new(alloc),
-            nodes: Vec::new(alloc),
-            ends: Vec::new(alloc),
+            rows: Vec::new(alloc),
             names: IndexSet::new(alloc),
             children: IndexMap::new(alloc),
         }
     }
 
     /// How many nodes it has.
-    pub fn nodes(&self) -> usize
-        ensures { result ≡ node_count self.now }
-    {
-        self.nodes.len()
+    pub fn nodes(&self) -> usize {
+        self.rows.len()
     }
 
     /// All that it holds of a node; nothing of a number that no node has.
-    pub fn kind(&self, id: SchemaId) -> Option<&SchemaNode>
-        ensures known { OnSome result (id.0 < node_count self.now) }
-    {
-        self.nodes.get(id.number())
+    pub fn kind(&self, id: SchemaId) -> Option<&SchemaNode> {
+        match self.rows.get(id.number()) {
+            Some(row) => Some(&row.node),
+            None => None,
+        }
     }
 
     /// The top nodes, in order of definition.
-    pub fn roots(&self) -> Children<'_> {
-        Children::new(self.ends.as_slice(), 0, self.nodes.len())
+    pub fn roots(&self) -> Children<'_>
+        ensures { row_view result ≡ (view self.now).nodes }
+    {
+        Children::new(self.rows.as_slice(), 0)
     }
 
     /// The children of a node, in order of definition; none of a number that no node has.
-    pub fn children(&self, id: SchemaId) -> Children<'_>
-        ensures behind { id.0 < first_place result }
-    {
-        let end = match self.ends.get(id.number()) {
-            Some(end) => *end as usize,
-            None => 0,
-        };
-        Children::new(self.ends.as_slice(), id.number() + 1, end)
+    pub fn children(&self, id: SchemaId) -> Children<'_> {
+        let rows = self.rows.as_slice();
+        let number = id.number();
+        if number >= rows.len() {
+            return Children::new(&[], 0);
+        }
+        let (_, from) = rows.split_at(number);
+        match from.split_first() {
+            Some((first, rest)) => {
+                let (below, _) = rest.split_at(first.below.min(rest.len()));
+                Children::new(below, id.0 + 1)
+            }
+            None => Children::new(&[], 0),
+        }
     }
 
     /// The child of a node, or the top node, of a module and a name.
@@ -114,45 +123,37 @@ impl Schema {
         Ok(())
     }
 
-    /// Adds a node behind all others, and answers its number; nothing where there is no number left.
+    /// Adds a node behind all others, below which so many will stand, and answers its number; nothing where a schema has
+    /// no more numbers.
     pub(crate) fn add_node(
         &mut self,
         parent: Option<SchemaId>,
         node: SchemaNode,
+        below: usize,
     ) -> Result<Option<SchemaId>, AllocError> {
-        let Ok(number) = u32::try_from(self.nodes.len()) else {
+        let number = self.rows.len();
+        if number >= NODE_LIMIT {
             return Ok(None);
-        };
-        let id = SchemaId::new(number);
-        let name = self.number_of(node.name.as_str())?;
+        }
+        let id = SchemaId::new(number as u32);
+        let alloc = *self.rows.allocator();
+        let name = number_of(alloc, &mut self.names, node.name.as_str())?;
         let key = ChildKey {
             parent,
             module: node.module,
             name,
         };
         self.children.insert(key, id)?;
-        self.ends.push(number)?;
-        self.nodes.push(node)?;
+        self.rows.push(Row { node, below })?;
         Ok(Some(id))
     }
+}
 
-    // The number of a name.
-    fn number_of(&mut self, name: &str) -> Result<usize, AllocError> {
-        if let Some(number) = self.names.get_index_of(name) {
-            return Ok(number);
-        }
-        let alloc = *self.nodes.allocator();
-        let (number, _) = self.names.insert_full(String::from_str(alloc, name)?)?;
-        Ok(number)
+/// The number of a name, which it gets at its first use.
+fn number_of(alloc: Global, names: &mut IndexSet<String>, name: &str) -> Result<usize, AllocError> {
+    if let Some(number) = names.get_index_of(name) {
+        return Ok(number);
     }
-
-    /// Notes that all nodes added since a node stand below it.
-    pub(crate) fn end_node(&mut self, id: SchemaId) {
-        if let Ok(end) = u32::try_from(self.nodes.len()) {
-            let number = id.number();
-            if number < self.ends.len() {
-                self.ends[number] = end;
-            }
-        }
-    }
+    let (number, _) = names.insert_full(String::from_str(alloc, name)?)?;
+    Ok(number)
 }
