@@ -2,6 +2,7 @@ pub mod Forest
 pub mod Text
 pub mod Token
 pub mod Statement
+pub mod Spelling
 pub mod Grammar
 pub mod Types
 pub mod Schema
