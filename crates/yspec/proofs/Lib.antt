@@ -1,1 +1,3 @@
 pub mod OnLiterals
+pub mod SpellingCut
+pub mod SpellingTokens

@@ -75,9 +75,9 @@ pub data Piece : ℕ → Lexeme → Text → Text → Type 0 where
 -- A text from a place on is cut into tokens, and gaps stand freely between them. Its end is a token too.
 pub data Cut : Place → Text → List Token → Type 0 where
   at_end : {place : Place} → Cut place [] (at place.line finish ∷ [])
-  gap : {place : Place} {bytes rest : Text} {ts : List Token} → Gap bytes rest → Cut (behind place bytes) rest ts
+  after_gap : {place : Place} {bytes rest : Text} {ts : List Token} → Gap bytes rest → Cut (behind place bytes) rest ts
       → Cut place (bytes ++ rest) ts
-  token : {place : Place} {lexeme : Lexeme} {bytes rest : Text} {ts : List Token}
+  after_token : {place : Place} {lexeme : Lexeme} {bytes rest : Text} {ts : List Token}
       → Piece place.column lexeme bytes rest → Cut (behind place bytes) rest ts
       → Cut place (bytes ++ rest) (at place.line lexeme ∷ ts)
 
