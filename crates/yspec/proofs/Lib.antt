@@ -1,3 +1,5 @@
 pub mod OnLiterals
 pub mod SpellingCut
 pub mod SpellingTokens
+pub mod SpellingRows
+pub mod SpellingLaws
