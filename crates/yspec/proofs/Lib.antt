@@ -3,3 +3,4 @@ pub mod SpellingCut
 pub mod SpellingTokens
 pub mod SpellingRows
 pub mod SpellingLaws
+pub mod SlipsTold

@@ -30,7 +30,7 @@ ok_is x y e = cc
 
 -- ---- quoted strings
 
-escape_lines : (after : Bool) (raw : Text) (l m : ℕ) → bad_escape_line after l raw ≡ None → bad_escape_line after m raw ≡ None
+pub escape_lines : (after : Bool) (raw : Text) (l m : ℕ) → bad_escape_line after l raw ≡ None → bad_escape_line after m raw ≡ None
 unfolding bad_escape_line
 escape_lines true [] l m h = refl
 escape_lines false [] l m h = refl
@@ -125,7 +125,7 @@ argument_found_at line finish ts a us e = absent_found (at line finish ∷ ts) a
 argument_found_at line unclosed_comment ts a us e = absent_found (at line unclosed_comment ∷ ts) a us e
 argument_found_at line stray_end ts a us e = absent_found (at line stray_end ∷ ts) a us e
 
-argument_found : (ts : List Token) (a : Option Text) (us : List Token) → argument ts ≡ Ok (a, us) → Argument ts a us
+pub argument_found : (ts : List Token) (a : Option Text) (us : List Token) → argument ts ≡ Ok (a, us) → Argument ts a us
 argument_found [] a us e = absent_found [] a us e
 argument_found (t ∷ ts) a us e = argument_found_at t.line t.lexeme ts a us e
 
@@ -137,7 +137,7 @@ joined_keeps ts text us (alone (stripped h)) = refl
 joined_keeps ts text us (with {more = more} {ts = vs} as_it_is j) = joined_keeps vs more us j
 joined_keeps ts text us (with {more = more} {ts = vs} (stripped h) j) = joined_keeps vs more us j
 
-argument_keeps : (ts : List Token) (a : Option Text) (us : List Token) → Argument ts a us → from_ending ts ≡ from_ending us
+pub argument_keeps : (ts : List Token) (a : Option Text) (us : List Token) → Argument ts a us → from_ending ts ≡ from_ending us
 argument_keeps ts a us absent = refl
 argument_keeps ts a us unquoted_word = refl
 argument_keeps ts a us (quoted {text = text} j) = joined_keeps ts text us j
@@ -148,22 +148,39 @@ row_keeps level ts f us (bare {l = l} {a = a} {after = after} {ts = vs} {us = ws
 row_keeps level ts f us (block {l = l} {m = m} {a = a} {below = below} {after = after} {ts = vs} {us = ws} {vs = xs} k arg lt inner rest) =
     argument_keeps vs a (at l open_block ∷ ws) arg ∙ row_keeps (level + 1) ws below (at m close_block ∷ xs) inner ∙ row_keeps level xs after us rest
 
+-- ---- what is left is shorter
+
+joined_shorter : (ts : List Token) (text : Text) (us : List Token) → Joined ts text us → length us ≤ length ts
+joined_shorter ts text us (alone says) = omega arith
+joined_shorter ts text us (with {more = more} {ts = vs} says j) = let h = joined_shorter vs more us j in omega arith
+
+pub argument_shorter : (ts : List Token) (a : Option Text) (us : List Token) → Argument ts a us → length us ≤ length ts
+argument_shorter ts a us absent = omega arith
+argument_shorter ts a us unquoted_word = omega arith
+argument_shorter ts a us (quoted {text = text} j) = joined_shorter ts text us j
+
+pub row_shorter : (level : ℕ) (ts : List Token) (f : Forest Statement) (us : List Token) → Row level ts f us → length us ≤ length ts
+row_shorter level ts f us none = omega arith
+row_shorter level ts f us (bare {l = l} {a = a} {after = after} {ts = vs} {us = ws} k arg rest) = let h = argument_shorter vs a (at l semi ∷ ws) arg in let g = row_shorter level ws after us rest in omega arith
+row_shorter level ts f us (block {l = l} {m = m} {a = a} {below = below} {after = after} {ts = vs} {us = ws} {vs = xs} k arg lt inner rest) =
+    let h = argument_shorter vs a (at l open_block ∷ ws) arg in let g = row_shorter (level + 1) ws below (at m close_block ∷ xs) inner in let i = row_shorter level xs after us rest in omega arith
+
 -- ---- rows of statements
 
 -- a token that ends the text stands among these
 unfoldable pub Ends : List Token → Type 0
 Ends ts = (line : ℕ) × (lexeme : Lexeme) × (is_ending lexeme ≡ true) × (from_ending ts ≡ at line lexeme ∷ [])
 
-ends_by : (ts us : List Token) → from_ending ts ≡ from_ending us → Ends ts → Ends us
+pub ends_by : (ts us : List Token) → from_ending ts ≡ from_ending us → Ends ts → Ends us
 unfolding Ends
 ends_by ts us e h = (h.0, h.1, h.2, sym e ∙ h.3)
 
-not_empty : Ends [] → ⊥
+pub not_empty : Ends [] → ⊥
 unfolding Ends
 not_empty h = cc h.3
 
 -- what `inner` reads is a row
-pub Reads : ℕ → (List Token → Result read.Row Slip) → Type 0
+unfoldable pub Reads : ℕ → (List Token → Result read.Row Slip) → Type 0
 Reads level inner = (ts : List Token) (f : Forest Statement) (us : List Token) → Ends ts → inner ts ≡ Ok (f, us) → Row level ts f us
 
 -- a body of a statement
@@ -174,6 +191,10 @@ data Body : ℕ → List Token → Forest Statement → List Token → Type 0 wh
 body_keeps : (level : ℕ) (ts : List Token) (f : Forest Statement) (us : List Token) → Body level ts f us → from_ending ts ≡ from_ending us
 body_keeps level ts f us nothing_below = refl
 body_keeps level ts f us (in_block {m = m} {ts = vs} lt row) = row_keeps (level + 1) vs f (at m close_block ∷ us) row
+
+body_shorter : (level : ℕ) (ts : List Token) (f : Forest Statement) (us : List Token) → Body level ts f us → length us ≤ length ts
+body_shorter level ts f us nothing_below = omega arith
+body_shorter level ts f us (in_block {m = m} {ts = vs} lt row) = let h = row_shorter (level + 1) vs f (at m close_block ∷ us) row in omega arith
 
 closed_found : (below : Forest Statement) (ts : List Token) (f : Forest Statement) (us : List Token) → Ends ts → closed (below, ts) ≡ Ok (f, us) → (m : ℕ) × (ts ≡ at m close_block ∷ us) × (below ≡ f)
 closed_found below [] f us h e = absurd (not_empty h)
@@ -226,12 +247,13 @@ stated_by : (level line : ℕ) (k : Text) (a : Option Text) (ts us vs rest : Lis
 stated_by level line k a ts us vs rest below after n arg nothing_below row = bare n arg row
 stated_by level line k a ts us vs rest below after n arg (in_block lt inner) row = block n arg lt inner row
 
-record Stated (level line : ℕ) (k : Text) (ts : List Token) (first : read.Row) : Type 0 where
-  ends : Ends first.1
-  one : IsOne first.0
-  row : (after : Forest Statement) (rest : List Token) → Row level first.1 after rest → Row level (at line (word k) ∷ ts) (followed first.0 after) rest
+pub record Stated (level line : ℕ) (k : Text) (ts : List Token) (first : read.Row) : Type 0 where
+  pub ends : Ends first.1
+  pub shorter : length first.1 ≤ length ts
+  pub one : IsOne first.0
+  pub row : (after : Forest Statement) (rest : List Token) → Row level first.1 after rest → Row level (at line (word k) ∷ ts) (followed first.0 after) rest
 
-statement_found : (inner : List Token → Result read.Row Slip) (level line : ℕ) (k : Text) (ts : List Token) (first : read.Row) → Reads (level + 1) inner → Ends ts → statement inner level k line ts ≡ Ok first → Stated level line k ts first
+pub statement_found : (inner : List Token → Result read.Row Slip) (level line : ℕ) (k : Text) (ts : List Token) (first : read.Row) → Reads (level + 1) inner → Ends ts → statement inner level k line ts ≡ Ok first → Stated level line k ts first
 statement_found inner level line k ts first reads h e =
     let g = guard_ok (is_name k) (argument ts >>= (λ a. body inner level a.1 >>= (λ b. Ok (node (labelled k a.0 line) b.0 end, b.1)))) 8 line first e in
     let a = bind_ok (argument ts) (λ a. body inner level a.1 >>= (λ b. Ok (node (labelled k a.0 line) b.0 end, b.1))) first g.1 in
@@ -240,9 +262,9 @@ statement_found inner level line k ts first reads h e =
     let h2 : Ends a.0.1 = ends_by ts a.0.1 (argument_keeps ts a.0.0 a.0.1 arg) h in
     let bod : Body level a.0.1 b.0.0 b.0.1 = body_found inner level a.0.1 b.0.0 b.0.1 reads h2 b.1 in
     subst (λ (f : read.Row). Stated level line k ts f) (ok_is (node (labelled k a.0.0 line) b.0.0 end, b.0.1) first b.2)
-        (record { ends = ends_by a.0.1 b.0.1 (body_keeps level a.0.1 b.0.0 b.0.1 bod) h2; one = tt; row = λ after rest row. stated_by level line k a.0.0 ts a.0.1 b.0.1 rest b.0.0 after g.0 arg bod row })
+        (record { shorter = omega (arith, argument_shorter ts a.0.0 a.0.1 arg, body_shorter level a.0.1 b.0.0 b.0.1 bod); ends = ends_by a.0.1 b.0.1 (body_keeps level a.0.1 b.0.0 b.0.1 bod) h2; one = tt; row = λ after rest row. stated_by level line k a.0.0 ts a.0.1 b.0.1 rest b.0.0 after g.0 arg bod row })
 
-statements_found : (fuel level : ℕ) (ts : List Token) (f : Forest Statement) (us : List Token) → Ends ts → statements fuel level ts ≡ Ok (f, us) → Row level ts f us
+pub statements_found : (fuel level : ℕ) (ts : List Token) (f : Forest Statement) (us : List Token) → Ends ts → statements fuel level ts ≡ Ok (f, us) → Row level ts f us
 unfolding statements Reads
 statements_found zero level ts f us h e = rest_is (λ g vs. Row level ts g vs) end ts f us e none
 statements_found (suc fuel) level [] f us h e = rest_is (λ g vs. Row level [] g vs) end [] f us e none
@@ -392,21 +414,6 @@ argument_only : (ts : List Token) (a : Option Text) (us : List Token) → Argume
 argument_only ts a us absent h = no_argument us h
 argument_only ts a us unquoted_word h = refl
 argument_only ts a us (quoted {text = text} j) h = rw (quoted_argument ts (joined_quoted ts text us j), pieces_only ts text us j h) refl
-
-joined_shorter : (ts : List Token) (text : Text) (us : List Token) → Joined ts text us → length us ≤ length ts
-joined_shorter ts text us (alone says) = omega arith
-joined_shorter ts text us (with {more = more} {ts = vs} says j) = let h = joined_shorter vs more us j in omega arith
-
-argument_shorter : (ts : List Token) (a : Option Text) (us : List Token) → Argument ts a us → length us ≤ length ts
-argument_shorter ts a us absent = omega arith
-argument_shorter ts a us unquoted_word = omega arith
-argument_shorter ts a us (quoted {text = text} j) = joined_shorter ts text us j
-
-row_shorter : (level : ℕ) (ts : List Token) (f : Forest Statement) (us : List Token) → Row level ts f us → length us ≤ length ts
-row_shorter level ts f us none = omega arith
-row_shorter level ts f us (bare {l = l} {a = a} {after = after} {ts = vs} {us = ws} k arg rest) = let h = argument_shorter vs a (at l semi ∷ ws) arg in let g = row_shorter level ws after us rest in omega arith
-row_shorter level ts f us (block {l = l} {m = m} {a = a} {below = below} {after = after} {ts = vs} {us = ws} {vs = xs} k arg lt inner rest) =
-    let h = argument_shorter vs a (at l open_block ∷ ws) arg in let g = row_shorter (level + 1) ws below (at m close_block ∷ xs) inner in let i = row_shorter level xs after us rest in omega arith
 
 -- `}` or the end of the text stands first
 abbrev pub stops_row : List Token → Bool

@@ -3,6 +3,7 @@ pub mod Text
 pub mod Token
 pub mod Statement
 pub mod Spelling
+pub mod Slips
 pub mod Grammar
 pub mod Types
 pub mod Schema

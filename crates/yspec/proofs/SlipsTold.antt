@@ -1,0 +1,213 @@
+-- What reading tells is the first slip.
+use Rattle.std.proofs.Common.{◌≡◌, ℕ, zero, suc, ◌+◌, ◌-◌, ◌<◌, ◌≤◌, Bool, true, false, cond, if◌then◌else◌, List, [], ◌∷◌, ◌++◌, length, Option, Some, None, Result, Ok, Err, refl, sym, ap, subst, ◌∙◌, add-one, arith}
+use Rattle.std.specs.Prelude.{◌==◌, nat_lt}
+use Rattle.std.specs.Option.{option_map_or}
+use Rattle.std.proofs.lemmas.Bool.{eqb-true}
+use Rattle.yspec.specs.Forest.{Forest, end, node}
+use Rattle.yspec.specs.Text.{Text, is_name, line_after, line_feed, backslash}
+use Rattle.yspec.specs.Token.{Lexeme, Token, word, single, double, semi, open_block, close_block, finish, unclosed_quote, unclosed_comment, stray_end, at, bad_escape_line, double_text, escape}
+use Rattle.yspec.specs.Statement.{Statement, Slip, slip, ◌>>=◌, is_quoted, begins_quoted, is_plus, piece, appended, after_piece, pieces, some_argument, argument_at, argument, closed_at, closed, body_at, body, statement, followed, in_row, row_at, statements, ending_at, ending, top_at, top_statement, block_limit}
+use Rattle.yspec.specs.Statement as read
+use Rattle.yspec.specs.Slips.{State, at_keyword, behind_keyword, behind_word, behind_quoted, behind_plus, behind_top, behind_statement, wrong_escapes, slips_from, first}
+use Rattle.yspec.proofs.SpellingTokens.{from_ending}
+use Rattle.yspec.proofs.SpellingRows.{Ends, ends_by, not_empty, Reads, Stated, bind_ok, argument_found, argument_keeps, argument_shorter, row_keeps, row_shorter, statement_found, statements_found, stops_row}
+
+abbrev first_from : State → List Token → Option Slip
+first_from state ts = first (slips_from state ts)
+
+abbrev is_slip : ℕ → ℕ → Option Slip
+is_slip code line = Some (record { code = code; line = line })
+
+-- what is read leaves the first slip as it was, and what isn't tells it
+abbrev Tells : {A : Type 0} → Result A Slip → Option Slip → (A → Option Slip) → Type 0
+Tells (Ok x) here there = here ≡ there x
+Tells (Err e) here there = here ≡ Some e
+
+tells_bind : {A B : Type 0} (r : Result A Slip) (f : A → Result B Slip) (here : Option Slip) (mid : A → Option Slip) (there : B → Option Slip) → Tells r here mid → ((x : A) → r ≡ Ok x → Tells (f x) (mid x) there) → Tells (r >>= f) here there
+tells_bind (Ok x) f here mid there h k = subst (λ (o : Option Slip). Tells (f x) o there) (sym h) (k x refl)
+tells_bind (Err e) f here mid there h k = h
+
+tells_from : {A : Type 0} (r : Result A Slip) (a b : Option Slip) (there : A → Option Slip) → a ≡ b → Tells r b there → Tells r a there
+tells_from r a b there e h = subst (λ (o : Option Slip). Tells r o there) (sym e) h
+
+-- ---- quoted strings
+
+escape_in_line : (x y line : ℕ) → escape x ≡ Some y → line_after x line ≡ line
+escape_in_line x y line h = go (x == line_feed) refl
+  where
+    go : (b : Bool) → (x == line_feed) ≡ b → line_after x line ≡ line
+    go true e = absurd (cc (subst (λ (z : ℕ). escape z ≡ Some y) (eqb-true x line_feed e) h))
+    go false e = rw e refl
+
+no_escapes : (after : Bool) (line : ℕ) (raw : Text) → bad_escape_line after line raw ≡ None → wrong_escapes after line raw ≡ []
+unfolding bad_escape_line wrong_escapes
+no_escapes true line [] h = refl
+no_escapes false line [] h = refl
+no_escapes true line (x ∷ xs) h = go (escape x) refl h (no_escapes false line xs)
+  where
+    go : (o : Option ℕ) → escape x ≡ o → option_map_or (λ _. bad_escape_line false line xs) o (Some line) ≡ None → (bad_escape_line false line xs ≡ None → wrong_escapes false line xs ≡ []) → wrong_escapes true line (x ∷ xs) ≡ []
+    go None e h below = absurd cc
+    go (Some y) e h below = rw (e, escape_in_line x y line e) (below h)
+no_escapes false line (x ∷ xs) h = no_escapes (x == backslash) (line_after x line) xs h
+
+first_escape : (after : Bool) (line bad : ℕ) (raw : Text) (rest : List Slip) → bad_escape_line after line raw ≡ Some bad → first (wrong_escapes after line raw ++ rest) ≡ is_slip 4 bad
+unfolding bad_escape_line wrong_escapes
+first_escape true line bad [] rest h = absurd cc
+first_escape false line bad [] rest h = absurd cc
+first_escape true line bad (x ∷ xs) rest h = go (escape x) refl h (first_escape false line bad xs rest)
+  where
+    go : (o : Option ℕ) → escape x ≡ o → option_map_or (λ _. bad_escape_line false line xs) o (Some line) ≡ Some bad → (bad_escape_line false line xs ≡ Some bad → first (wrong_escapes false line xs ++ rest) ≡ is_slip 4 bad) → first (wrong_escapes true line (x ∷ xs) ++ rest) ≡ is_slip 4 bad
+    go None e h below = rw e (ap (λ (l : ℕ). is_slip 4 l) cc)
+    go (Some y) e h below = rw (e, escape_in_line x y line e) (below h)
+first_escape false line bad (x ∷ xs) rest h = first_escape (x == backslash) (line_after x line) bad xs rest h
+
+piece_tells : (level line : ℕ) (lexeme : Lexeme) (ts : List Token) → is_quoted lexeme ≡ true → Tells (piece line lexeme) (first_from (behind_plus level) (at line lexeme ∷ ts)) (λ text. first_from (behind_quoted level) ts)
+unfolding slips_from
+piece_tells level line (single raw) ts q = refl
+piece_tells level line (double column raw) ts q = go (bad_escape_line false line raw) refl
+  where
+    go : (o : Option ℕ) → bad_escape_line false line raw ≡ o → Tells (option_map_or (λ bad. slip 4 bad) o (Ok (double_text column raw))) (first_from (behind_plus level) (at line (double column raw) ∷ ts)) (λ text. first_from (behind_quoted level) ts)
+    go None e = rw (no_escapes false line raw e) refl
+    go (Some bad) e = first_escape false line bad raw (slips_from (behind_quoted level) ts) e
+piece_tells level line unclosed_quote ts q = refl
+piece_tells level line (word w) ts q = absurd cc
+piece_tells level line semi ts q = absurd cc
+piece_tells level line open_block ts q = absurd cc
+piece_tells level line close_block ts q = absurd cc
+piece_tells level line finish ts q = absurd cc
+piece_tells level line unclosed_comment ts q = absurd cc
+piece_tells level line stray_end ts q = absurd cc
+
+plus_step : (level line : ℕ) (lexeme : Lexeme) (ts : List Token) → is_plus lexeme ≡ true → begins_quoted ts ≡ true → slips_from (behind_quoted level) (at line lexeme ∷ ts) ≡ slips_from (behind_plus level) ts
+unfolding slips_from
+plus_step level line (word w) ts p q = rw (p, q) refl
+plus_step level line (single raw) ts p q = absurd cc
+plus_step level line (double column raw) ts p q = absurd cc
+plus_step level line semi ts p q = absurd cc
+plus_step level line open_block ts p q = absurd cc
+plus_step level line close_block ts p q = absurd cc
+plus_step level line finish ts p q = absurd cc
+plus_step level line unclosed_quote ts p q = absurd cc
+plus_step level line unclosed_comment ts p q = absurd cc
+plus_step level line stray_end ts p q = absurd cc
+
+plus_alone : (level line : ℕ) (lexeme : Lexeme) (ts : List Token) → is_plus lexeme ≡ true → begins_quoted ts ≡ false → first_from (behind_quoted level) (at line lexeme ∷ ts) ≡ is_slip 5 line
+unfolding slips_from
+plus_alone level line (word w) ts p q = rw (p, q) refl
+plus_alone level line (single raw) ts p q = absurd cc
+plus_alone level line (double column raw) ts p q = absurd cc
+plus_alone level line semi ts p q = absurd cc
+plus_alone level line open_block ts p q = absurd cc
+plus_alone level line close_block ts p q = absurd cc
+plus_alone level line finish ts p q = absurd cc
+plus_alone level line unclosed_quote ts p q = absurd cc
+plus_alone level line unclosed_comment ts p q = absurd cc
+plus_alone level line stray_end ts p q = absurd cc
+
+no_plus : (level line : ℕ) (lexeme : Lexeme) (ts : List Token) → is_plus lexeme ≡ false → first_from (behind_quoted level) (at line lexeme ∷ ts) ≡ first_from (behind_word level) (at line lexeme ∷ ts)
+unfolding slips_from
+no_plus level line (word w) ts p = rw p refl
+no_plus level line (single raw) ts p = refl
+no_plus level line (double column raw) ts p = refl
+no_plus level line semi ts p = refl
+no_plus level line open_block ts p = refl
+no_plus level line close_block ts p = refl
+no_plus level line finish ts p = refl
+no_plus level line unclosed_quote ts p = refl
+no_plus level line unclosed_comment ts p = refl
+no_plus level line stray_end ts p = refl
+
+after_piece_tells : (level : ℕ) (text : Text) (t : Token) (ts : List Token) → (begins_quoted ts ≡ true → Tells (pieces ts) (first_from (behind_plus level) ts) (λ x. first_from (behind_word level) x.1))
+    → Tells (after_piece text t ts (pieces ts)) (first_from (behind_quoted level) (t ∷ ts)) (λ x. first_from (behind_word level) x.1)
+after_piece_tells level text t ts more = go (is_plus t.lexeme) refl (begins_quoted ts) refl
+  where
+    go : (p : Bool) → is_plus t.lexeme ≡ p → (q : Bool) → begins_quoted ts ≡ q → Tells (cond p (cond q (pieces ts >>= appended text) (slip 5 t.line)) (Ok (text, t ∷ ts))) (first_from (behind_quoted level) (t ∷ ts)) (λ x. first_from (behind_word level) x.1)
+    go true hp true hq = tells_bind (pieces ts) (appended text) (first_from (behind_quoted level) (t ∷ ts)) (λ x. first_from (behind_word level) x.1) (λ x. first_from (behind_word level) x.1)
+        (tells_from (pieces ts) _ (first_from (behind_plus level) ts) (λ x. first_from (behind_word level) x.1) (ap (λ (l : List Slip). first l) (plus_step level t.line t.lexeme ts hp hq)) (more hq)) (λ x e. refl)
+    go true hp false hq = plus_alone level t.line t.lexeme ts hp hq
+    go false hp q hq = no_plus level t.line t.lexeme ts hp
+
+pieces_tell : (level : ℕ) (ts : List Token) → begins_quoted ts ≡ true → Tells (pieces ts) (first_from (behind_plus level) ts) (λ x. first_from (behind_word level) x.1)
+unfolding pieces slips_from
+pieces_tell level [] q = absurd cc
+pieces_tell level (a ∷ []) q = tells_bind (piece a.line a.lexeme) (λ text. Ok (text, [])) _ (λ text. first_from (behind_quoted level) []) (λ x. first_from (behind_word level) x.1) (piece_tells level a.line a.lexeme [] q) (λ text e. refl)
+pieces_tell level (a ∷ b ∷ ts) q = tells_bind (piece a.line a.lexeme) (λ text. after_piece text b ts (pieces ts)) _ (λ text. first_from (behind_quoted level) (b ∷ ts)) (λ x. first_from (behind_word level) x.1) (piece_tells level a.line a.lexeme (b ∷ ts) q) (λ text e. after_piece_tells level text b ts (pieces_tell level ts))
+
+-- ---- arguments
+
+quoted_tells : (level : ℕ) (ts : List Token) → begins_quoted ts ≡ true → first_from (behind_keyword level) ts ≡ first_from (behind_plus level) ts → Tells (pieces ts >>= some_argument) (first_from (behind_keyword level) ts) (λ x. first_from (behind_word level) x.1)
+quoted_tells level ts q same = tells_bind (pieces ts) some_argument _ (λ x. first_from (behind_word level) x.1) (λ x. first_from (behind_word level) x.1) (tells_from (pieces ts) _ _ (λ x. first_from (behind_word level) x.1) same (pieces_tell level ts q)) (λ x e. refl)
+
+argument_tells_at : (level line : ℕ) (lexeme : Lexeme) (ts : List Token) → Tells (argument_at lexeme (at line lexeme) ts) (first_from (behind_keyword level) (at line lexeme ∷ ts)) (λ x. first_from (behind_word level) x.1)
+unfolding slips_from
+argument_tells_at level line (word w) ts = refl
+argument_tells_at level line (single raw) ts = quoted_tells level (at line (single raw) ∷ ts) refl refl
+argument_tells_at level line (double column raw) ts = quoted_tells level (at line (double column raw) ∷ ts) refl refl
+argument_tells_at level line semi ts = refl
+argument_tells_at level line open_block ts = refl
+argument_tells_at level line close_block ts = refl
+argument_tells_at level line finish ts = refl
+argument_tells_at level line unclosed_quote ts = quoted_tells level (at line unclosed_quote ∷ ts) refl refl
+argument_tells_at level line unclosed_comment ts = refl
+argument_tells_at level line stray_end ts = refl
+
+argument_tells : (level : ℕ) (ts : List Token) → Tells (argument ts) (first_from (behind_keyword level) ts) (λ x. first_from (behind_word level) x.1)
+unfolding slips_from
+argument_tells level [] = refl
+argument_tells level (t ∷ ts) = argument_tells_at level t.line t.lexeme ts
+
+-- ---- statements
+
+-- what `inner` reads of the statements of a block at a level
+InnerTells : ℕ → (List Token → Result read.Row Slip) → ℕ → Type 0
+InnerTells fuel inner level = (ts : List Token) → Ends ts → length ts ≤ fuel → Tells (inner ts) (first_from (at_keyword (suc level)) ts) (λ x. first_from (at_keyword (suc level)) x.1)
+
+InnerStops : ℕ → (List Token → Result read.Row Slip) → Type 0
+InnerStops fuel inner = (ts : List Token) (x : read.Row) → Ends ts → length ts ≤ fuel → inner ts ≡ Ok x → stops_row x.1 ≡ true
+
+closed_tells : (level : ℕ) (x : read.Row) → stops_row x.1 ≡ true → Tells (closed x) (first_from (at_keyword (suc level)) x.1) (λ y. first_from (behind_statement level) y.1)
+unfolding slips_from
+closed_tells level x h = go x.0 x.1 h
+  where
+    at_token : (below : Forest Statement) (line : ℕ) (lexeme : Lexeme) (ts : List Token) → stops_row (at line lexeme ∷ ts) ≡ true → Tells (closed_at lexeme below (at line lexeme) ts) (first_from (at_keyword (suc level)) (at line lexeme ∷ ts)) (λ y. first_from (behind_statement level) y.1)
+    at_token below line (word w) ts h = absurd cc
+    at_token below line (single raw) ts h = absurd cc
+    at_token below line (double column raw) ts h = absurd cc
+    at_token below line semi ts h = absurd cc
+    at_token below line open_block ts h = absurd cc
+    at_token below line close_block ts h = refl
+    at_token below line finish ts h = refl
+    at_token below line unclosed_quote ts h = absurd cc
+    at_token below line unclosed_comment ts h = absurd cc
+    at_token below line stray_end ts h = absurd cc
+    go : (below : Forest Statement) (ts : List Token) → stops_row ts ≡ true → Tells (closed (below, ts)) (first_from (at_keyword (suc level)) ts) (λ y. first_from (behind_statement level) y.1)
+    go below [] h = absurd cc
+    go below (t ∷ ts) h = at_token below t.line t.lexeme ts h
+
+block_tells : (fuel : ℕ) (inner : List Token → Result read.Row Slip) (level line : ℕ) (ts : List Token) → InnerTells fuel inner level → InnerStops fuel inner → Ends ts → length ts ≤ fuel
+    → Tells (cond (nat_lt level block_limit) (inner ts >>= closed) (slip 7 line)) (first_from (behind_word level) (at line open_block ∷ ts)) (λ y. first_from (behind_statement level) y.1)
+unfolding slips_from InnerTells InnerStops
+block_tells fuel inner level line ts tell stop h n = go (nat_lt level block_limit) refl
+  where
+    go : (b : Bool) → nat_lt level block_limit ≡ b → Tells (cond b (inner ts >>= closed) (slip 7 line)) (first_from (behind_word level) (at line open_block ∷ ts)) (λ y. first_from (behind_statement level) y.1)
+    go true e = tells_from (inner ts >>= closed) _ (first_from (at_keyword (suc level)) ts) (λ y. first_from (behind_statement level) y.1) (rw e refl)
+        (tells_bind (inner ts) closed _ (λ x. first_from (at_keyword (suc level)) x.1) (λ y. first_from (behind_statement level) y.1) (tell ts h n) (λ x r. closed_tells level x (stop ts x h n r)))
+    go false e = rw e refl
+
+body_tells : (fuel : ℕ) (inner : List Token → Result read.Row Slip) (level : ℕ) (ts : List Token) → InnerTells fuel inner level → InnerStops fuel inner → Ends ts → length ts ≤ fuel
+    → Tells (body inner level ts) (first_from (behind_word level) ts) (λ y. first_from (behind_statement level) y.1)
+unfolding slips_from
+body_tells fuel inner level [] tell stop h n = absurd (not_empty h)
+body_tells fuel inner level (t ∷ ts) tell stop h n = go t.line t.lexeme h
+  where
+    go : (line : ℕ) (lexeme : Lexeme) → Ends (at line lexeme ∷ ts) → Tells (body_at lexeme inner level (at line lexeme) ts) (first_from (behind_word level) (at line lexeme ∷ ts)) (λ y. first_from (behind_statement level) y.1)
+    go line (word w) h = refl
+    go line (single raw) h = refl
+    go line (double column raw) h = refl
+    go line semi h = refl
+    go line open_block h = block_tells fuel inner level line ts tell stop (ends_by (at line open_block ∷ ts) ts refl h) (omega arith)
+    go line close_block h = refl
+    go line finish h = refl
+    go line unclosed_quote h = refl
+    go line unclosed_comment h = refl
+    go line stray_end h = refl
