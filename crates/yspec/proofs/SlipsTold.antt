@@ -10,7 +10,7 @@ use Rattle.yspec.specs.Statement.{Statement, Slip, slip, ◌>>=◌, is_quoted, b
 use Rattle.yspec.specs.Statement as read
 use Rattle.yspec.specs.Slips.{State, at_keyword, behind_keyword, behind_word, behind_quoted, behind_plus, behind_top, behind_statement, wrong_escapes, slips_from, first}
 use Rattle.yspec.proofs.SpellingTokens.{from_ending}
-use Rattle.yspec.proofs.SpellingRows.{Ends, ends_by, not_empty, Reads, Stated, bind_ok, argument_found, argument_keeps, argument_shorter, row_keeps, row_shorter, statement_found, statements_found, stops_row}
+use Rattle.yspec.proofs.SpellingRows.{Ends, ends_by, not_empty, Reads, Stated, bind_ok, argument_found, argument_keeps, argument_shorter, row_keeps, row_shorter, statement_found, statements_found, stops_row, ok_is}
 
 abbrev first_from : State → List Token → Option Slip
 first_from state ts = first (slips_from state ts)
@@ -211,3 +211,97 @@ body_tells fuel inner level (t ∷ ts) tell stop h n = go t.line t.lexeme h
     go line unclosed_quote h = refl
     go line unclosed_comment h = refl
     go line stray_end h = refl
+
+keyword_step : (level line : ℕ) (k : Text) (ts : List Token) → is_name k ≡ true → first_from (at_keyword level) (at line (word k) ∷ ts) ≡ first_from (behind_keyword level) ts
+unfolding slips_from
+keyword_step zero line k ts h = rw h refl
+keyword_step (suc level) line k ts h = rw h refl
+
+keyword_slip : (level line : ℕ) (k : Text) (ts : List Token) → is_name k ≡ false → first_from (at_keyword level) (at line (word k) ∷ ts) ≡ is_slip 8 line
+unfolding slips_from
+keyword_slip zero line k ts h = rw h refl
+keyword_slip (suc level) line k ts h = rw h refl
+
+statement_tells : (fuel : ℕ) (inner : List Token → Result read.Row Slip) (level line : ℕ) (k : Text) (ts : List Token) → InnerTells fuel inner level → InnerStops fuel inner → Ends ts → length ts ≤ fuel
+    → Tells (statement inner level k line ts) (first_from (at_keyword level) (at line (word k) ∷ ts)) (λ y. first_from (behind_statement level) y.1)
+statement_tells fuel inner level line k ts tell stop h n = go (is_name k) refl
+  where
+    build : Option Text × List Token → read.Row → Result read.Row Slip
+    build a b = Ok (node (record { keyword = k; argument = a.0; line = line }) b.0 end, b.1)
+    rest_of : Option Text × List Token → Result read.Row Slip
+    rest_of a = body inner level a.1 >>= build a
+    go : (b : Bool) → is_name k ≡ b → Tells (cond b (argument ts >>= rest_of) (slip 8 line)) (first_from (at_keyword level) (at line (word k) ∷ ts)) (λ y. first_from (behind_statement level) y.1)
+    go true e = tells_from (argument ts >>= rest_of) _ (first_from (behind_keyword level) ts) (λ y. first_from (behind_statement level) y.1) (keyword_step level line k ts e)
+        (tells_bind (argument ts) rest_of _ (λ a. first_from (behind_word level) a.1) (λ y. first_from (behind_statement level) y.1) (argument_tells level ts)
+            (λ a r. let arg = argument_found ts a.0 a.1 r in
+                tells_bind (body inner level a.1) (build a) _ (λ y. first_from (behind_statement level) y.1) (λ y. first_from (behind_statement level) y.1)
+                    (body_tells fuel inner level a.1 tell stop (ends_by ts a.1 (argument_keeps ts a.0 a.1 arg) h) (omega (arith, argument_shorter ts a.0 a.1 arg)))
+                    (λ b r2. refl)))
+    go false e = keyword_slip level line k ts e
+
+reads_at : (fuel level : ℕ) → Reads level (statements fuel level)
+unfolding Reads
+reads_at fuel level = statements_found fuel level
+
+stated_at : (fuel level line : ℕ) (k : Text) (ts : List Token) (x : read.Row) → Ends (at line (word k) ∷ ts) → statement (statements fuel (level + 1)) level k line ts ≡ Ok x → Stated level line k ts x
+stated_at fuel level line k ts x h e = statement_found (statements fuel (level + 1)) level line k ts x (reads_at fuel (level + 1)) (ends_by (at line (word k) ∷ ts) ts refl h) e
+
+ok_rest : (x y : read.Row) → ◌≡◌ {A = Result read.Row Slip} (Ok x) (Ok y) → x.1 ≡ y.1
+ok_rest x y e = ap (λ (p : read.Row). p.1) (ok_is x y e)
+
+stops_is : (ts us : List Token) → ts ≡ us → stops_row ts ≡ true → stops_row us ≡ true
+stops_is ts us e h = subst (λ (vs : List Token). stops_row vs ≡ true) e h
+
+statements_stop : (fuel level : ℕ) (ts : List Token) (x : read.Row) → Ends ts → length ts ≤ fuel → statements fuel level ts ≡ Ok x → stops_row x.1 ≡ true
+unfolding statements
+statements_stop fuel level [] x h n e = absurd (not_empty h)
+statements_stop zero level (t ∷ ts) x h n e = absurd (omega arith)
+statements_stop (suc fuel) level (t ∷ ts) x h n e = go t.line t.lexeme h e (statements_stop fuel)
+  where
+    go : (line : ℕ) (lexeme : Lexeme) → Ends (at line lexeme ∷ ts) → row_at lexeme (statements fuel (level + 1)) (statements fuel level) level (at line lexeme) ts ≡ Ok x
+        → ((level : ℕ) (ts : List Token) (x : read.Row) → Ends ts → length ts ≤ fuel → statements fuel level ts ≡ Ok x → stops_row x.1 ≡ true) → stops_row x.1 ≡ true
+    go line (word w) h e below =
+        let a = bind_ok (statement (statements fuel (level + 1)) level w line ts) (λ first. statements fuel level first.1 >>= in_row first) x e in
+        let b = bind_ok (statements fuel level a.0.1) (in_row a.0) x a.2 in
+        let s : Stated level line w ts a.0 = stated_at fuel level line w ts a.0 h a.1 in
+        stops_is b.0.1 x.1 (ok_rest (followed a.0.0 b.0.0, b.0.1) x b.2) (below level a.0.1 b.0 s.ends (omega (arith, s.shorter)) b.1)
+    go line (single raw) h e below = absurd cc
+    go line (double column raw) h e below = absurd cc
+    go line semi h e below = absurd cc
+    go line open_block h e below = absurd cc
+    go line close_block h e below = stops_is (at line close_block ∷ ts) x.1 (ok_rest (end, at line close_block ∷ ts) x e) refl
+    go line finish h e below = stops_is (at line finish ∷ ts) x.1 (ok_rest (end, at line finish ∷ ts) x e) refl
+    go line unclosed_quote h e below = absurd cc
+    go line unclosed_comment h e below = absurd cc
+    go line stray_end h e below = absurd cc
+
+stops_at : (fuel level : ℕ) → InnerStops fuel (statements fuel level)
+unfolding InnerStops
+stops_at fuel level = statements_stop fuel level
+
+statements_tell : (fuel level : ℕ) (ts : List Token) → Ends ts → length ts ≤ fuel → Tells (statements fuel (suc level) ts) (first_from (at_keyword (suc level)) ts) (λ x. first_from (at_keyword (suc level)) x.1)
+unfolding statements slips_from InnerTells
+statements_tell zero level ts h n = refl
+statements_tell (suc fuel) level [] h n = refl
+statements_tell (suc fuel) level (t ∷ ts) h n = go t.line t.lexeme h (statements_tell fuel)
+  where
+    go : (line : ℕ) (lexeme : Lexeme) → Ends (at line lexeme ∷ ts)
+        → ((level : ℕ) (ts : List Token) → Ends ts → length ts ≤ fuel → Tells (statements fuel (suc level) ts) (first_from (at_keyword (suc level)) ts) (λ x. first_from (at_keyword (suc level)) x.1))
+        → Tells (row_at lexeme (statements fuel (suc level + 1)) (statements fuel (suc level)) (suc level) (at line lexeme) ts) (first_from (at_keyword (suc level)) (at line lexeme ∷ ts)) (λ x. first_from (at_keyword (suc level)) x.1)
+    go line (word w) h below =
+        let inner : InnerTells fuel (statements fuel (suc level + 1)) (suc level) = λ vs g m. subst (λ (d : ℕ). Tells (statements fuel d vs) (first_from (at_keyword (suc (suc level))) vs) (λ x. first_from (at_keyword (suc (suc level))) x.1)) (sym (add-one (suc level))) (below (suc level) vs g m) in
+        tells_bind (statement (statements fuel (suc level + 1)) (suc level) w line ts) (λ a. statements fuel (suc level) a.1 >>= in_row a) _ (λ a. first_from (at_keyword (suc level)) a.1) (λ x. first_from (at_keyword (suc level)) x.1)
+            (statement_tells fuel (statements fuel (suc level + 1)) (suc level) line w ts inner (stops_at fuel (suc level + 1)) (ends_by (at line (word w) ∷ ts) ts refl h) (omega arith))
+            (λ a r. let s = stated_at fuel (suc level) line w ts a h r in
+                tells_bind (statements fuel (suc level) a.1) (in_row a) _ (λ x. first_from (at_keyword (suc level)) x.1) (λ x. first_from (at_keyword (suc level)) x.1)
+                    (below level a.1 s.ends (omega (arith, s.shorter)))
+                    (λ b r2. refl))
+    go line (single raw) h below = refl
+    go line (double column raw) h below = refl
+    go line semi h below = refl
+    go line open_block h below = refl
+    go line close_block h below = refl
+    go line finish h below = refl
+    go line unclosed_quote h below = refl
+    go line unclosed_comment h below = refl
+    go line stray_end h below = refl
