@@ -1,15 +1,19 @@
 -- What reading tells is the first slip.
-use Rattle.std.proofs.Common.{◌≡◌, ℕ, zero, suc, ◌+◌, ◌-◌, ◌<◌, ◌≤◌, Bool, true, false, cond, if◌then◌else◌, List, [], ◌∷◌, ◌++◌, length, Option, Some, None, Result, Ok, Err, refl, sym, ap, subst, ◌∙◌, add-one, arith}
-use Rattle.std.specs.Prelude.{◌==◌, nat_lt}
+use Rattle.std.proofs.Common.{◌≡◌, ℕ, zero, suc, ◌+◌, ◌-◌, ◌<◌, ◌≤◌, Bool, true, false, cond, if◌then◌else◌, List, [], ◌∷◌, ◌++◌, length, take, drop, Option, Some, None, Result, Ok, Err, refl, sym, ap, subst, ◌∙◌, add-one, arith}
+use Rattle.std.specs.Prelude.{◌==◌, not, nat_lt}
+use Rattle.std.specs.Str.{chars, is_utf8}
+use Rattle.std.specs.Str.Lossy.{utf8_valid_len}
+use Rattle.std.proofs.lemmas.Option.{same_Some}
 use Rattle.std.specs.Option.{option_map_or}
 use Rattle.std.proofs.lemmas.Bool.{eqb-true}
 use Rattle.yspec.specs.Forest.{Forest, end, node}
-use Rattle.yspec.specs.Text.{Text, is_name, line_after, line_feed, backslash}
-use Rattle.yspec.specs.Token.{Lexeme, Token, word, single, double, semi, open_block, close_block, finish, unclosed_quote, unclosed_comment, stray_end, at, bad_escape_line, double_text, escape}
-use Rattle.yspec.specs.Statement.{Statement, Slip, slip, ◌>>=◌, is_quoted, begins_quoted, is_plus, piece, appended, after_piece, pieces, some_argument, argument_at, argument, closed_at, closed, body_at, body, statement, followed, in_row, row_at, statements, ending_at, ending, top_at, top_statement, block_limit}
+use Rattle.yspec.specs.Text.{Text, is_name, line_after, line_feed, backslash, line_behind, forbidden_line}
+use Rattle.yspec.specs.Token.{Lexeme, Token, word, single, double, semi, open_block, close_block, finish, unclosed_quote, unclosed_comment, stray_end, at, bad_escape_line, double_text, escape, tokens_of}
+use Rattle.yspec.specs.Statement.{Statement, Slip, slip, ◌>>=◌, is_quoted, begins_quoted, is_plus, piece, appended, after_piece, pieces, some_argument, argument_at, argument, closed_at, closed, body_at, body, statement, followed, in_row, row_at, statements, ending_at, ending, top_at, top_statement, block_limit, text_limit, module_of}
 use Rattle.yspec.specs.Statement as read
-use Rattle.yspec.specs.Slips.{State, at_keyword, behind_keyword, behind_word, behind_quoted, behind_plus, behind_top, behind_statement, wrong_escapes, slips_from, first}
-use Rattle.yspec.proofs.SpellingTokens.{from_ending}
+use Rattle.yspec.specs.Slips.{State, at_keyword, behind_keyword, behind_word, behind_quoted, behind_plus, behind_top, behind_statement, wrong_escapes, slips_from, slips, first, told}
+use Rattle.yspec.specs.Spelling.{Spells}
+use Rattle.yspec.proofs.SpellingLaws.{text_ends, module_found, module_only}
 use Rattle.yspec.proofs.SpellingRows.{Ends, ends_by, not_empty, Reads, Stated, bind_ok, argument_found, argument_keeps, argument_shorter, row_keeps, row_shorter, statement_found, statements_found, stops_row, ok_is}
 
 abbrev first_from : State → List Token → Option Slip
@@ -305,3 +309,83 @@ statements_tell (suc fuel) level (t ∷ ts) h n = go t.line t.lexeme h (statemen
     go line unclosed_quote h below = refl
     go line unclosed_comment h below = refl
     go line stray_end h below = refl
+
+-- ---- the whole text
+
+nothing_behind : (line : ℕ) (ts : List Token) → Ends (at line finish ∷ ts) → ts ≡ []
+unfolding Ends
+nothing_behind line ts h = ap (λ (vs : List Token). drop 1 vs) h.3
+
+ending_tells : (top : Forest Statement) (ts : List Token) → Ends ts → Tells (ending (top, ts)) (first_from behind_top ts) (λ f. None)
+unfolding slips_from
+ending_tells top [] h = absurd (not_empty h)
+ending_tells top (t ∷ ts) h = go t.line t.lexeme h
+  where
+    go : (line : ℕ) (lexeme : Lexeme) → Ends (at line lexeme ∷ ts) → Tells (ending_at lexeme top (at line lexeme)) (first_from behind_top (at line lexeme ∷ ts)) (λ f. None)
+    go line (word w) h = refl
+    go line (single raw) h = refl
+    go line (double column raw) h = refl
+    go line semi h = refl
+    go line open_block h = refl
+    go line close_block h = refl
+    go line finish h = rw (nothing_behind line ts h) refl
+    go line unclosed_quote h = refl
+    go line unclosed_comment h = refl
+    go line stray_end h = refl
+
+inner_tells : (fuel : ℕ) → InnerTells fuel (statements fuel 1) 0
+unfolding InnerTells
+inner_tells fuel = statements_tell fuel 0
+
+pub top_tells : (ts : List Token) → Ends ts → Tells (top_statement ts) (first_from (at_keyword 0) ts) (λ f. None)
+unfolding slips_from
+top_tells [] h = absurd (not_empty h)
+top_tells (t ∷ ts) h = go t.line t.lexeme h
+  where
+    go : (line : ℕ) (lexeme : Lexeme) → Ends (at line lexeme ∷ ts) → Tells (top_at lexeme (length ts) (at line lexeme) ts) (first_from (at_keyword 0) (at line lexeme ∷ ts)) (λ f. None)
+    go line (word w) h = tells_bind (statement (statements (length ts) 1) 0 w line ts) ending _ (λ a. first_from behind_top a.1) (λ f. None)
+        (statement_tells (length ts) (statements (length ts) 1) 0 line w ts (inner_tells (length ts)) (stops_at (length ts) 1) (ends_by (at line (word w) ∷ ts) ts refl h) (omega arith))
+        (λ a r. let s = stated_at (length ts) 0 line w ts a h r in ending_tells a.0 a.1 s.ends)
+    go line (single raw) h = refl
+    go line (double column raw) h = refl
+    go line semi h = refl
+    go line open_block h = refl
+    go line close_block h = refl
+    go line finish h = refl
+    go line unclosed_quote h = refl
+    go line unclosed_comment h = refl
+    go line stray_end h = refl
+
+text_tells : (text : Text) → Tells (module_of text) (told text) (λ f. None)
+unfolding module_of told
+text_tells text = go (nat_lt text_limit (length text)) (is_utf8 text) (forbidden_line 1 (chars text))
+  where
+    go : (long utf8 : Bool) (bad : Option ℕ) → Tells (cond long (slip 7 1) (cond utf8 (option_map_or (λ line. slip 2 line) bad (top_statement (tokens_of text))) (slip 1 (line_behind 1 (take (utf8_valid_len text) text)))))
+        (cond long (is_slip 7 1) (cond (not utf8) (is_slip 1 (line_behind 1 (take (utf8_valid_len text) text))) (option_map_or (λ line. is_slip 2 line) bad (first (slips text))))) (λ f. None)
+    go true utf8 bad = refl
+    go false false bad = refl
+    go false true (Some line) = refl
+    go false true None = top_tells (tokens_of text) (text_ends text)
+
+pub refusal_told : (text : Text) (s : Slip) → module_of text ≡ Err s → told text ≡ Some s
+refusal_told text s e = subst (λ (r : Result (Forest Statement) Slip). Tells r (told text) (λ f. None)) e (text_tells text)
+
+pub nothing_told : (text : Text) (top : Forest Statement) → module_of text ≡ Ok top → told text ≡ None
+nothing_told text top e = subst (λ (r : Result (Forest Statement) Slip). Tells r (told text) (λ f. None)) e (text_tells text)
+
+pub told_refused : (text : Text) (s : Slip) → told text ≡ Some s → module_of text ≡ Err s
+told_refused text s e = go (module_of text) refl
+  where
+    go : (r : Result (Forest Statement) Slip) → module_of text ≡ r → module_of text ≡ Err s
+    go (Ok top) h = absurd (cc (nothing_told text top h))
+    go (Err d) h = h ∙ ap (λ (x : Slip). Err x) (same_Some d s (sym (refusal_told text d h) ∙ e))
+
+pub silent_spells : (text : Text) → told text ≡ None → (top : Forest Statement) × Spells text top
+silent_spells text e = go (module_of text) refl
+  where
+    go : (r : Result (Forest Statement) Slip) → module_of text ≡ r → (top : Forest Statement) × Spells text top
+    go (Ok top) h = (top, module_found text top h)
+    go (Err d) h = absurd (cc (refusal_told text d h))
+
+pub spelled_silent : (text : Text) (top : Forest Statement) → Spells text top → told text ≡ None
+spelled_silent text top s = nothing_told text top (module_only text top s)

@@ -26,7 +26,7 @@ allowed_only : (line : ℕ) (cs : List ℕ) → AreAllowed cs → forbidden_line
 allowed_only line [] h = refl
 allowed_only line (c ∷ cs) h = rw h.0 (allowed_only (line_after c line) cs h.1)
 
-text_ends : (text : Text) → Ends (tokens_of text)
+pub text_ends : (text : Text) → Ends (tokens_of text)
 unfolding Ends
 text_ends text = let e = ending (length text) start text (omega arith) in (e.line, e.lexeme, e.is_end, e.last)
 

@@ -5,6 +5,7 @@ ghost use Rattle.yspec.specs.Forest.{Forest, end, node};
 ghost use Rattle.yspec.specs.Text.{Text};
 ghost use Rattle.yspec.specs.Statement.{Statement, Slip, module_of};
 ghost use Rattle.yspec.specs.Spelling.{Spells};
+ghost use Rattle.yspec.specs.Slips.{told};
 
 /// What is read of a text is what it spells, and what a text spells is read.
 pub fn reading()
@@ -23,6 +24,15 @@ pub fn refusals()
         → Spells text top → ⊥ }
     ensures all_refused { (text : Text) → ((top : Forest Statement) → Spells text top → ⊥)
         → (slip : Slip) × (module_of text ≡ Err slip) }
+{}
+
+/// A text is refused with what is told of it: that it is too long, no UTF-8 or has a character that isn't allowed, and
+/// else the first of its slips. Nothing is told of a text exactly where it spells a statement.
+pub fn first_slip()
+    ensures refused { (text : Text) (slip : Slip) → module_of text ≡ Err slip → told text ≡ Some slip }
+    ensures told_alone { (text : Text) (slip : Slip) → told text ≡ Some slip → module_of text ≡ Err slip }
+    ensures spelled { (text : Text) (top : Forest Statement) → Spells text top → told text ≡ None }
+    ensures else_spelled { (text : Text) → told text ≡ None → (top : Forest Statement) × Spells text top }
 {}
 
 /// Quoted pieces, comments without white space around them, and a `+` that is an argument.
