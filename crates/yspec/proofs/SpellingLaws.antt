@@ -10,7 +10,6 @@ use Rattle.yspec.specs.Token.{Lexeme, Token, finish, at, tokens_of}
 use Rattle.yspec.specs.Statement.{Statement, Slip, slip, ◌>>=◌, top_statement, text_limit, allowed_text, module_of}
 use Rattle.yspec.specs.Spelling.{start, Cut, AreAllowed, Spells}
 use Rattle.std.specs.Str.Lossy.{utf8_valid_len}
-use Rattle.yspec.proofs.SpellingCut.{is_bad}
 use Rattle.yspec.proofs.SpellingTokens.{from_ending, Ending, ending, cut_only}
 use Rattle.yspec.proofs.SpellingRows.{Ends, Top, ok_is, top_found, top_only, row_keeps}
 
@@ -30,18 +29,11 @@ pub text_ends : (text : Text) → Ends (tokens_of text)
 unfolding Ends
 text_ends text = let e = ending (length text) start text (omega arith) in (e.line, e.lexeme, e.is_end, e.last)
 
-is_finish : (line m : ℕ) (lexeme : Lexeme) (ts : List Token) → from_ending ts ≡ at line lexeme ∷ [] → from_ending ts ≡ at m finish ∷ [] → lexeme ≡ finish
-is_finish line m lexeme ts h g = ap (λ (vs : List Token). first_lexeme vs) (sym h ∙ g)
-  where
-    first_lexeme : List Token → Lexeme
-    first_lexeme [] = finish
-    first_lexeme (t ∷ ts) = t.lexeme
+pub text_cut : (text : Text) → Cut start text (tokens_of text)
+text_cut text = (ending (length text) start text (omega arith)).cut
 
-tokens_cut : (text : Text) (top : Forest Statement) → Top (tokens_of text) top → Cut start text (tokens_of text)
-tokens_cut text top t = go (ending (length text) start text (omega arith))
-  where
-    go : Ending start text (tokens_of text) → Cut start text (tokens_of text)
-    go e = e.cut (subst (λ (l : Lexeme). is_bad l ≡ false) (sym (is_finish e.line t.last_line e.lexeme (tokens_of text) e.last (row_keeps 0 (tokens_of text) top (at t.last_line finish ∷ []) t.row))) refl)
+pub one_cut : (text : Text) (a b : List Token) → Cut start text a → Cut start text b → a ≡ b
+one_cut text a b p q = sym (cut_only start text a p) ∙ cut_only start text b q
 
 pub module_found : (text : Text) (top : Forest Statement) → module_of text ≡ Ok top → Spells text top
 unfolding module_of
@@ -54,7 +46,7 @@ module_found text top e = go (nat_lt text_limit (length text)) refl (is_utf8 tex
     go false hl true hu (Some line) hb e = absurd cc
     go false hl true hu None hb e =
         let t = top_found (tokens_of text) top (text_ends text) e in
-        record { short = ltb-false text_limit (length text) hl; utf8 = hu; allowed = allowed_found 1 (chars text) hb; one = t.one; tokens = tokens_of text; cut = tokens_cut text top t; last_line = t.last_line; statement = t.row }
+        record { short = ltb-false text_limit (length text) hl; utf8 = hu; allowed = allowed_found 1 (chars text) hb; one = t.one; tokens = tokens_of text; cut = text_cut text; last_line = t.last_line; statement = t.row }
 
 pub module_only : (text : Text) (top : Forest Statement) → Spells text top → module_of text ≡ Ok top
 unfolding module_of

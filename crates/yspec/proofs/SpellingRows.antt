@@ -8,7 +8,7 @@ use Rattle.yspec.specs.Text.{Text, is_text, is_name, plus, line_after, backslash
 use Rattle.yspec.specs.Token.{Lexeme, Token, word, single, double, semi, open_block, close_block, finish, unclosed_quote, unclosed_comment, stray_end, at, bad_escape_line, double_text, single_text, escape}
 use Rattle.yspec.specs.Statement.{Statement, Slip, slip, ◌>>=◌, misplaced, is_quoted, begins_quoted, is_plus, piece, appended, after_piece, pieces, some_argument, argument_at, argument, closed_at, closed, body_at, body, statement, followed, in_row, row_at, statements, ending_at, ending, top_at, top_statement, block_limit}
 use Rattle.yspec.specs.Statement as read
-use Rattle.yspec.specs.Spelling.{Says, as_it_is, stripped, Joined, alone, with, Argument, absent, unquoted_word, quoted, Row, none, bare, block, IsOne}
+use Rattle.yspec.specs.Spelling.{Says, as_it_is, stripped, Joined, alone, with, Argument, absent, unquoted_word, quoted, Spelled, none, bare, block, IsOne}
 use Rattle.yspec.proofs.SpellingCut.{is_ending}
 use Rattle.yspec.proofs.SpellingTokens.{from_ending}
 
@@ -142,7 +142,7 @@ argument_keeps ts a us absent = refl
 argument_keeps ts a us unquoted_word = refl
 argument_keeps ts a us (quoted {text = text} j) = joined_keeps ts text us j
 
-pub row_keeps : (level : ℕ) (ts : List Token) (f : Forest Statement) (us : List Token) → Row level ts f us → from_ending ts ≡ from_ending us
+pub row_keeps : (level : ℕ) (ts : List Token) (f : Forest Statement) (us : List Token) → Spelled level ts f us → from_ending ts ≡ from_ending us
 row_keeps level ts f us none = refl
 row_keeps level ts f us (bare {l = l} {a = a} {after = after} {ts = vs} {us = ws} k arg rest) = argument_keeps vs a (at l semi ∷ ws) arg ∙ row_keeps level ws after us rest
 row_keeps level ts f us (block {l = l} {m = m} {a = a} {below = below} {after = after} {ts = vs} {us = ws} {vs = xs} k arg lt inner rest) =
@@ -159,7 +159,7 @@ argument_shorter ts a us absent = omega arith
 argument_shorter ts a us unquoted_word = omega arith
 argument_shorter ts a us (quoted {text = text} j) = joined_shorter ts text us j
 
-pub row_shorter : (level : ℕ) (ts : List Token) (f : Forest Statement) (us : List Token) → Row level ts f us → length us ≤ length ts
+pub row_shorter : (level : ℕ) (ts : List Token) (f : Forest Statement) (us : List Token) → Spelled level ts f us → length us ≤ length ts
 row_shorter level ts f us none = omega arith
 row_shorter level ts f us (bare {l = l} {a = a} {after = after} {ts = vs} {us = ws} k arg rest) = let h = argument_shorter vs a (at l semi ∷ ws) arg in let g = row_shorter level ws after us rest in omega arith
 row_shorter level ts f us (block {l = l} {m = m} {a = a} {below = below} {after = after} {ts = vs} {us = ws} {vs = xs} k arg lt inner rest) =
@@ -181,12 +181,12 @@ not_empty h = cc h.3
 
 -- what `inner` reads is a row
 unfoldable pub Reads : ℕ → (List Token → Result read.Row Slip) → Type 0
-Reads level inner = (ts : List Token) (f : Forest Statement) (us : List Token) → Ends ts → inner ts ≡ Ok (f, us) → Row level ts f us
+Reads level inner = (ts : List Token) (f : Forest Statement) (us : List Token) → Ends ts → inner ts ≡ Ok (f, us) → Spelled level ts f us
 
 -- a body of a statement
 data Body : ℕ → List Token → Forest Statement → List Token → Type 0 where
   nothing_below : {level line : ℕ} {rest : List Token} → Body level (at line semi ∷ rest) end rest
-  in_block : {level line m : ℕ} {ts rest : List Token} {below : Forest Statement} → level < block_limit → Row (level + 1) ts below (at m close_block ∷ rest) → Body level (at line open_block ∷ ts) below rest
+  in_block : {level line m : ℕ} {ts rest : List Token} {below : Forest Statement} → level < block_limit → Spelled (level + 1) ts below (at m close_block ∷ rest) → Body level (at line open_block ∷ ts) below rest
 
 body_keeps : (level : ℕ) (ts : List Token) (f : Forest Statement) (us : List Token) → Body level ts f us → from_ending ts ≡ from_ending us
 body_keeps level ts f us nothing_below = refl
@@ -212,8 +212,8 @@ closed_found below (t ∷ ts) f us h e = go t.line t.lexeme e
     go line unclosed_comment e = absurd cc
     go line stray_end e = absurd cc
 
-in_closed_block : (level line m : ℕ) (ts vs us : List Token) (below f : Forest Statement) → level < block_limit → Row (level + 1) ts below vs → vs ≡ at m close_block ∷ us → below ≡ f → Body level (at line open_block ∷ ts) f us
-in_closed_block level line m ts vs us below f lt row e same = in_block lt (subst (λ (g : Forest Statement). Row (level + 1) ts g (at m close_block ∷ us)) same (subst (λ (ws : List Token). Row (level + 1) ts below ws) e row))
+in_closed_block : (level line m : ℕ) (ts vs us : List Token) (below f : Forest Statement) → level < block_limit → Spelled (level + 1) ts below vs → vs ≡ at m close_block ∷ us → below ≡ f → Body level (at line open_block ∷ ts) f us
+in_closed_block level line m ts vs us below f lt row e same = in_block lt (subst (λ (g : Forest Statement). Spelled (level + 1) ts g (at m close_block ∷ us)) same (subst (λ (ws : List Token). Spelled (level + 1) ts below ws) e row))
 
 block_found : (inner : List Token → Result read.Row Slip) (level line : ℕ) (ts : List Token) (f : Forest Statement) (us : List Token) → Reads (level + 1) inner → Ends ts → cond (nat_lt level block_limit) (inner ts >>= closed) (slip 7 line) ≡ Ok (f, us) → Body level (at line open_block ∷ ts) f us
 unfolding Reads
@@ -243,7 +243,7 @@ body_found inner level (t ∷ ts) f us reads h e = go t.line t.lexeme h e
 abbrev labelled : Text → Option Text → ℕ → Statement
 labelled k a line = record { keyword = k; argument = a; line = line }
 
-stated_by : (level line : ℕ) (k : Text) (a : Option Text) (ts us vs rest : List Token) (below after : Forest Statement) → is_name k ≡ true → Argument ts a us → Body level us below vs → Row level vs after rest → Row level (at line (word k) ∷ ts) (node (labelled k a line) below after) rest
+stated_by : (level line : ℕ) (k : Text) (a : Option Text) (ts us vs rest : List Token) (below after : Forest Statement) → is_name k ≡ true → Argument ts a us → Body level us below vs → Spelled level vs after rest → Spelled level (at line (word k) ∷ ts) (node (labelled k a line) below after) rest
 stated_by level line k a ts us vs rest below after n arg nothing_below row = bare n arg row
 stated_by level line k a ts us vs rest below after n arg (in_block lt inner) row = block n arg lt inner row
 
@@ -251,7 +251,7 @@ pub record Stated (level line : ℕ) (k : Text) (ts : List Token) (first : read.
   pub ends : Ends first.1
   pub shorter : length first.1 ≤ length ts
   pub one : IsOne first.0
-  pub row : (after : Forest Statement) (rest : List Token) → Row level first.1 after rest → Row level (at line (word k) ∷ ts) (followed first.0 after) rest
+  pub row : (after : Forest Statement) (rest : List Token) → Spelled level first.1 after rest → Spelled level (at line (word k) ∷ ts) (followed first.0 after) rest
 
 pub statement_found : (inner : List Token → Result read.Row Slip) (level line : ℕ) (k : Text) (ts : List Token) (first : read.Row) → Reads (level + 1) inner → Ends ts → statement inner level k line ts ≡ Ok first → Stated level line k ts first
 statement_found inner level line k ts first reads h e =
@@ -264,21 +264,21 @@ statement_found inner level line k ts first reads h e =
     subst (λ (f : read.Row). Stated level line k ts f) (ok_is (node (labelled k a.0.0 line) b.0.0 end, b.0.1) first b.2)
         (record { shorter = omega (arith, argument_shorter ts a.0.0 a.0.1 arg, body_shorter level a.0.1 b.0.0 b.0.1 bod); ends = ends_by a.0.1 b.0.1 (body_keeps level a.0.1 b.0.0 b.0.1 bod) h2; one = tt; row = λ after rest row. stated_by level line k a.0.0 ts a.0.1 b.0.1 rest b.0.0 after g.0 arg bod row })
 
-pub statements_found : (fuel level : ℕ) (ts : List Token) (f : Forest Statement) (us : List Token) → Ends ts → statements fuel level ts ≡ Ok (f, us) → Row level ts f us
+pub statements_found : (fuel level : ℕ) (ts : List Token) (f : Forest Statement) (us : List Token) → Ends ts → statements fuel level ts ≡ Ok (f, us) → Spelled level ts f us
 unfolding statements Reads
-statements_found zero level ts f us h e = rest_is (λ g vs. Row level ts g vs) end ts f us e none
-statements_found (suc fuel) level [] f us h e = rest_is (λ g vs. Row level [] g vs) end [] f us e none
+statements_found zero level ts f us h e = rest_is (λ g vs. Spelled level ts g vs) end ts f us e none
+statements_found (suc fuel) level [] f us h e = rest_is (λ g vs. Spelled level [] g vs) end [] f us e none
 statements_found (suc fuel) level (t ∷ ts) f us h e = go t.line t.lexeme h e (statements_found fuel)
   where
     go : (line : ℕ) (lexeme : Lexeme) → Ends (at line lexeme ∷ ts) → row_at lexeme (statements fuel (level + 1)) (statements fuel level) level (at line lexeme) ts ≡ Ok (f, us)
-        → ((level : ℕ) (ts : List Token) (f : Forest Statement) (us : List Token) → Ends ts → statements fuel level ts ≡ Ok (f, us) → Row level ts f us) → Row level (at line lexeme ∷ ts) f us
+        → ((level : ℕ) (ts : List Token) (f : Forest Statement) (us : List Token) → Ends ts → statements fuel level ts ≡ Ok (f, us) → Spelled level ts f us) → Spelled level (at line lexeme ∷ ts) f us
     go line (word w) h e below =
         let a = bind_ok (statement (statements fuel (level + 1)) level w line ts) (λ first. statements fuel level first.1 >>= in_row first) (f, us) e in
         let b = bind_ok (statements fuel level a.0.1) (in_row a.0) (f, us) a.2 in
         let s : Stated level line w ts a.0 = statement_found (statements fuel (level + 1)) level line w ts a.0 (below (level + 1)) (ends_by (at line (word w) ∷ ts) ts refl h) a.1 in
-        rest_is (λ g vs. Row level (at line (word w) ∷ ts) g vs) (followed a.0.0 b.0.0) b.0.1 f us b.2 (s.row b.0.0 b.0.1 (below level a.0.1 b.0.0 b.0.1 s.ends b.1))
-    go line close_block h e below = rest_is (λ g vs. Row level (at line close_block ∷ ts) g vs) end (at line close_block ∷ ts) f us e none
-    go line finish h e below = rest_is (λ g vs. Row level (at line finish ∷ ts) g vs) end (at line finish ∷ ts) f us e none
+        rest_is (λ g vs. Spelled level (at line (word w) ∷ ts) g vs) (followed a.0.0 b.0.0) b.0.1 f us b.2 (s.row b.0.0 b.0.1 (below level a.0.1 b.0.0 b.0.1 s.ends b.1))
+    go line close_block h e below = rest_is (λ g vs. Spelled level (at line close_block ∷ ts) g vs) end (at line close_block ∷ ts) f us e none
+    go line finish h e below = rest_is (λ g vs. Spelled level (at line finish ∷ ts) g vs) end (at line finish ∷ ts) f us e none
     go line (single raw) h e below = absurd cc
     go line (double column raw) h e below = absurd cc
     go line semi h e below = absurd cc
@@ -317,7 +317,7 @@ top_reads fuel = statements_found fuel 1
 pub record Top (ts : List Token) (f : Forest Statement) : Type 0 where
   pub one : IsOne f
   pub last_line : ℕ
-  pub row : Row 0 ts f (at last_line finish ∷ [])
+  pub row : Spelled 0 ts f (at last_line finish ∷ [])
 
 pub top_found : (ts : List Token) (f : Forest Statement) → Ends ts → top_statement ts ≡ Ok f → Top ts f
 top_found [] f h e = absurd (not_empty h)
@@ -329,7 +329,7 @@ top_found (t ∷ ts) f h e = go t.line t.lexeme h e
         let s : Stated 0 line w ts a.0 = statement_found (statements (length ts) 1) 0 line w ts a.0 (top_reads (length ts)) (ends_by (at line (word w) ∷ ts) ts refl h) a.1 in
         let b = ending_found a.0.0 a.0.1 f s.ends a.2 in
         let one : IsOne f = subst IsOne b.2 s.one in
-        record { one = one; last_line = b.0; row = subst (λ (g : Forest Statement). Row 0 (at line (word w) ∷ ts) g (at b.0 finish ∷ [])) (followed_by_nothing a.0.0 s.one ∙ b.2) (subst (λ (vs : List Token). Row 0 (at line (word w) ∷ ts) (followed a.0.0 end) vs) b.1 (s.row end a.0.1 none)) }
+        record { one = one; last_line = b.0; row = subst (λ (g : Forest Statement). Spelled 0 (at line (word w) ∷ ts) g (at b.0 finish ∷ [])) (followed_by_nothing a.0.0 s.one ∙ b.2) (subst (λ (vs : List Token). Spelled 0 (at line (word w) ∷ ts) (followed a.0.0 end) vs) b.1 (s.row end a.0.1 none)) }
     go line close_block h e = absurd cc
     go line (single raw) h e = absurd cc
     go line (double column raw) h e = absurd cc
@@ -450,7 +450,7 @@ block_only : (inner : List Token → Result read.Row Slip) (level line l m : ℕ
     → statement inner level k line ts ≡ Ok (node (labelled k a line) below end, vs)
 block_only inner level line l m k a ts us vs below n arg lt i = rw (n, argument_only ts a (at l open_block ∷ us) arg refl, lt-ltb level block_limit lt, i) refl
 
-row_only : (fuel level : ℕ) (ts : List Token) (f : Forest Statement) (us : List Token) → Row level ts f us → stops_row us ≡ true → length ts ≤ fuel → statements fuel level ts ≡ Ok (f, us)
+row_only : (fuel level : ℕ) (ts : List Token) (f : Forest Statement) (us : List Token) → Spelled level ts f us → stops_row us ≡ true → length ts ≤ fuel → statements fuel level ts ≡ Ok (f, us)
 unfolding statements
 row_only fuel level ts f us none s h = no_statement fuel level us s
 row_only zero level ts f us (bare k arg rest) s h = absurd (omega arith)
@@ -463,7 +463,7 @@ row_only (suc fuel) level ts f us (block {line = line} {l = l} {m = m} {k = k} {
     let h3 = row_shorter (level + 1) ws below (at m close_block ∷ xs) inner in
     rw (block_only (statements fuel (level + 1)) level line l m k a vs ws xs below n arg lt (row_only fuel (level + 1) ws below (at m close_block ∷ xs) inner refl (omega arith)), row_only fuel level xs after us rest s (omega arith)) refl
 
-end_row : (level : ℕ) (ts us : List Token) → Row level ts end us → ts ≡ us
+end_row : (level : ℕ) (ts us : List Token) → Spelled level ts end us → ts ≡ us
 end_row level ts us none = refl
 
 only_one : (s : Statement) (below after : Forest Statement) → IsOne (node s below after) → after ≡ end
@@ -471,11 +471,11 @@ only_one s below end h = refl
 only_one s below (node t inner after) h = absurd h
 
 -- the last row is empty
-last_row : (level : ℕ) (ts us : List Token) (s : Statement) (below after : Forest Statement) → IsOne (node s below after) → Row level ts after us → (after ≡ end) × (ts ≡ us)
+last_row : (level : ℕ) (ts us : List Token) (s : Statement) (below after : Forest Statement) → IsOne (node s below after) → Spelled level ts after us → (after ≡ end) × (ts ≡ us)
 last_row level ts us s below after h row =
-    let e = only_one s below after h in (e, end_row level ts us (subst (λ (f : Forest Statement). Row level ts f us) e row))
+    let e = only_one s below after h in (e, end_row level ts us (subst (λ (f : Forest Statement). Spelled level ts f us) e row))
 
-one_row_only : (level line : ℕ) (ts us : List Token) (f : Forest Statement) → IsOne f → us ≡ at line finish ∷ [] → level ≡ 0 → Row level ts f us → top_statement ts ≡ Ok f
+one_row_only : (level line : ℕ) (ts us : List Token) (f : Forest Statement) → IsOne f → us ≡ at line finish ∷ [] → level ≡ 0 → Spelled level ts f us → top_statement ts ≡ Ok f
 one_row_only level line ts us f one e z none = absurd one
 one_row_only level line ts us f one e z (bare {line = first} {l = l} {k = k} {a = a} {after = after} {ts = vs} {us = ws} n arg rest) =
     let p = last_row level ws us (labelled k a first) end after one rest in
@@ -483,7 +483,7 @@ one_row_only level line ts us f one e z (bare {line = first} {l = l} {k = k} {a 
 one_row_only level line ts us f one e z (block {line = first} {l = l} {m = m} {k = k} {a = a} {below = below} {after = after} {ts = vs} {us = ws} {vs = xs} n arg lt inner rest) =
     let p = last_row level xs us (labelled k a first) below after one rest in
     let h2 = argument_shorter vs a (at l open_block ∷ ws) arg in
-    let inner_row : Row (0 + 1) ws below (at m close_block ∷ xs) = subst (λ (d : ℕ). Row (d + 1) ws below (at m close_block ∷ xs)) z inner in
+    let inner_row : Spelled (0 + 1) ws below (at m close_block ∷ xs) = subst (λ (d : ℕ). Spelled (d + 1) ws below (at m close_block ∷ xs)) z inner in
     rw (block_only (statements (length vs) 1) 0 first l m k a vs ws xs below n arg (omega arith) (row_only (length vs) 1 ws below (at m close_block ∷ xs) inner_row refl (omega arith)), p.0, p.1, e) refl
 
 pub top_only : (ts : List Token) (f : Forest Statement) → Top ts f → top_statement ts ≡ Ok f

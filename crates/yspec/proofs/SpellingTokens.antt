@@ -3,8 +3,8 @@ use Rattle.std.proofs.Common.{◌≡◌, ℕ, zero, suc, ◌+◌, ◌-◌, ◌<�
 use Rattle.std.proofs.lemmas.List.{length-append}
 use Rattle.yspec.specs.Text.{Text, line_after}
 use Rattle.yspec.specs.Token.{Lexeme, Token, word, single, double, semi, open_block, close_block, finish, unclosed_quote, unclosed_comment, stray_end, at, Front, gap, token, last, front, column_after, tokens_from}
-use Rattle.yspec.specs.Spelling.{Place, past, behind, Gap, Piece, Cut, at_end, after_gap, after_token}
-use Rattle.yspec.proofs.SpellingCut.{Split, Right, is_bad, is_ending, front_at, front_right, gap_front, piece_front, gap_not_empty, piece_not_empty, piece_not_ending}
+use Rattle.yspec.specs.Spelling.{Place, past, behind, IsGap, IsToken, IsBroken, Cut, at_end, broken, after_gap, after_token}
+use Rattle.yspec.proofs.SpellingCut.{Split, Right, is_ending, front_at, front_right, gap_front, piece_front, gap_not_empty, piece_not_empty, piece_not_ending, broken_ends, broken_front, broken_not_empty}
 
 abbrev pub tokens_at : Place → Text → List Token
 tokens_at place text = tokens_from 0 place.line place.column text
@@ -27,15 +27,24 @@ unfolding front_at tokens_from
 over_token place lexeme [] rest e n = absurd (omega arith)
 over_token place lexeme (x ∷ xs) rest e n = rw e (rw (length_less xs) (ap (λ (ts : List Token). at place.line lexeme ∷ ts) (skipped xs rest (past x place))))
 
-gap_step : (place : Place) (bytes rest : Text) → Gap bytes rest → tokens_at place (bytes ++ rest) ≡ tokens_at (behind place bytes) rest
+gap_step : (place : Place) (bytes rest : Text) → IsGap bytes rest → tokens_at place (bytes ++ rest) ≡ tokens_at (behind place bytes) rest
 gap_step place bytes rest g = over_gap place bytes rest (gap_front place.column bytes rest g) (gap_not_empty bytes rest g)
 
-token_step : (place : Place) (lexeme : Lexeme) (bytes rest : Text) → Piece place.column lexeme bytes rest → tokens_at place (bytes ++ rest) ≡ at place.line lexeme ∷ tokens_at (behind place bytes) rest
+token_step : (place : Place) (lexeme : Lexeme) (bytes rest : Text) → IsToken place.column lexeme bytes rest → tokens_at place (bytes ++ rest) ≡ at place.line lexeme ∷ tokens_at (behind place bytes) rest
 token_step place lexeme bytes rest p = over_token place lexeme bytes rest (piece_front place.column lexeme bytes rest p) (piece_not_empty place.column lexeme bytes rest p)
+
+at_broken : (place : Place) (lexeme : Lexeme) (text : Text) → front_at place.column text ≡ last lexeme → 0 < length text → tokens_at place text ≡ at place.line lexeme ∷ []
+unfolding front_at tokens_from
+at_broken place lexeme [] e n = absurd (omega arith)
+at_broken place lexeme (x ∷ xs) e n = rw e refl
+
+broken_step : (place : Place) (lexeme : Lexeme) (text : Text) → IsBroken text lexeme → tokens_at place text ≡ at place.line lexeme ∷ []
+broken_step place lexeme text b = at_broken place lexeme text (broken_front place.column text lexeme b) (broken_not_empty text lexeme b)
 
 pub cut_only : (place : Place) (text : Text) (ts : List Token) → Cut place text ts → tokens_at place text ≡ ts
 unfolding tokens_from
 cut_only place text ts at_end = refl
+cut_only place text ts (broken {lexeme = lexeme} b) = broken_step place lexeme text b
 cut_only place text ts (after_gap {bytes = bytes} {rest = rest} g c) = gap_step place bytes rest g ∙ cut_only (behind place bytes) rest ts c
 cut_only place text ts (after_token {lexeme = lexeme} {bytes = bytes} {rest = rest} {ts = us} p c) = token_step place lexeme bytes rest p ∙ ap (λ (vs : List Token). at place.line lexeme ∷ vs) (cut_only (behind place bytes) rest us c)
 
@@ -54,33 +63,21 @@ pub record Ending (place : Place) (text : Text) (ts : List Token) : Type 0 where
   pub lexeme : Lexeme
   pub is_end : is_ending lexeme ≡ true
   pub last : from_ending ts ≡ at line lexeme ∷ []
-  pub cut : is_bad lexeme ≡ false → Cut place text ts
+  pub cut : Cut place text ts
 
-gap_ending : (place : Place) (bytes rest : Text) → Gap bytes rest → Ending (behind place bytes) rest (tokens_at (behind place bytes) rest) → Ending place (bytes ++ rest) (tokens_at place (bytes ++ rest))
-gap_ending place bytes rest g e = rw (gap_step place bytes rest g) (record { line = e.line; lexeme = e.lexeme; is_end = e.is_end; last = e.last; cut = λ h. after_gap g (e.cut h) })
+gap_ending : (place : Place) (bytes rest : Text) → IsGap bytes rest → Ending (behind place bytes) rest (tokens_at (behind place bytes) rest) → Ending place (bytes ++ rest) (tokens_at place (bytes ++ rest))
+gap_ending place bytes rest g e = rw (gap_step place bytes rest g) (record { line = e.line; lexeme = e.lexeme; is_end = e.is_end; last = e.last; cut = after_gap g e.cut })
 
-token_ending : (place : Place) (lexeme : Lexeme) (bytes rest : Text) → Piece place.column lexeme bytes rest → Ending (behind place bytes) rest (tokens_at (behind place bytes) rest) → Ending place (bytes ++ rest) (tokens_at place (bytes ++ rest))
-token_ending place lexeme bytes rest p e = rw (token_step place lexeme bytes rest p) (record { line = e.line; lexeme = e.lexeme; is_end = e.is_end; last = rw (piece_not_ending place.column lexeme bytes rest p) e.last; cut = λ h. after_token p (e.cut h) })
+token_ending : (place : Place) (lexeme : Lexeme) (bytes rest : Text) → IsToken place.column lexeme bytes rest → Ending (behind place bytes) rest (tokens_at (behind place bytes) rest) → Ending place (bytes ++ rest) (tokens_at place (bytes ++ rest))
+token_ending place lexeme bytes rest p e = rw (token_step place lexeme bytes rest p) (record { line = e.line; lexeme = e.lexeme; is_end = e.is_end; last = rw (piece_not_ending place.column lexeme bytes rest p) e.last; cut = after_token p e.cut })
 
-bad_ends : (lexeme : Lexeme) → is_bad lexeme ≡ true → is_ending lexeme ≡ true
-bad_ends unclosed_quote h = refl
-bad_ends unclosed_comment h = refl
-bad_ends stray_end h = refl
-bad_ends (word w) h = absurd cc
-bad_ends (single raw) h = absurd cc
-bad_ends (double column raw) h = absurd cc
-bad_ends semi h = absurd cc
-bad_ends open_block h = absurd cc
-bad_ends close_block h = absurd cc
-bad_ends finish h = refl
-
-last_ending : (place : Place) (x : ℕ) (xs : Text) (lexeme : Lexeme) → front place.column x xs ≡ last lexeme → is_bad lexeme ≡ true → Ending place (x ∷ xs) (tokens_at place (x ∷ xs))
+last_ending : (place : Place) (x : ℕ) (xs : Text) (lexeme : Lexeme) → front place.column x xs ≡ last lexeme → IsBroken (x ∷ xs) lexeme → Ending place (x ∷ xs) (tokens_at place (x ∷ xs))
 unfolding tokens_from
-last_ending place x xs lexeme e b = rw e (record { line = place.line; lexeme = lexeme; is_end = bad_ends lexeme b; last = rw (bad_ends lexeme b) refl; cut = λ h. absurd cc })
+last_ending place x xs lexeme e b = rw e (record { line = place.line; lexeme = lexeme; is_end = broken_ends (x ∷ xs) lexeme b; last = rw (broken_ends (x ∷ xs) lexeme b) refl; cut = broken b })
 
 pub ending : (fuel : ℕ) (place : Place) (text : Text) → length text ≤ fuel → Ending place text (tokens_at place text)
 unfolding tokens_from Right
-ending fuel place [] h = record { line = place.line; lexeme = finish; is_end = refl; last = refl; cut = λ b. at_end }
+ending fuel place [] h = record { line = place.line; lexeme = finish; is_end = refl; last = refl; cut = at_end }
 ending zero place (x ∷ xs) h = absurd (omega arith)
 ending (suc fuel) place (x ∷ xs) h = go (front place.column x xs) refl (front_right place.column x xs) (ending fuel)
   where

@@ -4,7 +4,7 @@ use Rattle.std.specs.Prelude.{◌≡◌, ℕ, ◌+◌, ◌<◌, ◌≤◌, ◌==
 use Rattle.std.specs.Str.{chars, is_utf8}
 use Rattle.yspec.specs.Forest.{Forest, end, node}
 use Rattle.yspec.specs.Text.{Text, begins, is_white, is_allowed, is_name, line_after, line_feed, double_quote, plus, single_quote, star, slash, semicolon, backslash, open_brace, close_brace}
-use Rattle.yspec.specs.Token.{Lexeme, Token, word, single, double, semi, open_block, close_block, finish, at, ends_word, column_after, bad_escape_line, double_text, single_text}
+use Rattle.yspec.specs.Token.{Lexeme, Token, word, single, double, semi, open_block, close_block, finish, unclosed_quote, unclosed_comment, stray_end, at, ends_word, column_after, bad_escape_line, double_text, single_text}
 use Rattle.yspec.specs.Statement.{Statement, text_limit, block_limit}
 
 -- ---- places in a text
@@ -41,10 +41,10 @@ EndsLine (x ∷ xs) = (x == line_feed) ≡ true
 
 -- A piece of a gap, and what follows it: a space, tab or part of a line break; `//` with the rest of its line; `/*` up
 -- to the nearest `*/`.
-pub data Gap : Text → Text → Type 0 where
-  white_space : {x : ℕ} {rest : Text} → is_white x ≡ true → Gap (x ∷ []) rest
-  line_comment : {c rest : Text} → HasNo line_feed c → EndsLine rest → Gap (slash ∷ slash ∷ c) rest
-  comment : (c : Text) {rest : Text} → HasNoCommentEnd c → Gap (slash ∷ star ∷ (c ++ (star ∷ slash ∷ []))) rest
+pub data IsGap : Text → Text → Type 0 where
+  white_space : {x : ℕ} {rest : Text} → is_white x ≡ true → IsGap (x ∷ []) rest
+  line_comment : {c rest : Text} → HasNo line_feed c → EndsLine rest → IsGap (slash ∷ slash ∷ c) rest
+  comment : (c : Text) {rest : Text} → HasNoCommentEnd c → IsGap (slash ∷ star ∷ (c ++ (star ∷ slash ∷ []))) rest
 
 -- ---- tokens
 
@@ -62,23 +62,34 @@ pub data InDoubleQuotes : Text → Type 0 where
   escaped : {x : ℕ} {raw : Text} → InDoubleQuotes raw → InDoubleQuotes (backslash ∷ x ∷ raw)
 
 -- A token that begins at a column, its bytes, and what follows them.
-pub data Piece : ℕ → Lexeme → Text → Text → Type 0 where
-  unquoted : {column x : ℕ} {w rest : Text} → IsWord (x ∷ w) rest → Piece column (word (x ∷ w)) (x ∷ w) rest
+pub data IsToken : ℕ → Lexeme → Text → Text → Type 0 where
+  unquoted : {column x : ℕ} {w rest : Text} → IsWord (x ∷ w) rest → IsToken column (word (x ∷ w)) (x ∷ w) rest
   single_quoted : {column : ℕ} {raw rest : Text} → HasNo single_quote raw
-      → Piece column (single raw) (single_quote ∷ (raw ++ (single_quote ∷ []))) rest
+      → IsToken column (single raw) (single_quote ∷ (raw ++ (single_quote ∷ []))) rest
   double_quoted : {column : ℕ} {raw rest : Text} → InDoubleQuotes raw
-      → Piece column (double column raw) (double_quote ∷ (raw ++ (double_quote ∷ []))) rest
-  ends : {column : ℕ} {rest : Text} → Piece column semi (semicolon ∷ []) rest
-  opens : {column : ℕ} {rest : Text} → Piece column open_block (open_brace ∷ []) rest
-  closes : {column : ℕ} {rest : Text} → Piece column close_block (close_brace ∷ []) rest
+      → IsToken column (double column raw) (double_quote ∷ (raw ++ (double_quote ∷ []))) rest
+  ends : {column : ℕ} {rest : Text} → IsToken column semi (semicolon ∷ []) rest
+  opens : {column : ℕ} {rest : Text} → IsToken column open_block (open_brace ∷ []) rest
+  closes : {column : ℕ} {rest : Text} → IsToken column close_block (close_brace ∷ []) rest
 
--- A text from a place on is cut into tokens, and gaps stand freely between them. Its end is a token too.
+-- What no token begins with: a quote or a comment that isn't closed, and `*/` with no comment before it.
+pub data IsBroken : Text → Lexeme → Type 0 where
+  open_single : {raw : Text} → HasNo single_quote raw → IsBroken (single_quote ∷ raw) unclosed_quote
+  open_double : {raw : Text} → InDoubleQuotes raw → IsBroken (double_quote ∷ raw) unclosed_quote
+  open_escape : (raw : Text) → InDoubleQuotes raw → IsBroken (double_quote ∷ (raw ++ (backslash ∷ []))) unclosed_quote
+  open_comment : {c : Text} → HasNoCommentEnd c → IsBroken (slash ∷ star ∷ c) unclosed_comment
+  lone_end : {rest : Text} → IsBroken (star ∷ slash ∷ rest) stray_end
+
+-- A text from a place on is cut into tokens, and gaps stand freely between them. Its end is a token too, and so is what
+-- is broken, behind which nothing is cut.
 pub data Cut : Place → Text → List Token → Type 0 where
   at_end : {place : Place} → Cut place [] (at place.line finish ∷ [])
-  after_gap : {place : Place} {bytes rest : Text} {ts : List Token} → Gap bytes rest → Cut (behind place bytes) rest ts
+  broken : {place : Place} {text : Text} {lexeme : Lexeme} → IsBroken text lexeme
+      → Cut place text (at place.line lexeme ∷ [])
+  after_gap : {place : Place} {bytes rest : Text} {ts : List Token} → IsGap bytes rest → Cut (behind place bytes) rest ts
       → Cut place (bytes ++ rest) ts
   after_token : {place : Place} {lexeme : Lexeme} {bytes rest : Text} {ts : List Token}
-      → Piece place.column lexeme bytes rest → Cut (behind place bytes) rest ts
+      → IsToken place.column lexeme bytes rest → Cut (behind place bytes) rest ts
       → Cut place (bytes ++ rest) (at place.line lexeme ∷ ts)
 
 -- ---- statements
@@ -103,15 +114,15 @@ pub data Argument : List Token → Option Text → List Token → Type 0 where
   quoted : {ts : List Token} {text : Text} {rest : List Token} → Joined ts text rest → Argument ts (Some text) rest
 
 -- A row of statements, `level` blocks being open: each a keyword, perhaps an argument, then `;` or a block.
-pub data Row : ℕ → List Token → Forest Statement → List Token → Type 0 where
-  none : {level : ℕ} {rest : List Token} → Row level rest end rest
+pub data Spelled : ℕ → List Token → Forest Statement → List Token → Type 0 where
+  none : {level : ℕ} {rest : List Token} → Spelled level rest end rest
   bare : {level line l : ℕ} {k : Text} {a : Option Text} {after : Forest Statement} {ts us rest : List Token}
-      → is_name k ≡ true → Argument ts a (at l semi ∷ us) → Row level us after rest
-      → Row level (at line (word k) ∷ ts) (node (record { keyword = k; argument = a; line = line }) end after) rest
+      → is_name k ≡ true → Argument ts a (at l semi ∷ us) → Spelled level us after rest
+      → Spelled level (at line (word k) ∷ ts) (node (record { keyword = k; argument = a; line = line }) end after) rest
   block : {level line l m : ℕ} {k : Text} {a : Option Text} {below after : Forest Statement}
       {ts us vs rest : List Token} → is_name k ≡ true → Argument ts a (at l open_block ∷ us) → level < block_limit
-      → Row (level + 1) us below (at m close_block ∷ vs) → Row level vs after rest
-      → Row level (at line (word k) ∷ ts) (node (record { keyword = k; argument = a; line = line }) below after) rest
+      → Spelled (level + 1) us below (at m close_block ∷ vs) → Spelled level vs after rest
+      → Spelled level (at line (word k) ∷ ts) (node (record { keyword = k; argument = a; line = line }) below after) rest
 
 -- ---- a module's text
 
@@ -132,4 +143,4 @@ pub record Spells (text : Text) (top : Forest Statement) : Type 0 where
   pub tokens : List Token
   pub cut : Cut start text tokens
   pub last_line : ℕ
-  pub statement : Row 0 tokens top (at last_line finish ∷ [])
+  pub statement : Spelled 0 tokens top (at last_line finish ∷ [])
