@@ -4,6 +4,7 @@ pub mod Token
 pub mod Statement
 pub mod Spelling
 pub mod Slips
+pub mod SpellingExamples
 pub mod Grammar
 pub mod Types
 pub mod Schema
