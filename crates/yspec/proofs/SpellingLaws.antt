@@ -1,23 +1,24 @@
 -- What is read of a text is what it spells, and no text spells two things.
-use Rattle.std.proofs.Common.{◌≡◌, ℕ, suc, ◌+◌, ◌<◌, ◌≤◌, Bool, true, false, cond, List, [], ◌∷◌, length, take, Option, Some, None, Result, Ok, Err, refl, sym, ap, subst, ◌∙◌, arith}
+use Rattle.std.proofs.Common.{◌≡◌, ℕ, Bool, true, false, cond, List, [], ◌∷◌, length, take, Option, Some, None, Result, Ok, Err, refl, sym, subst, ◌∙◌, arith}
 use Rattle.std.specs.Prelude.{nat_lt}
 use Rattle.std.specs.Option.{option_map_or}
 use Rattle.std.specs.Str.{chars, is_utf8}
 use Rattle.std.proofs.lemmas.Bool.{ltb-false, le-ltb}
 use Rattle.yspec.specs.Forest.{Forest}
 use Rattle.yspec.specs.Text.{Text, is_allowed, line_after, line_behind, forbidden_line}
-use Rattle.yspec.specs.Token.{Lexeme, Token, finish, at, tokens_of}
-use Rattle.yspec.specs.Statement.{Statement, Slip, slip, ◌>>=◌, top_statement, text_limit, allowed_text, module_of}
+use Rattle.yspec.specs.Token.{Token, tokens_of}
+use Rattle.yspec.specs.Statement.{Statement, Slip, slip, top_statement, text_limit, module_of}
 use Rattle.yspec.specs.Spelling.{start, Cut, AreAllowed, Spells}
 use Rattle.std.specs.Str.Lossy.{utf8_valid_len}
-use Rattle.yspec.proofs.SpellingTokens.{from_ending, Ending, ending, cut_only}
-use Rattle.yspec.proofs.SpellingRows.{Ends, Top, ok_is, top_found, top_only, row_keeps}
+use Rattle.yspec.proofs.SpellingTokens.{ending, cut_only}
+use Rattle.yspec.proofs.SpellingRows.{Ends, Top, ok_is, top_found, top_only}
 
 allowed_found : (line : ℕ) (cs : List ℕ) → forbidden_line line cs ≡ None → AreAllowed cs
 allowed_found line [] h = tt
 allowed_found line (c ∷ cs) h = go (is_allowed c cs) refl h (allowed_found (line_after c line) cs)
   where
-    go : (b : Bool) → is_allowed c cs ≡ b → cond b (forbidden_line (line_after c line) cs) (Some line) ≡ None → (forbidden_line (line_after c line) cs ≡ None → AreAllowed cs) → AreAllowed (c ∷ cs)
+    go : (b : Bool) → is_allowed c cs ≡ b → cond b (forbidden_line (line_after c line) cs) (Some line) ≡ None
+        → (forbidden_line (line_after c line) cs ≡ None → AreAllowed cs) → AreAllowed (c ∷ cs)
     go true e h below = (e, below h)
     go false e h below = absurd cc
 
@@ -37,29 +38,38 @@ one_cut text a b p q = sym (cut_only start text a p) ∙ cut_only start text b q
 
 pub module_found : (text : Text) (top : Forest Statement) → module_of text ≡ Ok top → Spells text top
 unfolding module_of
-module_found text top e = go (nat_lt text_limit (length text)) refl (is_utf8 text) refl (forbidden_line 1 (chars text)) refl e
+module_found text top e = go (nat_lt text_limit (length text)) refl (is_utf8 text) refl
+    (forbidden_line 1 (chars text)) refl e
   where
-    go : (long : Bool) → nat_lt text_limit (length text) ≡ long → (utf8 : Bool) → is_utf8 text ≡ utf8 → (bad : Option ℕ) → forbidden_line 1 (chars text) ≡ bad
-        → cond long (slip 7 1) (cond utf8 (option_map_or (λ line. slip 2 line) bad (top_statement (tokens_of text))) (slip 1 (line_behind 1 (take (utf8_valid_len text) text)))) ≡ Ok top → Spells text top
+    go : (long : Bool) → nat_lt text_limit (length text) ≡ long → (utf8 : Bool) → is_utf8 text ≡ utf8
+        → (bad : Option ℕ) → forbidden_line 1 (chars text) ≡ bad
+        → cond long (slip 7 1) (cond utf8 (option_map_or (λ line. slip 2 line) bad (top_statement (tokens_of text)))
+            (slip 1 (line_behind 1 (take (utf8_valid_len text) text)))) ≡ Ok top → Spells text top
     go true hl utf8 hu bad hb e = absurd cc
     go false hl false hu bad hb e = absurd cc
     go false hl true hu (Some line) hb e = absurd cc
     go false hl true hu None hb e =
         let t = top_found (tokens_of text) top (text_ends text) e in
-        record { short = ltb-false text_limit (length text) hl; utf8 = hu; allowed = allowed_found 1 (chars text) hb; one = t.one; tokens = tokens_of text; cut = text_cut text; last_line = t.last_line; statement = t.row }
+        record { short = ltb-false text_limit (length text) hl; utf8 = hu; allowed =
+            allowed_found 1 (chars text) hb; one = t.one; tokens = tokens_of text; cut = text_cut text; last_line =
+            t.last_line; statement = t.row }
 
 pub module_only : (text : Text) (top : Forest Statement) → Spells text top → module_of text ≡ Ok top
 unfolding module_of
 module_only text top s = rw (le-ltb text_limit (length text) s.short, s.utf8, allowed_only 1 (chars text) s.allowed)
-    (top_only (tokens_of text) top (subst (λ (ts : List Token). Top ts top) (sym (cut_only start text s.tokens s.cut)) (record { one = s.one; last_line = s.last_line; row = s.statement })))
+    (top_only (tokens_of text) top (subst (λ (ts : List Token). Top ts top)
+        (sym (cut_only start text s.tokens s.cut)) (record { one = s.one; last_line = s.last_line; row =
+        s.statement })))
 
 pub one_reading : (text : Text) (a b : Forest Statement) → Spells text a → Spells text b → a ≡ b
 one_reading text a b p q = ok_is a b (sym (module_only text a p) ∙ module_only text b q)
 
-pub refused_spells_nothing : (text : Text) (e : Slip) (top : Forest Statement) → module_of text ≡ Err e → Spells text top → ⊥
+pub refused_spells_nothing : (text : Text) (e : Slip) (top : Forest Statement) → module_of text ≡ Err e
+    → Spells text top → ⊥
 refused_spells_nothing text e top h s = cc (sym h ∙ module_only text top s)
 
-pub nothing_is_refused : (text : Text) → ((top : Forest Statement) → Spells text top → ⊥) → (e : Slip) × (module_of text ≡ Err e)
+pub nothing_is_refused : (text : Text) → ((top : Forest Statement) → Spells text top → ⊥)
+    → (e : Slip) × (module_of text ≡ Err e)
 nothing_is_refused text none = go (module_of text) refl
   where
     go : (r : Result (Forest Statement) Slip) → module_of text ≡ r → (e : Slip) × (module_of text ≡ Err e)

@@ -1,6 +1,7 @@
--- Which statements a text spells, by cases (RFC 7950, 6.1 to 6.3): into which tokens a text is cut, and which statements
--- tokens spell.
-use Rattle.std.specs.Prelude.{◌≡◌, ℕ, ◌+◌, ◌<◌, ◌≤◌, ◌==◌, ◌&&◌, Bool, true, false, List, [], ◌∷◌, ◌++◌, length, Option, Some, None}
+-- Which statement a text spells, by cases (RFC 7950, 6.1 to 6.3): how a text is cut into tokens, with gaps of white space
+-- and comments between them, and what statements the tokens spell. Each relation has what it speaks of first, and then
+-- what follows it.
+use Rattle.std.specs.Prelude.{◌≡◌, ℕ, ◌+◌, ◌<◌, ◌≤◌, ◌==◌, ◌&&◌, true, false, List, [], ◌∷◌, ◌++◌, length, Option, Some, None}
 use Rattle.std.specs.Str.{chars, is_utf8}
 use Rattle.yspec.specs.Forest.{Forest, end, node}
 use Rattle.yspec.specs.Text.{Text, begins, is_white, is_allowed, is_name, line_after, line_feed, double_quote, plus, single_quote, star, slash, semicolon, backslash, open_brace, close_brace}
@@ -26,6 +27,7 @@ behind place (x ∷ xs) = behind (past x place) xs
 
 -- ---- gaps: white space and comments
 
+-- a byte stands nowhere in these
 abbrev pub HasNo : ℕ → Text → Type 0
 HasNo x [] = Unit
 HasNo x (y ∷ ys) = ((y == x) ≡ false) × HasNo x ys
@@ -39,7 +41,7 @@ abbrev pub EndsLine : Text → Type 0
 EndsLine [] = Unit
 EndsLine (x ∷ xs) = (x == line_feed) ≡ true
 
--- A piece of a gap, and what follows it: a space, tab or part of a line break; `//` with the rest of its line; `/*` up
+-- A piece of a gap (RFC 7950, 6.1.1): a space, tab or part of a line break; `//` with the rest of its line; `/*` up
 -- to the nearest `*/`.
 pub data IsGap : Text → Text → Type 0 where
   white_space : {x : ℕ} {rest : Text} → is_white x ≡ true → IsGap (x ∷ []) rest
@@ -48,7 +50,7 @@ pub data IsGap : Text → Text → Type 0 where
 
 -- ---- tokens
 
--- No byte of a word ends it, and what follows does: a word is as long as it can be.
+-- No byte of a word ends it (RFC 7950, 6.1.3), and what follows does: a word is as long as it can be.
 abbrev pub IsWord : Text → Text → Type 0
 IsWord [] [] = Unit
 IsWord [] (y ∷ ys) = ends_word y ys ≡ true
@@ -61,7 +63,7 @@ pub data InDoubleQuotes : Text → Type 0 where
       → InDoubleQuotes (x ∷ raw)
   escaped : {x : ℕ} {raw : Text} → InDoubleQuotes raw → InDoubleQuotes (backslash ∷ x ∷ raw)
 
--- A token that begins at a column, its bytes, and what follows them.
+-- A token that begins at a column, and its bytes (RFC 7950, 6.1.2).
 pub data IsToken : ℕ → Lexeme → Text → Text → Type 0 where
   unquoted : {column x : ℕ} {w rest : Text} → IsWord (x ∷ w) rest → IsToken column (word (x ∷ w)) (x ∷ w) rest
   single_quoted : {column : ℕ} {raw rest : Text} → HasNo single_quote raw
@@ -101,19 +103,20 @@ pub data Says : Lexeme → Text → Type 0 where
   stripped : {column : ℕ} {raw : Text} → bad_escape_line false 1 raw ≡ None
       → Says (double column raw) (double_text column raw)
 
--- Quoted strings with `+` between them are joined. The tokens left over follow at the end.
+-- Quoted strings with `+` between them, and what they say together. A word that is just `+` joins nothing else.
 pub data Joined : List Token → Text → List Token → Type 0 where
   alone : {line : ℕ} {lexeme : Lexeme} {text : Text} {rest : List Token} → Says lexeme text
       → Joined (at line lexeme ∷ rest) text rest
   with : {line plus_line : ℕ} {lexeme : Lexeme} {text more : Text} {ts rest : List Token} → Says lexeme text
       → Joined ts more rest → Joined (at line lexeme ∷ (at plus_line (word (plus ∷ [])) ∷ ts)) (text ++ more) rest
 
+-- perhaps an argument: a word, or quoted strings
 pub data Argument : List Token → Option Text → List Token → Type 0 where
   absent : {rest : List Token} → Argument rest None rest
   unquoted_word : {line : ℕ} {w : Text} {rest : List Token} → Argument (at line (word w) ∷ rest) (Some w) rest
   quoted : {ts : List Token} {text : Text} {rest : List Token} → Joined ts text rest → Argument ts (Some text) rest
 
--- A row of statements, `level` blocks being open: each a keyword, perhaps an argument, then `;` or a block.
+-- A row of statements, `level` blocks being open (RFC 7950, 6.3): each a keyword, perhaps an argument, then `;` or a block.
 pub data Spelled : ℕ → List Token → Forest Statement → List Token → Type 0 where
   none : {level : ℕ} {rest : List Token} → Spelled level rest end rest
   bare : {level line l : ℕ} {k : Text} {a : Option Text} {after : Forest Statement} {ts us rest : List Token}
@@ -126,15 +129,17 @@ pub data Spelled : ℕ → List Token → Forest Statement → List Token → Ty
 
 -- ---- a module's text
 
+-- each character may stand where it does
 abbrev pub AreAllowed : List ℕ → Type 0
 AreAllowed [] = Unit
 AreAllowed (c ∷ cs) = (is_allowed c cs ≡ true) × AreAllowed cs
 
+-- a single statement with what stands below it
 abbrev pub IsOne : Forest Statement → Type 0
 IsOne (node s below end) = Unit
 IsOne _ = ⊥
 
--- A text spells one statement with what stands below it.
+-- A text spells a statement: it is short enough and of allowed characters, and its tokens spell that statement alone.
 pub record Spells (text : Text) (top : Forest Statement) : Type 0 where
   pub short : length text ≤ text_limit
   pub utf8 : is_utf8 text ≡ true
