@@ -103,7 +103,7 @@ pub data Says : Lexeme → Text → Type 0 where
   stripped : {column : ℕ} {raw : Text} → bad_escape_line false 1 raw ≡ None
       → Says (double column raw) (double_text column raw)
 
--- Quoted strings with `+` between them, and what they say together. A word that is just `+` joins nothing else.
+-- Quoted strings with `+` between them, and what they say together
 pub data Joined : List Token → Text → List Token → Type 0 where
   alone : {line : ℕ} {lexeme : Lexeme} {text : Text} {rest : List Token} → Says lexeme text
       → Joined (at line lexeme ∷ rest) text rest
