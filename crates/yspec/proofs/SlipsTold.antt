@@ -112,7 +112,7 @@ after_piece_tells : (level : ℕ) (text : Text) (t : Token) (ts : List Token)
     → (begins_quoted ts ≡ true → Tells (pieces ts) (first_from (behind_plus level) ts)
     (λ x. first_from (behind_word level) x.1))
     → Tells (after_piece text t ts (pieces ts)) (first_from (behind_quoted level) (t ∷ ts))
-        (λ x. first_from (behind_word level) x.1)
+    (λ x. first_from (behind_word level) x.1)
 after_piece_tells level text t ts more = go (is_plus t.lexeme) refl (begins_quoted ts) refl
   where
     go : (p : Bool) → is_plus t.lexeme ≡ p → (q : Bool) → begins_quoted ts ≡ q
@@ -121,7 +121,7 @@ after_piece_tells level text t ts more = go (is_plus t.lexeme) refl (begins_quot
     go true hp true hq = tells_bind (pieces ts) (appended text) (first_from (behind_quoted level) (t ∷ ts))
         (λ x. first_from (behind_word level) x.1) (λ x. first_from (behind_word level) x.1)
         (tells_from (pieces ts) _ (first_from (behind_plus level) ts) (λ x. first_from (behind_word level) x.1)
-            (ap (λ (l : List Slip). first l) (plus_step level t.line t.lexeme ts hp hq)) (more hq)) (λ x e. refl)
+        (ap (λ (l : List Slip). first l) (plus_step level t.line t.lexeme ts hp hq)) (more hq)) (λ x e. refl)
     go true hp false hq = plus_alone level t.line t.lexeme ts hp hq
     go false hp q hq = no_plus level t.line t.lexeme ts hp
 
@@ -193,7 +193,7 @@ closed_tells level x h = go x.0 x.1 h
 block_tells : (fuel : ℕ) (inner : List Token → Result read.Row Slip) (level line : ℕ) (ts : List Token)
     → InnerTells fuel inner level → InnerStops fuel inner → Ends ts → length ts ≤ fuel
     → Tells (cond (nat_lt level block_limit) (inner ts >>= closed) (slip 7 line))
-        (first_from (behind_word level) (at line open_block ∷ ts)) (λ y. first_from (behind_statement level) y.1)
+    (first_from (behind_word level) (at line open_block ∷ ts)) (λ y. first_from (behind_statement level) y.1)
 unfolding slips_from InnerTells InnerStops
 block_tells fuel inner level line ts tell stop h n = go (nat_lt level block_limit) refl
   where
@@ -202,8 +202,8 @@ block_tells fuel inner level line ts tell stop h n = go (nat_lt level block_limi
     go true e = tells_from (inner ts >>= closed) _ (first_from (at_keyword (suc level)) ts)
         (λ y. first_from (behind_statement level) y.1) (rw e refl)
         (tells_bind (inner ts) closed _ (λ x. first_from (at_keyword (suc level)) x.1)
-            (λ y. first_from (behind_statement level) y.1) (tell ts h n)
-            (λ x r. closed_tells level x (stop ts x h n r)))
+        (λ y. first_from (behind_statement level) y.1) (tell ts h n)
+        (λ x r. closed_tells level x (stop ts x h n r)))
     go false e = rw e refl
 
 body_tells : (fuel : ℕ) (inner : List Token → Result read.Row Slip) (level : ℕ) (ts : List Token)
@@ -235,7 +235,7 @@ keyword_slip (suc level) line k ts h = rw h refl
 statement_tells : (fuel : ℕ) (inner : List Token → Result read.Row Slip) (level line : ℕ) (k : Text)
     (ts : List Token) → InnerTells fuel inner level → InnerStops fuel inner → Ends ts → length ts ≤ fuel
     → Tells (statement inner level k line ts) (first_from (at_keyword level) (at line (word k) ∷ ts))
-        (λ y. first_from (behind_statement level) y.1)
+    (λ y. first_from (behind_statement level) y.1)
 statement_tells fuel inner level line k ts tell stop h n = go (is_name k) refl
   where
     build : Option Text × List Token → read.Row → Result read.Row Slip
@@ -249,12 +249,12 @@ statement_tells fuel inner level line k ts tell stop h n = go (is_name k) refl
     go true e = tells_from (argument ts >>= rest_of) _ (first_from (behind_keyword level) ts)
         (λ y. first_from (behind_statement level) y.1) (keyword_step level line k ts e)
         (tells_bind (argument ts) rest_of _ (λ a. first_from (behind_word level) a.1)
-            (λ y. first_from (behind_statement level) y.1) (argument_tells level ts)
+        (λ y. first_from (behind_statement level) y.1) (argument_tells level ts)
         (λ a r. let arg = argument_found ts a.0 a.1 r in
         tells_bind (body inner level a.1) (build a) _ (λ y. first_from (behind_statement level) y.1)
-            (λ y. first_from (behind_statement level) y.1)
+        (λ y. first_from (behind_statement level) y.1)
         (body_tells fuel inner level a.1 tell stop (ends_by ts a.1 (argument_keeps ts a.0 a.1 arg) h)
-            (omega (arith, argument_shorter ts a.0 a.1 arg)))
+        (omega (arith, argument_shorter ts a.0 a.1 arg)))
         (λ b r2. refl)))
     go false e = keyword_slip level line k ts e
 
@@ -283,14 +283,14 @@ statements_stop (suc fuel) level (t ∷ ts) x h n e = go t.line t.lexeme h e (st
     go : (line : ℕ) (lexeme : Lexeme) → Ends (at line lexeme ∷ ts) → row_at lexeme (statements fuel (level + 1))
         (statements fuel level) level (at line lexeme) ts ≡ Ok x
         → ((level : ℕ) (ts : List Token) (x : read.Row) → Ends ts → length ts ≤ fuel → statements fuel level ts ≡ Ok
-            x → stops_row x.1 ≡ true) → stops_row x.1 ≡ true
+        x → stops_row x.1 ≡ true) → stops_row x.1 ≡ true
     go line (word w) h e below =
         let a = bind_ok (statement (statements fuel (level + 1)) level w line ts)
-            (λ first. statements fuel level first.1 >>= in_row first) x e in
+        (λ first. statements fuel level first.1 >>= in_row first) x e in
         let b = bind_ok (statements fuel level a.0.1) (in_row a.0) x a.2 in
         let s : Stated level line w ts a.0 = stated_at fuel level line w ts a.0 h a.1 in
         stops_is b.0.1 x.1 (ok_rest (followed a.0.0 b.0.0, b.0.1) x b.2)
-            (below level a.0.1 b.0 s.ends (omega (arith, s.shorter)) b.1)
+        (below level a.0.1 b.0 s.ends (omega (arith, s.shorter)) b.1)
     go line close_block h e below = stops_is (at line close_block ∷ ts) x.1
         (ok_rest (end, at line close_block ∷ ts) x e) refl
     go line finish h e below = stops_is (at line finish ∷ ts) x.1 (ok_rest (end, at line finish ∷ ts) x e) refl
@@ -310,23 +310,23 @@ statements_tell (suc fuel) level (t ∷ ts) h n = go t.line t.lexeme h (statemen
   where
     go : (line : ℕ) (lexeme : Lexeme) → Ends (at line lexeme ∷ ts)
         → ((level : ℕ) (ts : List Token) → Ends ts → length ts ≤ fuel → Tells (statements fuel (suc level) ts)
-            (first_from (at_keyword (suc level)) ts) (λ x. first_from (at_keyword (suc level)) x.1))
+        (first_from (at_keyword (suc level)) ts) (λ x. first_from (at_keyword (suc level)) x.1))
         → Tells (row_at lexeme (statements fuel (suc level + 1)) (statements fuel (suc level)) (suc level)
-            (at line lexeme) ts) (first_from (at_keyword (suc level)) (at line lexeme ∷ ts))
-            (λ x. first_from (at_keyword (suc level)) x.1)
+        (at line lexeme) ts) (first_from (at_keyword (suc level)) (at line lexeme ∷ ts))
+        (λ x. first_from (at_keyword (suc level)) x.1)
     go line (word w) h below =
         let inner : InnerTells fuel (statements fuel (suc level + 1)) (suc level) =
-            λ vs g m. subst (λ (d : ℕ). Tells (statements fuel d vs) (first_from (at_keyword (suc (suc level))) vs)
-            (λ x. first_from (at_keyword (suc (suc level))) x.1)) (sym (add-one (suc level)))
-            (below (suc level) vs g m) in
+        λ vs g m. subst (λ (d : ℕ). Tells (statements fuel d vs) (first_from (at_keyword (suc (suc level))) vs)
+        (λ x. first_from (at_keyword (suc (suc level))) x.1)) (sym (add-one (suc level)))
+        (below (suc level) vs g m) in
         tells_bind (statement (statements fuel (suc level + 1)) (suc level) w line ts)
-            (λ a. statements fuel (suc level) a.1 >>= in_row a) _ (λ a. first_from (at_keyword (suc level)) a.1)
-            (λ x. first_from (at_keyword (suc level)) x.1)
+        (λ a. statements fuel (suc level) a.1 >>= in_row a) _ (λ a. first_from (at_keyword (suc level)) a.1)
+        (λ x. first_from (at_keyword (suc level)) x.1)
         (statement_tells fuel (statements fuel (suc level + 1)) (suc level) line w ts inner
-            (stops_at fuel (suc level + 1)) (ends_by (at line (word w) ∷ ts) ts refl h) (omega arith))
+        (stops_at fuel (suc level + 1)) (ends_by (at line (word w) ∷ ts) ts refl h) (omega arith))
         (λ a r. let s = stated_at fuel (suc level) line w ts a h r in
         tells_bind (statements fuel (suc level) a.1) (in_row a) _ (λ x. first_from (at_keyword (suc level)) x.1)
-            (λ x. first_from (at_keyword (suc level)) x.1)
+        (λ x. first_from (at_keyword (suc level)) x.1)
         (below level a.1 s.ends (omega (arith, s.shorter)))
         (λ b r2. refl))
     go line (single raw) h below = refl
@@ -371,7 +371,7 @@ top_tells (t ∷ ts) h = go t.line t.lexeme h
     go line (word w) h = tells_bind (statement (statements (length ts) 1) 0 w line ts) ending _
         (λ a. first_from behind_top a.1) (λ f. None)
         (statement_tells (length ts) (statements (length ts) 1) 0 line w ts (inner_tells (length ts))
-            (stops_at (length ts) 1) (ends_by (at line (word w) ∷ ts) ts refl h) (omega arith))
+        (stops_at (length ts) 1) (ends_by (at line (word w) ∷ ts) ts refl h) (omega arith))
         (λ a r. let s = stated_at (length ts) 0 line w ts a h r in ending_tells a.0 a.1 s.ends)
     go line (single raw) h = refl
     go line (double column raw) h = refl
@@ -391,7 +391,7 @@ text_tells text = go (nat_lt text_limit (length text)) (is_utf8 text) (forbidden
         (cond long (slip 7 1) (cond utf8 (option_map_or (λ line. slip 2 line) bad (top_statement (tokens_of text)))
         (slip 1 (line_behind 1 (take (utf8_valid_len text) text)))))
         (cond long (is_slip 7 1) (cond (not utf8) (is_slip 1 (line_behind 1 (take (utf8_valid_len text) text)))
-            (option_map_or (λ line. is_slip 2 line) bad (first (slips text))))) (λ f. None)
+        (option_map_or (λ line. is_slip 2 line) bad (first (slips text))))) (λ f. None)
     go true utf8 bad = refl
     go false false bad = refl
     go false true (Some line) = refl

@@ -23,17 +23,29 @@ pub record Split (P : Text → Text → Type 0) (text : Text) (n : ℕ) : Type 0
 split_more : (P Q : Text → Text → Type 0) (x : ℕ) (xs : Text) (n : ℕ)
     → ((bytes rest : Text) → xs ≡ bytes ++ rest → P bytes rest → Q (x ∷ bytes) rest) → Split P xs n
     → Split Q (x ∷ xs) (suc n)
-split_more P Q x xs n step s = record { bytes = x ∷ s.bytes; rest = s.rest; holds =
-    step s.bytes s.rest s.whole s.holds; whole = ap (λ (t : Text). x ∷ t) s.whole; long =
-    ap (λ (k : ℕ). suc k) s.long }
+split_more P Q x xs n step s = record {
+  bytes = x ∷ s.bytes;
+  rest = s.rest;
+  holds =
+      step s.bytes s.rest s.whole s.holds;
+  whole = ap (λ (t : Text). x ∷ t) s.whole;
+  long =
+      ap (λ (k : ℕ). suc k) s.long;
+}
 
 -- ---- each length is that of a piece
 
 line_split : (xs : Text) → Split (λ c rest. HasNo line_feed c × EndsLine rest) xs (line_comment_length xs)
 line_split [] = record { bytes = []; rest = []; holds = (tt, tt); whole = refl; long = refl }
 line_split (x ∷ xs) = by_test (Split (λ c rest. HasNo line_feed c × EndsLine rest) (x ∷ xs)) (x == line_feed) 0
-    (suc (line_comment_length xs)) (λ h. record { bytes = []; rest = x ∷ xs; holds = (tt, h); whole = refl; long =
-    refl }) (λ h. split_more (λ c rest. HasNo line_feed c × EndsLine rest)
+    (suc (line_comment_length xs)) (λ h. record {
+      bytes = [];
+      rest = x ∷ xs;
+      holds = (tt, h);
+      whole = refl;
+      long =
+          refl;
+    }) (λ h. split_more (λ c rest. HasNo line_feed c × EndsLine rest)
     (λ c rest. HasNo line_feed c × EndsLine rest) x xs (line_comment_length xs) (λ bytes rest e p. ((h, p.0), p.1))
     (line_split xs))
 
@@ -75,14 +87,27 @@ unfolding EndsComment
 comment_split [] = tt
 comment_split (x ∷ xs) = by_test (SplitIf EndsComment HasNoCommentEnd (x ∷ xs)) (x == star && begins slash xs)
     (Some 2) (option_map suc (comment_rest_length xs))
-    (λ h. let p = and_true (x == star) (begins slash xs) h in record { bytes = star ∷ slash ∷ []; rest =
-        drop 1 xs; holds = ([], tt, refl); whole =
-        ap (λ (z : ℕ). z ∷ xs) (eqb-true x star p.0) ∙ ap (λ (t : Text). star ∷ t) (begins_is slash xs p.1); long =
-        refl })
+    (λ h. let p = and_true (x == star) (begins slash xs) h in record {
+      bytes = star ∷ slash ∷ [];
+      rest =
+          drop 1 xs;
+      holds = ([], tt, refl);
+      whole =
+          ap (λ (z : ℕ). z ∷ xs) (eqb-true x star p.0) ∙ ap (λ (t : Text). star ∷ t) (begins_is slash xs p.1);
+      long =
+          refl;
+    })
     (λ h. split_if_more EndsComment EndsComment HasNoCommentEnd HasNoCommentEnd x xs (comment_rest_length xs)
-        (λ bytes rest e p. (x ∷ p.0, (subst (λ (b : Bool). (x == star && b) ≡ false)
-        (ap (λ (t : Text). begins slash t) e ∙ ap (λ (t : Text). begins slash (t ++ rest)) p.2 ∙ same_begin p.0 rest)
-        h, p.1), ap (λ (t : Text). x ∷ t) p.2)) (λ n. (h, n)) (comment_split xs))
+    (λ bytes rest e p. (
+      x ∷ p.0,
+      (
+        subst (λ (b : Bool). (x == star && b) ≡ false)
+            (ap (λ (t : Text). begins slash t) e ∙ ap (λ (t : Text). begins slash (t ++ rest)) p.2 ∙ same_begin p.0 rest)
+            h,
+        p.1,
+      ),
+      ap (λ (t : Text). x ∷ t) p.2,
+    )) (λ n. (h, n)) (comment_split xs))
 
 Singly : Text → Text → Type 0
 Singly raw rest = HasNo single_quote raw × (more : Text) × (rest ≡ single_quote ∷ more)
@@ -92,10 +117,15 @@ unfolding Singly
 single_split [] = tt
 single_split (x ∷ xs) = by_test (SplitIf Singly (HasNo single_quote) (x ∷ xs)) (x == single_quote) (Some 0)
     (option_map suc (single_length xs))
-    (λ h. record { bytes = []; rest = x ∷ xs; holds = (tt, xs, ap (λ (z : ℕ). z ∷ xs) (eqb-true x single_quote h));
-        whole = refl; long = refl })
+    (λ h. record {
+      bytes = [];
+      rest = x ∷ xs;
+      holds = (tt, xs, ap (λ (z : ℕ). z ∷ xs) (eqb-true x single_quote h));
+      whole = refl;
+      long = refl;
+    })
     (λ h. split_if_more Singly Singly (HasNo single_quote) (HasNo single_quote) x xs (single_length xs)
-        (λ bytes rest e p. ((h, p.0), p.1, p.2)) (λ n. (h, n)) (single_split xs))
+    (λ bytes rest e p. ((h, p.0), p.1, p.2)) (λ n. (h, n)) (single_split xs))
 
 Doubly : Bool → Text → Text → Type 0
 Doubly true raw rest = InDoubleQuotes (backslash ∷ raw) × (more : Text) × (rest ≡ double_quote ∷ more)
@@ -125,8 +155,12 @@ double_more : (b : Bool) (x : ℕ) (xs : Text) → (x == double_quote) ≡ false
     (option_map suc (double_length b xs))
 unfolding Doubly
 double_more true x xs q h s = split_if_more (Doubly true) (Doubly false) (NotDoubly true) OpenDouble x xs
-    (double_length true xs) (λ bytes rest e p. (subst (λ (z : ℕ). InDoubleQuotes (z ∷ bytes))
-    (sym (eqb-true x backslash h)) p.0, p.1, p.2)) (λ n. subst (λ (z : ℕ). OpenDouble (z ∷ xs))
+    (double_length true xs) (λ bytes rest e p. (
+      subst (λ (z : ℕ). InDoubleQuotes (z ∷ bytes))
+          (sym (eqb-true x backslash h)) p.0,
+      p.1,
+      p.2,
+    )) (λ n. subst (λ (z : ℕ). OpenDouble (z ∷ xs))
     (sym (eqb-true x backslash h)) n) s
 double_more false x xs q h s = split_if_more (Doubly false) (Doubly false) (NotDoubly false) OpenDouble x xs
     (double_length false xs) (λ bytes rest e p. (plain q h p.0, p.1, p.2)) (open_more x xs (λ raw p. plain q h p)) s
@@ -139,8 +173,14 @@ double_split true (x ∷ xs) = split_if_more (Doubly false) (Doubly true) OpenDo
     (double_length false xs) (λ bytes rest e p. (escaped p.0, p.1, p.2)) (open_escaped x xs) (double_split false xs)
 double_split false (x ∷ xs) = by_test (SplitIf (Doubly false) OpenDouble (x ∷ xs)) (x == double_quote) (Some 0)
     (option_map suc (double_length (x == backslash) xs))
-    (λ h. record { bytes = []; rest = x ∷ xs; holds =
-        (nothing, xs, ap (λ (z : ℕ). z ∷ xs) (eqb-true x double_quote h)); whole = refl; long = refl })
+    (λ h. record {
+      bytes = [];
+      rest = x ∷ xs;
+      holds =
+          (nothing, xs, ap (λ (z : ℕ). z ∷ xs) (eqb-true x double_quote h));
+      whole = refl;
+      long = refl;
+    })
     (λ h. double_more (x == backslash) x xs h refl (double_split (x == backslash) xs))
 
 -- ---- what stands at the front of a text is a gap or a token
@@ -152,17 +192,29 @@ Right column text (last lexeme) = IsBroken text lexeme
 
 line_right : (column : ℕ) (ys : Text) → Right column (slash ∷ slash ∷ ys) (gap (suc (line_comment_length (slash ∷ ys))))
 unfolding Right
-line_right column ys = let s = line_split ys in record { bytes = slash ∷ slash ∷ s.bytes; rest = s.rest; holds =
-    line_comment s.holds.0 s.holds.1; whole = ap (λ (t : Text). slash ∷ slash ∷ t) s.whole; long =
-    ap (λ (k : ℕ). suc (suc k)) s.long }
+line_right column ys = let s = line_split ys in record {
+  bytes = slash ∷ slash ∷ s.bytes;
+  rest = s.rest;
+  holds =
+      line_comment s.holds.0 s.holds.1;
+  whole = ap (λ (t : Text). slash ∷ slash ∷ t) s.whole;
+  long =
+      ap (λ (k : ℕ). suc (suc k)) s.long;
+}
 
 comment_right : (column : ℕ) (ys : Text) (o : Option ℕ) → SplitIf EndsComment HasNoCommentEnd ys o
     → Right column (slash ∷ star ∷ ys) (option_map_or (λ n. gap (n + 2)) o (last unclosed_comment))
 unfolding Right EndsComment
 comment_right column ys None s = open_comment s
-comment_right column ys (Some n) s = record { bytes = slash ∷ star ∷ s.bytes; rest = s.rest; holds =
-    subst (λ (b : Text). IsGap (slash ∷ star ∷ b) s.rest) (sym s.holds.2) (comment s.holds.0 s.holds.1); whole =
-    ap (λ (t : Text). slash ∷ star ∷ t) s.whole; long = omega (arith, s.long) }
+comment_right column ys (Some n) s = record {
+  bytes = slash ∷ star ∷ s.bytes;
+  rest = s.rest;
+  holds =
+      subst (λ (b : Text). IsGap (slash ∷ star ∷ b) s.rest) (sym s.holds.2) (comment s.holds.0 s.holds.1);
+  whole =
+      ap (λ (t : Text). slash ∷ star ∷ t) s.whole;
+  long = omega (arith, s.long);
+}
 
 word_right : (column x : ℕ) (xs : Text) → ends_word x xs ≡ false
     → Right column (x ∷ xs) (token (word (x ∷ take (word_length xs) xs)) (suc (word_length xs)))
@@ -170,18 +222,30 @@ unfolding Right
 word_right column x xs h =
     let s = word_split xs in
     let front_is : take (word_length xs) xs ≡ s.bytes = ap (λ (t : Text). take (word_length xs) t) s.whole
-        ∙ take_at s.bytes s.rest (word_length xs) s.long in
-    record { bytes = x ∷ s.bytes; rest = s.rest; holds =
-        subst (λ (b : Text). IsToken column (word (x ∷ b)) (x ∷ s.bytes) s.rest) (sym front_is)
-        (unquoted (subst (λ (t : Text). ends_word x t ≡ false) s.whole h, s.holds)); whole =
-        ap (λ (t : Text). x ∷ t) s.whole; long = ap (λ (k : ℕ). suc k) s.long }
+    ∙ take_at s.bytes s.rest (word_length xs) s.long in
+    record {
+      bytes = x ∷ s.bytes;
+      rest = s.rest;
+      holds =
+          subst (λ (b : Text). IsToken column (word (x ∷ b)) (x ∷ s.bytes) s.rest) (sym front_is)
+          (unquoted (subst (λ (t : Text). ends_word x t ≡ false) s.whole h, s.holds));
+      whole =
+          ap (λ (t : Text). x ∷ t) s.whole;
+      long = ap (λ (k : ℕ). suc k) s.long;
+    }
 
 closed_right : (column q n : ℕ) (xs raw rest more : Text) (lexeme : Lexeme)
     → IsToken column lexeme (q ∷ (raw ++ (q ∷ []))) more → xs ≡ raw ++ rest → rest ≡ q ∷ more → length raw ≡ n
     → Split (IsToken column lexeme) (q ∷ xs) (n + 2)
-closed_right column q n xs raw rest more lexeme p whole next long = record { bytes = q ∷ (raw ++ (q ∷ [])); rest =
-    more; holds = p; whole = ap (λ (t : Text). q ∷ t) (whole ∙ ap (λ (t : Text). raw ++ t) next
-    ∙ sym (append_assoc raw (q ∷ []) more)); long = omega (arith, length-append raw (q ∷ []), long) }
+closed_right column q n xs raw rest more lexeme p whole next long = record {
+  bytes = q ∷ (raw ++ (q ∷ []));
+  rest =
+      more;
+  holds = p;
+  whole = ap (λ (t : Text). q ∷ t) (whole ∙ ap (λ (t : Text). raw ++ t) next
+      ∙ sym (append_assoc raw (q ∷ []) more));
+  long = omega (arith, length-append raw (q ∷ []), long);
+}
 
 single_right : (column : ℕ) (xs : Text) (o : Option ℕ) → SplitIf Singly (HasNo single_quote) xs o
     → Right column (single_quote ∷ xs) (option_map_or (λ n. token (single (take n xs)) (n + 2)) o
@@ -191,7 +255,7 @@ single_right column xs None s = open_single s
 single_right column xs (Some n) s =
     let raw_is : take n xs ≡ s.bytes = ap (λ (t : Text). take n t) s.whole ∙ take_at s.bytes s.rest n s.long in
     rw raw_is (closed_right column single_quote n xs s.bytes s.rest s.holds.1 (single s.bytes)
-        (single_quoted s.holds.0) s.whole s.holds.2 s.long)
+    (single_quoted s.holds.0) s.whole s.holds.2 s.long)
 
 double_right : (column : ℕ) (xs : Text) (o : Option ℕ) → SplitIf (Doubly false) OpenDouble xs o
     → Right column (double_quote ∷ xs) (option_map_or (λ n. token (double column (take n xs)) (n + 2)) o
@@ -203,16 +267,16 @@ double_right column xs None (inr p) = subst (λ (t : Text). IsBroken (double_quo
 double_right column xs (Some n) s =
     let raw_is : take n xs ≡ s.bytes = ap (λ (t : Text). take n t) s.whole ∙ take_at s.bytes s.rest n s.long in
     rw raw_is (closed_right column double_quote n xs s.bytes s.rest s.holds.1 (double column s.bytes)
-        (double_quoted s.holds.0) s.whole s.holds.2 s.long)
+    (double_quoted s.holds.0) s.whole s.holds.2 s.long)
 
 slash_right : (column : ℕ) (xs : Text) → Right column (slash ∷ xs) (slash_front xs)
 slash_right column [] = word_right column slash [] refl
 slash_right column (y ∷ ys) = by_test (Right column (slash ∷ y ∷ ys)) (y == slash) _ _
     (λ h. subst (λ (z : ℕ). Right column (slash ∷ z ∷ ys) (gap (suc (line_comment_length (z ∷ ys)))))
-        (sym (eqb-true y slash h)) (line_right column ys))
+    (sym (eqb-true y slash h)) (line_right column ys))
     (λ h. by_test (Right column (slash ∷ y ∷ ys)) (y == star) _ _
     (λ k. subst (λ (z : ℕ). Right column (slash ∷ z ∷ ys) (comment_front ys)) (sym (eqb-true y star k))
-        (comment_right column ys (comment_rest_length ys) (comment_split ys)))
+    (comment_right column ys (comment_rest_length ys) (comment_split ys)))
     (λ k. word_right column slash (y ∷ ys) (rw (h, k) refl)))
 
 other_right : (column x : ℕ) (xs : Text) → is_white x ≡ false → (x == slash) ≡ false → (x == single_quote) ≡ false
@@ -221,14 +285,20 @@ other_right : (column x : ℕ) (xs : Text) → is_white x ≡ false → (x == sl
 unfolding Right
 other_right column x xs w s q d e o c = by_test (Right column (x ∷ xs)) (x == star && begins slash xs) _ _
     (λ h. let p = and_true (x == star) (begins slash xs) h in subst (λ (t : Text). IsBroken t stray_end)
-        (sym (ap (λ (z : ℕ). z ∷ xs) (eqb-true x star p.0) ∙ ap (λ (t : Text). star ∷ t) (begins_is slash xs p.1)))
-        lone_end)
+    (sym (ap (λ (z : ℕ). z ∷ xs) (eqb-true x star p.0) ∙ ap (λ (t : Text). star ∷ t) (begins_is slash xs p.1)))
+    lone_end)
     (λ h. word_right column x xs (rw (w, s, q, d, e, o, c, h) refl))
 
 mark_right : (column x mark : ℕ) (xs : Text) (lexeme : Lexeme) → (x == mark) ≡ true
     → IsToken column lexeme (mark ∷ []) xs → Split (IsToken column lexeme) (x ∷ xs) 1
-mark_right column x mark xs lexeme h p = record { bytes = mark ∷ []; rest = xs; holds = p; whole =
-    ap (λ (z : ℕ). z ∷ xs) (eqb-true x mark h); long = refl }
+mark_right column x mark xs lexeme h p = record {
+  bytes = mark ∷ [];
+  rest = xs;
+  holds = p;
+  whole =
+      ap (λ (z : ℕ). z ∷ xs) (eqb-true x mark h);
+  long = refl;
+}
 
 pub front_right : (column x : ℕ) (xs : Text) → Right column (x ∷ xs) (front column x xs)
 unfolding Right
@@ -238,10 +308,10 @@ front_right column x xs = by_test (Right column (x ∷ xs)) (is_white x) _ _
     (λ h. subst (λ (z : ℕ). Right column (z ∷ xs) (slash_front xs)) (sym (eqb-true x slash h)) (slash_right column xs))
     (λ s. by_test (Right column (x ∷ xs)) (x == single_quote) _ _
     (λ h. subst (λ (z : ℕ). Right column (z ∷ xs) (single_front xs)) (sym (eqb-true x single_quote h))
-        (single_right column xs (single_length xs) (single_split xs)))
+    (single_right column xs (single_length xs) (single_split xs)))
     (λ q. by_test (Right column (x ∷ xs)) (x == double_quote) _ _
     (λ h. subst (λ (z : ℕ). Right column (z ∷ xs) (double_front column xs)) (sym (eqb-true x double_quote h))
-        (double_right column xs (double_length false xs) (double_split false xs)))
+    (double_right column xs (double_length false xs) (double_split false xs)))
     (λ d. by_test (Right column (x ∷ xs)) (x == semicolon) _ _
     (λ h. mark_right column x semicolon xs semi h ends)
     (λ e. by_test (Right column (x ∷ xs)) (x == open_brace) _ _

@@ -44,22 +44,35 @@ module_found text top e = go (nat_lt text_limit (length text)) refl (is_utf8 tex
     go : (long : Bool) → nat_lt text_limit (length text) ≡ long → (utf8 : Bool) → is_utf8 text ≡ utf8
         → (bad : Option ℕ) → forbidden_line 1 (chars text) ≡ bad
         → cond long (slip 7 1) (cond utf8 (option_map_or (λ line. slip 2 line) bad (top_statement (tokens_of text)))
-            (slip 1 (line_behind 1 (take (utf8_valid_len text) text)))) ≡ Ok top → Spells text top
+        (slip 1 (line_behind 1 (take (utf8_valid_len text) text)))) ≡ Ok top → Spells text top
     go true hl utf8 hu bad hb e = absurd cc
     go false hl false hu bad hb e = absurd cc
     go false hl true hu (Some line) hb e = absurd cc
     go false hl true hu None hb e =
         let t = top_found (tokens_of text) top (text_ends text) e in
-        record { short = ltb-false text_limit (length text) hl; utf8 = hu; allowed =
-            allowed_found 1 (chars text) hb; one = t.one; tokens = tokens_of text; cut = text_cut text; last_line =
-            t.last_line; statement = t.row }
+        record {
+          short = ltb-false text_limit (length text) hl;
+          utf8 = hu;
+          allowed =
+              allowed_found 1 (chars text) hb;
+          one = t.one;
+          tokens = tokens_of text;
+          cut = text_cut text;
+          last_line =
+              t.last_line;
+          statement = t.row;
+        }
 
 pub module_only : (text : Text) (top : Forest Statement) → Spells text top → module_of text ≡ Ok top
 unfolding module_of
 module_only text top s = rw (le-ltb text_limit (length text) s.short, s.utf8, allowed_only 1 (chars text) s.allowed)
     (top_only (tokens_of text) top (subst (λ (ts : List Token). Top ts top)
-        (sym (cut_only start text s.tokens s.cut)) (record { one = s.one; last_line = s.last_line; row =
-        s.statement })))
+    (sym (cut_only start text s.tokens s.cut)) (record {
+      one = s.one;
+      last_line = s.last_line;
+      row =
+          s.statement;
+    })))
 
 pub one_reading : (text : Text) (a b : Forest Statement) → Spells text a → Spells text b → a ≡ b
 one_reading text a b p q = ok_is a b (sym (module_only text a p) ∙ module_only text b q)

@@ -87,7 +87,7 @@ joined_after first second ts x text us says next e = go (is_plus second.lexeme) 
         let b = bind_ok (pieces ts) (appended x) (text, us) e in
         rest_is (λ t vs. Joined (first ∷ second ∷ ts) t vs) (x ++ b.0.0) b.0.1 text us b.2
         (subst (λ (t : Token). Joined (first ∷ t ∷ ts) (x ++ b.0.0) b.0.1)
-            (sym (plus_token second.line second.lexeme hp)) (with says (next hq b.0.0 b.0.1 b.1)))
+        (sym (plus_token second.line second.lexeme hp)) (with says (next hq b.0.0 b.0.1 b.1)))
     go true hp false hq e = absurd cc
     go false hp q hq e = rest_is (λ t vs. Joined (first ∷ second ∷ ts) t vs) x (second ∷ ts) text us e (alone says)
 
@@ -101,7 +101,7 @@ pieces_found (first ∷ []) text us q e =
 pieces_found (first ∷ second ∷ ts) text us q e =
     let b = bind_ok (piece first.line first.lexeme) (λ t. after_piece t second ts (pieces ts)) (text, us) e in
     joined_after first second ts b.0 text us (says_found first.line first.lexeme b.0 q b.1)
-        (λ h more vs e. pieces_found ts more vs h e) b.2
+    (λ h more vs e. pieces_found ts more vs h e) b.2
 
 -- ---- arguments
 
@@ -150,7 +150,7 @@ row_keeps level ts f us (bare {l = l} {a = a} {after = after} {ts = vs} {us = ws
 row_keeps level ts f us (block {l = l} {m = m} {a = a} {below = below} {after = after} {ts = vs} {us = ws} {vs =
     xs} k arg lt inner rest) =
     argument_keeps vs a (at l open_block ∷ ws) arg ∙ row_keeps (level + 1) ws below (at m close_block ∷ xs) inner
-        ∙ row_keeps level xs after us rest
+    ∙ row_keeps level xs after us rest
 
 -- ---- what is left is shorter
 
@@ -171,8 +171,8 @@ row_shorter level ts f us (bare {l = l} {a = a} {after = after} {ts = vs} {us = 
 row_shorter level ts f us (block {l = l} {m = m} {a = a} {below = below} {after = after} {ts = vs} {us = ws} {vs =
     xs} k arg lt inner rest) =
     let h = argument_shorter vs a (at l open_block ∷ ws) arg in let g =
-        row_shorter (level + 1) ws below (at m close_block ∷ xs) inner in let i =
-        row_shorter level xs after us rest in omega arith
+    row_shorter (level + 1) ws below (at m close_block ∷ xs) inner in let i =
+    row_shorter level xs after us rest in omega arith
 
 -- ---- rows of statements
 
@@ -218,8 +218,12 @@ closed_found below (t ∷ ts) f us h e = go t.line t.lexeme e
     go : (line : ℕ) (lexeme : Lexeme) → closed_at lexeme below (at line lexeme) ts ≡ Ok (f, us)
         → (m : ℕ) × (at line lexeme ∷ ts ≡ at m close_block ∷ us) × (below ≡ f)
     go line close_block e = let p : ◌≡◌ {A = Forest Statement × List Token} (below, ts) (f, us) =
-        ok_is (below, ts) (f, us) e in (line, ap (λ (q : Forest Statement × List Token). at line close_block ∷ q.1)
-        p, ap (λ (q : Forest Statement × List Token). q.0) p)
+        ok_is (below, ts) (f, us) e in (
+          line,
+          ap (λ (q : Forest Statement × List Token). at line close_block ∷ q.1)
+              p,
+          ap (λ (q : Forest Statement × List Token). q.0) p,
+        )
     go line _ e = absurd cc
 
 in_closed_block : (level line m : ℕ) (ts vs us : List Token) (below f : Forest Statement) → level < block_limit
@@ -272,18 +276,22 @@ pub statement_found : (inner : List Token → Result read.Row Slip) (level line 
     → Stated level line k ts first
 statement_found inner level line k ts first reads h e =
     let g = guard_ok (is_name k) (argument ts >>=
-        (λ a. body inner level a.1 >>= (λ b. Ok (node (labelled k a.0 line) b.0 end, b.1)))) 8 line first e in
+    (λ a. body inner level a.1 >>= (λ b. Ok (node (labelled k a.0 line) b.0 end, b.1)))) 8 line first e in
     let a = bind_ok (argument ts) (λ a. body inner level a.1 >>= (λ b. Ok (node (labelled k a.0 line) b.0 end, b.1)))
-        first g.1 in
+    first g.1 in
     let b = bind_ok (body inner level a.0.1) (λ b. Ok (node (labelled k a.0.0 line) b.0 end, b.1)) first a.2 in
     let arg : Argument ts a.0.0 a.0.1 = argument_found ts a.0.0 a.0.1 a.1 in
     let h2 : Ends a.0.1 = ends_by ts a.0.1 (argument_keeps ts a.0.0 a.0.1 arg) h in
     let bod : Body level a.0.1 b.0.0 b.0.1 = body_found inner level a.0.1 b.0.0 b.0.1 reads h2 b.1 in
     let read_is : read.Row = (node (labelled k a.0.0 line) b.0.0 end, b.0.1) in
     subst (λ (f : read.Row). Stated level line k ts f) {x = read_is} (ok_is read_is first b.2)
-    (record { shorter = omega (arith, argument_shorter ts a.0.0 a.0.1 arg, body_shorter level a.0.1 b.0.0 b.0.1 bod);
-        ends = ends_by a.0.1 b.0.1 (body_keeps level a.0.1 b.0.0 b.0.1 bod) h2; one = tt; row =
-        λ after rest row. stated_by level line k a.0.0 ts a.0.1 b.0.1 rest b.0.0 after g.0 arg bod row })
+    (record {
+      shorter = omega (arith, argument_shorter ts a.0.0 a.0.1 arg, body_shorter level a.0.1 b.0.0 b.0.1 bod);
+      ends = ends_by a.0.1 b.0.1 (body_keeps level a.0.1 b.0.0 b.0.1 bod) h2;
+      one = tt;
+      row =
+          λ after rest row. stated_by level line k a.0.0 ts a.0.1 b.0.1 rest b.0.0 after g.0 arg bod row;
+    })
 
 pub statements_found : (fuel level : ℕ) (ts : List Token) (f : Forest Statement) (us : List Token) → Ends ts
     → statements fuel level ts ≡ Ok (f, us) → Spelled level ts f us
@@ -295,16 +303,16 @@ statements_found (suc fuel) level (t ∷ ts) f us h e = go t.line t.lexeme h e (
     go : (line : ℕ) (lexeme : Lexeme) → Ends (at line lexeme ∷ ts) → row_at lexeme (statements fuel (level + 1))
         (statements fuel level) level (at line lexeme) ts ≡ Ok (f, us)
         → ((level : ℕ) (ts : List Token) (f : Forest Statement) (us : List Token) → Ends ts
-            → statements fuel level ts ≡ Ok (f, us) → Spelled level ts f us) → Spelled level (at line lexeme ∷ ts) f
-            us
+        → statements fuel level ts ≡ Ok (f, us) → Spelled level ts f us) → Spelled level (at line lexeme ∷ ts) f
+        us
     go line (word w) h e below =
         let a = bind_ok (statement (statements fuel (level + 1)) level w line ts)
-            (λ first. statements fuel level first.1 >>= in_row first) (f, us) e in
+        (λ first. statements fuel level first.1 >>= in_row first) (f, us) e in
         let b = bind_ok (statements fuel level a.0.1) (in_row a.0) (f, us) a.2 in
         let s : Stated level line w ts a.0 = statement_found (statements fuel (level + 1)) level line w ts a.0
-            (below (level + 1)) (ends_by (at line (word w) ∷ ts) ts refl h) a.1 in
+        (below (level + 1)) (ends_by (at line (word w) ∷ ts) ts refl h) a.1 in
         rest_is (λ g vs. Spelled level (at line (word w) ∷ ts) g vs) (followed a.0.0 b.0.0) b.0.1 f us b.2
-            (s.row b.0.0 b.0.1 (below level a.0.1 b.0.0 b.0.1 s.ends b.1))
+        (s.row b.0.0 b.0.1 (below level a.0.1 b.0.0 b.0.1 s.ends b.1))
     go line close_block h e below = rest_is (λ g vs. Spelled level (at line close_block ∷ ts) g vs) end
         (at line close_block ∷ ts) f us e none
     go line finish h e below = rest_is (λ g vs. Spelled level (at line finish ∷ ts) g vs) end (at line finish ∷ ts) f
@@ -346,14 +354,18 @@ top_found (t ∷ ts) f h e = go t.line t.lexeme h e
     go line (word w) h e =
         let a = bind_ok (statement (statements (length ts) 1) 0 w line ts) ending f e in
         let s : Stated 0 line w ts a.0 = statement_found (statements (length ts) 1) 0 line w ts a.0
-            (top_reads (length ts)) (ends_by (at line (word w) ∷ ts) ts refl h) a.1 in
+        (top_reads (length ts)) (ends_by (at line (word w) ∷ ts) ts refl h) a.1 in
         let b = ending_found a.0.0 a.0.1 f s.ends a.2 in
         let one : IsOne f = subst IsOne b.2 s.one in
-        record { one = one; last_line = b.0; row =
-            subst (λ (g : Forest Statement). Spelled 0 (at line (word w) ∷ ts) g (at b.0 finish ∷ []))
-            (followed_by_nothing a.0.0 s.one ∙ b.2)
-            (subst (λ (vs : List Token). Spelled 0 (at line (word w) ∷ ts) (followed a.0.0 end) vs) b.1
-            (s.row end a.0.1 none)) }
+        record {
+          one = one;
+          last_line = b.0;
+          row =
+              subst (λ (g : Forest Statement). Spelled 0 (at line (word w) ∷ ts) g (at b.0 finish ∷ []))
+              (followed_by_nothing a.0.0 s.one ∙ b.2)
+              (subst (λ (vs : List Token). Spelled 0 (at line (word w) ∷ ts) (followed a.0.0 end) vs) b.1
+              (s.row end a.0.1 none));
+        }
     go line close_block h e = absurd cc
     go line (single raw) h e = absurd cc
     go line (double column raw) h e = absurd cc
@@ -475,16 +487,22 @@ row_only zero level ts f us (bare k arg rest) s h = absurd (omega arith)
 row_only (suc fuel) level ts f us (bare {line = line} {l = l} {k = k} {a = a} {after = after} {ts = vs} {us =
     ws} n arg rest) s h =
     let h2 = argument_shorter vs a (at l semi ∷ ws) arg in
-    rw (bare_only (statements fuel (level + 1)) level line l k a vs ws n arg, row_only fuel level ws after us rest s
-        (omega arith)) refl
+    rw (
+      bare_only (statements fuel (level + 1)) level line l k a vs ws n arg,
+      row_only fuel level ws after us rest s
+          (omega arith),
+    ) refl
 row_only zero level ts f us (block k arg lt inner rest) s h = absurd (omega arith)
 row_only (suc fuel) level ts f us (block {line = line} {l = l} {m = m} {k = k} {a = a} {below = below} {after =
     after} {ts = vs} {us = ws} {vs = xs} n arg lt inner rest) s h =
     let h2 = argument_shorter vs a (at l open_block ∷ ws) arg in
     let h3 = row_shorter (level + 1) ws below (at m close_block ∷ xs) inner in
-    rw (block_only (statements fuel (level + 1)) level line l m k a vs ws xs below n arg lt
-        (row_only fuel (level + 1) ws below (at m close_block ∷ xs) inner refl (omega arith)), row_only fuel level xs
-        after us rest s (omega arith)) refl
+    rw (
+      block_only (statements fuel (level + 1)) level line l m k a vs ws xs below n arg lt
+          (row_only fuel (level + 1) ws below (at m close_block ∷ xs) inner refl (omega arith)),
+      row_only fuel level xs
+          after us rest s (omega arith),
+    ) refl
 
 end_row : (level : ℕ) (ts us : List Token) → Spelled level ts end us → ts ≡ us
 end_row level ts us none = refl
@@ -497,8 +515,11 @@ only_one s below (node t inner after) h = absurd h
 last_row : (level : ℕ) (ts us : List Token) (s : Statement) (below after : Forest Statement)
     → IsOne (node s below after) → Spelled level ts after us → (after ≡ end) × (ts ≡ us)
 last_row level ts us s below after h row =
-    let e = only_one s below after h in (e, end_row level ts us
-        (subst (λ (f : Forest Statement). Spelled level ts f us) e row))
+    let e = only_one s below after h in (
+      e,
+      end_row level ts us
+          (subst (λ (f : Forest Statement). Spelled level ts f us) e row),
+    )
 
 one_row_only : (level line : ℕ) (ts us : List Token) (f : Forest Statement) → IsOne f → us ≡ at line finish ∷ []
     → level ≡ 0 → Spelled level ts f us → top_statement ts ≡ Ok f
@@ -512,9 +533,14 @@ one_row_only level line ts us f one e z (block {line = first} {l = l} {m = m} {k
     let p = last_row level xs us (labelled k a first) below after one rest in
     let h2 = argument_shorter vs a (at l open_block ∷ ws) arg in
     let inner_row : Spelled (0 + 1) ws below (at m close_block ∷ xs) =
-        subst (λ (d : ℕ). Spelled (d + 1) ws below (at m close_block ∷ xs)) z inner in
-    rw (block_only (statements (length vs) 1) 0 first l m k a vs ws xs below n arg (omega arith)
-        (row_only (length vs) 1 ws below (at m close_block ∷ xs) inner_row refl (omega arith)), p.0, p.1, e) refl
+    subst (λ (d : ℕ). Spelled (d + 1) ws below (at m close_block ∷ xs)) z inner in
+    rw (
+      block_only (statements (length vs) 1) 0 first l m k a vs ws xs below n arg (omega arith)
+          (row_only (length vs) 1 ws below (at m close_block ∷ xs) inner_row refl (omega arith)),
+      p.0,
+      p.1,
+      e,
+    ) refl
 
 pub top_only : (ts : List Token) (f : Forest Statement) → Top ts f → top_statement ts ≡ Ok f
 top_only ts f top = one_row_only 0 top.last_line ts (at top.last_line finish ∷ []) f top.one refl refl top.row

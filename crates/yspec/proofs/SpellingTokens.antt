@@ -83,21 +83,39 @@ pub record Ending (place : Place) (text : Text) (ts : List Token) : Type 0 where
 
 gap_ending : (place : Place) (bytes rest : Text) → IsGap bytes rest → Ending (behind place bytes) rest
     (tokens_at (behind place bytes) rest) → Ending place (bytes ++ rest) (tokens_at place (bytes ++ rest))
-gap_ending place bytes rest g e = rw (gap_step place bytes rest g) (record { line = e.line; lexeme =
-    e.lexeme; is_end = e.is_end; last = e.last; cut = after_gap g e.cut })
+gap_ending place bytes rest g e = rw (gap_step place bytes rest g) (record {
+  line = e.line;
+  lexeme =
+      e.lexeme;
+  is_end = e.is_end;
+  last = e.last;
+  cut = after_gap g e.cut;
+})
 
 token_ending : (place : Place) (lexeme : Lexeme) (bytes rest : Text) → IsToken place.column lexeme bytes rest
     → Ending (behind place bytes) rest (tokens_at (behind place bytes) rest) → Ending place (bytes ++ rest)
     (tokens_at place (bytes ++ rest))
 token_ending place lexeme bytes rest p e = rw (token_step place lexeme bytes rest p)
-    (record { line = e.line; lexeme = e.lexeme; is_end = e.is_end; last =
-    rw (piece_not_ending place.column lexeme bytes rest p) e.last; cut = after_token p e.cut })
+    (record {
+      line = e.line;
+      lexeme = e.lexeme;
+      is_end = e.is_end;
+      last =
+          rw (piece_not_ending place.column lexeme bytes rest p) e.last;
+      cut = after_token p e.cut;
+    })
 
 last_ending : (place : Place) (x : ℕ) (xs : Text) (lexeme : Lexeme) → front place.column x xs ≡ last lexeme
     → IsBroken (x ∷ xs) lexeme → Ending place (x ∷ xs) (tokens_at place (x ∷ xs))
 unfolding tokens_from
-last_ending place x xs lexeme e b = rw e (record { line = place.line; lexeme = lexeme; is_end =
-    broken_ends (x ∷ xs) lexeme b; last = rw (broken_ends (x ∷ xs) lexeme b) refl; cut = broken b })
+last_ending place x xs lexeme e b = rw e (record {
+  line = place.line;
+  lexeme = lexeme;
+  is_end =
+      broken_ends (x ∷ xs) lexeme b;
+  last = rw (broken_ends (x ∷ xs) lexeme b) refl;
+  cut = broken b;
+})
 
 pub ending : (fuel : ℕ) (place : Place) (text : Text) → length text ≤ fuel → Ending place text (tokens_at place text)
 unfolding tokens_from Right
