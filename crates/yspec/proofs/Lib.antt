@@ -4,3 +4,4 @@ pub mod SpellingTokens
 pub mod SpellingRows
 pub mod SpellingLaws
 pub mod SlipsTold
+pub mod SlipsPlace

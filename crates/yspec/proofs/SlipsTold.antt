@@ -16,14 +16,14 @@ use Rattle.yspec.specs.Spelling.{Spells}
 use Rattle.yspec.proofs.SpellingLaws.{text_ends, module_found, module_only}
 use Rattle.yspec.proofs.SpellingRows.{Ends, ends_by, not_empty, Reads, Stated, bind_ok, argument_found, argument_keeps, argument_shorter, statement_found, statements_found, stops_row, ok_is}
 
-abbrev first_from : State → List Token → Option Slip
+abbrev pub first_from : State → List Token → Option Slip
 first_from state ts = first (slips_from state ts)
 
 abbrev is_slip : ℕ → ℕ → Option Slip
 is_slip code line = Some (record { code = code; line = line })
 
 -- what is read leaves the first slip as it was, and what isn't tells it
-abbrev Tells : {A : Type 0} → Result A Slip → Option Slip → (A → Option Slip) → Type 0
+abbrev pub Tells : {A : Type 0} → Result A Slip → Option Slip → (A → Option Slip) → Type 0
 Tells (Ok x) here there = here ≡ there x
 Tells (Err e) here there = here ≡ Some e
 

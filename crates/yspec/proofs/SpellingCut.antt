@@ -102,7 +102,8 @@ comment_split (x ∷ xs) = by_test (SplitIf EndsComment HasNoCommentEnd (x ∷ x
       x ∷ p.0,
       (
         subst (λ (b : Bool). (x == star && b) ≡ false)
-            (ap (λ (t : Text). begins slash t) e ∙ ap (λ (t : Text). begins slash (t ++ rest)) p.2 ∙ same_begin p.0 rest)
+            (ap (λ (t : Text). begins slash t) e ∙ ap (λ (t : Text). begins slash (t ++ rest)) p.2 ∙ same_begin p.0
+            rest)
             h,
         p.1,
       ),

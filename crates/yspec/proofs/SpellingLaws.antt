@@ -8,10 +8,10 @@ use Rattle.yspec.specs.Forest.{Forest}
 use Rattle.yspec.specs.Text.{Text, is_allowed, line_after, line_behind, forbidden_line}
 use Rattle.yspec.specs.Token.{Token, tokens_of}
 use Rattle.yspec.specs.Statement.{Statement, Slip, slip, top_statement, text_limit, module_of}
-use Rattle.yspec.specs.Spelling.{start, Cut, AreAllowed, Spells}
+use Rattle.yspec.specs.Spelling.{start, Cut, AreAllowed, TokensSpell, Spells}
 use Rattle.std.specs.Str.Lossy.{utf8_valid_len}
 use Rattle.yspec.proofs.SpellingTokens.{ending, cut_only}
-use Rattle.yspec.proofs.SpellingRows.{Ends, Top, ok_is, top_found, top_only}
+use Rattle.yspec.proofs.SpellingRows.{Ends, ok_is, top_found, top_only}
 
 allowed_found : (line : ℕ) (cs : List ℕ) → forbidden_line line cs ≡ None → AreAllowed cs
 allowed_found line [] h = tt
@@ -53,26 +53,17 @@ module_found text top e = go (nat_lt text_limit (length text)) refl (is_utf8 tex
         record {
           short = ltb-false text_limit (length text) hl;
           utf8 = hu;
-          allowed =
-              allowed_found 1 (chars text) hb;
-          one = t.one;
+          allowed = allowed_found 1 (chars text) hb;
           tokens = tokens_of text;
           cut = text_cut text;
-          last_line =
-              t.last_line;
-          statement = t.row;
+          statement = t;
         }
 
 pub module_only : (text : Text) (top : Forest Statement) → Spells text top → module_of text ≡ Ok top
 unfolding module_of
 module_only text top s = rw (le-ltb text_limit (length text) s.short, s.utf8, allowed_only 1 (chars text) s.allowed)
-    (top_only (tokens_of text) top (subst (λ (ts : List Token). Top ts top)
-    (sym (cut_only start text s.tokens s.cut)) (record {
-      one = s.one;
-      last_line = s.last_line;
-      row =
-          s.statement;
-    })))
+    (top_only (tokens_of text) top
+    (subst (λ (ts : List Token). TokensSpell ts top) (sym (cut_only start text s.tokens s.cut)) s.statement))
 
 pub one_reading : (text : Text) (a b : Forest Statement) → Spells text a → Spells text b → a ≡ b
 one_reading text a b p q = ok_is a b (sym (module_only text a p) ∙ module_only text b q)

@@ -8,7 +8,7 @@ use Rattle.yspec.specs.Text.{Text, is_text, is_name, plus, line_after, backslash
 use Rattle.yspec.specs.Token.{Lexeme, Token, word, single, double, semi, open_block, close_block, finish, unclosed_quote, unclosed_comment, stray_end, at, bad_escape_line, double_text, single_text, escape}
 use Rattle.yspec.specs.Statement.{Statement, Slip, slip, ◌>>=◌, misplaced, is_quoted, begins_quoted, is_plus, piece, appended, after_piece, pieces, some_argument, argument_at, argument, closed_at, closed, body_at, body, statement, followed, in_row, row_at, statements, ending_at, ending, top_at, top_statement, block_limit}
 use Rattle.yspec.specs.Statement as read
-use Rattle.yspec.specs.Spelling.{Says, as_it_is, stripped, Joined, alone, with, Argument, absent, unquoted_word, quoted, Spelled, none, bare, block, IsOne}
+use Rattle.yspec.specs.Spelling.{Says, as_it_is, stripped, Joined, alone, with, Argument, absent, unquoted_word, quoted, Spelled, none, bare, block, IsOne, TokensSpell}
 use Rattle.yspec.proofs.SpellingCut.{is_ending}
 use Rattle.yspec.proofs.SpellingTokens.{from_ending}
 
@@ -339,18 +339,12 @@ top_reads : (fuel : ℕ) → Reads (0 + 1) (statements fuel 1)
 unfolding Reads
 top_reads fuel = statements_found fuel 1
 
--- the one statement that is read of tokens
-pub record Top (ts : List Token) (f : Forest Statement) : Type 0 where
-  pub one : IsOne f
-  pub last_line : ℕ
-  pub row : Spelled 0 ts f (at last_line finish ∷ [])
-
-pub top_found : (ts : List Token) (f : Forest Statement) → Ends ts → top_statement ts ≡ Ok f → Top ts f
+pub top_found : (ts : List Token) (f : Forest Statement) → Ends ts → top_statement ts ≡ Ok f → TokensSpell ts f
 top_found [] f h e = absurd (not_empty h)
 top_found (t ∷ ts) f h e = go t.line t.lexeme h e
   where
     go : (line : ℕ) (lexeme : Lexeme) → Ends (at line lexeme ∷ ts) → top_at lexeme (length ts) (at line lexeme)
-        ts ≡ Ok f → Top (at line lexeme ∷ ts) f
+        ts ≡ Ok f → TokensSpell (at line lexeme ∷ ts) f
     go line (word w) h e =
         let a = bind_ok (statement (statements (length ts) 1) 0 w line ts) ending f e in
         let s : Stated 0 line w ts a.0 = statement_found (statements (length ts) 1) 0 line w ts a.0
@@ -542,5 +536,5 @@ one_row_only level line ts us f one e z (block {line = first} {l = l} {m = m} {k
       e,
     ) refl
 
-pub top_only : (ts : List Token) (f : Forest Statement) → Top ts f → top_statement ts ≡ Ok f
+pub top_only : (ts : List Token) (f : Forest Statement) → TokensSpell ts f → top_statement ts ≡ Ok f
 top_only ts f top = one_row_only 0 top.last_line ts (at top.last_line finish ∷ []) f top.one refl refl top.row

@@ -1,11 +1,13 @@
 -- What is wrong with a text: every cause of a refusal in order of place, and which one is told.
-use Rattle.std.specs.Prelude.{ℕ, zero, suc, ◌==◌, ◌&&◌, ◌||◌, Bool, true, false, not, List, [], ◌∷◌, ◌++◌, length, take, Option, Some, None, is_some, if◌then◌else◌, nat_lt}
+use Rattle.std.specs.Prelude.{◌≡◌, ◌⊎◌, ℕ, zero, suc, ◌==◌, ◌&&◌, ◌||◌, Bool, true, false, not, List, [], ◌∷◌, ◌++◌, length, take, Option, Some, None, is_some, if◌then◌else◌, nat_lt}
 use Rattle.std.specs.Option.{option_map_or}
 use Rattle.std.specs.Str.{chars, is_utf8}
 use Rattle.std.specs.Str.Lossy.{utf8_valid_len}
+use Rattle.yspec.specs.Forest.{Forest}
 use Rattle.yspec.specs.Text.{Text, is_name, backslash, line_after, line_behind, forbidden_line}
 use Rattle.yspec.specs.Token.{Lexeme, Token, word, single, double, semi, open_block, close_block, finish, unclosed_quote, unclosed_comment, tokens_of, escape}
-use Rattle.yspec.specs.Statement.{Slip, is_quoted, begins_quoted, is_plus, block_limit, text_limit}
+use Rattle.yspec.specs.Statement.{Statement, Slip, is_quoted, begins_quoted, is_plus, block_limit, text_limit}
+use Rattle.yspec.specs.Spelling.{TokensSpell}
 
 -- Where in a statement a token stands; the number is that of the blocks that are open.
 pub data State : Type 0 where
@@ -147,3 +149,21 @@ unfoldable pub told : Text → Option Slip
 told text = if nat_lt text_limit (length text) then wrong 7 1
     else (if not (is_utf8 text) then wrong 1 (line_behind 1 (take (utf8_valid_len text) text))
     else option_map_or (λ line. wrong 2 line) (forbidden_line 1 (chars text)) (first (slips text)))
+
+-- ---- what the place of a slip says
+
+-- With some others behind them these tokens spell a statement.
+abbrev pub IsBeginning : List Token → Type 0
+IsBeginning before = (more : List Token) × (top : Forest Statement) × TokensSpell (before ++ more) top
+
+-- The token of the first slip: what stands before it is right so far, and it isn't, whatever follows it; of `+` it
+-- counts whether a quoted string follows. A wrong escape bears the line of its backslash, and each other slip the token's.
+pub record IsFirstWrong (tokens : List Token) (slip : Slip) : Type 0 where
+  pub before : List Token
+  pub token : Token
+  pub following : List Token
+  pub place : tokens ≡ before ++ (token ∷ following)
+  pub right_before : IsBeginning before
+  pub wrong : (more : List Token) (top : Forest Statement) → begins_quoted more ≡ begins_quoted following
+      → TokensSpell (before ++ (token ∷ more)) top → ⊥
+  pub line : (slip.line ≡ token.line) ⊎ (slip.code ≡ 4)

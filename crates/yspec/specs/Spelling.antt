@@ -139,13 +139,17 @@ abbrev pub IsOne : Forest Statement → Type 0
 IsOne (node s below end) = Unit
 IsOne _ = ⊥
 
--- A text spells a statement: it is short enough and of allowed characters, and its tokens spell that statement alone.
+-- tokens up to the end of the text spell one statement
+pub record TokensSpell (tokens : List Token) (top : Forest Statement) : Type 0 where
+  pub one : IsOne top
+  pub last_line : ℕ
+  pub row : Spelled 0 tokens top (at last_line finish ∷ [])
+
+-- A text spells a statement: it is short enough and of allowed characters, and its tokens spell that statement.
 pub record Spells (text : Text) (top : Forest Statement) : Type 0 where
   pub short : length text ≤ text_limit
   pub utf8 : is_utf8 text ≡ true
   pub allowed : AreAllowed (chars text)
-  pub one : IsOne top
   pub tokens : List Token
   pub cut : Cut start text tokens
-  pub last_line : ℕ
-  pub statement : Spelled 0 tokens top (at last_line finish ∷ [])
+  pub statement : TokensSpell tokens top

@@ -6,7 +6,7 @@ ghost use Rattle.yspec.specs.Text.{Text};
 ghost use Rattle.yspec.specs.Token.{Token, tokens_of};
 ghost use Rattle.yspec.specs.Statement.{Statement, Slip, text_limit, module_of};
 ghost use Rattle.yspec.specs.Spelling.{start, Cut, Spells};
-ghost use Rattle.yspec.specs.Slips.{told};
+ghost use Rattle.yspec.specs.Slips.{slips, first, told, IsFirstWrong};
 ghost use Rattle.yspec.specs.SpellingExamples.{labelled, module_named, slip_of, nested};
 
 /// Each text is cut into its tokens, and in no other way.
@@ -41,6 +41,12 @@ pub fn first_slip()
     ensures told_alone { (text : Text) (slip : Slip) → told text ≡ Some slip → module_of text ≡ Err slip }
     ensures spelled { (text : Text) (top : Forest Statement) → Spells text top → told text ≡ None }
     ensures else_spelled { (text : Text) → told text ≡ None → (top : Forest Statement) × Spells text top }
+{}
+
+/// What stands before the token of the first slip is the beginning of tokens that spell a statement, and with that token
+/// it isn't.
+pub fn place_of_the_first_slip()
+    ensures { (text : Text) (slip : Slip) → first (slips text) ≡ Some slip → IsFirstWrong (tokens_of text) slip }
 {}
 
 /// Texts and the statements that they spell.
