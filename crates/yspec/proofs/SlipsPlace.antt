@@ -7,7 +7,7 @@ use Rattle.yspec.specs.Text.{Text, line_after, backslash}
 use Rattle.yspec.specs.Token.{Lexeme, Token, word, single, double, semi, close_block, finish, at, escape, tokens_of}
 use Rattle.yspec.specs.Statement.{Statement, Slip, begins_quoted, is_plus, top_statement}
 use Rattle.yspec.specs.Spelling.{TokensSpell}
-use Rattle.yspec.specs.Slips.{State, at_keyword, behind_keyword, behind_word, behind_quoted, behind_plus, behind_top, behind_statement, next, fits, is_unclosed, is_too_many, is_too_deep, is_unformed, cause, wrong_escapes, slips_within, slips_at, slips_from, slips, first, IsBeginning, IsFirstWrong}
+use Rattle.yspec.specs.Slips.{State, at_keyword, behind_keyword, behind_word, behind_quoted, behind_plus, behind_top, behind_statement, next, fits, is_unclosed, is_too_many_or_few, is_too_deep, is_unformed, cause, wrong_escapes, slips_within, slips_at, slips_from, slips, first, IsBeginning, IsFirstWrong}
 use Rattle.yspec.proofs.SpellingTokens.{from_ending}
 use Rattle.yspec.proofs.SpellingCut.{is_ending}
 use Rattle.yspec.proofs.SpellingRows.{Ends, top_found, top_only, row_keeps}
@@ -34,7 +34,7 @@ fits_same behind_top _ f g e = refl
 
 slips_with : Bool → State → Token → List Slip
 slips_with fit s t = cause (is_unclosed t.lexeme) 3 t.line ++ (cause (not fit) 5 t.line
-    ++ (cause (is_too_many s t.lexeme) 6 t.line ++ (cause (is_too_deep s t.lexeme) 7 t.line
+    ++ (cause (is_too_many_or_few s t.lexeme) 6 t.line ++ (cause (is_too_deep s t.lexeme) 7 t.line
     ++ (cause (is_unformed s t.lexeme) 8 t.line ++ slips_within t.line t.lexeme))))
 
 slips_same : (s : State) (t : Token) (f g : List Token) → fits s t.lexeme f ≡ fits s t.lexeme g
@@ -239,7 +239,7 @@ slip_line : (s : State) (t : Token) (f : List Token) (slip : Slip) → first (sl
 slip_line s t f slip h =
     cause_line (is_unclosed t.lexeme) 3 t.line _ slip h (λ h.
     cause_line (not (fits s t.lexeme f)) 5 t.line _ slip h (λ h.
-    cause_line (is_too_many s t.lexeme) 6 t.line _ slip h (λ h.
+    cause_line (is_too_many_or_few s t.lexeme) 6 t.line _ slip h (λ h.
     cause_line (is_too_deep s t.lexeme) 7 t.line _ slip h (λ h.
     cause_line (is_unformed s t.lexeme) 8 t.line _ slip h (λ h. inr (within_code t.line t.lexeme slip h))))))
 

@@ -70,13 +70,13 @@ abbrev is_finish : Lexeme → Bool
 is_finish finish = true
 is_finish _ = false
 
--- a quote or comment that isn't closed
+-- L3: a quote or comment that isn't closed
 abbrev pub is_unclosed : Lexeme → Bool
 is_unclosed unclosed_quote = true
 is_unclosed unclosed_comment = true
 is_unclosed _ = false
 
--- Which tokens may stand where, by the grammar of a statement. The end of the text and a comment may stand anywhere, and
+-- Which tokens may stand where (any other is L5), by the grammar of a statement. The end of the text and a comment may stand anywhere, and
 -- what comes behind the top statement is judged by itself.
 abbrev pub fits : State → Lexeme → List Token → Bool
 fits state finish following = true
@@ -88,17 +88,18 @@ fits (behind_quoted level) lexeme following = (is_plus lexeme && begins_quoted f
 fits (behind_plus level) lexeme following = is_quoted lexeme
 fits behind_top lexeme following = is_word lexeme || is_close lexeme
 
--- `}` too many, a second statement at the top, or the end of the text before that of the one
-abbrev pub is_too_many : State → Lexeme → Bool
-is_too_many behind_top lexeme = is_word lexeme || is_close lexeme
-is_too_many (at_keyword zero) lexeme = is_close lexeme || is_finish lexeme
-is_too_many _ lexeme = is_finish lexeme
+-- L6: the text isn't one statement; `}` too many, a second statement, or the end of the text before that of the first
+abbrev pub is_too_many_or_few : State → Lexeme → Bool
+is_too_many_or_few behind_top lexeme = is_word lexeme || is_close lexeme
+is_too_many_or_few (at_keyword zero) lexeme = is_close lexeme || is_finish lexeme
+is_too_many_or_few _ lexeme = is_finish lexeme
 
--- a block in as many others as may be open
+-- L7: a block that stands in as many others as may be open
 abbrev pub is_too_deep : State → Lexeme → Bool
+is_too_deep (at_keyword level) lexeme = false
 is_too_deep state lexeme = is_open lexeme && not (nat_lt (open_blocks state) block_limit)
 
--- a keyword that isn't formed as one
+-- L8: a keyword that isn't formed as one
 abbrev pub is_unformed : State → Lexeme → Bool
 is_unformed (at_keyword level) (word w) = not (is_name w)
 is_unformed behind_top (word w) = not (is_name w)
@@ -107,7 +108,7 @@ is_unformed _ _ = false
 abbrev pub cause : Bool → ℕ → ℕ → List Slip
 cause is_one code line = if is_one then record { code = code; line = line } ∷ [] else []
 
--- each backslash between double quotes that another character follows
+-- L4: each backslash between double quotes that another character follows
 unfoldable pub wrong_escapes : Bool → ℕ → Text → List Slip
 wrong_escapes after_backslash line [] = []
 wrong_escapes true line (x ∷ xs) = cause (not (is_some (escape x))) 4 line ++ wrong_escapes false (line_after x line) xs
@@ -121,7 +122,7 @@ slips_within line _ = []
 abbrev pub slips_at : State → Token → List Token → List Slip
 slips_at state t following = cause (is_unclosed t.lexeme) 3 t.line
     ++ (cause (not (fits state t.lexeme following)) 5 t.line
-    ++ (cause (is_too_many state t.lexeme) 6 t.line
+    ++ (cause (is_too_many_or_few state t.lexeme) 6 t.line
     ++ (cause (is_too_deep state t.lexeme) 7 t.line
     ++ (cause (is_unformed state t.lexeme) 8 t.line
     ++ slips_within t.line t.lexeme))))
