@@ -5,6 +5,7 @@ pub mod Statement
 pub mod Spelling
 pub mod Slips
 pub mod SpellingExamples
+pub mod TextSamples
 pub mod Grammar
 pub mod Types
 pub mod Schema

@@ -1,4 +1,5 @@
--- What is wrong with a text: every cause of a refusal in order of place, and which one is told.
+-- What is wrong with a text: each cause of a refusal in the order of the text (RFC 7950, 6.1 to 6.3), and the one that
+-- is told.
 use Rattle.std.specs.Prelude.{◌≡◌, ◌⊎◌, ℕ, zero, suc, ◌==◌, ◌&&◌, ◌||◌, Bool, true, false, not, List, [], ◌∷◌, ◌++◌, length, take, Option, Some, None, is_some, if◌then◌else◌, nat_lt}
 use Rattle.std.specs.Option.{option_map_or}
 use Rattle.std.specs.Str.{chars, is_utf8}
@@ -47,7 +48,7 @@ next state open_block = at_keyword (suc (open_blocks state))
 next state close_block = behind_block (open_blocks state)
 next state _ = state
 
--- ---- the causes, each judged with what stands before taken as right
+-- ---- the causes at a token, as though nothing before it were wrong
 
 abbrev is_word : Lexeme → Bool
 is_word (word w) = true
@@ -88,7 +89,7 @@ fits (behind_quoted level) lexeme following = (is_plus lexeme && begins_quoted f
 fits (behind_plus level) lexeme following = is_quoted lexeme
 fits behind_top lexeme following = is_word lexeme || is_close lexeme
 
--- L6: the text isn't one statement; `}` too many, a second statement, or the end of the text before that of the first
+-- L6: the text isn't one statement: a `}` closes nothing, a second one begins, or the text ends before the first does
 abbrev pub is_too_many_or_few : State → Lexeme → Bool
 is_too_many_or_few behind_top lexeme = is_word lexeme || is_close lexeme
 is_too_many_or_few (at_keyword zero) lexeme = is_close lexeme || is_finish lexeme
@@ -145,7 +146,8 @@ first (s ∷ rest) = Some s
 abbrev wrong : ℕ → ℕ → Option Slip
 wrong code line = Some (record { code = code; line = line })
 
--- That a text is too long, then that it is no UTF-8, then a character that isn't allowed, then the first of its slips.
+-- A text that is too long is told as that, else one that isn't UTF-8, else its first character that isn't allowed, and
+-- else its first slip.
 unfoldable pub told : Text → Option Slip
 told text = if nat_lt text_limit (length text) then wrong 7 1
     else (if not (is_utf8 text) then wrong 1 (line_behind 1 (take (utf8_valid_len text) text))

@@ -50,7 +50,7 @@ pub data IsGap : Text → Text → Type 0 where
 
 -- ---- tokens
 
--- No byte of a word ends it (RFC 7950, 6.1.3), and what follows does: a word is as long as it can be.
+-- No byte of a word ends it (RFC 7950, 6.1.3), and what follows does, so that a word takes all that it can.
 abbrev pub IsWord : Text → Text → Type 0
 IsWord [] [] = Unit
 IsWord [] (y ∷ ys) = ends_word y ys ≡ true
@@ -82,8 +82,8 @@ pub data IsBroken : Text → Lexeme → Type 0 where
   open_comment : {c : Text} → HasNoCommentEnd c → IsBroken (slash ∷ star ∷ c) unclosed_comment
   lone_end : {rest : Text} → IsBroken (star ∷ slash ∷ rest) stray_end
 
--- A text from a place on is cut into tokens, and gaps stand freely between them. Its end is a token too, and so is what
--- is broken, behind which nothing is cut.
+-- The tokens of a text from a place on, any gaps between them. The end of the text counts as a token, and so does what is
+-- broken, behind which nothing is cut.
 pub data Cut : Place → Text → List Token → Type 0 where
   at_end : {place : Place} → Cut place [] (at place.line finish ∷ [])
   broken : {place : Place} {text : Text} {lexeme : Lexeme} → IsBroken text lexeme

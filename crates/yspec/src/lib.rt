@@ -5,3 +5,4 @@
 
 pub mod examples;
 pub mod spelling;
+pub mod text;

@@ -33,6 +33,21 @@ pub enum TextFault {
     Memory,
 }
 
+// A line's number, as far as it goes.
+pub(crate) fn line_number(line: u64) -> u32 {
+    u32::try_from(line).unwrap_or(u32::MAX)
+}
+
+impl TextFault {
+    // What is wrong with a text, and in which line.
+    pub(crate) fn refused(code: TextCode, line: u64) -> TextFault {
+        TextFault::Refused {
+            code,
+            line: line_number(line),
+        }
+    }
+}
+
 impl From<AllocError> for TextFault {
     ghost from_gives = { λ _ e. e ≡ Memory };
 

@@ -1,8 +1,22 @@
 //! Module text: from bytes to statements.
 #![tactic(auto)]
 
+mod count;
+mod cursor;
 mod fault;
-mod statement;
 
+mod quoted;
+mod reader;
+mod scan;
+mod sink;
+mod statement;
+mod text;
+
+#[cfg(test)]
+mod tests;
+
+pub use count::FailureCount;
 pub use fault::{TextCode, TextFault};
+pub use text::parse;
+pub use sink::{Cut, Sink, SinkFault, write_all};
 pub use statement::{Module, Stmt};

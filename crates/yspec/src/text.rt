@@ -1,0 +1,48 @@
+//! Worked examples of module text: what quoted strings say, where words end, and what is refused in which line.
+
+ghost use Rattle.std.specs.Prelude.{◌≡◌, ◌++◌, [], ◌∷◌, codes, Some, None, Ok};
+ghost use Rattle.yspec.specs.Forest.{end, node};
+ghost use Rattle.yspec.specs.Statement.{module_of, slip};
+ghost use Rattle.yspec.specs.TextSamples.{with_argument};
+
+/// Later lines of a double-quoted string lose white space up to the column of its opening quote; a tab that is met
+/// counts as eight spaces, and the columns past that one stay. Escapes are replaced after that.
+pub fn stripped_lines()
+    ensures past_the_column { module_of (codes "module\n    \"a\n        b\" + 'c\\n';")
+        ≡ with_argument (codes "a\n   bc\\n") }
+    ensures tabs { module_of (codes "module\n\t\"a\n\t\tb\" { }") ≡ with_argument (codes "a\n       b") }
+    ensures escaped_line_feed { module_of (codes "module \"x\\n   y\";") ≡ with_argument (codes "x\n   y") }
+    ensures ends_of_lines { module_of (codes "module \"a  \t\n b\";") ≡ with_argument (codes "a\nb") }
+    ensures carriage_return { module_of (codes "module \"a\r\n  b\";") ≡ with_argument (codes "a\nb") }
+    ensures single_quotes { module_of (codes "module 'a \r\n b';") ≡ with_argument (codes "a \n b") }
+{}
+
+/// Where tokens end.
+pub fn cut_words()
+    ensures comment_in_a_word { module_of (codes "module a { namespace http://x;\n; }")
+        ≡ Ok (node (record { keyword = codes "module"; argument = Some (codes "a"); line = 1 })
+        (node (record { keyword = codes "namespace"; argument = Some (codes "http:"); line = 1 }) end end) end) }
+    ensures comment_between { module_of (codes "module a/*c*/{}") ≡ with_argument (codes "a") }
+    ensures joined { module_of (codes "module 'a'+\"b\";") ≡ with_argument (codes "ab") }
+    ensures lone_plus { module_of (codes "module + ;") ≡ with_argument (codes "+") }
+    ensures no_comment_in_quotes { module_of (codes "module '/*';// }\n") ≡ with_argument (codes "/*") }
+    ensures no_argument { module_of (codes "module;")
+        ≡ Ok (node (record { keyword = codes "module"; argument = None; line = 1 }) end end) }
+{}
+
+/// Each refusal, with its line.
+pub fn refused_texts()
+    ensures no_text { module_of [] ≡ slip 6 1 }
+    ensures not_closed { module_of (codes "module a { prefix \"x") ≡ slip 3 1 }
+    ensures no_text_of_utf8 { module_of (codes "module a {\n}" ++ 255 ∷ []) ≡ slip 1 2 }
+    ensures carriage_return { module_of (codes "module \rx;") ≡ slip 2 1 }
+    ensures wrong_escape { module_of (codes "module \"a\\x\";") ≡ slip 4 1 }
+    ensures word_behind_plus { module_of (codes "module 'a' + b;") ≡ slip 5 1 }
+    ensures two_arguments { module_of (codes "module 'a''b';") ≡ slip 5 1 }
+    ensures stray_end { module_of (codes "module a; */") ≡ slip 5 1 }
+    ensures not_closed_behind_plus { module_of (codes "module 'a' +\n\"x") ≡ slip 3 2 }
+    ensures brace_without_statement { module_of (codes "module a;\n}") ≡ slip 6 2 }
+    ensures second_top { module_of (codes "module a;\n1b;") ≡ slip 6 2 }
+    ensures ends_within { module_of (codes "module a {\n\n") ≡ slip 6 3 }
+    ensures no_keyword { module_of (codes "module a {\n1b; }") ≡ slip 8 2 }
+{}

@@ -1,0 +1,5 @@
+pub mod CursorSteps
+pub mod TokenSteps
+pub mod Walks
+pub mod ScanSteps
+pub mod SinkSteps

@@ -1,0 +1,13 @@
+use Rattle.std.proofs.Common.{◌≡◌, ◌+◌, ◌-◌, ◌≤◌, false, length, drop, option_map}
+use Rattle.yspec.specs.Token.{double_length}
+use Rattle.ytext.proofs.scan.double_end.Given as goal
+
+abbrev pub invariant-loop-at : goal.invariant-loop-at
+invariant-loop-at l = record {
+    from : l.from ≤ l.at;
+    within : l.at ≤ length l.bytes;
+    rest : option_map (λ n. l.at + n) (double_length l.is_escaped (drop l.at l.bytes)) ≡ option_map (λ n. l.from + n) (double_length false (drop l.from l.bytes));
+}
+
+abbrev pub decreases-loop-at : goal.decreases-loop-at
+decreases-loop-at l = length l.bytes - l.at

@@ -1,0 +1,50 @@
+-- What the code's tokens and statements are as values of the definitions.
+use Rattle.std.specs.Prelude.{ℕ, ◌-◌, ◌<◌, ◌≡◌, Bool, true, false, List}
+use Rattle.std.specs.Str.{IsCharBoundary}
+use Rattle.yspec.specs.Token as token
+use Rattle.ytext.specs.declared.cursor.Lexeme.{Lexeme}
+use Rattle.ytext.specs.declared.cursor.Lexeme.TheVariants.{Word, Single, Double, Semi, Open, Close, End, UnclosedQuote, UnclosedComment, StrayEnd}
+use Rattle.ytext.specs.declared.cursor.Front.{Front}
+use Rattle.ytext.specs.declared.cursor.Front.TheVariants as front
+
+-- nothing follows it
+abbrev pub ends_text : Lexeme → Bool
+ends_text (Word w) = false
+ends_text (Single raw) = false
+ends_text (Double before raw) = false
+ends_text Semi = false
+ends_text Open = false
+ends_text Close = false
+ends_text End = true
+ends_text UnclosedQuote = true
+ends_text UnclosedComment = true
+ends_text StrayEnd = true
+
+-- the lexeme itself; of a quoted string's line before it only the column counts
+abbrev pub lexeme_of : Lexeme → token.Lexeme
+lexeme_of (Word w) = token.word w.now
+lexeme_of (Single raw) = token.single raw.now
+lexeme_of (Double before raw) = token.double (token.column_behind 1 before.now) raw.now
+lexeme_of Semi = token.semi
+lexeme_of Open = token.open_block
+lexeme_of Close = token.close_block
+lexeme_of End = token.finish
+lexeme_of UnclosedQuote = token.unclosed_quote
+lexeme_of UnclosedComment = token.unclosed_comment
+lexeme_of StrayEnd = token.stray_end
+
+-- what stands at a place, with its length in place of its end
+abbrev pub front_of : ℕ → Front → token.Front
+front_of place (front.Gap later) = token.gap (later - place)
+front_of place (front.Token lexeme later) = token.token (lexeme_of lexeme) (later - place)
+front_of place (front.Last lexeme) = token.last (lexeme_of lexeme)
+
+-- a later place where a text may be cut
+abbrev pub IsLater : List ℕ → ℕ → ℕ → Type 0
+IsLater text at later = (at < later) × IsCharBoundary text later
+
+-- what stands at a place goes on to a later one, or ends the text
+abbrev pub GoesOn : List ℕ → ℕ → Front → Type 0
+GoesOn text at (front.Gap later) = IsLater text at later
+GoesOn text at (front.Token lexeme later) = (ends_text lexeme ≡ false) × IsLater text at later
+GoesOn text at (front.Last lexeme) = ends_text lexeme ≡ true
