@@ -2,6 +2,9 @@ pub mod Forest
 pub mod Text
 pub mod Token
 pub mod Statement
+pub mod Spelling
+pub mod Slips
+pub mod SpellingExamples
 pub mod TextSamples
 pub mod Grammar
 pub mod Types

@@ -107,11 +107,16 @@ column_after x column = if x == line_feed then 1
     else (if x == tab then column + 8
     else (if nat_le 128 x && nat_lt x 192 then column else column + 1))
 
+-- the column behind these bytes
+abbrev pub column_behind : ℕ → List ℕ → ℕ
+column_behind column [] = column
+column_behind column (x ∷ xs) = column_behind (column_after x column) xs
+
 abbrev pub at : ℕ → Lexeme → Token
 at line lexeme = record { line = line; lexeme = lexeme }
 
 -- `rest n` are the tokens behind n bytes
-abbrev met : ℕ → Front → (ℕ → List Token) → List Token
+abbrev pub met : ℕ → Front → (ℕ → List Token) → List Token
 met line (gap n) rest = rest n
 met line (token lexeme n) rest = at line lexeme ∷ rest n
 met line (last lexeme) rest = at line lexeme ∷ []

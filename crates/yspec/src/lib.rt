@@ -4,4 +4,5 @@
 #![tactic(auto)]
 
 pub mod examples;
+pub mod spelling;
 pub mod text;

@@ -1,3 +1,4 @@
+pub mod Left
 pub mod Reading
 pub mod Sink
 pub mod View

@@ -1,6 +1,7 @@
 -- What the code's tokens and statements are as values of the definitions.
-use Rattle.std.specs.Prelude.{ℕ, ◌<◌, ◌≡◌, Bool, true, false, List, [], ◌∷◌, map, Option, option_map, String, string_bytes}
+use Rattle.std.specs.Prelude.{ℕ, ◌-◌, ◌<◌, ◌≡◌, Bool, true, false, List, [], ◌∷◌, map, Option, option_map, String, string_bytes}
 use Rattle.std.specs.Str.{IsCharBoundary}
+use Rattle.yspec.specs.Token as token
 use Rattle.ytext.specs.declared.cursor.Lexeme.{Lexeme}
 use Rattle.ytext.specs.declared.cursor.Lexeme.TheVariants.{Word, Single, Double, Semi, Open, Close, End, UnclosedQuote, UnclosedComment, StrayEnd}
 use Rattle.ytext.specs.declared.cursor.Front.{Front}
@@ -23,6 +24,25 @@ ends_text End = true
 ends_text UnclosedQuote = true
 ends_text UnclosedComment = true
 ends_text StrayEnd = true
+
+-- the lexeme itself; of a quoted string's line before it only the column counts
+abbrev pub lexeme_of : Lexeme → token.Lexeme
+lexeme_of (Word w) = token.word w.now
+lexeme_of (Single raw) = token.single raw.now
+lexeme_of (Double before raw) = token.double (token.column_behind 1 before.now) raw.now
+lexeme_of Semi = token.semi
+lexeme_of Open = token.open_block
+lexeme_of Close = token.close_block
+lexeme_of End = token.finish
+lexeme_of UnclosedQuote = token.unclosed_quote
+lexeme_of UnclosedComment = token.unclosed_comment
+lexeme_of StrayEnd = token.stray_end
+
+-- what stands at a place, with its length in place of its end
+abbrev pub front_of : ℕ → Front → token.Front
+front_of place (front.Gap later) = token.gap (later - place)
+front_of place (front.Token lexeme later) = token.token (lexeme_of lexeme) (later - place)
+front_of place (front.Last lexeme) = token.last (lexeme_of lexeme)
 
 -- a later place where a text may be cut
 abbrev pub IsLater : List ℕ → ℕ → ℕ → Type 0

@@ -1,5 +1,5 @@
 //! The tokens of a text, one after another (RFC 7950, 6.1).
-ghost use Rattle.std.specs.Prelude.{◌≡◌, ℕ, ◌+◌, ◌<◌, ◌≤◌, true, false, length, slice_index};
+ghost use Rattle.std.specs.Prelude.{◌≡◌, ℕ, suc, ◌+◌, ◌-◌, ◌<◌, ◌≤◌, ◌∷◌, true, false, length, take, drop, slice_index, slice_range};
 ghost use Rattle.std.specs.Str.{IsCharBoundary};
 
 use crate::scan::{
@@ -50,10 +50,14 @@ pub(crate) struct Cursor<'a> {
 }
 
 impl<'a> Cursor<'a> {
-    ghost use Rattle.ytext.specs.View.{ends_text, GoesOn};
+    ghost use Rattle.yspec.specs.Token.{tokens_of, word, token, word_length, slash_front, single_front, double_front, other_front};
+    ghost use Rattle.ytext.specs.View.{ends_text, front_of, GoesOn};
+    ghost use Rattle.ytext.specs.Left.{left, left_behind, column_of, stands, with_token};
 
     /// The beginning of a text.
-    pub(crate) fn new(text: &'a str) -> Cursor<'a> {
+    pub(crate) fn new(text: &'a str) -> Cursor<'a>
+        ensures start { left result ≡ tokens_of text.now }
+    {
         Cursor {
             text,
             at: 0,
@@ -68,6 +72,7 @@ impl<'a> Cursor<'a> {
         requires place { IsCharBoundary self.text.now end }
         ensures text { result.text.now ≡ self.entry.text.now }
         ensures at { result.at ≡ end }
+        ensures left { left result ≡ left_behind (end - self.entry.at) self.entry }
     {
         let bytes = self.text.as_bytes();
         let mut line = self.line;
@@ -91,6 +96,7 @@ impl<'a> Cursor<'a> {
         requires order { start ≤ end }
         requires start { IsCharBoundary self.text.now start }
         requires end { IsCharBoundary self.text.now end }
+        ensures { result.now ≡ slice_range self.entry.text.now start end }
     {
         &self.text[start..end]
     }
@@ -98,6 +104,8 @@ impl<'a> Cursor<'a> {
     fn word(self) -> Front<'a>
         requires { self.at < length self.text.now }
         ensures later { GoesOn self.entry.text.now self.entry.at result }
+        ensures front { let xs = drop (self.entry.at + 1) self.entry.text.now in let n = word_length xs in
+            front_of self.entry.at result ≡ token (word (slice_index self.entry.text.now self.entry.at ∷ take n xs)) (suc n) }
     {
         let end = word_end(self.text.as_bytes(), self.at + 1);
         Front::Token(Lexeme::Word(self.between(self.at, end)), end)
@@ -107,10 +115,11 @@ impl<'a> Cursor<'a> {
         requires slash { slice_index self.text.now self.at ≡ 47 }
         requires within { self.at < length self.text.now }
         ensures later { GoesOn self.entry.text.now self.entry.at result }
+        ensures front { front_of self.entry.at result ≡ slash_front (drop (self.entry.at + 1) self.entry.text.now) }
     {
         let bytes = self.text.as_bytes();
         if stands_at(bytes, self.at + 1, b'/') {
-            Front::Gap(line_end(bytes, self.at + 2))
+            Front::Gap(line_end(bytes, self.at + 1))
         } else if stands_at(bytes, self.at + 1, b'*') {
             match comment_end(bytes, self.at + 2) {
                 Some(end) => Front::Gap(end),
@@ -125,6 +134,7 @@ impl<'a> Cursor<'a> {
         requires quote { slice_index self.text.now self.at ≡ 39 }
         requires within { self.at < length self.text.now }
         ensures later { GoesOn self.entry.text.now self.entry.at result }
+        ensures front { front_of self.entry.at result ≡ single_front (drop (self.entry.at + 1) self.entry.text.now) }
     {
         match single_end(self.text.as_bytes(), self.at + 1) {
             Some(end) => {
@@ -139,6 +149,7 @@ impl<'a> Cursor<'a> {
         requires quote { slice_index self.text.now self.at ≡ 34 }
         requires within { self.at < length self.text.now }
         ensures later { GoesOn self.entry.text.now self.entry.at result }
+        ensures front { front_of self.entry.at result ≡ double_front (column_of self.entry) (drop (self.entry.at + 1) self.entry.text.now) }
     {
         let bytes = self.text.as_bytes();
         match double_end(bytes, self.at + 1) {
@@ -155,24 +166,34 @@ impl<'a> Cursor<'a> {
         requires byte { slice_index self.text.now self.at ≡ byte }
         requires within { self.at < length self.text.now }
         ensures later { GoesOn self.entry.text.now self.entry.at result }
+        ensures front { front_of self.entry.at result ≡ stands self.entry }
     {
-        let place = self.at;
-        match byte {
-            b' ' | b'\t' | b'\n' | b'\r' => Front::Gap(behind_ascii(self.text, place)),
-            b'/' => self.slash(),
-            b'\'' => self.single(),
-            b'"' => self.double(),
-            b';' => Front::Token(Lexeme::Semi, behind_ascii(self.text, place)),
-            b'{' => Front::Token(Lexeme::Open, behind_ascii(self.text, place)),
-            b'}' => Front::Token(Lexeme::Close, behind_ascii(self.text, place)),
-            b'*' => self.star(),
-            _ => self.word(),
+        if is_white(byte) {
+            Front::Gap(behind_ascii(self.text, self.at))
+        } else if byte == b'/' {
+            self.slash()
+        } else if byte == b'\'' {
+            self.single()
+        } else if byte == b'"' {
+            self.double()
+        } else if byte == b';' {
+            Front::Token(Lexeme::Semi, behind_ascii(self.text, self.at))
+        } else if byte == b'{' {
+            Front::Token(Lexeme::Open, behind_ascii(self.text, self.at))
+        } else if byte == b'}' {
+            Front::Token(Lexeme::Close, behind_ascii(self.text, self.at))
+        } else if byte == b'*' {
+            self.star()
+        } else {
+            self.word()
         }
     }
 
     fn star(self) -> Front<'a>
-        requires { self.at < length self.text.now }
+        requires within { self.at < length self.text.now }
+        requires star { slice_index self.text.now self.at ≡ 42 }
         ensures later { GoesOn self.entry.text.now self.entry.at result }
+        ensures front { front_of self.entry.at result ≡ other_front (slice_index self.entry.text.now self.entry.at) (drop (self.entry.at + 1) self.entry.text.now) }
     {
         if stands_at(self.text.as_bytes(), self.at + 1, b'/') {
             Front::Last(Lexeme::StrayEnd)
@@ -196,6 +217,7 @@ impl<'a> Cursor<'a> {
         ensures text { result.1.text.now ≡ self.entry.text.now }
         ensures at { self.entry.at ≤ result.1.at }
         ensures later { ends_text result.0.lexeme ≡ false → self.entry.at < result.1.at }
+        ensures tokens { left self.entry ≡ with_token result.0 result.1 }
     {
         let bytes = self.text.as_bytes();
         let mut cursor = self;

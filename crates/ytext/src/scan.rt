@@ -23,7 +23,8 @@ pub(crate) fn stands_at(bytes: &[u8], at: usize, byte: u8) -> bool
 
 /// Whether a byte is a space, a tab or a part of a line break.
 pub(crate) fn is_white(byte: u8) -> bool
-    ensures { result ≡ is_white byte }
+    ensures cases { result ≡ is_white byte }
+    ensures ascii { IsTrue result → byte < 128 }
 {
     byte == b' ' || byte == b'\t' || byte == b'\n' || byte == b'\r'
 }

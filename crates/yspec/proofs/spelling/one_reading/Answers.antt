@@ -1,0 +1,5 @@
+use Rattle.yspec.proofs.SpellingLaws as laws
+use Rattle.yspec.proofs.spelling.one_reading.Goals as goal
+
+pub returns : goal.returns
+returns c = laws.one_reading

@@ -1,0 +1,30 @@
+-- What is left of a text's tokens at a place.
+use Rattle.std.specs.Prelude.{ℕ, ◌+◌, List, [], ◌∷◌, drop, slice_range, slice_index, if◌then◌else◌}
+use Rattle.yspec.specs.Token.{Token, tokens_from, column_behind, at, Front, front}
+use Rattle.ytext.specs.View.{lexeme_of, ends_text}
+use Rattle.ytext.specs.declared.cursor.Cursor.{Cursor}
+use Rattle.ytext.specs.declared.cursor.Lexed.{Lexed}
+
+abbrev pub column_at : List ℕ → ℕ → ℕ → ℕ
+column_at text line_start place = column_behind 1 (slice_range text line_start place)
+
+abbrev pub column_of : Cursor → ℕ
+column_of c = column_at c.text.now c.line_start c.at
+
+-- the tokens from a cursor on, the first so many bytes belonging to a piece before
+abbrev pub left_behind : ℕ → Cursor → List Token
+left_behind skip c = tokens_from skip c.line (column_of c) (drop c.at c.text.now)
+
+abbrev pub left : Cursor → List Token
+left c = left_behind 0 c
+
+abbrev pub token_of : Lexed → Token
+token_of t = at t.line (lexeme_of t.lexeme)
+
+-- a token, and those behind it where it isn't the last
+abbrev pub with_token : Lexed → Cursor → List Token
+with_token t c = token_of t ∷ (if ends_text t.lexeme then [] else left c)
+
+-- what stands at a cursor
+abbrev pub stands : Cursor → Front
+stands c = front (column_of c) (slice_index c.text.now c.at) (drop (c.at + 1) c.text.now)
