@@ -5,7 +5,7 @@ use Rattle.std.specs.Option.{option_map_or}
 use Rattle.yspec.specs.Forest.{end, node}
 use Rattle.yspec.specs.Text.{Text}
 use Rattle.yspec.specs.Types.{Raw, Val, YangType, taken, app_tag_of}
-use Rattle.yspec.specs.Schema.{Schema, Kind, container, leaf, node_at, children_of}
+use Rattle.yspec.specs.Schema.{Schema, Kind, container, leaf, node_in, row_below}
 use Rattle.yspec.specs.Document.{Stored, Tree, Step, instances_in}
 use Rattle.yspec.specs.Play.{Item, tell, in_use, visit, items_in_play}
 use Rattle.yspec.specs.Path.{path_text}
@@ -51,10 +51,10 @@ abbrev pub kind_faults : Answers → Kind → Option Raw → List Fault
 kind_faults answers (container presence) value = []
 kind_faults answers (leaf type default_value mandatory) value = option_map_or (value_faults type) value []
 
--- the node's own, their steps leading from itself
-abbrev pub own_faults : Answers → Schema → Stored → List Fault
-own_faults answers schema s =
-    option_map_or (λ n. kind_faults answers n.kind s.value) (node_at schema s.schema_number) []
+-- the node's own, their steps leading from itself; `schema_row` holds its schema node
+abbrev pub own_faults : Answers → Forest SchemaNode → Stored → List Fault
+own_faults answers schema_row s =
+    option_map_or (λ n. kind_faults answers n.kind s.value) (node_in schema_row s.schema_number) []
 
 -- ---- the faults of a tree
 
@@ -85,17 +85,18 @@ step_to s = record { schema_number = s.schema_number; position = None }
 abbrev pub told : Stored → List Fault → Told
 told s faults = record { schema_number = s.schema_number; faults = map (under (step_to s)) faults }
 
--- each node of a row with its faults and those below it
-unfoldable pub told_in : Answers → Schema → Tree → List Told
-told_in answers schema end = []
-told_in answers schema (node s below after) = told s (own_faults answers schema s
-    ++ woven (items_in_play (instances_in below) [] (children_of schema s.schema_number)) (told_in answers schema below))
-    ∷ told_in answers schema after
+-- each node of a row with its faults and those below it; `schema_row` holds the schema nodes of the row
+unfoldable pub told_in : Answers → Forest SchemaNode → Tree → List Told
+told_in answers schema_row end = []
+told_in answers schema_row (node s below after) = told s (own_faults answers schema_row s
+    ++ woven (items_in_play (instances_in below) [] (row_below schema_row s.schema_number))
+    (told_in answers (row_below schema_row s.schema_number) below))
+    ∷ told_in answers schema_row after
 
 -- the faults of a tree, where the questions to the whole document have these answers
 abbrev pub faults_by : Answers → Schema → Tree → List Fault
 faults_by answers schema tree =
-    woven (items_in_play (instances_in tree) [] schema.nodes) (told_in answers schema tree)
+    woven (items_in_play (instances_in tree) [] schema.nodes) (told_in answers schema.nodes tree)
 
 -- no question is asked by the types of today
 abbrev pub answers_of : Schema → Tree → Answers

@@ -107,12 +107,18 @@ schema_of modules = record { modules = modules_of modules; nodes = all_nodes 0 0
 
 -- ---- what a schema holds
 
-abbrev pub node_at : Schema → ℕ → Option SchemaNode
-node_at schema number = find_label (λ n. n.number == number) schema.nodes
+-- the node of a number in a row or below it, and its children in order of definition
+abbrev pub node_in : Forest SchemaNode → ℕ → Option SchemaNode
+node_in nodes number = find_label (λ n. n.number == number) nodes
 
--- the children of a node in order of definition
+abbrev pub row_below : Forest SchemaNode → ℕ → Forest SchemaNode
+row_below nodes number = unwrap_or (find_below (λ n. n.number == number) nodes) end
+
+abbrev pub node_at : Schema → ℕ → Option SchemaNode
+node_at schema number = node_in schema.nodes number
+
 abbrev pub children_of : Schema → ℕ → Forest SchemaNode
-children_of schema number = unwrap_or (find_below (λ n. n.number == number) schema.nodes) end
+children_of schema number = row_below schema.nodes number
 
 abbrev pub module_name : Schema → ℕ → Text
 module_name schema number = option_map_or (λ m. m.name) (slice_get schema.modules number) []
