@@ -2,7 +2,7 @@
 use Rattle.std.specs.Prelude.{ℕ, ◌++◌, ◌==◌, List, [], ◌∷◌, map, codes, decimal, Option, None, is_some, filter, unwrap_or, if◌then◌else◌, nat_le}
 use Rattle.std.specs.List.{flat_map}
 use Rattle.std.specs.Option.{option_map_or}
-use Rattle.yspec.specs.Forest.{end, node}
+use Rattle.yspec.specs.Forest.{Forest, end, node}
 use Rattle.yspec.specs.Text.{Text}
 use Rattle.yspec.specs.Types.{Raw, Val, YangType, taken, app_tag_of}
 use Rattle.yspec.specs.Schema.{Schema, Kind, container, leaf, node_in, row_below}
