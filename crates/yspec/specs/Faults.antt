@@ -5,7 +5,7 @@ use Rattle.std.specs.Option.{option_map_or}
 use Rattle.yspec.specs.Forest.{Forest, end, node}
 use Rattle.yspec.specs.Text.{Text}
 use Rattle.yspec.specs.Types.{Raw, Val, YangType, taken, app_tag_of}
-use Rattle.yspec.specs.Schema.{Schema, Kind, container, leaf, node_in, row_below}
+use Rattle.yspec.specs.Schema.{Schema, SchemaNode, Kind, container, leaf, node_in, row_below}
 use Rattle.yspec.specs.Document.{Stored, Tree, Step, instances_in}
 use Rattle.yspec.specs.Play.{Item, tell, in_use, visit, items_in_play}
 use Rattle.yspec.specs.Path.{path_text}
