@@ -1,13 +1,10 @@
-// A library with one function.
+//! The check of a document: its faults, in order, and the line of each.
 #![tactic(auto)]
 
-ghost use Rattle.std.specs.Prelude.{◌≡◌};
-ghost use Rattle.ycheck.specs.Echo.{echo_of};
+mod checking;
+mod fault;
+mod lines;
 
-// The `ensures` clause is the contract: what `echo` returns is `echo_of` of its argument, a definition
-// in `specs/Echo.antt`, which a caller's clause can cite too.
-pub fn echo(x: usize) -> usize
-    ensures { result ≡ echo_of x }
-{
-    x
-}
+pub use checking::faults;
+pub use fault::{ErrorTag, Fault, FaultCode, Info};
+pub use lines::{LineFault, write_line, write_path};
