@@ -11,7 +11,7 @@ use yschema::{CompileCode, Schema};
 use ytext::{Sink, SinkFault, TextCode};
 
 /// Why a command gives no report. Files are named by the words that were given.
-#[derive(Debug, Drop)]
+#[derive(Drop)]
 pub enum Failure<'a> {
     /// A file couldn't be read.
     Unread { name: &'a str },
@@ -37,14 +37,14 @@ pub enum Failure<'a> {
     Memory,
 }
 
-impl From<AllocError> for Failure<'_> {
-    fn from(_e: AllocError) -> Failure<'_> {
+impl<'a> From<AllocError> for Failure<'a> {
+    fn from(_e: AllocError) -> Failure<'a> {
         Failure::Memory
     }
 }
 
-impl<T: Drop> From<AllocFailed<T>> for Failure<'_> {
-    fn from(_e: AllocFailed<T>) -> Failure<'_> {
+impl<'a, T: Drop> From<AllocFailed<T>> for Failure<'a> {
+    fn from(_e: AllocFailed<T>) -> Failure<'a> {
         Failure::Memory
     }
 }
