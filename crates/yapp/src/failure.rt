@@ -1,0 +1,119 @@
+//! Why there is no report, and the line that says so.
+
+use crate::files::FileFault;
+use crate::status::{FAILED, REFUSED};
+use crate::writing::write_texts;
+use itoa::Buffer;
+use std::alloc::{AllocError, AllocFailed};
+use ycheck::write_path;
+use yinst::{DocCode, Step};
+use yschema::{CompileCode, Schema};
+use ytext::{Sink, SinkFault, TextCode};
+
+/// Why a command gives no report. Files are named by the words that were given.
+#[derive(Drop)]
+pub enum Failure<'a> {
+    /// A file couldn't be read.
+    Unread { name: &'a str },
+    /// A module's text is refused in a line.
+    Text {
+        name: &'a str,
+        code: TextCode,
+        line: u32,
+    },
+    /// A module is refused in a line.
+    Compile {
+        name: &'a str,
+        code: CompileCode,
+        line: u32,
+    },
+    /// A document is refused at a node of a schema.
+    Document {
+        name: &'a str,
+        schema: Schema,
+        code: DocCode,
+        place: Vec<Step>,
+    },
+    Memory,
+}
+
+impl<'a> From<AllocError> for Failure<'a> {
+    fn from(_e: AllocError) -> Failure<'a> {
+        Failure::Memory
+    }
+}
+
+impl<'a, T: Drop> From<AllocFailed<T>> for Failure<'a> {
+    fn from(_e: AllocFailed<T>) -> Failure<'a> {
+        Failure::Memory
+    }
+}
+
+impl<'a> Failure<'a> {
+    /// A fault of the file of a name.
+    pub fn of_file(name: &'a str, fault: FileFault) -> Failure<'a> {
+        match fault {
+            FileFault::Unread => Failure::Unread { name },
+            FileFault::Memory => Failure::Memory,
+        }
+    }
+
+    /// The exit status that it brings.
+    pub fn status(&self) -> u8 {
+        match self {
+            Failure::Unread { .. } | Failure::Memory => FAILED,
+            Failure::Text { .. } | Failure::Compile { .. } | Failure::Document { .. } => REFUSED,
+        }
+    }
+
+    /// Writes its line.
+    pub fn write<S: Sink>(&self, sink: &mut S) -> Result<(), SinkFault> {
+        match self {
+            Failure::Unread { name } => write_texts(sink, &["cannot read ", *name, "\n"]),
+            Failure::Text { name, code, line } => {
+                write_refusal(*name, *line, ": L", *code as u8, sink)
+            }
+            Failure::Compile { name, code, line } => {
+                write_refusal(*name, *line, ": C", *code as u8, sink)
+            }
+            Failure::Document {
+                name,
+                schema,
+                code,
+                place,
+            } => write_document_refusal(*name, schema, *code as u8, place, sink),
+            Failure::Memory => write_texts(sink, &["memory\n"]),
+        }
+    }
+}
+
+/// Writes the line of a module's refusal: `FILE:LINE: CODE`.
+fn write_refusal<S: Sink>(
+    name: &str,
+    line: u32,
+    kind: &str,
+    code: u8,
+    sink: &mut S,
+) -> Result<(), SinkFault> {
+    let mut line_digits = Buffer::new();
+    let mut code_digits = Buffer::new();
+    let line_text = line_digits.format(line);
+    let code_text = code_digits.format(code);
+    write_texts(sink, &[name, ":", line_text, kind, code_text, "\n"])
+}
+
+/// Writes the line of a document's refusal: `FILE: CODE PLACE`.
+fn write_document_refusal<S: Sink>(
+    name: &str,
+    schema: &Schema,
+    code: u8,
+    place: &[Step],
+    sink: &mut S,
+) -> Result<(), SinkFault> {
+    let mut code_digits = Buffer::new();
+    write_texts(sink, &[name, ": J", code_digits.format(code), " "])?;
+    if write_path(schema, place, sink).is_err() {
+        return Err(SinkFault);
+    }
+    write_texts(sink, &["\n"])
+}

@@ -1,0 +1,33 @@
+//! The faults of a document, and how they are printed.
+
+use crate::status::{FAULTY, GOOD};
+use crate::writing::write_texts;
+use itoa::Buffer;
+use ycheck::{Fault, write_line};
+use yschema::Schema;
+use ytext::{Sink, SinkFault};
+
+/// The faults of a document under its schema, in order.
+#[derive(Drop)]
+pub struct Report {
+    pub schema: Schema,
+    pub faults: Vec<Fault>,
+}
+
+impl Report {
+    /// The exit status that it brings.
+    pub fn status(&self) -> u8 {
+        if self.faults.is_empty() { GOOD } else { FAULTY }
+    }
+
+    /// Writes a line for each fault, and then how many there are.
+    pub fn write<S: Sink>(&self, sink: &mut S) -> Result<(), SinkFault> {
+        for fault in &self.faults {
+            if write_line(&self.schema, fault, sink).is_err() {
+                return Err(SinkFault);
+            }
+        }
+        let mut digits = Buffer::new();
+        write_texts(sink, &[digits.format(self.faults.len()), " faults\n"])
+    }
+}
