@@ -1,1 +1,4 @@
+pub mod Application
+pub mod Command
 pub mod Files
+pub mod Writing

@@ -1,0 +1,2 @@
+pub mod CommandSteps
+pub mod WritingSteps
