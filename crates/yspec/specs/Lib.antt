@@ -3,7 +3,13 @@ pub mod Text
 pub mod Token
 pub mod Statement
 pub mod Grammar
+pub mod Ranges
+pub mod Numerals
+pub mod Names
 pub mod Types
+pub mod Restriction
+pub mod Values
+pub mod TypeExamples
 pub mod Schema
 pub mod Breaks
 pub mod Document
