@@ -7,7 +7,13 @@ pub mod Slips
 pub mod SpellingExamples
 pub mod TextSamples
 pub mod Grammar
+pub mod Ranges
+pub mod Numerals
+pub mod Names
 pub mod Types
+pub mod Restriction
+pub mod Values
+pub mod TypeExamples
 pub mod Schema
 pub mod Breaks
 pub mod Document

@@ -6,3 +6,4 @@
 pub mod examples;
 pub mod spelling;
 pub mod text;
+pub mod types;

@@ -1,21 +1,23 @@
 //! What a type makes of a value that it takes.
 
-ghost use Rattle.std.specs.Prelude.{◌≡◌};
-ghost use Rattle.std.specs.String.{string_bytes};
-ghost use Rattle.yspec.specs.Types.{text_value, int_value};
-
+use crate::ytype::YType;
+use std::alloc::{AllocError, Global};
 use std::marker::Model;
-
-/// A value of a type. Contracts see its contents alone.
-#[derive(Debug, Drop)]
-pub struct Val {
-    content: Content,
-}
 
 #[derive(Debug, Drop)]
 pub(crate) enum Content {
     Text(String),
-    Int(i128),
+    Number(i128),
+    Bool(bool),
+    Empty,
+    Bits(Vec<i64>),
+}
+
+/// A value of a type: equal to another of that type where both are the same, and in a union the same member took them.
+#[derive(Debug, Drop)]
+pub struct Val {
+    member: Option<usize>,
+    content: Content,
 }
 
 impl Model for Val {
@@ -23,25 +25,31 @@ impl Model for Val {
 
     ghost Value = { types.Val };
 
-    ghost use Rattle.ytype.specs.View.{value_of};
+    ghost use Rattle.ytype.specs.View.{content_of};
 
-    ghost view = { λ v. value_of v.content };
+    ghost view = { λ v. record { member = v.member; content = content_of v.content } };
 }
 
 impl Val {
-    pub(crate) fn text(text: String) -> Val
-        ensures { result ≡ text_value (string_bytes text) }
+    ghost use Rattle.std.specs.Prelude.{◌≡◌, IfOk};
+    ghost use Rattle.std.specs.String.{string_bytes};
+    ghost use Rattle.yspec.specs.Types.{value};
+    ghost use Rattle.yspec.specs.Values.{canonical};
+    ghost use Rattle.ytype.specs.View.{content_of};
+
+    pub(crate) fn new(member: Option<usize>, content: Content) -> Val
+        ensures { result ≡ value member (content_of content) }
     {
-        Val {
-            content: Content::Text(text),
-        }
+        Val { member, content }
     }
 
-    pub(crate) fn int(number: i128) -> Val
-        ensures { result ≡ int_value number }
+    /// The canonical text of the value, which is one of this type (RFC 7950, 9.1).
+    pub fn canonical(&self, alloc: Global, of: &YType) -> Result<String, AllocError>
+        ensures { IfOk result (λ text. string_bytes text ≡ canonical of.now self.now) }
     {
-        Val {
-            content: Content::Int(number),
+        match of.taker(self.member) {
+            None => Ok(String::new(alloc)),
+            Some(simple) => simple.text_of(alloc, &self.content),
         }
     }
 }

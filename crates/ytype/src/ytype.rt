@@ -1,28 +1,52 @@
 //! Types.
 
-ghost use Rattle.std.specs.Prelude.{◌≡◌, ◌||◌, IfOk, Some, None};
-ghost use Rattle.std.specs.Str.{chars};
-ghost use Rattle.std.specs.List.{list_all};
-ghost use Rattle.yspec.specs.Types.{taken, app_tag_of, string_type, uint8_type, is_string_value, is_string_char};
-ghost use Rattle.ytype.specs.View.{raw_of};
-ghost use Rattle.ytype.specs.Words.{Checks};
+ghost use Rattle.std.specs.Prelude.{◌≡◌, ◌++◌, [], ◌∷◌, Ok, IfOk, OnOk, Some, None, option_map};
+ghost use Rattle.yspec.specs.Types.{taken, app_tag_of, simple_taken, first_value, plain, integer_type, string_type, uint8_type, int8, int16, int32, int64, uint8, uint16, uint32, uint64, string_base, boolean_base, empty_base, decimal_base, enumeration_base, bits_base};
+ghost use Rattle.yspec.specs.Values.{value_of_text, simple_read, taker};
+ghost use Rattle.yspec.specs.Names as names;
+ghost use Rattle.yspec.specs.Restriction.{members_of, all_members, union_type, leafref_type, narrowed};
+ghost use Rattle.ytype.specs.View.{raw_of, base_of, integer_of, restriction_of};
+ghost use Rattle.ytype.specs.Words.{Narrows, same, now_of};
+ghost use Rattle.ytype.specs.Shapes.{shape_of};
+ghost use Rattle.ytype.specs.Checks.{Checks, Reads};
 
+use crate::base::{Base, Integer};
+use crate::digits::FractionDigits;
 use crate::fault::{BadValue, NarrowFault};
+use crate::name::{Naming, bit_names, enum_names};
 use crate::raw::Raw;
-use crate::val::{Content, Val};
+use crate::restriction::Restriction;
+use crate::simple::SimpleType;
+use crate::val::Val;
 use std::alloc::{AllocError, Global};
 use std::marker::Model;
+
+#[derive(Debug, Drop)]
+enum Shape {
+    Single(SimpleType),
+    Union(Vec<SimpleType>),
+}
+
+impl Clone for Shape {
+    ghost use Rattle.std.specs.Prelude.{◌≡◌};
+
+    ghost is_clone = { λ shape copy. shape_of copy ≡ shape_of shape };
+
+    fn clone(&self) -> Result<Shape, AllocError>
+        ensures { IfOk result (λ copy. shape_of copy ≡ shape_of self.now) }
+    {
+        match self {
+            Shape::Single(simple) => Ok(Shape::Single(simple.clone()?)),
+            Shape::Union(members) => Ok(Shape::Union(members.clone()?)),
+        }
+    }
+}
 
 /// A type of values.
 #[derive(Debug, Drop)]
 pub struct YType {
-    kind: Kind,
-}
-
-#[derive(Clone, Copy, Debug)]
-enum Kind {
-    Text,
-    Uint8,
+    shape: Shape,
+    requires_instance: Option<bool>,
 }
 
 impl Model for YType {
@@ -30,9 +54,9 @@ impl Model for YType {
 
     ghost Value = { YangType };
 
-    ghost use Rattle.ytype.specs.View.{type_of};
+    ghost use Rattle.ytype.specs.Shapes.{shape_of};
 
-    ghost view = { λ t. type_of t.kind };
+    ghost view = { λ t. record { shape = shape_of t.shape; requires_instance = t.requires_instance } };
 }
 
 impl Clone for YType {
@@ -43,49 +67,278 @@ impl Clone for YType {
     fn clone(&self) -> Result<YType, AllocError>
         ensures { IfOk result (λ copy. copy ≡ self.now) }
     {
-        Ok(YType { kind: self.kind })
+        Ok(YType {
+            shape: self.shape.clone()?,
+            requires_instance: self.requires_instance,
+        })
     }
 }
 
-fn is_string_char(c: char) -> bool
-    ensures { result ≡ is_string_char c }
+fn plain(alloc: Global, base: Base) -> YType
+    ensures { result ≡ plain (base_of base) }
 {
-    let code = c as u32;
-    let is_noncharacter = (0xFDD0..=0xFDEF).contains(&code) || code % 0x10000 >= 0xFFFE;
-    c == '\t' || c == '\n' || c == '\r' || (code >= 0x20 && !is_noncharacter)
+    YType {
+        shape: Shape::Single(SimpleType::new(alloc, base)),
+        requires_instance: None,
+    }
 }
 
-fn is_string(text: &str) -> bool
-    ensures { result ≡ is_string_value text.now }
+fn integer(alloc: Global, integer: Integer) -> Result<YType, NarrowFault>
+    ensures { result ≡ Ok (integer_type (integer_of integer)) }
 {
-    text.chars().all(is_string_char)
+    Ok(plain(alloc, Base::Integer(integer)))
+}
+
+/// The built-in types (RFC 7950, 9.2 to 9.12).
+impl YType {
+    /// Numbers of 8 bits with a sign.
+    pub fn int8(alloc: Global) -> Result<YType, NarrowFault>
+        ensures { result ≡ Ok (integer_type int8) }
+    {
+        integer(alloc, Integer::Int8)
+    }
+
+    /// Numbers of 16 bits with a sign.
+    pub fn int16(alloc: Global) -> Result<YType, NarrowFault>
+        ensures { result ≡ Ok (integer_type int16) }
+    {
+        integer(alloc, Integer::Int16)
+    }
+
+    /// Numbers of 32 bits with a sign.
+    pub fn int32(alloc: Global) -> Result<YType, NarrowFault>
+        ensures { result ≡ Ok (integer_type int32) }
+    {
+        integer(alloc, Integer::Int32)
+    }
+
+    /// Numbers of 64 bits with a sign.
+    pub fn int64(alloc: Global) -> Result<YType, NarrowFault>
+        ensures { result ≡ Ok (integer_type int64) }
+    {
+        integer(alloc, Integer::Int64)
+    }
+
+    /// Numbers of 8 bits without a sign.
+    pub fn uint8(alloc: Global) -> Result<YType, NarrowFault>
+        ensures { result ≡ Ok uint8_type }
+    {
+        integer(alloc, Integer::Uint8)
+    }
+
+    /// Numbers of 16 bits without a sign.
+    pub fn uint16(alloc: Global) -> Result<YType, NarrowFault>
+        ensures { result ≡ Ok (integer_type uint16) }
+    {
+        integer(alloc, Integer::Uint16)
+    }
+
+    /// Numbers of 32 bits without a sign.
+    pub fn uint32(alloc: Global) -> Result<YType, NarrowFault>
+        ensures { result ≡ Ok (integer_type uint32) }
+    {
+        integer(alloc, Integer::Uint32)
+    }
+
+    /// Numbers of 64 bits without a sign.
+    pub fn uint64(alloc: Global) -> Result<YType, NarrowFault>
+        ensures { result ≡ Ok (integer_type uint64) }
+    {
+        integer(alloc, Integer::Uint64)
+    }
+
+    /// Numbers with so many digits after the point, of 64 bits in units of the last one (9.3).
+    pub fn decimal64(alloc: Global, digits: FractionDigits) -> Result<YType, NarrowFault>
+        ensures { result ≡ Ok (plain (decimal_base digits.digits)) }
+    {
+        Ok(plain(alloc, Base::Decimal(digits)))
+    }
+
+    /// Texts (9.4).
+    pub fn string(alloc: Global) -> Result<YType, NarrowFault>
+        ensures { result ≡ Ok string_type }
+    {
+        Ok(plain(alloc, Base::Text))
+    }
+
+    /// True and false (9.5).
+    pub fn boolean(alloc: Global) -> Result<YType, NarrowFault>
+        ensures { result ≡ Ok (plain boolean_base) }
+    {
+        Ok(plain(alloc, Base::Boolean))
+    }
+
+    /// The one value of a leaf that says by its presence alone (9.11).
+    pub fn empty(alloc: Global) -> Result<YType, NarrowFault>
+        ensures { result ≡ Ok (plain empty_base) }
+    {
+        Ok(plain(alloc, Base::Empty))
+    }
+
+    /// The names of enums in their order (9.6). Refused where a name or a number comes twice, a name is empty or has
+    /// white space at an end, or a number doesn't lie between -2147483648 and 2147483647.
+    pub fn enumeration(alloc: Global, namings: &[Naming]) -> Result<YType, NarrowFault>
+        ensures { Narrows same result (option_map (λ ns. plain (enumeration_base ns)) (names.enum_names namings.now)) }
+    {
+        match enum_names(alloc, namings) {
+            Err(fault) => Err(fault),
+            Ok(names) => Ok(plain(alloc, Base::Enumeration(names))),
+        }
+    }
+
+    /// The names of bits in their order (9.7). Refused where a name or a position comes twice, or a position doesn't
+    /// lie between 0 and 4294967295.
+    pub fn bits(alloc: Global, namings: &[Naming]) -> Result<YType, NarrowFault>
+        ensures { Narrows same result (option_map (λ ns. plain (bits_base ns)) (names.bit_names namings.now)) }
+    {
+        match bit_names(alloc, namings) {
+            Err(fault) => Err(fault),
+            Ok(names) => Ok(plain(alloc, Base::Bits(names))),
+        }
+    }
+
+    /// What one of its members takes (9.12).
+    pub fn union(alloc: Global, types: &[YType]) -> Result<YType, NarrowFault>
+        ensures { Narrows same result (Some (union_type types.now)) }
+    {
+        let mut members = Vec::new(alloc);
+        'types: for member in types {
+            member.shape.add_to(&mut members)?;
+        }
+        Ok(YType {
+            shape: Shape::Union(members),
+            requires_instance: None,
+        })
+    }
+
+    /// The values of its target's type; it requires an instance unless that is said (9.9).
+    pub fn leafref(_alloc: Global, target: &YType) -> Result<YType, NarrowFault>
+        ensures { Narrows same result (Some (leafref_type target.now)) }
+    {
+        Ok(YType {
+            shape: target.shape.clone()?,
+            requires_instance: Some(true),
+        })
+    }
+}
+
+impl Shape {
+    fn add_to(&self, members: &mut Vec<SimpleType>) -> Result<(), AllocError>
+        ensures { OnOk result (members.new.items ≡ members.old.items ++ members_of (shape_of self.now)) }
+    {
+        match self {
+            Shape::Single(simple) => members.push(simple.clone()?)?,
+            Shape::Union(others) => {
+                'others: for other in others {
+                    members.push(other.clone()?)?;
+                }
+            }
+        }
+        Ok(())
+    }
+}
+
+fn first_taken(alloc: Global, members: &[SimpleType], raw: &Raw) -> Result<Option<Val>, AllocError>
+    ensures { IfOk result (λ val. val ≡ first_value (λ s. simple_taken s (raw_of raw.now)) 0 members.now) }
+{
+    'members: for (number, member) in members.iter().enumerate() {
+        match member.taken(alloc, raw)? {
+            None => {}
+            Some(content) => return Ok(Some(Val::new(Some(number), content))),
+        }
+    }
+    Ok(None)
+}
+
+fn first_read(alloc: Global, members: &[SimpleType], text: &str) -> Result<Option<Val>, AllocError>
+    ensures { IfOk result (λ val. val ≡ first_value (λ s. simple_read s text.now) 0 members.now) }
+{
+    'members: for (number, member) in members.iter().enumerate() {
+        match member.read(alloc, text)? {
+            None => {}
+            Some(content) => return Ok(Some(Val::new(Some(number), content))),
+        }
+    }
+    Ok(None)
 }
 
 impl YType {
-    /// The type `string` (RFC 7950, 9.4).
-    pub fn string(_alloc: Global) -> Result<YType, NarrowFault>
-        ensures { result ≡ Ok string_type }
+    /// The type that took a value of a member.
+    pub(crate) fn taker(&self, member: Option<usize>) -> Option<&SimpleType>
+        ensures { now_of result ≡ taker self.now.shape member }
     {
-        Ok(YType { kind: Kind::Text })
+        match (&self.shape, member) {
+            (Shape::Single(simple), _) => Some(simple),
+            (Shape::Union(_), None) => None,
+            (Shape::Union(members), Some(number)) => members.get(number),
+        }
     }
 
-    /// The type `uint8` (RFC 7950, 9.2).
-    pub fn uint8(_alloc: Global) -> Result<YType, NarrowFault>
-        ensures { result ≡ Ok uint8_type }
+    /// Whether a leafref requires an instance; none for another type.
+    pub fn requires_instance(&self) -> Option<bool>
+        ensures { result ≡ self.now.requires_instance }
     {
-        Ok(YType { kind: Kind::Uint8 })
+        self.requires_instance
     }
 
-    /// The value that the type takes from what a document has at a leaf.
+    /// The type that a restriction makes of it. Refused where the type may not bear the restriction, a part's first bound
+    /// is above its second, parts aren't disjoint and ascending, a bound has too many digits after its point, or the
+    /// numbers don't all lie within those of the type.
+    pub fn narrow(&self, alloc: Global, restriction: &Restriction) -> Result<YType, NarrowFault>
+        ensures { Narrows same result (narrowed self.now (restriction_of restriction.now)) }
+    {
+        match (self.requires_instance, &self.shape) {
+            (None, Shape::Single(simple)) => match simple.narrow(alloc, restriction) {
+                Err(fault) => Err(fault),
+                Ok(simple) => Ok(YType {
+                    shape: Shape::Single(simple),
+                    requires_instance: None,
+                }),
+            },
+            (None, Shape::Union(_)) => Err(NarrowFault::Refused),
+            (Some(_), shape) => match restriction {
+                Restriction::RequireInstance(flag) => Ok(YType {
+                    shape: shape.clone()?,
+                    requires_instance: Some(*flag),
+                }),
+                _ => Err(NarrowFault::Refused),
+            },
+        }
+    }
+
+    /// The value that the type takes from what a document has at a leaf. A refusal bears the error-app-tag of the first
+    /// restriction, from the built-in type outwards, that excludes it; a union gives none.
     pub fn check(&self, alloc: Global, raw: &Raw) -> Result<Val, BadValue>
         ensures { Checks result (taken self.now (raw_of raw.now)) (app_tag_of self.now (raw_of raw.now)) }
     {
-        match (self.kind, raw) {
-            (Kind::Text, Raw::Text(text)) if is_string(text.as_str()) => Ok(Val::text(
-                text.clone()?,
-            )),
-            (Kind::Uint8, Raw::Int(number)) if (0..=255).contains(number) => Ok(Val::int(*number)),
-            _ => Err(BadValue::Refused { app_tag: None }),
+        match &self.shape {
+            Shape::Single(simple) => match simple.taken(alloc, raw)? {
+                Some(content) => Ok(Val::new(None, content)),
+                None => {
+                    let app_tag = simple.app_tag(alloc, raw)?;
+                    Err(BadValue::Refused { app_tag })
+                }
+            },
+            Shape::Union(members) => match first_taken(alloc, members, raw)? {
+                Some(val) => Ok(val),
+                None => Err(BadValue::Refused { app_tag: None }),
+            },
+        }
+    }
+
+    /// The value of a text of a module, as a default is one. A refusal bears no error-app-tag.
+    pub fn from_text(&self, alloc: Global, text: &str) -> Result<Val, BadValue>
+        ensures { Reads result (value_of_text self.now text.now) }
+    {
+        match &self.shape {
+            Shape::Single(simple) => match simple.read(alloc, text)? {
+                Some(content) => Ok(Val::new(None, content)),
+                None => Err(BadValue::Refused { app_tag: None }),
+            },
+            Shape::Union(members) => match first_read(alloc, members, text)? {
+                Some(val) => Ok(val),
+                None => Err(BadValue::Refused { app_tag: None }),
+            },
         }
     }
 }

@@ -1,0 +1,148 @@
+//! Worked examples of types: texts, numbers, restrictions, and what each makes of a value.
+
+ghost use Rattle.std.specs.Prelude.{◌≡◌, ◌++◌, ◌^◌, ◌-◌, [], ◌∷◌, pos, negsuc, true, false, codes, option_and_then, is_some};
+ghost use Rattle.yspec.specs.Names.{enum_names, bit_names};
+ghost use Rattle.yspec.specs.Ranges.{number};
+ghost use Rattle.yspec.specs.Types.{text, int, bool, empty, int8, int64, uint8, uint16, uint64, text_value, number_value, bits_value, integer_type, uint8_type, string_type, value, taken, app_tag_of};
+ghost use Rattle.yspec.specs.Restriction.{length, require_instance, narrowed, union_type, leafref_type};
+ghost use Rattle.yspec.specs.Values.{value_of_text, canonical};
+ghost use Rattle.yspec.specs.TypeExamples.{decimal, shown, number_is, default_of, from_to, one, at, tagged, untagged, gaps, twice_narrowed, is_taken, named, numbered, five_enums, enumeration, bits, three_bits, taken_by, shown_by};
+
+/// Numbers with a point, of two digits after it and of eighteen.
+pub fn decimals()
+    ensures leading_zeros { shown (decimal 2) (codes "+007.5") ≡ Some (codes "7.5") }
+    ensures whole { shown (decimal 2) (codes "7") ≡ Some (codes "7.0") }
+    ensures no_sign_of_zero { shown (decimal 2) (codes "-0") ≡ Some (codes "0.0") }
+    ensures inner_zero { shown (decimal 3) (codes "-0.050") ≡ Some (codes "-0.05") }
+    ensures no_digit_before { taken (decimal 2) (text (codes ".5")) ≡ None }
+    ensures no_digit_after { taken (decimal 2) (text (codes "1.")) ≡ None }
+    ensures too_many_digits { taken (decimal 2) (text (codes "1.234")) ≡ None }
+    ensures no_number { taken (decimal 2) (int (pos 7)) ≡ None }
+    ensures least { taken (decimal 18) (text (codes "-9.223372036854775808"))
+        ≡ number_is (negsuc (2 ^ 63 - 1)) }
+    ensures greatest { taken (decimal 18) (text (codes "9.223372036854775807")) ≡ number_is (pos (2 ^ 63 - 1)) }
+    ensures past_greatest { taken (decimal 18) (text (codes "9.223372036854775808")) ≡ None }
+{}
+
+/// Integers of 64 bits are strings, the others numbers.
+pub fn integers()
+    ensures sign { taken (integer_type int64) (text (codes "+5")) ≡ number_is (pos 5) }
+    ensures leading_zeros { taken (integer_type int64) (text (codes "007")) ≡ number_is (pos 7) }
+    ensures no_number { taken (integer_type int64) (int (pos 5)) ≡ None }
+    ensures no_space { taken (integer_type int64) (text (codes " 5")) ≡ None }
+    ensures greatest { taken (integer_type uint64) (text (codes "18446744073709551615"))
+        ≡ number_is (pos (2 ^ 64 - 1)) }
+    ensures past_greatest { taken (integer_type uint64) (text (codes "18446744073709551616")) ≡ None }
+    ensures least { taken (integer_type int8) (int (negsuc 127)) ≡ number_is (negsuc 127) }
+    ensures below_least { taken (integer_type int8) (int (negsuc 128)) ≡ None }
+    ensures no_text { taken (integer_type int8) (text (codes "5")) ≡ None }
+{}
+
+/// A default may be hexadecimal or octal.
+pub fn defaults()
+    ensures hexadecimal { default_of uint8 (codes "0x1F") ≡ number_is (pos 31) }
+    ensures octal { default_of uint8 (codes "017") ≡ number_is (pos 15) }
+    ensures zeros { default_of uint8 (codes "00") ≡ number_is (pos 0) }
+    ensures no_octal_digit { default_of uint8 (codes "08") ≡ None }
+    ensures negative { default_of int8 (codes "-0x80") ≡ number_is (negsuc 127) }
+    ensures minus_zero { default_of int8 (codes "-0") ≡ number_is (pos 0) }
+    ensures too_large { default_of uint8 (codes "256") ≡ None }
+{}
+
+/// A range of three parts.
+pub fn ranges()
+    ensures five { is_taken (narrowed uint8_type gaps) (int (pos 5)) ≡ true }
+    ensures six { is_taken (narrowed uint8_type gaps) (int (pos 6)) ≡ false }
+    ensures seven { is_taken (narrowed uint8_type gaps) (int (pos 7)) ≡ true }
+    ensures eight { is_taken (narrowed uint8_type gaps) (int (pos 8)) ≡ false }
+    ensures nine { is_taken (narrowed uint8_type gaps) (int (pos 9)) ≡ true }
+    ensures greatest { is_taken (narrowed uint8_type gaps) (int (pos 255)) ≡ true }
+    ensures outside { is_taken (narrowed uint8_type gaps) (int (pos 256)) ≡ false }
+{}
+
+/// The innermost restriction that excludes a value gives its tag.
+pub fn tags()
+    ensures outer { option_and_then (λ t. app_tag_of t (int (pos 7)))
+        (twice_narrowed uint8_type (tagged (from_to (pos 1) (pos 10) ∷ []) (codes "t1")) (tagged (from_to (pos 2) (pos 5) ∷ []) (codes "t2")))
+        ≡ Some (codes "t2") }
+    ensures inner { option_and_then (λ t. app_tag_of t (int (pos 20)))
+        (twice_narrowed uint8_type (tagged (from_to (pos 1) (pos 10) ∷ []) (codes "t1")) (tagged (from_to (pos 2) (pos 5) ∷ []) (codes "t2")))
+        ≡ Some (codes "t1") }
+    ensures built_in { option_and_then (λ t. app_tag_of t (int (pos 300)))
+        (twice_narrowed uint8_type (tagged (from_to (pos 1) (pos 10) ∷ []) (codes "t1")) (tagged (from_to (pos 2) (pos 5) ∷ []) (codes "t2")))
+        ≡ None }
+    ensures port { option_and_then (λ t. app_tag_of t (int (pos 1025)))
+        (narrowed (integer_type uint16) (tagged (from_to (pos 1) (pos 1024) ∷ one (pos 8080) ∷ []) (codes "bad-port")))
+        ≡ Some (codes "bad-port") }
+    ensures listed_port { option_and_then (λ t. taken t (int (pos 8080)))
+        (narrowed (integer_type uint16) (tagged (from_to (pos 1) (pos 1024) ∷ one (pos 8080) ∷ []) (codes "bad-port")))
+        ≡ number_is (pos 8080) }
+    ensures no_port { option_and_then (λ t. app_tag_of t (int (pos 70000)))
+        (narrowed (integer_type uint16) (tagged (from_to (pos 1) (pos 1024) ∷ one (pos 8080) ∷ []) (codes "bad-port")))
+        ≡ None }
+{}
+
+/// A restriction lies within what it restricts, and only there where the type may bear it.
+pub fn restrictions()
+    ensures same { is_some (twice_narrowed uint8_type (untagged (from_to (pos 1) (pos 10) ∷ [])) (untagged (from_to (pos 1) (pos 10) ∷ [])))
+        ≡ true }
+    ensures wider { twice_narrowed uint8_type (untagged (from_to (pos 1) (pos 10) ∷ [])) (untagged (from_to (pos 0) (pos 10) ∷ []))
+        ≡ None }
+    ensures across_parts { is_some (twice_narrowed uint8_type (untagged (from_to (pos 1) (pos 5) ∷ from_to (pos 6) (pos 10) ∷ [])) (untagged (from_to (pos 3) (pos 8) ∷ [])))
+        ≡ true }
+    ensures across_a_gap { twice_narrowed uint8_type (untagged (from_to (pos 1) (pos 5) ∷ from_to (pos 7) (pos 10) ∷ [])) (untagged (from_to (pos 3) (pos 8) ∷ []))
+        ≡ None }
+    ensures downwards { narrowed uint8_type (untagged (from_to (pos 5) (pos 1) ∷ [])) ≡ None }
+    ensures overlapping { narrowed uint8_type (untagged (from_to (pos 1) (pos 5) ∷ from_to (pos 5) (pos 9) ∷ [])) ≡ None }
+    ensures point { narrowed uint8_type (untagged (record { first = number (pos 10) 1; last = at (pos 5) } ∷ [])) ≡ None }
+    ensures of_a_string { narrowed string_type (untagged (from_to (pos 1) (pos 5) ∷ [])) ≡ None }
+    ensures of_a_number { narrowed uint8_type (length (from_to (pos 1) (pos 5) ∷ []) None) ≡ None }
+    ensures instance { narrowed uint8_type (require_instance false) ≡ None }
+    ensures instance_of_leafref { option_and_then (λ t. t.requires_instance) (narrowed (leafref_type uint8_type) (require_instance false))
+        ≡ Some false }
+{}
+
+/// Enums are numbered on from the highest so far.
+pub fn enumerations()
+    ensures first { taken_by (enumeration five_enums) (codes "a") ≡ number_is (pos 0) }
+    ensures given { taken_by (enumeration five_enums) (codes "b") ≡ number_is (pos 5) }
+    ensures next { taken_by (enumeration five_enums) (codes "c") ≡ number_is (pos 6) }
+    ensures lower { taken_by (enumeration five_enums) (codes "d") ≡ number_is (pos 2) }
+    ensures after_the_highest { taken_by (enumeration five_enums) (codes "e") ≡ number_is (pos 7) }
+    ensures other { taken_by (enumeration five_enums) (codes "f") ≡ None }
+    ensures canonical { shown_by (enumeration five_enums) (codes "d") ≡ Some (codes "d") }
+    ensures past_the_end { enum_names (numbered (codes "a") (pos (2 ^ 31 - 1)) ∷ named (codes "b") ∷ []) ≡ None }
+    ensures one_name_twice { enum_names (named (codes "a") ∷ named (codes "a") ∷ []) ≡ None }
+    ensures one_number_twice { enum_names (named (codes "a") ∷ numbered (codes "b") (pos 0) ∷ []) ≡ None }
+    ensures space_at_the_end { enum_names (named (codes "a ") ∷ []) ≡ None }
+    ensures no_name { enum_names (named [] ∷ []) ≡ None }
+{}
+
+/// Bits stand by position.
+pub fn sets_of_bits()
+    ensures order { shown_by (bits three_bits) (codes "y  z") ≡ Some (codes "z y") }
+    ensures ends { shown_by (bits three_bits) (codes " x y z ") ≡ Some (codes "z x y") }
+    ensures twice { taken_by (bits three_bits) (codes "y y") ≡ None }
+    ensures none { shown_by (bits three_bits) [] ≡ Some [] }
+    ensures past_the_end { bit_names (numbered (codes "a") (pos (2 ^ 32 - 1)) ∷ named (codes "b") ∷ []) ≡ None }
+{}
+
+/// A union's value bears the member that took it.
+pub fn unions()
+    ensures number { taken (union_type (uint8_type ∷ string_type ∷ [])) (int (pos 5))
+        ≡ Some (value (Some 0) (number_value (pos 5))) }
+    ensures string { taken (union_type (uint8_type ∷ string_type ∷ [])) (text (codes "5"))
+        ≡ Some (value (Some 1) (text_value (codes "5"))) }
+    ensures neither { taken (union_type (uint8_type ∷ string_type ∷ [])) (bool true) ≡ None }
+    ensures of_unions { taken (union_type (uint8_type ∷ union_type (integer_type int8 ∷ string_type ∷ []) ∷ [])) (int (negsuc 0))
+        ≡ Some (value (Some 1) (number_value (negsuc 0))) }
+{}
+
+/// A length counts characters.
+pub fn lengths()
+    ensures three { is_taken (narrowed string_type (length (from_to (pos 1) (pos 3) ∷ []) None))
+        (text (240 ∷ 159 ∷ 152 ∷ 128 ∷ 240 ∷ 159 ∷ 152 ∷ 128 ∷ 240 ∷ 159 ∷ 152 ∷ 128 ∷ [])) ≡ true }
+    ensures four { is_taken (narrowed string_type (length (from_to (pos 1) (pos 3) ∷ []) None)) (text (codes "abcd")) ≡ false }
+    ensures greatest { is_some (narrowed string_type (length (from_to (pos 0) (pos (2 ^ 64 - 1)) ∷ []) None)) ≡ true }
+    ensures past_the_greatest { narrowed string_type (length (from_to (pos 0) (pos (2 ^ 64)) ∷ []) None) ≡ None }
+{}

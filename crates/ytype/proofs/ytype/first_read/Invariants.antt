@@ -1,0 +1,7 @@
+use Rattle.std.proofs.Common.{◌≡◌, drop}
+use Rattle.yspec.specs.Types.{SimpleType, first_value}
+use Rattle.yspec.specs.Values.{simple_read}
+use Rattle.ytype.proofs.ytype.first_read.Given as goal
+
+abbrev pub invariant-members : goal.invariant-members
+invariant-members l = first_value (λ (s : SimpleType). simple_read s l.text) l.number (drop l.number l.members) ≡ first_value (λ (s : SimpleType). simple_read s l.text) 0 l.members
