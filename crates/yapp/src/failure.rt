@@ -20,7 +20,9 @@ use ytext::{Sink, SinkFault, TextCode};
 #[derive(Drop)]
 pub enum Failure<'a> {
     /// A file couldn't be read.
-    Unread { name: &'a str },
+    Unread {
+        name: &'a str,
+    },
     /// A module's text is refused in a line.
     Text {
         name: &'a str,

@@ -10,8 +10,8 @@ use crate::command::{NoRequest, Request, read_request};
 use crate::files::Files;
 use crate::status::{FAILED, GOOD, MISUSED};
 use crate::validation::validate;
-use std::alloc::Global;
 use crate::writing::write_texts;
+use std::alloc::Global;
 use ytext::{Sink, SinkFault};
 
 /// The exit status after something was to be written: another one where a write failed.

@@ -8,17 +8,25 @@ use Rattle.yapp.proofs.RunningSteps.{on_output, on_errors}
 use Rattle.yapp.proofs.program.run.Goals as goal
 
 pub returns-in-Err-Help : goal.returns-in-Err-Help
-returns-in-Err-Help g c = record { words = inr (found 0 c.as_str.result.now,
+returns-in-Err-Help g c = record {
+  words = inr (
+    found 0 c.as_str.result.now,
     inr (inl (c.as_str.result.now, refl, rw c.in-Err-Help.field-0-is at c.in-Err-Help.ensures)),
-    on_output _ _ _ (found 0 c.as_str.result.now) _ refl c.show.ensures); }
+    on_output _ _ _ (found 0 c.as_str.result.now) _ refl c.show.ensures,
+  );
+}
 
 pub returns-in-Err-Refused : goal.returns-in-Err-Refused
 returns-in-Err-Refused g c =
     let kinds = refusals (map string_bytes c.args.words.now) in
     let because : Answers kinds (none.Refused c.in-Err-Refused.text) = rw c.in-Err-Refused.field-0-is at c.in-Err-Refused.ensures in
-    record { words = inr (refused c.as_str-in-Err-Refused.result.now,
-    inr (inr (c.as_str-in-Err-Refused.result.now, refl, refused_words kinds because.0 because.2)),
-    on_errors _ _ _ (refused c.as_str-in-Err-Refused.result.now) _ refl c.refuse.ensures); }
+    record {
+      words = inr (
+        refused c.as_str-in-Err-Refused.result.now,
+        inr (inr (c.as_str-in-Err-Refused.result.now, refl, refused_words kinds because.0 because.2)),
+        on_errors _ _ _ (refused c.as_str-in-Err-Refused.result.now) _ refl c.refuse.ensures,
+      );
+    }
 
 pub returns-in-Err-Memory : goal.returns-in-Err-Memory
-returns-in-Err-Memory g c = record { words = inr (without_memory, inl refl, on_errors _ _ _ without_memory _ refl c.tell_memory.ensures); }
+returns-in-Err-Memory g c = record { words = inr (without_memory, inl refl, on_errors _ _ _ without_memory _ refl c.tell_memory.ensures) }
