@@ -1,5 +1,5 @@
 -- What clap's answers come to.
-use Rattle.std.proofs.Common.{◌≡◌, ◌⊎◌, inl, inr, List, [], Option, Some, None, Bor, map, true, refl, sym, subst, ap, ◌∙◌}
+use Rattle.std.proofs.Common.{◌≡◌, ◌⊎◌, inl, inr, List, [], ◌∷◌, Option, Some, None, Bor, map, true, refl, sym, subst, ap, ◌∙◌}
 use Rattle.std.specs.Prelude.{Result, Ok, Err, IsErrAnd, option_map, unwrap_or}
 use Rattle.yspec.specs.Output as spec
 use Rattle.yspec.specs.Output.{validate}
@@ -49,3 +49,7 @@ answered kinds kind none.Memory among is = tt
 pub asks_memory : (words : List Text) (r : Result Request NoRequest) → IsErrAnd r (λ e. e ≡ none.Memory) → Asks words r
 asks_memory words (Ok x) e = absurd e
 asks_memory words (Err a) e = subst (λ b. Asks words (Err b)) (sym e) tt
+
+pub refused_words : (kinds : Kinds) (kind : ErrorKind) → IsAmong kind kinds → kinds ≡ [] → ⊥
+refused_words [] kind among e = among
+refused_words (k ∷ ks) kind among e = cc

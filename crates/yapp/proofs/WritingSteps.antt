@@ -1,12 +1,12 @@
 -- Writing one text after another.
-use Rattle.std.proofs.Common.{◌≡◌, ℕ, zero, suc, ◌+◌, ◌<◌, List, [], ◌∷◌, ◌++◌, length, take, drop, get_or, min, Option, Some, None, refl, sym, subst, ap, ◌∙◌, append_assoc, add-one, arith}
+use Rattle.std.proofs.Common.{◌≡◌, ◌⊎◌, inl, inr, ℕ, zero, suc, ◌+◌, ◌<◌, List, [], ◌∷◌, ◌++◌, length, take, drop, get_or, min, Option, Some, None, refl, sym, subst, ap, ◌∙◌, append_assoc, add-one, arith}
 use Rattle.std.specs.Borrow.{Bor}
-use Rattle.std.specs.Prelude.{Result, Ok, Err, IsErr}
+use Rattle.std.specs.Prelude.{Result, Ok, Err, IsErr, is_ok, if◌then◌else◌}
 use Rattle.std.specs.List.{flat_map}
 use Rattle.std.proofs.lemmas.List.{append-nil, take-append-le, take_min}
 use Rattle.std.proofs.Math.Seq.{take-append-add}
 use Rattle.ytext.specs.Sink.{followed_by}
-use Rattle.yapp.specs.Writing.{Side, Wrote, Broke, Writes}
+use Rattle.yapp.specs.Writing.{Side, Wrote, Broke, Writes, Ends}
 
 pub followed_by_both : (t : Option (List ℕ)) (xs ys : List ℕ) → followed_by (followed_by t xs) ys ≡ followed_by t (xs ++ ys)
 followed_by_both None xs ys = refl
@@ -82,3 +82,12 @@ broke_same a b xs ys e w = subst (λ zs. Broke a b zs) e w
 pub writes_err : {X E : Type 0} → (a b : Side) (bytes : List ℕ) (r : Result X E) → IsErr r → Broke a b bytes → Writes a b bytes r
 writes_err a b bytes (Ok x) e w = cc
 writes_err a b bytes (Err x) e w = w
+
+-- a text that is written alone ends a run
+pub ends : {X E : Type 0} → (a b : Side) (bytes : List ℕ) (status result : ℕ) (r : Result X E) → Writes a b bytes r
+    → result ≡ (if is_ok r then status else 4) → Ends a b bytes status result
+ends a b bytes status result (Ok x) w e = inl (w, e)
+ends a b bytes status result (Err x) w e = inr (w, e)
+
+pub writes_same : {X E : Type 0} → (a b : Side) (xs ys : List ℕ) (r : Result X E) → xs ≡ ys → Writes a b xs r → Writes a b ys r
+writes_same a b xs ys r e w = subst (λ zs. Writes a b zs r) e w

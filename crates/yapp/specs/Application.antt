@@ -3,7 +3,6 @@ use Rattle.std.specs.Prelude.{codes, true}
 use Rattle.clap.specs.Words.{App, Rule, Shape, Text, new_app, new_rule, with_rule, with_subcommand}
 use Rattle.clap.specs.Simple.{on_top}
 
-
 -- an argument that has to be given
 abbrev pub wanted : Text → Rule
 wanted name = record (new_rule name) { required = true }

@@ -1,4 +1,6 @@
 pub mod Application
 pub mod Command
+pub mod Failing
 pub mod Files
+pub mod Running
 pub mod Writing

@@ -1,5 +1,11 @@
 //! Why there is no report, and the line that says so.
 
+ghost use Rattle.std.specs.Prelude.{◌≡◌, ◌++◌, codes, IfSome};
+ghost use Rattle.yapp.specs.Failing.{outcome_of, refusal_in, text_code_number};
+ghost use Rattle.yapp.specs.Writing.{Writes, side};
+ghost use Rattle.yschema.specs.Told.{code_number};
+ghost use Rattle.yapp.specs.declared.failure.Failure.TheVariants.{Memory};
+
 use crate::files::FileFault;
 use crate::status::{FAILED, REFUSED};
 use crate::writing::write_texts;
@@ -14,7 +20,9 @@ use ytext::{Sink, SinkFault, TextCode};
 #[derive(Drop)]
 pub enum Failure<'a> {
     /// A file couldn't be read.
-    Unread { name: &'a str },
+    Unread {
+        name: &'a str,
+    },
     /// A module's text is refused in a line.
     Text {
         name: &'a str,
@@ -38,12 +46,16 @@ pub enum Failure<'a> {
 }
 
 impl<'a> From<AllocError> for Failure<'a> {
+    ghost from_gives = { λ _ e. e ≡ Memory };
+
     fn from(_e: AllocError) -> Failure<'a> {
         Failure::Memory
     }
 }
 
 impl<'a, T: Drop> From<AllocFailed<T>> for Failure<'a> {
+    ghost from_gives = { λ _ e. e ≡ Memory };
+
     fn from(_e: AllocFailed<T>) -> Failure<'a> {
         Failure::Memory
     }
@@ -59,7 +71,9 @@ impl<'a> Failure<'a> {
     }
 
     /// The exit status that it brings.
-    pub fn status(&self) -> u8 {
+    pub fn status(&self) -> u8
+        ensures { IfSome (outcome_of self.now) (λ o. result ≡ o.status) }
+    {
         match self {
             Failure::Unread { .. } | Failure::Memory => FAILED,
             Failure::Text { .. } | Failure::Compile { .. } | Failure::Document { .. } => REFUSED,
@@ -67,14 +81,17 @@ impl<'a> Failure<'a> {
     }
 
     /// Writes its line.
-    pub fn write<S: Sink>(&self, sink: &mut S) -> Result<(), SinkFault> {
+    pub fn write<S: Sink>(&self, sink: &mut S) -> Result<(), SinkFault>
+        ensures { IfSome (outcome_of self.now) (λ o.
+            Writes (side S.taken S.failures sink.old) (side S.taken S.failures sink.new) o.errors result) }
+    {
         match self {
             Failure::Unread { name } => write_texts(sink, &["cannot read ", *name, "\n"]),
             Failure::Text { name, code, line } => {
-                write_refusal(*name, *line, ": L", *code as u8, sink)
+                write_refusal(*name, *line, ": L", text_number(*code), sink)
             }
             Failure::Compile { name, code, line } => {
-                write_refusal(*name, *line, ": C", *code as u8, sink)
+                write_refusal(*name, *line, ": C", rule_number(*code), sink)
             }
             Failure::Document {
                 name,
@@ -87,6 +104,20 @@ impl<'a> Failure<'a> {
     }
 }
 
+/// The number of a text's code.
+fn text_number(code: TextCode) -> u8
+    ensures { result ≡ text_code_number code }
+{
+    code as u8
+}
+
+/// The number of the code of a module's rule.
+fn rule_number(code: CompileCode) -> u8
+    ensures { result ≡ code_number code }
+{
+    code as u8
+}
+
 /// Writes the line of a module's refusal: `FILE:LINE: CODE`.
 fn write_refusal<S: Sink>(
     name: &str,
@@ -94,7 +125,10 @@ fn write_refusal<S: Sink>(
     kind: &str,
     code: u8,
     sink: &mut S,
-) -> Result<(), SinkFault> {
+) -> Result<(), SinkFault>
+    ensures { Writes (side S.taken S.failures sink.old) (side S.taken S.failures sink.new)
+        (refusal_in name.now line kind.now code ++ codes "\n") result }
+{
     let mut line_digits = Buffer::new();
     let mut code_digits = Buffer::new();
     let line_text = line_digits.format(line);

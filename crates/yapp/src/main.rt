@@ -8,11 +8,10 @@ mod program;
 mod report;
 mod status;
 mod system;
-mod validation;
-mod writing;
-
 #[cfg(test)]
 mod tests;
+mod validation;
+mod writing;
 
 use std::process::ExitCode;
 use std::{env, io};

@@ -1,14 +1,23 @@
 //! A run of the program.
 
+ghost use Rattle.std.specs.Prelude.{◌≡◌, ◌⊎◌, [], codes, is_ok, if◌then◌else◌, map, string_bytes};
+ghost use Rattle.yspec.specs.Output.{Outcome};
+ghost use Rattle.yapp.specs.Command.{refusals};
+ghost use Rattle.yapp.specs.Running.{AnswersWords, Brings, refused, without_memory};
+ghost use Rattle.yapp.specs.Writing.{Ends, side};
+
 use crate::command::{NoRequest, Request, read_request};
 use crate::files::Files;
 use crate::status::{FAILED, GOOD, MISUSED};
 use crate::validation::validate;
+use crate::writing::write_texts;
 use std::alloc::Global;
-use ytext::{Sink, SinkFault, write_all};
+use ytext::{Sink, SinkFault};
 
 /// The exit status after something was to be written: another one where a write failed.
-fn status_after(written: Result<(), SinkFault>, status: u8) -> u8 {
+fn status_after(written: Result<(), SinkFault>, status: u8) -> u8
+    ensures { result ≡ (if is_ok written then status else 4) }
+{
     match written {
         Ok(()) => status,
         Err(SinkFault) => FAILED,
@@ -16,13 +25,27 @@ fn status_after(written: Result<(), SinkFault>, status: u8) -> u8 {
 }
 
 /// Says that there is no memory.
-pub fn tell_memory<E: Sink>(errors: &mut E) -> u8 {
-    status_after(write_all(errors, b"memory\n"), FAILED)
+pub fn tell_memory<E: Sink>(errors: &mut E) -> u8
+    ensures { Ends (side E.taken E.failures errors.old) (side E.taken E.failures errors.new)
+        without_memory.errors without_memory.status result }
+{
+    status_after(write_texts(errors, &["memory\n"]), FAILED)
 }
 
 /// Refuses a command line with a text.
-pub fn refuse<E: Sink>(text: &str, errors: &mut E) -> u8 {
-    status_after(write_all(errors, text.as_bytes()), MISUSED)
+pub fn refuse<E: Sink>(text: &str, errors: &mut E) -> u8
+    ensures { Ends (side E.taken E.failures errors.old) (side E.taken E.failures errors.new)
+        text.now (refused text.now).status result }
+{
+    status_after(write_texts(errors, &[text]), MISUSED)
+}
+
+/// Shows a text that was asked for.
+fn show<O: Sink>(text: &str, output: &mut O) -> u8
+    ensures { Ends (side O.taken O.failures output.old) (side O.taken O.failures output.new)
+        text.now 0 result }
+{
+    status_after(write_texts(output, &[text]), GOOD)
 }
 
 /// Does what was asked for.
@@ -48,10 +71,15 @@ pub fn run<F: Files, O: Sink, E: Sink>(
     files: &mut F,
     output: &mut O,
     errors: &mut E,
-) -> u8 {
+) -> u8
+    ensures words { (refusals (map string_bytes words.now) ≡ [])
+        ⊎ ((o : Outcome) × AnswersWords (refusals (map string_bytes words.now)) o
+        × Brings (side O.taken O.failures output.old) (side O.taken O.failures output.new)
+        (side E.taken E.failures errors.old) (side E.taken E.failures errors.new) o result) }
+{
     match read_request(alloc, words) {
         Ok(request) => perform(alloc, &request, files, output, errors),
-        Err(NoRequest::Help(text)) => status_after(write_all(output, text.as_bytes()), GOOD),
+        Err(NoRequest::Help(text)) => show(text.as_str(), output),
         Err(NoRequest::Refused(text)) => refuse(text.as_str(), errors),
         Err(NoRequest::Memory) => tell_memory(errors),
     }

@@ -1,5 +1,7 @@
 //! The faults of a document, and how they are printed.
 
+ghost use Rattle.std.specs.Prelude.{◌≡◌, ◌==◌, length, if◌then◌else◌};
+
 use crate::status::{FAULTY, GOOD};
 use crate::writing::write_texts;
 use itoa::Buffer;
@@ -16,7 +18,9 @@ pub struct Report {
 
 impl Report {
     /// The exit status that it brings.
-    pub fn status(&self) -> u8 {
+    pub fn status(&self) -> u8
+        ensures { result ≡ (if length self.now.faults.items == 0 then 0 else 1) }
+    {
         if self.faults.is_empty() { GOOD } else { FAULTY }
     }
 

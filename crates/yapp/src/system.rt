@@ -4,9 +4,8 @@ ghost use Rattle.std.specs.Prelude.{None};
 
 use crate::files::{FileFault, Files};
 use std::alloc::Global;
-use std::fs;
 use std::io::{ErrorKind, Write};
-use std::rt;
+use std::{fs, rt};
 use ytext::{FailureCount, Sink, SinkFault};
 
 /// The system's files.

@@ -124,13 +124,27 @@ fn pair<'a>(module: &'a [u8], document: &'a [u8], failing_read: Option<u64>) -> 
 /// `validate` of a module and a document.
 fn validated(alloc: Global, module: &[u8], document: &[u8]) -> Result<Shown, AllocError> {
     let files = pair(module, document, None);
-    shown_by(alloc, "yanglive validate d.json p.yang", files, WHOLLY, WHOLLY)
+    shown_by(
+        alloc,
+        "yanglive validate d.json p.yang",
+        files,
+        WHOLLY,
+        WHOLLY,
+    )
 }
 
 /// A document under the module, and what it prints.
 const DOCUMENTS: [(&str, &str, u8); 6] = [
-    ("{\"p:c\":{\"note\":\"x\"}}", "V3 data-missing - /p:c/id -\n1 faults\n", 1),
-    ("{\"p:c\":{\"id\":256}}", "V1 invalid-value - /p:c/id -\n1 faults\n", 1),
+    (
+        "{\"p:c\":{\"note\":\"x\"}}",
+        "V3 data-missing - /p:c/id -\n1 faults\n",
+        1,
+    ),
+    (
+        "{\"p:c\":{\"id\":256}}",
+        "V1 invalid-value - /p:c/id -\n1 faults\n",
+        1,
+    ),
     ("{\"p:c\":{\"id\":255}}", "0 faults\n", 0),
     ("{}", "V3 data-missing - /p:c/id -\n1 faults\n", 1),
     (TWO_FAULTS, BOTH_LINES, 1),
@@ -185,11 +199,21 @@ fn refused_files(rt: HostRuntime) -> Result<(), Fail> {
 const WORDS: [(&str, &str, bool, u8); 9] = [
     ("yanglive validate", "<DATA>\n  <MODULE>\n", true, 3),
     ("yanglive validate d.json", "<MODULE>\n", true, 3),
-    ("yanglive validate d.json p.yang q.yang", "'q.yang'", true, 3),
+    (
+        "yanglive validate d.json p.yang q.yang",
+        "'q.yang'",
+        true,
+        3,
+    ),
     ("yanglive", "requires a subcommand", true, 3),
     ("yanglive check d.json p.yang", "'check'", true, 3),
     ("yanglive help", "'help'", true, 3),
-    ("yanglive validate --dump d.json p.yang", "'--dump'", true, 3),
+    (
+        "yanglive validate --dump d.json p.yang",
+        "'--dump'",
+        true,
+        3,
+    ),
     ("yanglive --help", "  validate  ", false, 0),
     ("yanglive validate -h", "<DATA>", false, 0),
 ];
@@ -204,7 +228,10 @@ fn command_lines(rt: HostRuntime) -> Result<(), Fail> {
         } else {
             (&shown.output, &shown.errors)
         };
-        assert!(rt; str::from_utf8(text.bytes()).is_ok_and(|text| text.contains(part)), "{line}");
+        assert!(rt;
+            str::from_utf8(text.bytes()).is_ok_and(|text| text.contains(part)),
+            "{line}"
+        );
         assert!(rt; text.bytes().ends_with(b"\n"), "{line}");
         assert!(rt; other.bytes().is_empty(), "{line}");
         assert_eq!(rt; shown.status, status, "{line}");
@@ -279,10 +306,18 @@ fn sides_that_take_nothing(rt: HostRuntime) -> Result<(), Fail> {
         bytes_per_call: 0,
         failing_call: None,
     };
-    for line in ["yanglive validate d.json p.yang", "yanglive validate", "yanglive -h"] {
+    for line in [
+        "yanglive validate d.json p.yang",
+        "yanglive validate",
+        "yanglive -h",
+    ] {
         let files = pair(MODULE.as_bytes(), b"{}", None);
         let shown = shown_by(rt.alloc(), line, files, nothing, nothing)?;
-        assert_eq!(rt; shown.output.calls().saturating_add(shown.errors.calls()), 1, "{line}");
+        assert_eq!(rt;
+            shown.output.calls().saturating_add(shown.errors.calls()),
+            1,
+            "{line}"
+        );
         assert!(rt; shown.output.bytes().is_empty(), "{line}");
         assert!(rt; shown.errors.bytes().is_empty(), "{line}");
         assert_eq!(rt; shown.status, 4, "{line}");

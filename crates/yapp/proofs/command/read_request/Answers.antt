@@ -13,9 +13,10 @@ returns-in_err-request_in-in-Ok c = asks_memory (map string_bytes c.args.words.n
 pub returns-in_ok-request_in-in-Ok : goal.returns-in_ok-request_in-in-Ok
 returns-in_ok-request_in-in-Ok c =
     let app = c.in_ok-application.ensures in
-    let words = map string_bytes c.args.words.now in
-    (sym (ap (λ (a : App). fault_of a words) app) ∙ c.in-Ok.ensures.kinds (ap is_simple_and_free app ∙ is_free),
-     c.in_ok-request_in-in-Ok.ensures ∙ ap asked_by ((c.in-Ok.ensures.matches (ap is_simple app ∙ is_plain)).1 ∙ ap (λ (a : App). subcommand_of a words) app))
+    let words = map string_bytes c.args.words.now in (
+      sym (ap (λ (a : App). fault_of a words) app) ∙ c.in-Ok.ensures.kinds (ap is_simple_and_free app ∙ is_free),
+      c.in_ok-request_in-in-Ok.ensures ∙ ap asked_by ((c.in-Ok.ensures.matches (ap is_simple app ∙ is_plain)).1 ∙ ap (λ (a : App). subcommand_of a words) app),
+    )
 
 pub returns-in-Err : goal.returns-in-Err
 returns-in-Err c =

@@ -10,7 +10,7 @@ pub returns : goal.returns
 returns c =
     let found = found_of c.args.found.now in
     let document = ap (λ (b : Bor Text). b.now) c.unwrap_or-document.ensures ∙ now_or c.get_str.result _
-        ∙ ap (λ (o : Option Text). unwrap_or o []) (c.get_str.ensures ∙ first_value-rows found (codes "DATA")) in
+    ∙ ap (λ (o : Option Text). unwrap_or o []) (c.get_str.ensures ∙ first_value-rows found (codes "DATA")) in
     let names = ap (λ (b : Bor (List (Bor Text))). map (λ (name : Bor Text). name.now) b.now) c.unwrap_or-names.ensures ∙ names_or c.get_strs.result _
-        ∙ ap (λ (o : Option (List Text)). unwrap_or o []) (c.get_strs.ensures ∙ raw_values-rows found (codes "MODULE")) in
+    ∙ ap (λ (o : Option (List Text)). unwrap_or o []) (c.get_strs.ensures ∙ raw_values-rows found (codes "MODULE")) in
     ap₂ validate document (ap (map (λ (name : Bor Text). name.now)) c.in_ok-modules.ensures.items ∙ names)

@@ -14,7 +14,7 @@ loop-text-preserved g c =
     let text = c.as_bytes.ensures.value in
     let call = c.in_ok-write_all.ensures in
     wrote_same _ _ _ _ (ap (λ (t : List ℕ). flat_map (λ (x : Bor (List ℕ)). x.now) (take c.loop-text.text-index c.args.texts.now) ++ t) text
-        ∙ sym (one_more c.args.texts.now c.loop-text.text-index _ c.loop-text-test.true))
+    ∙ sym (one_more c.args.texts.now c.loop-text.text-index _ c.loop-text-test.true))
     (wrote_both _ _ _ _ _ c.loop-text.invariant (wrote _ _ _ call.ok call.without_failure))
 
 pub returns : goal.returns
@@ -30,4 +30,4 @@ returns-in_err-write_all g c =
     let whole = broke_second _ _ _ _ _ before (broke_first _ _ _ rest (broke _ _ _ call.err call.one_failure)) in
     writes_err _ _ _ c.from_residual.result c.from_residual.ensures.0
     (broke_same _ _ _ _ (ap (λ (t : List ℕ). flat_map (λ (x : Bor (List ℕ)). x.now) (take c.loop-text.text-index c.args.texts.now) ++ (t ++ rest)) text
-        ∙ sym (cut_at c.args.texts.now c.loop-text.text-index _ c.loop-text-test.true)) whole)
+    ∙ sym (cut_at c.args.texts.now c.loop-text.text-index _ c.loop-text-test.true)) whole)

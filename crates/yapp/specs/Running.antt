@@ -1,0 +1,43 @@
+-- What a run comes to: an outcome, and what of it goes out on the two sides.
+use Rattle.std.specs.Prelude.{◌≡◌, ◌⊎◌, ℕ, List, [], codes, take}
+use Rattle.clap.specs.Words.{Kinds, IsAmong}
+use Rattle.clap.specs.declared.error.kind.ErrorKind.TheVariants.{DisplayHelp}
+use Rattle.yspec.specs.Output.{Outcome, failed, found}
+use Rattle.yapp.specs.Writing.{Side, Wrote, Broke}
+
+-- the status where a file, a stream or memory failed
+abbrev pub failure : ℕ
+failure = 4
+
+abbrev pub BringsAll : Side → Side → Side → Side → Outcome → ℕ → Type 0
+BringsAll output output_after errors errors_after o status =
+    Wrote output output_after o.output × Wrote errors errors_after o.errors × (status ≡ o.status)
+
+abbrev pub OutputBreaks : Side → Side → Side → Side → Outcome → ℕ → Type 0
+OutputBreaks output output_after errors errors_after o status =
+    (n : ℕ) × Broke output output_after o.output × Wrote errors errors_after (take n o.errors) × (status ≡ failure)
+
+abbrev pub ErrorsBreak : Side → Side → Side → Side → Outcome → ℕ → Type 0
+ErrorsBreak output output_after errors errors_after o status =
+    (n : ℕ) × Wrote output output_after (take n o.output) × Broke errors errors_after o.errors × (status ≡ failure)
+
+-- The sides get an outcome and the status is the outcome's. Or one call fails: then what is taken on each side is a
+-- beginning of what was due there, and the status says that something failed.
+abbrev pub Brings : Side → Side → Side → Side → Outcome → ℕ → Type 0
+Brings output output_after errors errors_after o status = BringsAll output output_after errors errors_after o status
+    ⊎ (OutputBreaks output output_after errors errors_after o status
+    ⊎ ErrorsBreak output output_after errors errors_after o status)
+
+-- ---- what comes in place of a request
+
+abbrev pub without_memory : Outcome
+without_memory = failed failure (codes "memory")
+
+abbrev pub refused : List ℕ → Outcome
+refused text = record { output = []; errors = text; status = 3 }
+
+-- memory is wanting, help is asked for, or the words are refused; the texts are clap's
+abbrev pub AnswersWords : Kinds → Outcome → Type 0
+AnswersWords kinds o = (o ≡ without_memory)
+    ⊎ (((text : List ℕ) × (o ≡ found 0 text) × IsAmong DisplayHelp kinds)
+    ⊎ ((text : List ℕ) × (o ≡ refused text) × (kinds ≡ [] → ⊥)))
