@@ -85,6 +85,22 @@ fn takes_text(alloc: Global, of: &YType, raw: &str, canonical: Option<&str>) -> 
     )
 }
 
+type Row = (&'static str, Option<&'static str>);
+
+fn takes_texts(alloc: Global, of: &YType, rows: &[Row]) -> Run {
+    for (raw, canonical) in rows {
+        takes_text(alloc, of, raw, *canonical)?;
+    }
+    Ok(())
+}
+
+fn takes_defaults(alloc: Global, of: &YType, rows: &[Row]) -> Run {
+    for (text, canonical) in rows {
+        takes_default(alloc, of, text, *canonical)?;
+    }
+    Ok(())
+}
+
 fn takes_number(alloc: Global, of: &YType, number: i128, canonical: Option<&str>) -> Run {
     let val = value(of.check(alloc, &Raw::Int(number)))?;
     wanted(
@@ -106,154 +122,154 @@ fn decimal(alloc: Global, digits: u32) -> Result<YType, Stop> {
 }
 
 fn decimals(alloc: Global) -> Run {
-    let two = decimal(alloc, 2)?;
-    takes_text(alloc, &two, "+007.5", Some("7.5"))?;
-    takes_text(alloc, &two, "7", Some("7.0"))?;
-    takes_text(alloc, &two, "-0", Some("0.0"))?;
-    takes_text(alloc, &two, "-0.05", Some("-0.05"))?;
-    takes_text(alloc, &two, ".5", None)?;
-    takes_text(alloc, &two, "1.", None)?;
-    takes_text(alloc, &two, "1.234", None)?;
-    takes_text(alloc, &two, "1.2.3", None)?;
-    takes_number(alloc, &two, 7, None)?;
-    takes_default(alloc, &two, "1.50", Some("1.5"))?;
-    let one = decimal(alloc, 1)?;
-    takes_text(
+    takes_texts(
         alloc,
-        &one,
-        "922337203685477580.7",
-        Some("922337203685477580.7"),
-    )?;
-    takes_text(
-        alloc,
-        &one,
-        "-922337203685477580.8",
-        Some("-922337203685477580.8"),
-    )?;
-    takes_text(alloc, &one, "922337203685477580.8", None)?;
-    takes_text(
-        alloc,
-        &one,
-        "99999999999999999999999999999999999999999999",
-        None,
-    )?;
-    let eighteen = decimal(alloc, 18)?;
-    takes_text(
-        alloc,
-        &eighteen,
-        "9.223372036854775807",
-        Some("9.223372036854775807"),
-    )?;
-    takes_text(alloc, &eighteen, "9.223372036854775808", None)?;
-    takes_text(
-        alloc,
-        &eighteen,
-        "-9.223372036854775808",
-        Some("-9.223372036854775808"),
-    )?;
-    takes_text(alloc, &eighteen, "-9.223372036854775809", None)
+        &decimal(alloc, 2)?,
+        &[
+            ("+007.5", Some("7.5")),
+            ("7", Some("7.0")),
+            ("-0", Some("0.0")),
+            ("-0.05", Some("-0.05")),
+            (".5", None),
+            ("1.", None),
+            ("1.234", None),
+            ("1.2.3", None),
+        ],
+    )
 }
 
-fn integers(alloc: Global) -> Run {
-    let int8 = YType::int8(alloc)?;
-    takes_number(alloc, &int8, -128, Some("-128"))?;
-    takes_number(alloc, &int8, -129, None)?;
-    takes_number(alloc, &int8, 127, Some("127"))?;
-    takes_number(alloc, &int8, 128, None)?;
-    takes_text(alloc, &int8, "5", None)?;
-    let int16 = YType::int16(alloc)?;
-    takes_number(alloc, &int16, -32768, Some("-32768"))?;
-    takes_number(alloc, &int16, -32769, None)?;
-    takes_number(alloc, &int16, 32767, Some("32767"))?;
-    takes_number(alloc, &int16, 32768, None)?;
-    let int32 = YType::int32(alloc)?;
-    takes_number(alloc, &int32, -2147483648, Some("-2147483648"))?;
-    takes_number(alloc, &int32, -2147483649, None)?;
-    takes_number(alloc, &int32, 2147483647, Some("2147483647"))?;
-    takes_number(alloc, &int32, 2147483648, None)?;
-    let uint8 = YType::uint8(alloc)?;
-    takes_number(alloc, &uint8, 0, Some("0"))?;
-    takes_number(alloc, &uint8, -1, None)?;
-    takes_number(alloc, &uint8, 255, Some("255"))?;
-    takes_number(alloc, &uint8, 256, None)?;
-    let uint16 = YType::uint16(alloc)?;
-    takes_number(alloc, &uint16, 65535, Some("65535"))?;
-    takes_number(alloc, &uint16, 65536, None)?;
-    let uint32 = YType::uint32(alloc)?;
-    takes_number(alloc, &uint32, 4294967295, Some("4294967295"))?;
-    takes_number(alloc, &uint32, 4294967296, None)
+fn long_decimals(alloc: Global) -> Run {
+    takes_texts(
+        alloc,
+        &decimal(alloc, 1)?,
+        &[
+            ("922337203685477580.7", Some("922337203685477580.7")),
+            ("-922337203685477580.8", Some("-922337203685477580.8")),
+            ("922337203685477580.8", None),
+            ("99999999999999999999999999999999999999999999", None),
+        ],
+    )?;
+    takes_texts(
+        alloc,
+        &decimal(alloc, 18)?,
+        &[
+            ("9.223372036854775807", Some("9.223372036854775807")),
+            ("9.223372036854775808", None),
+            ("-9.223372036854775808", Some("-9.223372036854775808")),
+            ("-9.223372036854775809", None),
+        ],
+    )
+}
+
+/// The ends of an integer type are taken, and what lies beyond them isn't.
+fn has_ends(alloc: Global, of: &YType, low: (i128, &str), high: (i128, &str)) -> Run {
+    takes_number(alloc, of, low.0, Some(low.1))?;
+    takes_number(alloc, of, low.0.wrapping_sub(1), None)?;
+    takes_number(alloc, of, high.0, Some(high.1))?;
+    takes_number(alloc, of, high.0.wrapping_add(1), None)
+}
+
+fn signed_integers(alloc: Global) -> Run {
+    has_ends(alloc, &YType::int8(alloc)?, (-128, "-128"), (127, "127"))?;
+    has_ends(
+        alloc,
+        &YType::int16(alloc)?,
+        (-32768, "-32768"),
+        (32767, "32767"),
+    )?;
+    has_ends(
+        alloc,
+        &YType::int32(alloc)?,
+        (-2147483648, "-2147483648"),
+        (2147483647, "2147483647"),
+    )
+}
+
+fn unsigned_integers(alloc: Global) -> Run {
+    has_ends(alloc, &YType::uint8(alloc)?, (0, "0"), (255, "255"))?;
+    has_ends(alloc, &YType::uint16(alloc)?, (0, "0"), (65535, "65535"))?;
+    has_ends(
+        alloc,
+        &YType::uint32(alloc)?,
+        (0, "0"),
+        (4294967295, "4294967295"),
+    )?;
+    takes_text(alloc, &YType::uint8(alloc)?, "5", None)
 }
 
 fn long_integers(alloc: Global) -> Run {
     let int64 = YType::int64(alloc)?;
-    takes_text(alloc, &int64, "+5", Some("5"))?;
-    takes_text(alloc, &int64, "007", Some("7"))?;
-    takes_text(alloc, &int64, " 5", None)?;
-    takes_text(alloc, &int64, "", None)?;
-    takes_text(alloc, &int64, "-", None)?;
-    takes_text(alloc, &int64, "0x5", None)?;
     takes_number(alloc, &int64, 5, None)?;
-    takes_text(
+    takes_texts(
         alloc,
         &int64,
-        "-9223372036854775808",
-        Some("-9223372036854775808"),
-    )?;
-    takes_text(alloc, &int64, "-9223372036854775809", None)?;
-    takes_text(
+        &[
+            ("+5", Some("5")),
+            ("007", Some("7")),
+            (" 5", None),
+            ("-", None),
+            ("0x5", None),
+            ("-9223372036854775808", Some("-9223372036854775808")),
+            ("-9223372036854775809", None),
+            ("9223372036854775807", Some("9223372036854775807")),
+            ("9223372036854775808", None),
+        ],
+    )
+}
+
+fn unsigned_long_integers(alloc: Global) -> Run {
+    takes_texts(
         alloc,
-        &int64,
-        "9223372036854775807",
-        Some("9223372036854775807"),
-    )?;
-    takes_text(alloc, &int64, "9223372036854775808", None)?;
-    let uint64 = YType::uint64(alloc)?;
-    takes_text(alloc, &uint64, "-0", Some("0"))?;
-    takes_text(alloc, &uint64, "-1", None)?;
-    takes_text(
-        alloc,
-        &uint64,
-        "18446744073709551615",
-        Some("18446744073709551615"),
-    )?;
-    takes_text(alloc, &uint64, "18446744073709551616", None)?;
-    takes_text(
-        alloc,
-        &uint64,
-        "340282366920938463463374607431768211456",
-        None,
+        &YType::uint64(alloc)?,
+        &[
+            ("-0", Some("0")),
+            ("-1", None),
+            ("18446744073709551615", Some("18446744073709551615")),
+            ("18446744073709551616", None),
+            ("340282366920938463463374607431768211456", None),
+        ],
     )
 }
 
 fn defaults(alloc: Global) -> Run {
-    let uint8 = YType::uint8(alloc)?;
-    for (written, canonical) in [
-        ("0x1F", Some("31")),
-        ("0x1f", Some("31")),
-        ("+0x1f", Some("31")),
-        ("017", Some("15")),
-        ("+017", Some("15")),
-        ("00", Some("0")),
-        ("0", Some("0")),
-        ("+0", Some("0")),
-        ("-0", Some("0")),
-        ("08", None),
-        ("0x", None),
-        ("0xg", None),
-        ("0X1F", None),
-        ("256", None),
-        ("", None),
-    ] {
-        takes_default(alloc, &uint8, written, canonical)?;
-    }
-    let int8 = YType::int8(alloc)?;
-    takes_default(alloc, &int8, "-0x80", Some("-128"))?;
-    takes_default(alloc, &int8, "-0x81", None)?;
-    takes_default(alloc, &int8, "-0200", Some("-128"))?;
-    let boolean = YType::boolean(alloc)?;
-    takes_default(alloc, &boolean, "true", Some("true"))?;
-    takes_default(alloc, &boolean, "false", Some("false"))?;
-    takes_default(alloc, &boolean, "True", None)?;
+    takes_defaults(
+        alloc,
+        &YType::uint8(alloc)?,
+        &[
+            ("0x1F", Some("31")),
+            ("+0x1f", Some("31")),
+            ("017", Some("15")),
+            ("00", Some("0")),
+            ("+0", Some("0")),
+            ("-0", Some("0")),
+            ("08", None),
+            ("0x", None),
+            ("0X1F", None),
+            ("256", None),
+            ("", None),
+        ],
+    )?;
+    takes_defaults(
+        alloc,
+        &YType::int8(alloc)?,
+        &[
+            ("-0x80", Some("-128")),
+            ("-0x81", None),
+            ("-0200", Some("-128")),
+        ],
+    )
+}
+
+fn flags(alloc: Global) -> Run {
+    takes_defaults(
+        alloc,
+        &YType::boolean(alloc)?,
+        &[
+            ("true", Some("true")),
+            ("false", Some("false")),
+            ("True", None),
+        ],
+    )?;
     let empty = YType::empty(alloc)?;
     takes_default(alloc, &empty, "", None)?;
     let val = value(empty.check(alloc, &Raw::Empty))?;
@@ -285,6 +301,7 @@ fn length(alloc: Global, first: i128, last: i128) -> Result<Restriction, Stop> {
     })
 }
 
+/// The tag of a number that isn't taken.
 fn has_tag(alloc: Global, of: &YType, number: i128, tag: Option<&str>) -> Run {
     match of.check(alloc, &Raw::Int(number)) {
         Ok(_) => Err(Stop::Wrong("a number that is excluded")),
@@ -297,87 +314,84 @@ fn has_tag(alloc: Global, of: &YType, number: i128, tag: Option<&str>) -> Run {
     }
 }
 
-fn ranges(alloc: Global) -> Run {
-    let uint8 = YType::uint8(alloc)?;
-    let parts = range(
-        alloc,
-        "t",
-        &[(Bound::Min, at(5)), (at(7), at(7)), (at(9), Bound::Max)],
-    )?;
-    let gaps = uint8.narrow(alloc, &parts)?;
-    takes_number(alloc, &gaps, 5, Some("5"))?;
-    takes_number(alloc, &gaps, 7, Some("7"))?;
-    takes_number(alloc, &gaps, 9, Some("9"))?;
-    takes_number(alloc, &gaps, 255, Some("255"))?;
-    has_tag(alloc, &gaps, 6, Some("t"))?;
-    has_tag(alloc, &gaps, 8, Some("t"))?;
-    has_tag(alloc, &gaps, 256, None)?;
-    let inner = uint8.narrow(alloc, &range(alloc, "t1", &[(at(1), at(10))])?)?;
+fn parts(alloc: Global) -> Run {
+    let spans = [(Bound::Min, at(5)), (at(7), at(7)), (at(9), Bound::Max)];
+    let gaps = YType::uint8(alloc)?.narrow(alloc, &range(alloc, "t", &spans)?)?;
+    for number in [5, 7, 9, 255] {
+        wanted(
+            value(gaps.check(alloc, &Raw::Int(number)))?.is_some(),
+            "a number of a part",
+        )?;
+    }
+    for (number, tag) in [(6, Some("t")), (8, Some("t")), (256, None)] {
+        has_tag(alloc, &gaps, number, tag)?;
+    }
+    Ok(())
+}
+
+fn tags(alloc: Global) -> Run {
+    let inner = YType::uint8(alloc)?.narrow(alloc, &range(alloc, "t1", &[(at(1), at(10))])?)?;
     let outer = inner.narrow(alloc, &range(alloc, "t2", &[(at(2), at(5))])?)?;
-    has_tag(alloc, &outer, 7, Some("t2"))?;
-    has_tag(alloc, &outer, 20, Some("t1"))?;
-    has_tag(alloc, &outer, 300, None)?;
-    let same = range(alloc, "t", &[(at(1), at(10))])?;
-    wanted(!is_refused(inner.narrow(alloc, &same))?, "the same range")?;
-    let wider = range(alloc, "t", &[(at(0), at(10))])?;
-    wanted(is_refused(inner.narrow(alloc, &wider))?, "a wider range")?;
-    let downwards = range(alloc, "t", &[(at(5), at(1))])?;
+    for (number, tag) in [(7, Some("t2")), (20, Some("t1")), (300, None)] {
+        has_tag(alloc, &outer, number, tag)?;
+    }
+    Ok(())
+}
+
+/// Whether a range of `1..10` may be narrowed so.
+fn narrows(alloc: Global, spans: &[(Bound, Bound)], may: bool) -> Run {
+    let inner = YType::uint8(alloc)?.narrow(alloc, &range(alloc, "t1", &[(at(1), at(10))])?)?;
+    let restriction = range(alloc, "t", spans)?;
     wanted(
-        is_refused(uint8.narrow(alloc, &downwards))?,
-        "a range downwards",
-    )?;
-    let touching = range(alloc, "t", &[(at(1), at(5)), (at(5), at(9))])?;
-    wanted(
-        is_refused(uint8.narrow(alloc, &touching))?,
-        "parts that meet",
-    )?;
-    let huge = range(alloc, "t", &[(at(0), at(i128::MAX))])?;
-    wanted(
-        is_refused(uint8.narrow(alloc, &huge))?,
-        "a bound that no type has",
-    )?;
-    let pointed = range(
-        alloc,
-        "t",
-        &[(
-            Bound::Number {
-                units: 10,
-                places: 1,
-            },
-            at(5),
-        )],
-    )?;
-    wanted(
-        is_refused(uint8.narrow(alloc, &pointed))?,
-        "a point in a bound of an integer",
-    )?;
-    let two = decimal(alloc, 2)?.narrow(alloc, &pointed)?;
-    takes_text(alloc, &two, "0.99", None)?;
-    takes_text(alloc, &two, "1.0", Some("1.0"))?;
-    takes_text(alloc, &two, "5.00", Some("5.0"))?;
-    takes_text(alloc, &two, "5.01", None)
+        is_refused(inner.narrow(alloc, &restriction))? != may,
+        "whether a range may stand there",
+    )
+}
+
+fn narrowings(alloc: Global) -> Run {
+    let pointed = Bound::Number {
+        units: 20,
+        places: 1,
+    };
+    narrows(alloc, &[(at(1), at(10))], true)?;
+    for (first, last) in [
+        (at(0), at(10)),
+        (at(5), at(1)),
+        (at(1), at(i128::MAX)),
+        (pointed, at(5)),
+    ] {
+        narrows(alloc, &[(first, last)], false)?;
+    }
+    narrows(alloc, &[(at(1), at(5)), (at(5), at(9))], false)
 }
 
 fn strings(alloc: Global) -> Run {
     let string = YType::string(alloc)?;
-    takes_text(alloc, &string, "a\r\tb", Some("a\r\tb"))?;
-    takes_text(alloc, &string, "\u{7}", None)?;
-    takes_text(alloc, &string, "\u{FFFF}", None)?;
+    takes_texts(
+        alloc,
+        &string,
+        &[
+            ("a\r\tb", Some("a\r\tb")),
+            ("\u{7}", None),
+            ("\u{FFFF}", None),
+        ],
+    )?;
     let short = string.narrow(alloc, &length(alloc, 1, 3)?)?;
-    takes_text(alloc, &short, "😀😀😀", Some("😀😀😀"))?;
-    takes_text(alloc, &short, "😀😀😀😀", None)?;
-    takes_text(alloc, &short, "", None)?;
+    takes_texts(
+        alloc,
+        &short,
+        &[("😀😀😀", Some("😀😀😀")), ("😀😀😀😀", None), ("", None)],
+    )
+}
+
+fn lengths(alloc: Global) -> Run {
+    let string = YType::string(alloc)?;
     let any = string.narrow(alloc, &length(alloc, 0, 18446744073709551615)?)?;
     takes_text(alloc, &any, "", Some(""))?;
     let longer = length(alloc, 0, 18446744073709551616)?;
     wanted(
         is_refused(string.narrow(alloc, &longer))?,
         "a length past 64 bits",
-    )?;
-    let of_a_string = range(alloc, "t", &[(at(1), at(2))])?;
-    wanted(
-        is_refused(string.narrow(alloc, &of_a_string))?,
-        "a range of a string",
     )
 }
 
@@ -401,41 +415,29 @@ fn enumerations(alloc: Global) -> Run {
         ],
     )?;
     let five = YType::enumeration(alloc, &names)?;
-    takes_text(alloc, &five, "e", Some("e"))?;
-    takes_text(alloc, &five, "f", None)?;
-    takes_default(alloc, &five, "d", Some("d"))?;
-    let b = text(alloc, "b")?;
-    let d = text(alloc, "d")?;
-    wanted(
-        value(five.check(alloc, &d))? < value(five.check(alloc, &b))?,
-        "the numbers of enums",
-    )?;
-    for bad in [
-        [("a", Some(2147483647)), ("b", None)],
-        [("a", None), ("a", None)],
-        [("a", None), ("b", Some(0))],
-        [("a", None), ("b ", None)],
-        [("a", None), ("", None)],
-        [("a", None), ("b", Some(2147483648))],
+    takes_texts(alloc, &five, &[("e", Some("e")), ("f", None)])?;
+    takes_default(alloc, &five, "d", Some("d"))
+}
+
+fn bad_names(alloc: Global) -> Run {
+    for second in [
+        ("a", None),
+        ("b", Some(7)),
+        ("b ", None),
+        ("", None),
+        ("b", Some(2147483648)),
     ] {
-        let names = namings(alloc, &bad)?;
+        let names = namings(alloc, &[("a", Some(7)), second])?;
         wanted(
             is_refused(YType::enumeration(alloc, &names))?,
             "names of enums",
         )?;
     }
-    Ok(())
-}
-
-fn sets_of_bits(alloc: Global) -> Run {
-    let names = namings(alloc, &[("x", Some(3)), ("y", None), ("z", Some(0))])?;
-    let bits = YType::bits(alloc, &names)?;
-    takes_text(alloc, &bits, "y  z", Some("z y"))?;
-    takes_text(alloc, &bits, " z x y ", Some("z x y"))?;
-    takes_text(alloc, &bits, "y y", None)?;
-    takes_text(alloc, &bits, "", Some(""))?;
-    takes_text(alloc, &bits, "w", None)?;
-    takes_default(alloc, &bits, "x y", Some("x y"))?;
+    let past = namings(alloc, &[("a", Some(2147483647)), ("b", None)])?;
+    wanted(
+        is_refused(YType::enumeration(alloc, &past))?,
+        "a number past 32 bits",
+    )?;
     let past = namings(alloc, &[("a", Some(4294967295)), ("b", None)])?;
     wanted(
         is_refused(YType::bits(alloc, &past))?,
@@ -443,28 +445,47 @@ fn sets_of_bits(alloc: Global) -> Run {
     )
 }
 
+fn sets_of_bits(alloc: Global) -> Run {
+    let names = namings(alloc, &[("x", Some(3)), ("y", None), ("z", Some(0))])?;
+    let bits = YType::bits(alloc, &names)?;
+    takes_texts(
+        alloc,
+        &bits,
+        &[
+            ("y  z", Some("z y")),
+            (" z x y ", Some("z x y")),
+            ("y y", None),
+            ("", Some("")),
+            ("w", None),
+        ],
+    )?;
+    takes_default(alloc, &bits, "x y", Some("x y"))
+}
+
+fn nested_union(alloc: Global) -> Result<YType, Stop> {
+    let inner = Vec::from_array(alloc, [YType::int8(alloc)?, YType::string(alloc)?])?;
+    let outer = Vec::from_array(alloc, [YType::uint8(alloc)?, YType::union(alloc, &inner)?])?;
+    Ok(YType::union(alloc, &outer)?)
+}
+
 fn unions(alloc: Global) -> Run {
-    let inner = YType::union(
-        alloc,
-        &Vec::from_array(alloc, [YType::int8(alloc)?, YType::string(alloc)?])?,
-    )?;
-    let outer = YType::union(
-        alloc,
-        &Vec::from_array(alloc, [YType::uint8(alloc)?, inner])?,
-    )?;
-    takes_number(alloc, &outer, 5, Some("5"))?;
-    takes_number(alloc, &outer, -1, Some("-1"))?;
-    takes_number(alloc, &outer, 1000, None)?;
+    let union = nested_union(alloc)?;
+    for (number, canonical) in [(5, Some("5")), (-1, Some("-1")), (1000, None)] {
+        takes_number(alloc, &union, number, canonical)?;
+    }
+    takes_defaults(alloc, &union, &[("0x10", Some("16")), ("x", Some("x"))])
+}
+
+fn members(alloc: Global) -> Run {
+    let union = nested_union(alloc)?;
     let digit = text(alloc, "5")?;
-    let as_number = value(outer.check(alloc, &Raw::Int(5)))?;
-    let as_text = value(outer.check(alloc, &digit))?;
-    let again = value(outer.check(alloc, &digit))?;
+    let as_number = value(union.check(alloc, &Raw::Int(5)))?;
+    let as_text = value(union.check(alloc, &digit))?;
     wanted(as_number != as_text, "members with one text")?;
-    wanted(as_text == again, "one value twice")?;
-    takes_default(alloc, &outer, "0x10", Some("16"))?;
-    takes_default(alloc, &outer, "x", Some("x"))?;
-    let any = range(alloc, "t", &[(Bound::Min, Bound::Max)])?;
-    wanted(is_refused(outer.narrow(alloc, &any))?, "a range of a union")
+    wanted(
+        as_text == value(union.check(alloc, &digit))?,
+        "one value twice",
+    )
 }
 
 fn leafrefs(alloc: Global) -> Run {
@@ -472,25 +493,35 @@ fn leafrefs(alloc: Global) -> Run {
     takes_number(alloc, &leafref, 255, Some("255"))?;
     wanted(leafref.requires_instance() == Some(true), "an instance")?;
     let loose = leafref.narrow(alloc, &Restriction::RequireInstance(false))?;
-    wanted(loose.requires_instance() == Some(false), "no instance")?;
-    let any = range(alloc, "t", &[(Bound::Min, Bound::Max)])?;
     wanted(
-        is_refused(loose.narrow(alloc, &any))?,
-        "a range of a leafref",
-    )?;
-    let plain = YType::uint8(alloc)?;
-    wanted(
-        is_refused(plain.narrow(alloc, &Restriction::RequireInstance(true)))?,
-        "an instance of a number",
-    )?;
-    wanted(loose.clone()?.requires_instance() == Some(false), "a copy")?;
-    let raw = text(alloc, "x")?;
-    takes_copy(alloc, &raw.clone()?)
+        loose.clone()?.requires_instance() == Some(false),
+        "no instance",
+    )
 }
 
-fn takes_copy(alloc: Global, raw: &Raw) -> Run {
+fn misplaced(alloc: Global) -> Run {
+    let any = range(alloc, "t", &[(Bound::Min, Bound::Max)])?;
+    let instance = Restriction::RequireInstance(true);
+    let uint8 = YType::uint8(alloc)?;
+    wanted(
+        is_refused(uint8.narrow(alloc, &instance))?,
+        "an instance of a number",
+    )?;
+    let leafref = YType::leafref(alloc, &uint8)?;
+    wanted(
+        is_refused(leafref.narrow(alloc, &any))?,
+        "a range of a leafref",
+    )?;
+    wanted(
+        is_refused(nested_union(alloc)?.narrow(alloc, &any))?,
+        "a range of a union",
+    )
+}
+
+fn copies(alloc: Global) -> Run {
     let string = YType::string(alloc)?;
-    let val = value(string.check(alloc, raw))?;
+    let raw = text(alloc, "x")?.clone()?;
+    let val = value(string.check(alloc, &raw))?;
     wanted(
         is_canonical(alloc, &string, val, Some("x"))?,
         "a copy of a text",
@@ -512,18 +543,45 @@ fn sets_of_numbers(alloc: Global) -> Run {
     Ok(())
 }
 
-fn all(alloc: Global) -> Run {
+fn of_numbers(alloc: Global) -> Run {
     decimals(alloc)?;
-    integers(alloc)?;
+    long_decimals(alloc)?;
+    signed_integers(alloc)?;
+    unsigned_integers(alloc)?;
     long_integers(alloc)?;
+    unsigned_long_integers(alloc)
+}
+
+fn of_restrictions(alloc: Global) -> Run {
+    parts(alloc)?;
+    tags(alloc)?;
+    narrowings(alloc)?;
+    lengths(alloc)?;
+    misplaced(alloc)?;
+    sets_of_numbers(alloc)
+}
+
+fn of_texts(alloc: Global) -> Run {
     defaults(alloc)?;
-    ranges(alloc)?;
+    flags(alloc)?;
     strings(alloc)?;
     enumerations(alloc)?;
-    sets_of_bits(alloc)?;
+    bad_names(alloc)?;
+    sets_of_bits(alloc)
+}
+
+fn of_others(alloc: Global) -> Run {
     unions(alloc)?;
+    members(alloc)?;
     leafrefs(alloc)?;
-    sets_of_numbers(alloc)
+    copies(alloc)
+}
+
+fn all(alloc: Global) -> Run {
+    of_numbers(alloc)?;
+    of_restrictions(alloc)?;
+    of_texts(alloc)?;
+    of_others(alloc)
 }
 
 #[test]
