@@ -6,3 +6,4 @@ pub mod SpellingRows
 pub mod SpellingLaws
 pub mod SlipsTold
 pub mod SlipsPlace
+pub mod Order

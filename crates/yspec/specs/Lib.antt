@@ -14,6 +14,7 @@ pub mod Types
 pub mod Restriction
 pub mod Values
 pub mod TypeExamples
+pub mod Order
 pub mod Schema
 pub mod Breaks
 pub mod Document

@@ -4,6 +4,7 @@ ghost use Rattle.std.specs.Prelude.{◌≡◌, ◌++◌, ◌^◌, ◌-◌, [], �
 ghost use Rattle.yspec.specs.Names.{enum_names, bit_names};
 ghost use Rattle.yspec.specs.Ranges.{number};
 ghost use Rattle.yspec.specs.Types.{text, int, bool, empty, int8, int64, uint8, uint16, uint64, text_value, number_value, bits_value, integer_type, uint8_type, string_type, value, taken, app_tag_of};
+ghost use Rattle.yspec.specs.Order.{TellsValues};
 ghost use Rattle.yspec.specs.Restriction.{length, require_instance, narrowed, union_type, leafref_type};
 ghost use Rattle.yspec.specs.Values.{value_of_text, canonical};
 ghost use Rattle.yspec.specs.TypeExamples.{decimal, shown, number_is, default_of, from_to, one, at, tagged, untagged, gaps, twice_narrowed, is_taken, named, numbered, five_enums, enumeration, bits, three_bits, taken_by, shown_by};
@@ -146,3 +147,9 @@ pub fn lengths()
     ensures greatest { is_some (narrowed string_type (length (from_to (pos 0) (pos (2 ^ 64 - 1)) ∷ []) None)) ≡ true }
     ensures past_the_greatest { narrowed string_type (length (from_to (pos 0) (pos (2 ^ 64)) ∷ []) None) ≡ None }
 {}
+
+/// Two values are the same where the same member took them and their contents are the same.
+pub fn equal_values()
+    ensures { TellsValues }
+{
+}

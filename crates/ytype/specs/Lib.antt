@@ -4,3 +4,4 @@ pub mod Digits
 pub mod Founds
 pub mod Shapes
 pub mod Checks
+pub mod Laws

@@ -107,7 +107,7 @@ fn default_magnitude(text: &[u8]) -> Option<u128>
 {
     match text {
         [b'0', b'x', digits @ ..] => number_in(16, digits),
-        [b'0', second, ..] => number_in(8, &text[1..]),
+        [b'0', _, ..] => number_in(8, &text[1..]),
         _ => number_in(10, text),
     }
 }

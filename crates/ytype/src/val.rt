@@ -1,7 +1,11 @@
 //! What a type makes of a value that it takes.
 
+ghost use Rattle.std.specs.Prelude.{◌≡◌};
+ghost use Rattle.yspec.specs.Order.{member_number, kind_number, text_part, number_part, bits_part, content_cmp};
+
 use crate::ytype::YType;
 use std::alloc::{AllocError, Global};
+use std::cmp::Ordering;
 use std::marker::Model;
 
 #[derive(Debug, Drop)]
@@ -28,6 +32,122 @@ impl Model for Val {
     ghost use Rattle.ytype.specs.View.{content_of};
 
     ghost view = { λ v. record { member = v.member; content = content_of v.content } };
+}
+
+fn member_number(member: Option<usize>) -> u128
+    ensures { result ≡ member_number member }
+{
+    match member {
+        None => 0,
+        Some(number) => number as u128 + 1,
+    }
+}
+
+impl Content {
+    ghost use Rattle.ytype.specs.View.{content_of};
+
+    fn kind_number(&self) -> u8
+        ensures { result ≡ kind_number (content_of self.now) }
+    {
+        match self {
+            Content::Text(_) => 0,
+            Content::Number(_) => 1,
+            Content::Bool(_) => 2,
+            Content::Empty => 3,
+            Content::Bits(_) => 4,
+        }
+    }
+
+    fn text(&self) -> &str
+        ensures { result.now ≡ text_part (content_of self.now) }
+    {
+        match self {
+            Content::Text(text) => text.as_str(),
+            _ => "",
+        }
+    }
+
+    fn number(&self) -> i128
+        ensures { result ≡ number_part (content_of self.now) }
+    {
+        match self {
+            Content::Number(number) => *number,
+            Content::Bool(flag) => i128::from(*flag),
+            _ => 0,
+        }
+    }
+
+    fn positions(&self) -> &[i64]
+        ensures { result.now ≡ bits_part (content_of self.now) }
+    {
+        match self {
+            Content::Bits(positions) => positions,
+            _ => &[],
+        }
+    }
+
+    fn compare(&self, other: &Content) -> Ordering
+        ensures { result ≡ content_cmp (content_of self.now) (content_of other.now) }
+    {
+        self.kind_number()
+            .cmp(&other.kind_number())
+            .then(self.text().cmp(other.text()))
+            .then(self.number().cmp(&other.number()))
+            .then(self.positions().cmp(other.positions()))
+    }
+}
+
+impl PartialEq for Val {
+    ghost use Rattle.yspec.specs.Order.{same_value};
+    ghost use Rattle.ytype.specs.Laws.{same_value_laws};
+
+    ghost eq = { same_value };
+
+    ghost laws = { same_value_laws };
+
+    fn eq(&self, other: &Val) -> bool {
+        self.cmp(other).is_eq()
+    }
+}
+
+impl Eq for Val {
+    ghost use Rattle.ytype.specs.Laws.{same_value_equiv};
+
+    ghost laws = { same_value_equiv };
+}
+
+impl PartialOrd for Val {
+    ghost use Rattle.std.specs.Ordering.{as_partial_cmp};
+    ghost use Rattle.yspec.specs.Order.{value_cmp};
+    ghost use Rattle.ytype.specs.Laws.{value_order_laws};
+
+    ghost partial_cmp = { as_partial_cmp value_cmp };
+
+    ghost laws = { value_order_laws };
+
+    fn partial_cmp(&self, other: &Val) -> Option<Ordering> {
+        Some(self.cmp(other))
+    }
+}
+
+impl Ord for Val {
+    ghost use Rattle.std.specs.Prelude.{refl};
+    ghost use Rattle.yspec.specs.Order.{value_cmp};
+    ghost use Rattle.ytype.specs.Laws.{value_total};
+
+    ghost cmp = { value_cmp };
+
+    ghost total = { value_total };
+
+    ghost matches_partial_cmp = { λ v w. refl };
+
+    ghost matches_eq = { λ v w. refl };
+
+    fn cmp(&self, other: &Val) -> Ordering {
+        member_number(self.member)
+            .cmp(&member_number(other.member))
+            .then(self.content.compare(&other.content))
+    }
 }
 
 impl Val {
