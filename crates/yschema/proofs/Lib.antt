@@ -1,2 +1,6 @@
 pub mod GrammarLemmas
+pub mod LayoutLemmas
+pub mod ModuleLemmas
+pub mod NameLemmas
 pub mod RowLemmas
+pub mod ToldLemmas

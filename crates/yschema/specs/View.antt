@@ -2,36 +2,12 @@
 use Rattle.std.specs.Prelude.{◌≡◌, ℕ, zero, suc, ◌+◌, List, [], ◌∷◌, map, take, drop, length, Option, Some, None, string_bytes}
 use Rattle.yspec.specs.Forest.{Forest, end, node}
 use Rattle.yspec.specs.Schema as spec
-use Rattle.yschema.specs.declared.node.SchemaNode.{SchemaNode}
-use Rattle.yschema.specs.declared.node.Kind.{Kind}
-use Rattle.yschema.specs.declared.node.Kind.TheVariants as kinds
-use Rattle.yschema.specs.declared.node.Status.{Status}
-use Rattle.yschema.specs.declared.node.Status.TheVariants as states
+pub use Rattle.yschema.specs.Layout.{kind_view, status_view, node_view}
 use Rattle.yschema.specs.declared.children.Row.{Row}
 use Rattle.yschema.specs.declared.children.Children.{Children}
 use Rattle.yschema.specs.declared.children.Child.{Child}
 use Rattle.yschema.specs.declared.schema.Schema.{Schema}
 use Rattle.yschema.specs.declared.schema.SchemaModule.{SchemaModule}
-
-abbrev pub kind_view : Kind → spec.Kind
-kind_view (kinds.Container presence) = spec.container presence
-kind_view (kinds.Leaf leaf_type default_value mandatory) = spec.leaf leaf_type default_value mandatory
-
-abbrev pub status_view : Status → spec.Status
-status_view states.Current = spec.current
-status_view states.Deprecated = spec.deprecated
-status_view states.Obsolete = spec.obsolete
-
--- a node, which has the number of its place in preorder
-abbrev pub node_view : ℕ → SchemaNode → spec.SchemaNode
-node_view number n = record {
-  number = number;
-  module_number = n.«module»;
-  name = string_bytes n.name;
-  config = n.config;
-  status = status_view n.status;
-  kind = kind_view n.kind;
-}
 
 -- The forest whose nodes lie there in preorder, each before those below it. The first has a number, and the others
 -- count on from it. There are at most so many rows.
@@ -59,7 +35,7 @@ abbrev pub module_view : SchemaModule → spec.SchemaModule
 module_view m = record { name = string_bytes m.name; prefix = string_bytes m.prefix }
 
 abbrev pub view : Schema → spec.Schema
-view s = record { modules = map module_view s.modules.items; nodes = forest_of 0 s.rows.items }
+view s = record { modules = map module_view s.modules.items; nodes = forest_of 0 s.nodes.rows.items }
 
 -- A step over a row: it gives the first node, with what stands below it, and leaves the others.
 abbrev pub TakesFirst : Children → Option Child → Children → Type 0

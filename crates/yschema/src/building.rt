@@ -1,58 +1,92 @@
 //! From modules to their schema.
 
+ghost use Rattle.std.specs.Prelude.{◌≡◌, ◌+◌, ◌≤◌, ◌++◌, ◌∷◌, [], ℕ, suc, Some, None, IfOk, OnOk, unwrap_or, length};
+ghost use Rattle.yspec.specs.Schema as spec;
+ghost use Rattle.yspec.specs.Schema.{data_size, schema_node, nodes_from, schema_of};
+ghost use Rattle.yspec.specs.Types.{built_in, string_type};
+ghost use Rattle.yspec.specs.Breaks.{told, phases, limit_breaks, least_from, compiled, data_size_of_all};
+ghost use Rattle.ytext.specs.View as text;
+ghost use Rattle.ytext.specs.View.{row_view, modules_view};
+ghost use Rattle.yschema.specs.Layout.{kind_view, node_view, number_of, places, laid};
+ghost use Rattle.yschema.specs.Told.{seen, Gives};
+ghost use Rattle.yschema.specs.View.{view, module_view};
+
+use crate::children::Row;
 use crate::fault::{Break, CompileCode, CompileFault};
-use crate::grammar::judge_modules;
+use crate::grammar::{broken, judge_modules};
 use crate::limits::{count_nodes, has_too_many_levels, has_too_many_nodes, is_data_node};
 use crate::names::{name_of, repeated_name};
 use crate::node::{Kind, SchemaId, SchemaNode, Status};
+use crate::nodes::Nodes;
 use crate::schema::{Schema, SchemaModule};
 use std::alloc::{AllocError, Global};
 use ytext::{Module, Stmt};
-use ytype::{NarrowFault, YType};
+use ytype::YType;
 
 /// The schema of a set of modules, or the least broken rule, by module, line and number, of the first phase that has one.
 /// Phases: the statement table; the number of nodes; names; levels. Of no modules it is a schema without nodes.
-pub fn compile(alloc: Global, modules: &[Module]) -> Result<Schema, CompileFault> {
-    refuse(judge_modules(modules))?;
-    refuse_at_last(modules, has_too_many_nodes(modules))?;
-    refuse(repeated_name(alloc, modules)?)?;
-    refuse_at_last(modules, has_too_many_levels(modules))?;
-    build(alloc, modules)
+#[tactic(auto, unfolding(yspec::specs::Breaks::compiled))]
+pub fn compile(alloc: Global, modules: &[Module]) -> Result<Schema, CompileFault>
+    ensures { Gives view result (compiled (modules_view modules.now)) }
+{
+    match first_broken(alloc, modules)? {
+        Some(found) => Err(CompileFault::from(found)),
+        None => Ok(build(alloc, modules)?),
+    }
 }
 
-fn refuse(told: Option<Break>) -> Result<(), CompileFault> {
-    match told {
-        None => Ok(()),
-        Some(broken) => Err(CompileFault::from(broken)),
+/// The least broken rule of the first phase that has one.
+fn first_broken(alloc: Global, modules: &[Module]) -> Result<Option<Break>, AllocError>
+    ensures { IfOk result (λ found. seen found ≡ told (phases (modules_view modules.now))) }
+{
+    if let Some(found) = judge_modules(modules) {
+        return Ok(Some(found));
     }
+    if let Some(found) = at_last(modules, has_too_many_nodes(modules)) {
+        return Ok(Some(found));
+    }
+    if let Some(found) = repeated_name(alloc, modules)? {
+        return Ok(Some(found));
+    }
+    Ok(at_last(modules, has_too_many_levels(modules)))
 }
 
 /// A limit that is passed is told at the module given last.
-fn refuse_at_last(modules: &[Module], is_passed: bool) -> Result<(), CompileFault> {
+fn at_last(modules: &[Module], is_passed: bool) -> Option<Break>
+    ensures { seen result ≡ least_from None (limit_breaks is_passed (modules_view modules.now)) }
+{
     match modules.last() {
-        Some(last) if is_passed => Err(CompileFault::Refused {
-            code: CompileCode::C18,
-            module: modules.len() - 1,
-            line: last.top.line(),
-        }),
-        _ => Ok(()),
+        Some(last) if is_passed => Some(broken(CompileCode::C18, modules.len() - 1, &last.top)),
+        _ => None,
     }
 }
 
-fn build(alloc: Global, modules: &[Module]) -> Result<Schema, CompileFault> {
-    let mut schema = Schema::empty(alloc);
+fn build(alloc: Global, modules: &[Module]) -> Result<Schema, AllocError>
+    requires { data_size_of_all (modules_view modules.now) ≤ 65535 }
+    ensures { IfOk result (λ schema. view schema ≡ schema_of (modules_view modules.now)) }
+{
+    let mut set = Vec::new(alloc);
+    let mut nodes = Nodes::empty(alloc);
     for (module, text) in modules.iter().enumerate() {
-        schema.add_module(SchemaModule {
-            name: String::from_str(alloc, name_of(&text.top))?,
-            prefix: String::from_str(alloc, argument_of("prefix", text.top.substatements()))?,
-        })?;
-        add_nodes(alloc, &mut schema, module, None, text.top.substatements())?;
+        set.push(module_of(alloc, &text.top)?)?;
+        add_nodes(alloc, &mut nodes, module, None, text.top.substatements())?;
     }
-    Ok(schema)
+    Ok(Schema::new(set, nodes))
+}
+
+fn module_of(alloc: Global, top: &Stmt) -> Result<SchemaModule, AllocError>
+    ensures { let s = text.view top.now in IfOk result (λ m. module_view m ≡ spec.schema_module s.0 s.1) }
+{
+    Ok(SchemaModule {
+        name: String::from_str(alloc, name_of(top))?,
+        prefix: String::from_str(alloc, argument_of("prefix", top.substatements()))?,
+    })
 }
 
 /// The argument of the first of some statements with a keyword, or no text.
-fn argument_of<'a>(keyword: &str, statements: &'a [Stmt]) -> &'a str {
+fn argument_of<'a>(keyword: &str, statements: &'a [Stmt]) -> &'a str
+    ensures { result.now ≡ unwrap_or (spec.argument_of keyword.now (row_view statements.entry.now)) [] }
+{
     for statement in statements {
         if statement.keyword() == keyword {
             return name_of(statement);
@@ -65,13 +99,19 @@ fn argument_of<'a>(keyword: &str, statements: &'a [Stmt]) -> &'a str {
 #[cycle(nodes)]
 fn add_nodes(
     alloc: Global,
-    schema: &mut Schema,
+    nodes: &mut Nodes,
     module: usize,
     parent: Option<SchemaId>,
     statements: &[Stmt],
-) -> Result<(), CompileFault> {
+) -> Result<(), AllocError>
+    requires room { length nodes.old.rows.items + data_size (row_view statements.now) ≤ 65535 }
+    ensures { OnOk result (laid 0 nodes.new.rows.items ≡ laid 0 nodes.old.rows.items
+        ++ places (number_of parent) (nodes_from «module» (length nodes.old.rows.items) (row_view statements.now))) }
+{
     for statement in statements {
-        add_node(alloc, schema, module, parent, statement)?;
+        if is_data_node(statement) {
+            add_node(alloc, nodes, module, parent, statement)?;
+        }
     }
     Ok(())
 }
@@ -80,23 +120,31 @@ fn add_nodes(
 #[cycle(nodes)]
 fn add_node(
     alloc: Global,
-    schema: &mut Schema,
+    nodes: &mut Nodes,
     module: usize,
     parent: Option<SchemaId>,
     statement: &Stmt,
-) -> Result<(), CompileFault> {
-    if !is_data_node(statement) {
-        return Ok(());
-    }
-    let node = node_of(alloc, module, statement)?;
+) -> Result<(), AllocError>
+    requires room { length nodes.old.rows.items + suc (data_size (text.view statement.now).1) ≤ 65535 }
+    ensures { let s = text.view statement.now in let number = length nodes.old.rows.items in
+        OnOk result (laid 0 nodes.new.rows.items ≡ laid 0 nodes.old.rows.items
+        ++ record { parent = number_of parent; label = schema_node «module» number s.0 s.1; below = data_size s.1 }
+        ∷ places (Some number) (nodes_from «module» (number + 1) s.1)) }
+{
     let statements = statement.substatements();
-    match schema.add_node(parent, node, count_nodes(statements, 0))? {
-        Some(id) => add_nodes(alloc, schema, module, Some(id), statements),
-        None => Ok(()),
-    }
+    let row = Row {
+        parent,
+        node: node_of(alloc, module, statement)?,
+        below: count_nodes(statements, 0),
+    };
+    let id = nodes.add(alloc, row)?;
+    add_nodes(alloc, nodes, module, Some(id), statements)
 }
 
-fn node_of(alloc: Global, module: usize, statement: &Stmt) -> Result<SchemaNode, CompileFault> {
+fn node_of(alloc: Global, module: usize, statement: &Stmt) -> Result<SchemaNode, AllocError>
+    ensures { let s = text.view statement.now in
+        IfOk result (λ n. (number : ℕ) → node_view number n ≡ schema_node «module» number s.0 s.1) }
+{
     Ok(SchemaNode {
         module,
         name: String::from_str(alloc, name_of(statement))?,
@@ -106,7 +154,9 @@ fn node_of(alloc: Global, module: usize, statement: &Stmt) -> Result<SchemaNode,
     })
 }
 
-fn kind_of(alloc: Global, statement: &Stmt) -> Result<Kind, CompileFault> {
+fn kind_of(alloc: Global, statement: &Stmt) -> Result<Kind, AllocError>
+    ensures { let s = text.view statement.now in IfOk result (λ k. kind_view k ≡ spec.kind_of s.0 s.1) }
+{
     if statement.keyword() == "container" {
         return Ok(Kind::Container { presence: false });
     }
@@ -119,10 +169,16 @@ fn kind_of(alloc: Global, statement: &Stmt) -> Result<Kind, CompileFault> {
 }
 
 /// The built-in type of a name that the statement table has let through.
-fn type_of(alloc: Global, name: &str) -> Result<YType, NarrowFault> {
-    if name == "uint8" {
+fn type_of(alloc: Global, name: &str) -> Result<YType, AllocError>
+    ensures { IfOk result (λ t. t ≡ unwrap_or (built_in name.now) string_type) }
+{
+    let built_in = if name == "uint8" {
         YType::uint8(alloc)
     } else {
         YType::string(alloc)
+    };
+    match built_in {
+        Ok(built_in) => Ok(built_in),
+        Err(_) => Err(AllocError),
     }
 }

@@ -5,9 +5,10 @@ ghost use Rattle.std.specs.Iterator.{at_most};
 
 use crate::node::{SchemaId, SchemaNode};
 
-/// A node as a schema holds it, and how many nodes stand below it; these follow it.
+/// A node as a schema holds it, the node above it, and how many nodes stand below it; these follow it.
 #[derive(Debug, Drop)]
 pub(crate) struct Row {
+    pub parent: Option<SchemaId>,
     pub node: SchemaNode,
     pub below: usize,
 }

@@ -1,7 +1,7 @@
 //! Why a set of modules isn't compiled.
 
 ghost use Rattle.std.specs.Prelude.{◌≡◌};
-ghost use Rattle.yschema.specs.declared.fault.CompileFault.TheVariants.{Memory};
+ghost use Rattle.yschema.specs.declared.fault.CompileFault.TheVariants.{Memory, Refused};
 
 use std::alloc::{AllocError, AllocFailed};
 use ytype::NarrowFault;
@@ -68,6 +68,8 @@ impl From<NarrowFault> for CompileFault {
 }
 
 impl From<Break> for CompileFault {
+    ghost from_gives = { λ broken e. e ≡ Refused broken.code broken.«module» broken.line };
+
     fn from(broken: Break) -> CompileFault {
         CompileFault::Refused {
             code: broken.code,

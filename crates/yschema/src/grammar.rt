@@ -1,14 +1,14 @@
 //! The table of statements, and the rules that statements break against it (RFC 7950, 7 and 14).
 
-ghost use Rattle.std.specs.Prelude.{◌≡◌, ◌&&◌, ◌++◌, [], false, is_some, option_map};
+ghost use Rattle.std.specs.Prelude.{◌≡◌, ◌&&◌, ◌++◌, [], false, is_some, None, option_map};
 ghost use Rattle.std.specs.List.{list_any};
 ghost use Rattle.std.specs.Option.{option_map_or};
 ghost use Rattle.yspec.specs.Forest.{row};
 ghost use Rattle.yspec.specs.Grammar as spec;
 ghost use Rattle.yspec.specs.Schema.{argument_text};
 ghost use Rattle.yspec.specs.Types.{built_in};
-ghost use Rattle.yspec.specs.Breaks.{least_from, is_known_substatement, occurrences, is_miscounted, is_current_version, is_unknown_type, is_unversioned, argument_breaks, statement_breaks, breaks_at, substatements_of, grammar_breaks};
-ghost use Rattle.ytext.specs.View.{view, row_view};
+ghost use Rattle.yspec.specs.Breaks.{least_from, is_known_substatement, occurrences, is_miscounted, is_current_version, is_unknown_type, is_unversioned, argument_breaks, statement_breaks, breaks_at, substatements_of, grammar_breaks, at_top, by_module};
+ghost use Rattle.ytext.specs.View.{view, row_view, modules_view};
 ghost use Rattle.yschema.specs.Table.{form_view, count_view, allowed_view, allowed_views, rule_view};
 ghost use Rattle.yschema.specs.Told.{seen};
 
@@ -305,7 +305,9 @@ fn judge_row(
 }
 
 /// The least rule of the table that modules break.
-pub(crate) fn judge_modules(modules: &[Module]) -> Option<Break> {
+pub(crate) fn judge_modules(modules: &[Module]) -> Option<Break>
+    ensures { seen result ≡ least_from None (by_module (λ m s. grammar_breaks m at_top s) 0 (modules_view modules.now)) }
+{
     let mut told = None;
     for (module, text) in modules.iter().enumerate() {
         told = judge(module, AT_TOP, &text.top, told);

@@ -9,6 +9,7 @@ mod least;
 mod limits;
 mod names;
 mod node;
+mod nodes;
 mod schema;
 
 pub use building::compile;

@@ -1,8 +1,10 @@
 //! Names that two children of one node share (RFC 7950, 6.2.1).
 
-ghost use Rattle.std.specs.Prelude.{◌≡◌};
+ghost use Rattle.std.specs.Prelude.{◌≡◌, [], None, IfOk};
 ghost use Rattle.yspec.specs.Schema.{argument_text};
-ghost use Rattle.ytext.specs.View.{view};
+ghost use Rattle.yspec.specs.Breaks.{least_from, name_breaks, by_body};
+ghost use Rattle.ytext.specs.View.{view, row_view, modules_view};
+ghost use Rattle.yschema.specs.Told.{seen};
 
 use crate::fault::{Break, CompileCode};
 use crate::grammar::broken;
@@ -25,7 +27,9 @@ fn repeated_in(
     module: usize,
     statements: &[Stmt],
     so_far: Option<Break>,
-) -> Result<Option<Break>, AllocError> {
+) -> Result<Option<Break>, AllocError>
+    ensures { IfOk result (λ told. seen told ≡ least_from (seen so_far) (name_breaks «module» [] (row_view statements.now))) }
+{
     let mut names: IndexSet<&str> = IndexSet::new(alloc);
     let mut told = so_far;
     for statement in statements {
@@ -42,7 +46,9 @@ fn repeated_in(
 pub(crate) fn repeated_name(
     alloc: Global,
     modules: &[Module],
-) -> Result<Option<Break>, AllocError> {
+) -> Result<Option<Break>, AllocError>
+    ensures { IfOk result (λ told. seen told ≡ least_from None (by_body (λ m s. name_breaks m [] s) 0 (modules_view modules.now))) }
+{
     let mut told = None;
     for (module, text) in modules.iter().enumerate() {
         told = repeated_in(alloc, module, text.top.substatements(), told)?;

@@ -2,11 +2,9 @@
 
 ghost use Rattle.std.specs.Prelude.{◌≡◌, ◌+◌, ◌<◌, ◌^◌, vec_len};
 
-use crate::children::{Children, Row};
-use crate::limits::NODE_LIMIT;
+use crate::children::Children;
 use crate::node::{SchemaId, SchemaNode};
-use indexmap::{IndexMap, IndexSet};
-use std::alloc::{AllocError, AllocFailed, Global};
+use crate::nodes::Nodes;
 
 /// A module of a schema.
 #[derive(Debug, Drop)]
@@ -15,47 +13,34 @@ pub struct SchemaModule {
     pub prefix: String,
 }
 
-/// Where a child is looked up: below a node or at the top, by its module and the number of its name.
-#[derive(Clone, Copy, Debug, PartialEq, Eq, Hash)]
-struct ChildKey {
-    parent: Option<SchemaId>,
-    module: usize,
-    name: usize,
-}
-
 /// The schema tree of a set of modules (RFC 7950, 4.2.2).
 #[derive(Drop)]
 pub struct Schema {
     modules: Vec<SchemaModule>,
-    // The nodes in preorder.
-    rows: Vec<Row>,
-    names: IndexSet<String>,
-    children: IndexMap<ChildKey, SchemaId>,
-    ghost numbered: { vec_len rows < 2 ^ 32 },
+    nodes: Nodes,
+    ghost numbered: { vec_len nodes.rows < 2 ^ 32 },
 }
 
 impl Schema {
-    ghost use Rattle.std.specs.Prelude.{◌≡◌, option_map};
+    ghost use Rattle.std.specs.Prelude.{◌≡◌, map, option_map};
     ghost use Rattle.yspec.specs.Forest.{size};
-    ghost use Rattle.yschema.specs.View.{view, row_view};
+    ghost use Rattle.yschema.specs.View.{view, row_view, forest_of, module_view};
 
-    pub(crate) fn empty(alloc: Global) -> Schema {
-        Schema {
-            modules: Vec::new(alloc),
-            rows: Vec::new(alloc),
-            names: IndexSet::new(alloc),
-            children: IndexMap::new(alloc),
-        }
+    pub(crate) fn new(modules: Vec<SchemaModule>, nodes: Nodes) -> Schema
+        requires { vec_len nodes.rows < 2 ^ 32 }
+        ensures { view result ≡ record { modules = map module_view modules.items; nodes = forest_of 0 nodes.rows.items } }
+    {
+        Schema { modules, nodes }
     }
 
     /// How many nodes it has.
     pub fn nodes(&self) -> usize {
-        self.rows.len()
+        self.nodes.rows.len()
     }
 
     /// All that it holds of a node; nothing of a number that no node has.
     pub fn kind(&self, id: SchemaId) -> Option<&SchemaNode> {
-        match self.rows.get(id.number()) {
+        match self.nodes.rows.get(id.number()) {
             Some(row) => Some(&row.node),
             None => None,
         }
@@ -65,12 +50,12 @@ impl Schema {
     pub fn roots(&self) -> Children<'_>
         ensures { row_view result ≡ (view self.now).nodes }
     {
-        Children::new(self.rows.as_slice(), 0)
+        Children::new(self.nodes.rows.as_slice(), 0)
     }
 
     /// The children of a node, in order of definition; none of a number that no node has.
     pub fn children(&self, id: SchemaId) -> Children<'_> {
-        let rows = self.rows.as_slice();
+        let rows = self.nodes.rows.as_slice();
         let number = id.number();
         if number >= rows.len() {
             return Children::new(&[], 0);
@@ -87,13 +72,7 @@ impl Schema {
 
     /// The child of a node, or the top node, of a module and a name.
     pub fn child(&self, parent: Option<SchemaId>, module: usize, name: &str) -> Option<SchemaId> {
-        let name = self.names.get_index_of(name)?;
-        let key = ChildKey {
-            parent,
-            module,
-            name,
-        };
-        self.children.get(&key).copied()
+        self.nodes.child(parent, module, name)
     }
 
     /// How many modules the set has.
@@ -117,43 +96,4 @@ impl Schema {
     pub fn module_prefix(&self, module: usize) -> Option<&str> {
         Some(self.modules.get(module)?.prefix.as_str())
     }
-
-    pub(crate) fn add_module(&mut self, module: SchemaModule) -> Result<(), AllocError> {
-        self.modules.push(module)?;
-        Ok(())
-    }
-
-    /// Adds a node behind all others, below which so many will stand, and answers its number; nothing where a schema has
-    /// no more numbers.
-    pub(crate) fn add_node(
-        &mut self,
-        parent: Option<SchemaId>,
-        node: SchemaNode,
-        below: usize,
-    ) -> Result<Option<SchemaId>, AllocError> {
-        let number = self.rows.len();
-        if number >= NODE_LIMIT {
-            return Ok(None);
-        }
-        let id = SchemaId::new(number as u32);
-        let alloc = *self.rows.allocator();
-        let name = number_of(alloc, &mut self.names, node.name.as_str())?;
-        let key = ChildKey {
-            parent,
-            module: node.module,
-            name,
-        };
-        self.children.insert(key, id)?;
-        self.rows.push(Row { node, below })?;
-        Ok(Some(id))
-    }
-}
-
-/// The number of a name, which it gets at its first use.
-fn number_of(alloc: Global, names: &mut IndexSet<String>, name: &str) -> Result<usize, AllocError> {
-    if let Some(number) = names.get_index_of(name) {
-        return Ok(number);
-    }
-    let (number, _) = names.insert_full(String::from_str(alloc, name)?)?;
-    Ok(number)
 }

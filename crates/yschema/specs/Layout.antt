@@ -1,0 +1,55 @@
+-- How the nodes of a schema lie in rows: each before those below it, with how many these are.
+use Rattle.std.specs.Prelude.{ℕ, ◌+◌, List, [], ◌∷◌, ◌++◌, Option, Some, option_map, string_bytes}
+use Rattle.yspec.specs.Forest.{Forest, end, node, size}
+use Rattle.yspec.specs.Schema as spec
+use Rattle.yschema.specs.declared.node.SchemaId.{SchemaId}
+use Rattle.yschema.specs.declared.node.SchemaNode.{SchemaNode}
+use Rattle.yschema.specs.declared.node.Kind.{Kind}
+use Rattle.yschema.specs.declared.node.Kind.TheVariants as kinds
+use Rattle.yschema.specs.declared.node.Status.{Status}
+use Rattle.yschema.specs.declared.node.Status.TheVariants as states
+use Rattle.yschema.specs.declared.children.Row.{Row}
+
+abbrev pub kind_view : Kind → spec.Kind
+kind_view (kinds.Container presence) = spec.container presence
+kind_view (kinds.Leaf leaf_type default_value mandatory) = spec.leaf leaf_type default_value mandatory
+
+abbrev pub status_view : Status → spec.Status
+status_view states.Current = spec.current
+status_view states.Deprecated = spec.deprecated
+status_view states.Obsolete = spec.obsolete
+
+-- a node, which has the number of its place in preorder
+abbrev pub node_view : ℕ → SchemaNode → spec.SchemaNode
+node_view number n = record {
+  number = number;
+  module_number = n.«module»;
+  name = string_bytes n.name;
+  config = n.config;
+  status = status_view n.status;
+  kind = kind_view n.kind;
+}
+
+abbrev pub number_of : Option SchemaId → Option ℕ
+number_of = option_map (λ id. id.0)
+
+-- a node, the number of the one above it, and how many stand below it
+pub record Place : Type 0 where
+  pub parent : Option ℕ
+  pub label : spec.SchemaNode
+  pub below : ℕ
+
+-- the places of a row below a node
+abbrev pub places : Option ℕ → Forest spec.SchemaNode → List Place
+places parent end = []
+places parent (node l below after) =
+    record { parent = parent; label = l; below = size below } ∷ (places (Some l.number) below ++ places parent after)
+
+abbrev pub place_of : ℕ → Row → Place
+place_of number r =
+    record { parent = number_of r.parent; label = node_view number r.node; below = r.below }
+
+-- what lies in rows, the first of which has that number
+abbrev pub laid : ℕ → List Row → List Place
+laid number [] = []
+laid number (r ∷ rows) = place_of number r ∷ laid (number + 1) rows
