@@ -1,5 +1,9 @@
 //! Names of members (RFC 7951, 4).
 
+ghost use Rattle.std.specs.Prelude.{◌≡◌, IfOk, string_bytes};
+ghost use Rattle.yspec.specs.Schema as spec;
+ghost use Rattle.yschema.specs.View.{view, node_view};
+
 use std::alloc::{AllocError, Global};
 use yschema::{Schema, SchemaId, SchemaNode};
 
@@ -70,7 +74,10 @@ pub(crate) fn written_name(
     schema: &Schema,
     parent_module: Option<usize>,
     node: &SchemaNode,
-) -> Result<String, AllocError> {
+) -> Result<String, AllocError>
+    ensures { IfOk result (λ s. string_bytes s
+        ≡ spec.written_name (view schema.now) parent_module (node_view 0 node.now)) }
+{
     let mut name = String::new(alloc);
     if parent_module != Some(node.module) {
         name.push_str(schema.module_name(node.module).unwrap_or(""))?;

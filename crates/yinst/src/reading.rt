@@ -1,5 +1,12 @@
 //! From bytes to a document.
 
+ghost use Rattle.std.specs.Prelude.{◌≡◌, IfOk, Some, option_map};
+ghost use Rattle.serde_json.specs.View as json;
+ghost use Rattle.yspec.specs.Reading.{stored_rows, stored_node, members_of, value_of};
+ghost use Rattle.ytype.specs.View.{raw_of};
+ghost use Rattle.yschema.specs.View as schema_view;
+ghost use Rattle.yinst.specs.View.{view, row_view};
+
 use crate::fault::{DocCode, DocFault};
 use crate::names::written_name;
 use crate::tree::{Stored, Tree};
@@ -7,7 +14,8 @@ use crate::values::raw_of;
 use crate::visits::visit_members;
 use serde_json::{Map, Value};
 use std::alloc::{AllocError, Global};
-use yschema::{Child, Children, Schema};
+use yschema::{Child, Children, Kind, Schema, SchemaNode};
+use ytype::Raw;
 
 /// The document that JSON bytes denote under a schema, or the first refusal: J1 and J2, then J3 to J6 depth first, members
 /// in byte order of their names (RFC 7951).
@@ -40,7 +48,10 @@ fn rows_of(
     parent_module: Option<usize>,
     children: Children<'_>,
     members: &Map<String, Value>,
-) -> Result<Vec<Stored>, AllocError> {
+) -> Result<Vec<Stored>, AllocError>
+    ensures { IfOk result (λ nodes. row_view nodes.items ≡ stored_rows (schema_view.view schema.now)
+        parent_module (schema_view.row_view children.entry) (json.members_view members.now.entries)) }
+{
     let mut nodes = Vec::new(alloc);
     for child in children {
         let name = written_name(alloc, schema, parent_module, child.node())?;
@@ -51,19 +62,36 @@ fn rows_of(
     Ok(nodes)
 }
 
+/// The node that a value denotes at a child.
 #[cycle(rows)]
 fn stored(
     alloc: Global,
     schema: &Schema,
     child: Child<'_>,
     value: &Value,
-) -> Result<Stored, AllocError> {
+) -> Result<Stored, AllocError>
+    ensures { let n = schema_view.label_of child.entry in let d = json.view value.now in
+        IfOk result (λ s. view s ≡ (stored_node n d, stored_rows (schema_view.view schema.now)
+        (Some n.module_number) (schema_view.below_of child.entry) (members_of d))) }
+{
+    let held = held_of(alloc, child.node(), value)?;
     match value {
         Value::Object(members) => {
             let module = Some(child.node().module);
             let below = rows_of(alloc, schema, module, child.children(), members)?;
-            Ok(Stored::new(child.id(), None, below))
+            Ok(Stored::new(child.id(), held, below))
         }
-        _ => Ok(Stored::new(child.id(), raw_of(alloc, value)?, Vec::new(alloc))),
+        _ => Ok(Stored::new(child.id(), held, Vec::new(alloc))),
+    }
+}
+
+/// What a node of the schema holds of a value: nothing but at a leaf.
+fn held_of(alloc: Global, node: &SchemaNode, value: &Value) -> Result<Option<Raw>, AllocError>
+    ensures { IfOk result (λ raw. option_map raw_of raw
+        ≡ value_of (schema_view.kind_view node.now.kind) (json.view value.now)) }
+{
+    match node.kind {
+        Kind::Leaf { .. } => raw_of(alloc, value),
+        Kind::Container { .. } => Ok(None),
     }
 }

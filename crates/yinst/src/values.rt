@@ -1,34 +1,39 @@
 //! What a leaf has of a JSON value (RFC 7951, 6).
 
+ghost use Rattle.std.specs.Prelude.{◌≡◌, IfOk, is_some, option_map};
+ghost use Rattle.serde_json.specs.View.{view, items_view};
+ghost use Rattle.yspec.specs.Reading as spec;
+ghost use Rattle.ytype.specs.View as held;
+ghost use Rattle.yinst.specs.Told.{code_number, leaf_refusal};
+
+use crate::fault::DocCode;
 use serde_json::Value;
 use std::alloc::{AllocError, Global};
 use ytype::Raw;
 
-/// The form in which a leaf holds a JSON value.
-pub(crate) enum Form {
-    Held,
-    /// A number that is no whole one of 64 bits.
-    Fraction,
-    Other,
-}
-
-/// Whether a leaf may hold a value.
-pub(crate) fn form_of(value: &Value) -> Form {
+/// Why a leaf may not hold a value, where it may not: J6 for a number that is no whole one of 64 bits, else J5.
+pub(crate) fn refusal_of(value: &Value) -> Option<DocCode>
+    ensures { option_map code_number result ≡ leaf_refusal (view value.now) }
+{
     match value {
-        Value::String(_) | Value::Bool(_) => Form::Held,
-        Value::Number(number) if number.is_f64() => Form::Fraction,
-        Value::Number(_) => Form::Held,
-        Value::Array(items) if is_empty_value(items) => Form::Held,
-        _ => Form::Other,
+        Value::String(_) | Value::Bool(_) => None,
+        Value::Number(number) if number.is_f64() => Some(DocCode::J6),
+        Value::Number(_) => None,
+        Value::Array(items) if is_empty_value(items) => None,
+        _ => Some(DocCode::J5),
     }
 }
 
-fn is_empty_value(items: &[Value]) -> bool {
+fn is_empty_value(items: &[Value]) -> bool
+    ensures { result ≡ is_some (spec.raw_array (items_view items.now)) }
+{
     matches!(items, [Value::Null])
 }
 
 /// What a leaf holds of a value, where it may.
-pub(crate) fn raw_of(alloc: Global, value: &Value) -> Result<Option<Raw>, AllocError> {
+pub(crate) fn raw_of(alloc: Global, value: &Value) -> Result<Option<Raw>, AllocError>
+    ensures { IfOk result (λ raw. option_map held.raw_of raw ≡ spec.raw_of (view value.now)) }
+{
     match value {
         Value::String(text) => Ok(Some(Raw::Text(String::from_str(alloc, text.as_str())?))),
         Value::Bool(flag) => Ok(Some(Raw::Bool(*flag))),

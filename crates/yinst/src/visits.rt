@@ -3,7 +3,7 @@
 use crate::fault::{DocCode, DocFault, refused};
 use crate::names::{Named, meaning_of};
 use crate::tree::Step;
-use crate::values::{Form, form_of};
+use crate::values::refusal_of;
 use serde_json::{Map, Value};
 use std::alloc::Global;
 use yschema::{Kind, Schema, SchemaId};
@@ -66,9 +66,8 @@ fn visit_node(
 }
 
 fn visit_leaf(alloc: Global, value: &Value, place: &[Step]) -> Result<(), DocFault> {
-    match form_of(value) {
-        Form::Held => Ok(()),
-        Form::Fraction => Err(refused(alloc, DocCode::J6, place)),
-        Form::Other => Err(refused(alloc, DocCode::J5, place)),
+    match refusal_of(value) {
+        None => Ok(()),
+        Some(code) => Err(refused(alloc, code, place)),
     }
 }

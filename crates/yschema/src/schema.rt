@@ -22,7 +22,7 @@ pub struct Schema {
 }
 
 impl Schema {
-    ghost use Rattle.std.specs.Prelude.{◌≡◌, map, option_map};
+    ghost use Rattle.std.specs.Prelude.{◌≡◌, map, option_map, slice_get};
     ghost use Rattle.yspec.specs.Forest.{size};
     ghost use Rattle.yschema.specs.View.{view, row_view, forest_of, module_view};
 
@@ -88,8 +88,14 @@ impl Schema {
     }
 
     /// The name of the module at a place; nothing where the set has fewer.
-    pub fn module_name(&self, module: usize) -> Option<&str> {
-        Some(self.modules.get(module)?.name.as_str())
+    pub fn module_name(&self, module: usize) -> Option<&str>
+        ensures { option_map (λ t. t.now) result
+            ≡ option_map (λ m. m.name) (slice_get (view self.now).modules «module») }
+    {
+        match self.modules.get(module) {
+            Some(found) => Some(found.name.as_str()),
+            None => None,
+        }
     }
 
     /// The prefix of the module at a place, by its own `prefix` statement; nothing where the set has fewer.
