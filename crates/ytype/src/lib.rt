@@ -22,6 +22,3 @@ pub use raw::Raw;
 pub use restriction::{Bound, Restriction, Span};
 pub use val::Val;
 pub use ytype::YType;
-
-#[cfg(test)]
-mod tests;
