@@ -27,7 +27,7 @@ abbrev pub ◌>>=◌ : {A B : Type 0} → Result A Slip → (A → Result B Slip
 (Err e) >>= f = Err e
 
 -- what is wrong where a token stands that may not stand there
-abbrev misplaced_code : Lexeme → ℕ
+abbrev pub misplaced_code : Lexeme → ℕ
 misplaced_code finish = 6
 misplaced_code unclosed_quote = 3
 misplaced_code unclosed_comment = 3
@@ -38,31 +38,31 @@ misplaced t = slip (misplaced_code t.lexeme) t.line
 
 -- ---- arguments
 
-abbrev is_quoted : Lexeme → Bool
+abbrev pub is_quoted : Lexeme → Bool
 is_quoted (single raw) = true
 is_quoted (double column raw) = true
 is_quoted unclosed_quote = true
 is_quoted _ = false
 
-abbrev begins_quoted : List Token → Bool
+abbrev pub begins_quoted : List Token → Bool
 begins_quoted [] = false
 begins_quoted (t ∷ ts) = is_quoted t.lexeme
 
-abbrev is_plus : Lexeme → Bool
+abbrev pub is_plus : Lexeme → Bool
 is_plus (word w) = is_text w (plus ∷ [])
 is_plus _ = false
 
-abbrev piece : ℕ → Lexeme → Result Text Slip
+abbrev pub piece : ℕ → Lexeme → Result Text Slip
 piece line (single raw) = Ok (single_text raw)
 piece line (double column raw) =
     option_map_or (λ bad. slip 4 bad) (bad_escape_line false line raw) (Ok (double_text column raw))
 piece line unclosed_quote = slip 3 line
 piece line _ = Ok []
 
-abbrev appended : Text → Text × List Token → Result (Text × List Token) Slip
+abbrev pub appended : Text → Text × List Token → Result (Text × List Token) Slip
 appended text more = Ok (text ++ more.0, more.1)
 
-abbrev after_piece : Text → Token → List Token → Result (Text × List Token) Slip → Result (Text × List Token) Slip
+abbrev pub after_piece : Text → Token → List Token → Result (Text × List Token) Slip → Result (Text × List Token) Slip
 after_piece text t ts more = if is_plus t.lexeme then (if begins_quoted ts then more >>= appended text else slip 5 t.line)
     else Ok (text, t ∷ ts)
 
@@ -73,10 +73,10 @@ pieces (first ∷ []) = piece first.line first.lexeme >>= (λ text. Ok (text, []
 pieces (first ∷ second ∷ ts) =
     piece first.line first.lexeme >>= (λ text. after_piece text second ts (pieces ts))
 
-abbrev some_argument : Text × List Token → Result (Option Text × List Token) Slip
+abbrev pub some_argument : Text × List Token → Result (Option Text × List Token) Slip
 some_argument found = Ok (Some found.0, found.1)
 
-abbrev argument_at : Lexeme → Token → List Token → Result (Option Text × List Token) Slip
+abbrev pub argument_at : Lexeme → Token → List Token → Result (Option Text × List Token) Slip
 argument_at (word w) t ts = Ok (Some w, ts)
 argument_at lexeme t ts = if is_quoted lexeme then pieces (t ∷ ts) >>= some_argument else Ok (None, t ∷ ts)
 
@@ -94,15 +94,15 @@ Row = Forest Statement × List Token
 abbrev pub block_limit : ℕ
 block_limit = 64
 
-abbrev closed_at : Lexeme → Forest Statement → Token → List Token → Result Row Slip
+abbrev pub closed_at : Lexeme → Forest Statement → Token → List Token → Result Row Slip
 closed_at close_block below t ts = Ok (below, ts)
 closed_at lexeme below t ts = misplaced t
 
-abbrev closed : Row → Result Row Slip
+abbrev pub closed : Row → Result Row Slip
 closed (below, []) = Ok (below, [])
 closed (below, t ∷ ts) = closed_at t.lexeme below t ts
 
-abbrev body_at : Lexeme → (List Token → Result Row Slip) → ℕ → Token → List Token → Result Row Slip
+abbrev pub body_at : Lexeme → (List Token → Result Row Slip) → ℕ → Token → List Token → Result Row Slip
 body_at semi inner level t ts = Ok (end, ts)
 body_at open_block inner level t ts = if nat_lt level block_limit then inner ts >>= closed else slip 7 t.line
 body_at lexeme inner level t ts = misplaced t
@@ -119,14 +119,14 @@ statement inner level keyword line ts = if is_name keyword
     Ok (node (record { keyword = keyword; argument = a.0; line = line }) b.0 end, b.1)))
     else slip 8 line
 
-abbrev followed : Forest Statement → Forest Statement → Forest Statement
+abbrev pub followed : Forest Statement → Forest Statement → Forest Statement
 followed end rest = rest
 followed (node s below after) rest = node s below rest
 
-abbrev in_row : Row → Row → Result Row Slip
+abbrev pub in_row : Row → Row → Result Row Slip
 in_row first rest = Ok (followed first.0 rest.0, rest.1)
 
-abbrev row_at : Lexeme → (List Token → Result Row Slip) → (List Token → Result Row Slip) → ℕ → Token → List Token
+abbrev pub row_at : Lexeme → (List Token → Result Row Slip) → (List Token → Result Row Slip) → ℕ → Token → List Token
     → Result Row Slip
 row_at (word w) inner others level t ts = statement inner level w t.line ts >>= (λ first. others first.1 >>= in_row first)
 row_at close_block inner others level t ts = Ok (end, t ∷ ts)
@@ -141,18 +141,18 @@ statements (suc fuel) level (t ∷ ts) = row_at t.lexeme (statements fuel (level
 
 -- ---- a module's text
 
-abbrev ending_at : Lexeme → Forest Statement → Token → Result (Forest Statement) Slip
+abbrev pub ending_at : Lexeme → Forest Statement → Token → Result (Forest Statement) Slip
 ending_at finish top t = Ok top
 ending_at (word w) top t = slip 6 t.line
 ending_at close_block top t = slip 6 t.line
 ending_at lexeme top t = misplaced t
 
 -- nothing may follow the top statement
-abbrev ending : Row → Result (Forest Statement) Slip
+abbrev pub ending : Row → Result (Forest Statement) Slip
 ending (top, []) = Ok top
 ending (top, t ∷ ts) = ending_at t.lexeme top t
 
-abbrev top_at : Lexeme → ℕ → Token → List Token → Result (Forest Statement) Slip
+abbrev pub top_at : Lexeme → ℕ → Token → List Token → Result (Forest Statement) Slip
 top_at (word w) fuel t ts = statement (statements fuel 1) 0 w t.line ts >>= ending
 top_at close_block fuel t ts = slip 6 t.line
 top_at lexeme fuel t ts = misplaced t
@@ -166,7 +166,7 @@ top_statement (t ∷ ts) = top_at t.lexeme (length ts) t ts
 abbrev pub text_limit : ℕ
 text_limit = 4194304
 
-abbrev allowed_text : Text → Result (Forest Statement) Slip
+abbrev pub allowed_text : Text → Result (Forest Statement) Slip
 allowed_text t = option_map_or (λ line. slip 2 line) (forbidden_line 1 (chars t)) (top_statement (tokens_of t))
 
 -- The statement that a text spells. Its length is judged first, then that it is UTF-8, then its characters, and then

@@ -1,4 +1,7 @@
+pub mod Gives
 pub mod Left
+pub mod Quoted
 pub mod Reading
 pub mod Sink
+pub mod Statements
 pub mod View

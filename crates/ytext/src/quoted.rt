@@ -1,7 +1,9 @@
 //! What a quoted string says (RFC 7950, 6.1.3).
-ghost use Rattle.std.specs.Prelude.{◌≡◌, ◌+◌, ◌<◌, ◌≤◌, length, slice_index, true, false, IsSome};
+ghost use Rattle.std.specs.Prelude.{◌≡◌, ◌+◌, ◌<◌, ◌≤◌, ◌++◌, Ok, length, drop, slice_index, slice_range, string_bytes, true, false, IsTrue, ◌==◌, ◌&&◌, IsSome};
 ghost use Rattle.std.specs.Str.{IsCharBoundary};
-ghost use Rattle.yspec.specs.Text.{is_blank};
+ghost use Rattle.yspec.specs.Text.{is_blank, begins, line_feed, carriage_return};
+ghost use Rattle.yspec.specs.Token.{joined_breaks, single_text};
+ghost use Rattle.ytext.specs.Gives.{Gives};
 
 use crate::fault::{TextCode, TextFault};
 use crate::scan::{behind_ascii, stands_at};
@@ -83,16 +85,27 @@ fn breaks_at(bytes: &[u8], at: usize) -> bool {
     stands_at(bytes, at, b'\n') || (stands_at(bytes, at, b'\r') && stands_at(bytes, at + 1, b'\n'))
 }
 
-// Where the next carriage return stands, or the end.
+// Whether a carriage return stands at this place, and a line feed behind it.
+fn returns_at(bytes: &[u8], at: usize) -> bool
+    requires { at < length bytes.now }
+    ensures cases { result ≡ (slice_index bytes.now at == carriage_return && begins line_feed (drop (at + 1) bytes.now)) }
+    ensures ascii { IsTrue result → slice_index bytes.now at ≡ 13 }
+{
+    bytes[at] == b'\r' && stands_at(bytes, at + 1, b'\n')
+}
+
+// Where the next carriage return stands with a line feed behind it, or the end.
 fn return_place(raw: &str, from: usize) -> usize
     requires { from ≤ length raw.now }
+    ensures same { joined_breaks (drop from raw.now) ≡ slice_range raw.now from result ++ joined_breaks (drop result raw.now) }
     ensures forward { from ≤ result }
     ensures place { IsCharBoundary raw.now result }
     ensures ascii { result < length raw.now → slice_index raw.now result ≡ 13 }
+    ensures breaks { result < length raw.now → begins line_feed (drop (result + 1) raw.now) ≡ true }
 {
     let bytes = raw.as_bytes();
     let mut at = from;
-    while at < bytes.len() && bytes[at] != b'\r' {
+    while at < bytes.len() && !returns_at(bytes, at) {
         at += 1;
     }
     at
@@ -103,23 +116,23 @@ fn between(raw: &str, start: usize, end: usize) -> &str
     requires order { start ≤ end }
     requires start { IsCharBoundary raw.now start }
     requires end { IsCharBoundary raw.now end }
+    ensures { result.now ≡ slice_range raw.now start end }
 {
     &raw[start..end]
 }
 
 /// Adds what a single-quoted string says: each of its characters, a line break being a line feed.
-pub(crate) fn push_single(text: &mut String, raw: &str) -> Result<(), TextFault> {
+pub(crate) fn push_single(text: &mut String, raw: &str) -> Result<(), TextFault>
+    ensures { Gives (λ _. string_bytes text.new) result (Ok (string_bytes text.old ++ single_text raw.now)) }
+{
     let mut at = 0;
-    while at < raw.len() {
+    while at <= raw.len() {
         let end = return_place(raw, at);
         text.push_str(between(raw, at, end))?;
-        at = end;
-        if at < raw.len() {
-            if !stands_at(raw.as_bytes(), at + 1, b'\n') {
-                text.push('\r')?;
-            }
-            at = behind_ascii(raw, at);
+        if end == raw.len() {
+            return Ok(());
         }
+        at = behind_ascii(raw, end);
     }
     Ok(())
 }
