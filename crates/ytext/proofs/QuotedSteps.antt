@@ -1,6 +1,6 @@
 -- How what a quoted string says goes on, piece by piece.
-use Rattle.std.proofs.Common.{◌≡◌, ℕ, zero, suc, ◌+◌, ◌-◌, ◌<◌, ◌≤◌, List, [], ◌∷◌, ◌++◌, Bool, true, false, not, ◌&&◌, ◌||◌, ◌==◌, cond, Option, Some, None, Result, Ok, Err, length, take, drop, get_or, refl, sym, ap, ◌∙◌, arith, append_assoc, append-nil, length-drop, ◌⊎◌, inl, inr, replicate, nat_lt}
-use Rattle.std.proofs.lemmas.Bool.{eqb-true, false≢true}
+use Rattle.std.proofs.Common.{◌≡◌, ℕ, zero, suc, ◌+◌, ◌-◌, ◌<◌, ◌≤◌, List, [], ◌∷◌, ◌++◌, Bool, true, false, not, ◌&&◌, ◌||◌, ◌==◌, cond, Option, Some, None, Result, Ok, Err, length, take, drop, get_or, refl, sym, ap, ◌∙◌, arith, append_assoc, append-nil, length-drop, ◌⊎◌, inl, inr, replicate, nat_lt, subst, le_refl, lt-ltb}
+use Rattle.std.proofs.lemmas.Bool.{eqb-true, ne_eqb, false≢true}
 use Rattle.std.proofs.lemmas.Bool.Decides.{nat_tests}
 use Rattle.std.specs.Prelude.{slice_range}
 use Rattle.std.specs.Option.{option_map_or}
@@ -9,8 +9,9 @@ use Rattle.std.specs.List.{list_all}
 use Rattle.yspec.specs.Text.{Text, begins, line_feed, carriage_return, space, tab, backslash, is_blank, line_after}
 use Rattle.yspec.specs.Token.{joined_breaks, drop_blank, trimmed_ends, stripped_starts, escape, unescaped, bad_escape_line}
 use Rattle.yspec.specs.Statement.{Slip, slip}
-use Rattle.ytext.specs.Quoted.{said, reading, all_blank, is_solid, blank_width}
+use Rattle.ytext.specs.Quoted.{said, reading, all_blank, is_solid, is_break, is_plain, blank_width}
 use Rattle.ytext.proofs.ScanSteps.{drop_at}
+use Rattle.ytext.proofs.TokenSteps.{nothing_between}
 
 -- ---- stretches of a text
 
@@ -27,6 +28,10 @@ pub cut_at : (text : List ℕ) (i j : ℕ) → i ≤ j → drop i text ≡ slice
 cut_at text i j h =
     let there : i + (j - i) ≡ j = omega arith in
     sym (take-append-drop (j - i) (drop i text)) ∙ ap (λ (ys : List ℕ). take (j - i) (drop i text) ++ ys) (drop-drop (j - i) i text ∙ ap (λ (k : ℕ). drop k text) there)
+
+-- which of two numbers is below
+lt_or_le : (a b : ℕ) → (a < b) ⊎ (b ≤ a)
+lt_or_le a b = grind arith
 
 -- ---- one function at a time
 
@@ -273,3 +278,295 @@ strip_tab width left bs us more none =
     (unescaped_spaces (8 - left) (stripped_starts width (left - 8) (bs ++ us)) ∙ ap (λ (r : List ℕ). replicate (8 - left) space ++ r) more
     ∙ sym (append_assoc (replicate (8 - left) space) (stripped_starts 0 (left - 8) bs) (unescaped false (stripped_starts width 0 us))))
     (ap (λ (r : List ℕ). 9 ∷ r) none)
+
+not_true : (b : Bool) → not b ≡ true → b ≡ false
+not_true true e = absurd (false≢true e)
+not_true false e = refl
+
+or_left : (a b : Bool) → (a || b) ≡ false → a ≡ false
+or_left true b e = e
+or_left false b e = refl
+
+or_right : (a b : Bool) → (a || b) ≡ false → b ≡ false
+or_right true b e = absurd (false≢true (sym e))
+or_right false b e = e
+
+or_true : (a b : Bool) → (a || b) ≡ true → (a ≡ true) ⊎ (b ≡ true)
+or_true true b e = inl refl
+or_true false b e = inr e
+
+solid_blank : (x : ℕ) (xs : List ℕ) → is_solid (x ∷ xs) ≡ true → is_blank x ≡ false
+solid_blank x xs e = not_true (is_blank x) (and_left (not (is_blank x)) (not (is_break (x ∷ xs))) e)
+
+solid_break : (x : ℕ) (xs : List ℕ) → is_solid (x ∷ xs) ≡ true → is_break (x ∷ xs) ≡ false
+solid_break x xs e = not_true (is_break (x ∷ xs)) (and_right (not (is_blank x)) (not (is_break (x ∷ xs))) e)
+
+solid_feed : (x : ℕ) (xs : List ℕ) → is_solid (x ∷ xs) ≡ true → (x == line_feed) ≡ false
+solid_feed x xs e = or_left (x == line_feed) (x == carriage_return && begins line_feed xs) (solid_break x xs e)
+
+solid_return : (x : ℕ) (xs : List ℕ) → is_solid (x ∷ xs) ≡ true → (x == carriage_return && begins line_feed xs) ≡ false
+solid_return x xs e = or_right (x == line_feed) (x == carriage_return && begins line_feed xs) (solid_break x xs e)
+
+-- what a solid rest has for its first character
+abbrev Firm : List ℕ → Type 0
+Firm us = (begins line_feed us ≡ false) × ((width left : ℕ) → stripped_starts width left us ≡ stripped_starts width 0 us)
+
+firm_rest : (ys : List ℕ) → is_solid ys ≡ true → Firm (trimmed_ends (joined_breaks ys))
+unfolding joined_breaks trimmed_ends stripped_starts
+firm_rest [] e = (refl, λ width left. refl)
+firm_rest (y ∷ ys) e =
+    let blank = solid_blank y ys e in
+    let feed = solid_feed y ys e in
+    let rest : List ℕ = trimmed_ends (joined_breaks ys) in
+    let is : trimmed_ends (joined_breaks (y ∷ ys)) ≡ y ∷ rest
+        = ap trimmed_ends (joined_kept y ys (solid_return y ys e)) ∙ trimmed_other y (joined_breaks ys) blank in
+    (ap (begins line_feed) is ∙ feed,
+     λ width left. ap (stripped_starts width left) is ∙ stripped_other width left y rest feed blank
+       ∙ sym (stripped_other width 0 y rest feed blank) ∙ ap (stripped_starts width 0) (sym is))
+
+stripped_none : (left : ℕ) → stripped_starts 0 left [] ≡ []
+unfolding stripped_starts
+stripped_none left = refl
+
+stripped_blanks : (width left : ℕ) (bs us : List ℕ) → all_blank bs ≡ true → ((w l : ℕ) → stripped_starts w l us ≡ stripped_starts w 0 us) → Stripped width left bs us
+stripped_blanks width left [] us e same = ap (unescaped false) (same width left) ∙ ap (λ (r : List ℕ). r ++ unescaped false (stripped_starts width 0 us)) (sym (stripped_none left))
+stripped_blanks width left (b ∷ bs) us e same =
+    let more = and_right (is_blank b) (all_blank bs) e in
+    elim (blank_is b (and_left (is_blank b) (all_blank bs) e)) [
+      inl h ↦ subst (λ (x : ℕ). Stripped width left (x ∷ bs) us) (sym h) (strip_space width left bs us (stripped_blanks width (left - 1) bs us more same) (stripped_blanks width 0 bs us more same))
+    | inr h ↦ subst (λ (x : ℕ). Stripped width left (x ∷ bs) us) (sym h) (strip_tab width left bs us (stripped_blanks width (left - 8) bs us more same) (stripped_blanks width 0 bs us more same))
+    ]
+
+feed_begins : (ys : List ℕ) → begins line_feed ys ≡ true → begins line_feed (joined_breaks ys) ≡ true
+unfolding joined_breaks
+feed_begins [] e = absurd (false≢true e)
+feed_begins (y ∷ ys) e = subst (λ (x : ℕ). begins line_feed (joined_breaks (x ∷ ys)) ≡ true) (sym (eqb-true y line_feed e)) refl
+
+break_begins : (ys : List ℕ) → is_break ys ≡ true → begins line_feed (joined_breaks ys) ≡ true
+unfolding joined_breaks
+break_begins [] e = absurd (false≢true e)
+break_begins (y ∷ ys) e = elim (or_true (y == line_feed) (y == carriage_return && begins line_feed ys) e) [
+    inl h ↦ subst (λ (x : ℕ). begins line_feed (joined_breaks (x ∷ ys)) ≡ true) (sym (eqb-true y line_feed h)) refl
+  | inr h ↦ subst (λ (x : ℕ). begins line_feed (joined_breaks (x ∷ ys)) ≡ true) (sym (eqb-true y carriage_return (and_left (y == carriage_return) (begins line_feed ys) h)))
+      (ap (begins line_feed) (joined_return ys (and_right (y == carriage_return) (begins line_feed ys) h)) ∙ feed_begins ys (and_right (y == carriage_return) (begins line_feed ys) h))
+  ]
+
+trimmed_begins : (zs : List ℕ) → begins line_feed zs ≡ true → begins line_feed (trimmed_ends zs) ≡ true
+unfolding trimmed_ends
+trimmed_begins [] e = absurd (false≢true e)
+trimmed_begins (z ∷ zs) e = subst (λ (x : ℕ). begins line_feed (trimmed_ends (x ∷ zs)) ≡ true) (sym (eqb-true z line_feed e)) refl
+
+pub blanks_dropped : (width left line : ℕ) (text : Text) (bs ys : List ℕ) → all_blank bs ≡ true → is_break ys ≡ true
+    → reading width left line text (bs ++ ys) ≡ reading width left line text ys
+unfolding reading said
+blanks_dropped width left line text bs ys e f =
+    ap (λ (o : Option ℕ). option_map_or (λ bad. slip 4 bad) o (Ok (text ++ unescaped false (stripped_starts width left (trimmed_ends (joined_breaks (bs ++ ys))))))) (bad_blanks line bs ys e)
+    ∙ ap (λ (r : List ℕ). option_map_or (λ bad. slip 4 bad) (bad_escape_line false line ys) (Ok (text ++ unescaped false (stripped_starts width left r))))
+    (ap trimmed_ends (joined_blanks bs ys e) ∙ trimmed_dropped bs (joined_breaks ys) e (trimmed_begins (joined_breaks ys) (break_begins ys f)))
+
+pub blanks_kept : (width left line : ℕ) (text : Text) (bs ys : List ℕ) → all_blank bs ≡ true → is_solid ys ≡ true
+    → reading width left line text (bs ++ ys) ≡ reading width 0 line (text ++ stripped_starts 0 left bs) ys
+unfolding reading said
+blanks_kept width left line text bs ys e f =
+    let firm = firm_rest ys f in
+    ap (λ (o : Option ℕ). option_map_or (λ bad. slip 4 bad) o (Ok (text ++ unescaped false (stripped_starts width left (trimmed_ends (joined_breaks (bs ++ ys))))))) (bad_blanks line bs ys e)
+    ∙ ap (λ (r : List ℕ). option_map_or (λ bad. slip 4 bad) (bad_escape_line false line ys) (Ok (text ++ unescaped false (stripped_starts width left r))))
+    (ap trimmed_ends (joined_blanks bs ys e) ∙ trimmed_kept_all bs (joined_breaks ys) e firm.0)
+    ∙ ap (λ (r : List ℕ). option_map_or (λ bad. slip 4 bad) (bad_escape_line false line ys) (Ok (text ++ r))) (stripped_blanks width left bs (trimmed_ends (joined_breaks ys)) e firm.1)
+    ∙ ap (λ (r : List ℕ). option_map_or (λ bad. slip 4 bad) (bad_escape_line false line ys) (Ok r)) (sym (append_assoc text (stripped_starts 0 left bs) (unescaped false (stripped_starts width 0 (trimmed_ends (joined_breaks ys))))))
+
+pub reading_plain : (width left line x : ℕ) (text : Text) (xs : List ℕ) → is_plain (x ∷ xs) ≡ true
+    → reading width left line text (x ∷ xs) ≡ reading width 0 line (text ++ x ∷ []) xs
+reading_plain width left line x text xs e =
+    let solid = and_right (not (x == backslash)) (is_solid (x ∷ xs)) e in
+    reading_other width left line x text xs (solid_feed x xs solid) (not_true (x == backslash) (and_left (not (x == backslash)) (is_solid (x ∷ xs)) e)) (solid_blank x xs solid) (solid_return x xs solid)
+
+-- ---- places of the string
+
+-- a plain character at a place, with those of its stretch before it
+pub plain_first : (width left line : ℕ) (text : Text) (raw : List ℕ) (i : ℕ) → i < length raw → is_plain (drop i raw) ≡ true
+    → reading width left line text (drop i raw) ≡ reading width 0 line (text ++ slice_range raw i (i + 1)) (drop (i + 1) raw)
+plain_first width left line text raw i l e =
+    let there = drop_at raw i l in
+    let one : slice_range raw i (i + 1) ≡ get_or raw i 0 ∷ [] = stretched raw i i (le_refl i) l ∙ ap (λ (r : List ℕ). r ++ get_or raw i 0 ∷ []) (nothing_between raw i) in
+    ap (reading width left line text) there ∙ reading_plain width left line (get_or raw i 0) text (drop (i + 1) raw) (ap is_plain (sym there) ∙ e)
+    ∙ ap (λ (r : List ℕ). reading width 0 line (text ++ r) (drop (i + 1) raw)) (sym one)
+
+pub plain_next : (width line : ℕ) (text : Text) (raw : List ℕ) (from i : ℕ) → from ≤ i → i < length raw → is_plain (drop i raw) ≡ true
+    → reading width 0 line (text ++ slice_range raw from i) (drop i raw) ≡ reading width 0 line (text ++ slice_range raw from (i + 1)) (drop (i + 1) raw)
+plain_next width line text raw from i h l e =
+    let there = drop_at raw i l in
+    ap (reading width 0 line (text ++ slice_range raw from i)) there
+    ∙ reading_plain width 0 line (get_or raw i 0) (text ++ slice_range raw from i) (drop (i + 1) raw) (ap is_plain (sym there) ∙ e)
+    ∙ ap (λ (r : List ℕ). reading width 0 line r (drop (i + 1) raw)) (append_assoc text (slice_range raw from i) (get_or raw i 0 ∷ []) ∙ ap (λ (r : List ℕ). text ++ r) (sym (stretched raw from i h l)))
+
+-- ---- tests at a place
+
+pub break_at : (raw : List ℕ) (i : ℕ) → i < length raw → is_break (drop i raw) ≡ (get_or raw i 0 == line_feed || (get_or raw i 0 == carriage_return && begins line_feed (drop (i + 1) raw)))
+break_at raw i l = ap is_break (drop_at raw i l)
+
+pub no_break : (raw : List ℕ) (i : ℕ) → length raw ≤ i → is_break (drop i raw) ≡ false
+no_break raw i h = ap is_break (drop_all i raw h)
+
+pub plain_at : (raw : List ℕ) (i : ℕ) → i < length raw → is_plain (drop i raw) ≡ (not (get_or raw i 0 == backslash) && (not (is_blank (get_or raw i 0)) && not (is_break (drop i raw))))
+plain_at raw i l = ap is_plain (drop_at raw i l) ∙ ap (λ (ys : List ℕ). not (get_or raw i 0 == backslash) && (not (is_blank (get_or raw i 0)) && not (is_break ys))) (sym (drop_at raw i l))
+
+all_blank_with : (bs : List ℕ) (x : ℕ) → all_blank bs ≡ true → is_blank x ≡ true → all_blank (bs ++ x ∷ []) ≡ true
+all_blank_with [] x e f = ap (λ (b : Bool). b && true) f
+all_blank_with (b ∷ bs) x e f =
+    ap (λ (t : Bool). t && all_blank (bs ++ x ∷ [])) (and_left (is_blank b) (all_blank bs) e) ∙ all_blank_with bs x (and_right (is_blank b) (all_blank bs) e) f
+
+pub blank_more : (raw : List ℕ) (from i : ℕ) → from ≤ i → i < length raw → all_blank (slice_range raw from i) ≡ true → is_blank (get_or raw i 0) ≡ true → all_blank (slice_range raw from (i + 1)) ≡ true
+blank_more raw from i h l e f = ap all_blank (stretched raw from i h l) ∙ all_blank_with (slice_range raw from i) (get_or raw i 0) e f
+
+pub blank_start : (raw : List ℕ) (i : ℕ) → all_blank (slice_range raw i i) ≡ true
+blank_start raw i = ap all_blank (nothing_between raw i)
+
+-- ---- stripping
+
+pub slice_first : (raw : List ℕ) (i j : ℕ) → i < j → j ≤ length raw → slice_range raw i j ≡ get_or raw i 0 ∷ slice_range raw (i + 1) j
+slice_first raw i j h l =
+    let within : i < length raw = omega arith in
+    let more : j - i ≡ suc (j - (i + 1)) = omega arith in
+    ap (λ (n : ℕ). take n (drop i raw)) more ∙ ap (λ (ys : List ℕ). take (suc (j - (i + 1))) ys) (drop_at raw i within)
+
+no_space : (left : ℕ) (xs : List ℕ) → 0 < left → xs ≡ replicate (1 - left) space ++ xs
+no_space left xs h = let none : 1 - left ≡ 0 = omega arith in ap (λ (n : ℕ). replicate n space ++ xs) (sym none)
+
+strip_first_space : (left : ℕ) (r : List ℕ) → 0 < left → stripped_starts 0 left (32 ∷ r) ≡ replicate (1 - left) space ++ stripped_starts 0 (left - 1) r
+unfolding stripped_starts
+strip_first_space left r h = ap (λ (b : Bool). cond b (stripped_starts 0 (left - 1) r) (32 ∷ stripped_starts 0 0 r)) (lt-ltb 0 left h) ∙ no_space left (stripped_starts 0 (left - 1) r) h
+
+strip_first_tab : (left : ℕ) (r : List ℕ) → 0 < left → stripped_starts 0 left (9 ∷ r) ≡ replicate (8 - left) space ++ stripped_starts 0 (left - 8) r
+unfolding stripped_starts
+strip_first_tab left r h = ap (λ (b : Bool). cond b (replicate (8 - left) space ++ stripped_starts 0 (left - 8) r) (9 ∷ stripped_starts 0 0 r)) (lt-ltb 0 left h)
+
+pub strip_first : (left x : ℕ) (r : List ℕ) → 0 < left → is_blank x ≡ true → stripped_starts 0 left (x ∷ r) ≡ replicate (blank_width x - left) space ++ stripped_starts 0 (left - blank_width x) r
+strip_first left x r h e = elim (blank_is x e) [
+    inl k ↦ subst (λ (y : ℕ). stripped_starts 0 left (y ∷ r) ≡ replicate (blank_width y - left) space ++ stripped_starts 0 (left - blank_width y) r) (sym k) (strip_first_space left r h)
+  | inr k ↦ subst (λ (y : ℕ). stripped_starts 0 left (y ∷ r) ≡ replicate (blank_width y - left) space ++ stripped_starts 0 (left - blank_width y) r) (sym k) (strip_first_tab left r h)
+  ]
+
+keep_32 : (r : List ℕ) → stripped_starts 0 0 (32 ∷ r) ≡ 32 ∷ stripped_starts 0 0 r
+unfolding stripped_starts
+keep_32 r = refl
+
+keep_9 : (r : List ℕ) → stripped_starts 0 0 (9 ∷ r) ≡ 9 ∷ stripped_starts 0 0 r
+unfolding stripped_starts
+keep_9 r = refl
+
+pub strip_nothing : (bs : List ℕ) → all_blank bs ≡ true → stripped_starts 0 0 bs ≡ bs
+strip_nothing [] e = stripped_none 0
+strip_nothing (b ∷ bs) e =
+    let rest = strip_nothing bs (and_right (is_blank b) (all_blank bs) e) in
+    elim (blank_is b (and_left (is_blank b) (all_blank bs) e)) [
+      inl h ↦ subst (λ (y : ℕ). stripped_starts 0 0 (y ∷ bs) ≡ y ∷ bs) (sym h) (keep_32 bs ∙ ap (λ (r : List ℕ). 32 ∷ r) rest)
+    | inr h ↦ subst (λ (y : ℕ). stripped_starts 0 0 (y ∷ bs) ≡ y ∷ bs) (sym h) (keep_9 bs ∙ ap (λ (r : List ℕ). 9 ∷ r) rest)
+    ]
+
+-- one space or tab of a stretch is stripped
+pub strip_step : (text new old : Text) (raw goal_list : List ℕ) (left i j : ℕ) → 0 < left → i < j → j ≤ length raw → all_blank (slice_range raw i j) ≡ true
+    → text ++ stripped_starts 0 left (slice_range raw i j) ≡ goal_list → new ≡ text ++ replicate (blank_width (get_or raw i 0) - left) space
+    → (new ++ stripped_starts 0 (left - blank_width (get_or raw i 0)) (slice_range raw (i + 1) j) ≡ goal_list) × (all_blank (slice_range raw (i + 1) j) ≡ true)
+strip_step text new old raw goal_list left i j h k l e f is =
+    let x : ℕ = get_or raw i 0 in
+    let first = slice_first raw i j k l in
+    let both = ap all_blank (sym first) ∙ e in
+    (ap (λ (t : Text). t ++ stripped_starts 0 (left - blank_width x) (slice_range raw (i + 1) j)) is
+     ∙ append_assoc text (replicate (blank_width x - left) space) (stripped_starts 0 (left - blank_width x) (slice_range raw (i + 1) j))
+     ∙ ap (λ (r : List ℕ). text ++ r) (sym (strip_first left x (slice_range raw (i + 1) j) h (and_left (is_blank x) (all_blank (slice_range raw (i + 1) j)) both)))
+     ∙ ap (λ (r : List ℕ). text ++ stripped_starts 0 left r) (sym first) ∙ f,
+     and_right (is_blank x) (all_blank (slice_range raw (i + 1) j)) both)
+
+pub first_blank : (raw : List ℕ) (i j : ℕ) → i < j → j ≤ length raw → all_blank (slice_range raw i j) ≡ true → get_or raw i 0 < 128
+first_blank raw i j k l e =
+    let first = slice_first raw i j k l in
+    elim (blank_is (get_or raw i 0) (and_left (is_blank (get_or raw i 0)) (all_blank (slice_range raw (i + 1) j)) (ap all_blank (sym first) ∙ e))) [
+      inl h ↦ omega (arith, h)
+    | inr h ↦ omega (arith, h)
+    ]
+
+pub strip_end : (raw : List ℕ) (left i j : ℕ) → left ≡ 0 ⊎ (j ≤ i) → all_blank (slice_range raw i j) ≡ true → stripped_starts 0 left (slice_range raw i j) ≡ slice_range raw i j
+strip_end raw left i j (inl h) e = ap (λ (n : ℕ). stripped_starts 0 n (slice_range raw i j)) h ∙ strip_nothing (slice_range raw i j) e
+strip_end raw left i j (inr h) e =
+    let none : j - i ≡ 0 = omega arith in
+    let empty : slice_range raw i j ≡ [] = ap (λ (n : ℕ). take n (drop i raw)) none in
+    ap (stripped_starts 0 left) empty ∙ stripped_none left ∙ sym empty
+
+-- ---- a step of the whole string
+
+pub plain_from : (raw : List ℕ) (i : ℕ) → i < length raw → is_blank (get_or raw i 0) ≡ false → (get_or raw i 0 ≡ 10 → ⊥) → (get_or raw i 0 ≡ 92 → ⊥)
+    → (get_or raw i 0 == carriage_return && begins line_feed (drop (i + 1) raw)) ≡ false → is_plain (drop i raw) ≡ true
+plain_from raw i l blank feed slash return =
+    plain_at raw i l
+    ∙ ap (λ (b : Bool). not b && (not (is_blank (get_or raw i 0)) && not (is_break (drop i raw)))) (ne_eqb (get_or raw i 0) 92 slash)
+    ∙ ap (λ (b : Bool). not b && not (is_break (drop i raw))) blank
+    ∙ ap (λ (b : Bool). not b) (break_at raw i l ∙ ap (λ (b : Bool). b || (get_or raw i 0 == carriage_return && begins line_feed (drop (i + 1) raw))) (ne_eqb (get_or raw i 0) 10 feed) ∙ return)
+
+pub solid_at : (raw : List ℕ) (i : ℕ) → (i < length raw → is_blank (get_or raw i 0) ≡ false) → is_break (drop i raw) ≡ false → is_solid (drop i raw) ≡ true
+solid_at raw i blank e = elim (lt_or_le i (length raw)) [
+    inl l ↦ ap is_solid (drop_at raw i l) ∙ ap (λ (b : Bool). not b && not (is_break (get_or raw i 0 ∷ drop (i + 1) raw))) (blank l)
+      ∙ ap (λ (ys : List ℕ). not (is_break ys)) (sym (drop_at raw i l)) ∙ ap (λ (b : Bool). not b) e
+  | inr l ↦ ap is_solid (drop_all i raw l)
+  ]
+
+pub step_feed : (width left line : ℕ) (text new : Text) (raw : List ℕ) (i j : ℕ) → i < length raw → get_or raw i 0 ≡ 10 → new ≡ text ++ 10 ∷ [] → j ≡ i + 1
+    → reading width width (line + 1) new (drop j raw) ≡ reading width left line text (drop i raw)
+step_feed width left line text new raw i j l feed is e =
+    ap (λ (k : ℕ). reading width width (line + 1) new (drop k raw)) e ∙ ap (λ (t : Text). reading width width (line + 1) t (drop (i + 1) raw)) is
+    ∙ sym (reading_feed width left line text (drop (i + 1) raw)) ∙ ap (λ (x : ℕ). reading width left line text (x ∷ drop (i + 1) raw)) (sym feed)
+    ∙ ap (reading width left line text) (sym (drop_at raw i l))
+
+pub step_return : (width left line : ℕ) (text : Text) (raw : List ℕ) (i j : ℕ) → i < length raw → get_or raw i 0 ≡ 13 → begins line_feed (drop (i + 1) raw) ≡ true → j ≡ i + 1
+    → reading width left line text (drop j raw) ≡ reading width left line text (drop i raw)
+step_return width left line text raw i j l return feed e =
+    ap (λ (k : ℕ). reading width left line text (drop k raw)) e
+    ∙ sym (reading_return width left line text (drop (i + 1) raw) feed) ∙ ap (λ (x : ℕ). reading width left line text (x ∷ drop (i + 1) raw)) (sym return)
+    ∙ ap (reading width left line text) (sym (drop_at raw i l))
+
+pub step_plain : (width left line : ℕ) (text new piece : Text) (raw : List ℕ) (i j : ℕ)
+    → reading width left line text (drop i raw) ≡ reading width 0 line (text ++ slice_range raw i j) (drop j raw) → piece ≡ slice_range raw i j → new ≡ text ++ piece
+    → reading width 0 line new (drop j raw) ≡ reading width left line text (drop i raw)
+step_plain width left line text new piece raw i j same is e =
+    ap (λ (t : Text). reading width 0 line t (drop j raw)) (e ∙ ap (λ (t : Text). text ++ t) is) ∙ sym same
+
+pub step_dropped : (width left line : ℕ) (text : Text) (raw : List ℕ) (i j : ℕ) → i ≤ j → all_blank (slice_range raw i j) ≡ true → is_break (drop j raw) ≡ true
+    → reading width left line text (drop j raw) ≡ reading width left line text (drop i raw)
+step_dropped width left line text raw i j h e f =
+    sym (ap (reading width left line text) (cut_at raw i j h) ∙ blanks_dropped width left line text (slice_range raw i j) (drop j raw) e f)
+
+pub step_kept : (width left line : ℕ) (text new : Text) (raw : List ℕ) (i j : ℕ) → i ≤ j → all_blank (slice_range raw i j) ≡ true → is_solid (drop j raw) ≡ true
+    → new ≡ text ++ stripped_starts 0 left (slice_range raw i j)
+    → reading width 0 line new (drop j raw) ≡ reading width left line text (drop i raw)
+step_kept width left line text new raw i j h e f is =
+    ap (λ (t : Text). reading width 0 line t (drop j raw)) is
+    ∙ sym (ap (reading width left line text) (cut_at raw i j h) ∙ blanks_kept width left line text (slice_range raw i j) (drop j raw) e f)
+
+slash_pair : (raw : List ℕ) (i j : ℕ) → j ≡ i + 1 → j < length raw → get_or raw i 0 ≡ 92 → drop i raw ≡ 92 ∷ get_or raw j 0 ∷ drop (j + 1) raw
+slash_pair raw i j e l slash =
+    drop_at raw i (omega arith) ∙ ap (λ (x : ℕ). x ∷ drop (i + 1) raw) slash ∙ ap (λ (k : ℕ). 92 ∷ drop k raw) (sym e) ∙ ap (λ (ys : List ℕ). 92 ∷ ys) (drop_at raw j l)
+
+pub step_escape : (width left line z : ℕ) (text new : Text) (raw : List ℕ) (i j k : ℕ) → j ≡ i + 1 → k ≡ j + 1 → j < length raw → get_or raw i 0 ≡ 92
+    → Some z ≡ escape (get_or raw j 0) → new ≡ text ++ z ∷ [] → reading width 0 line new (drop k raw) ≡ reading width left line text (drop i raw)
+step_escape width left line z text new raw i j k e f l slash stands is =
+    ap (λ (n : ℕ). reading width 0 line new (drop n raw)) f ∙ ap (λ (t : Text). reading width 0 line t (drop (j + 1) raw)) is
+    ∙ sym (ap (reading width left line text) (slash_pair raw i j e l slash) ∙ reading_escape width left line (get_or raw j 0) z text (drop (j + 1) raw) (sym stands))
+
+pub step_wrong : (width left line : ℕ) (text : Text) (raw : List ℕ) (i j : ℕ) → j ≡ i + 1 → j < length raw → get_or raw i 0 ≡ 92
+    → None ≡ escape (get_or raw j 0) → reading width left line text (drop i raw) ≡ slip 4 line
+step_wrong width left line text raw i j e l slash stands =
+    ap (reading width left line text) (slash_pair raw i j e l slash) ∙ reading_wrong width left line (get_or raw j 0) text (drop (j + 1) raw) (sym stands)
+
+pub step_alone : (width left line : ℕ) (text : Text) (raw : List ℕ) (i j : ℕ) → j ≡ i + 1 → i < length raw → j ≡ length raw → get_or raw i 0 ≡ 92
+    → reading width left line text (drop j raw) ≡ reading width left line text (drop i raw)
+step_alone width left line text raw i j e l f slash =
+    let none = drop_all j raw (omega arith) in
+    ap (reading width left line text) none ∙ reading_none width left line text
+    ∙ sym (ap (reading width left line text) (drop_at raw i l ∙ ap (λ (x : ℕ). x ∷ drop (i + 1) raw) slash ∙ ap (λ (k : ℕ). 92 ∷ drop k raw) (sym e) ∙ ap (λ (ys : List ℕ). 92 ∷ ys) none) ∙ reading_alone width left line text)
+
+pub returned : (raw : List ℕ) (i : ℕ) → (get_or raw i 0 == carriage_return && begins line_feed (drop (i + 1) raw)) ≡ true
+    → (get_or raw i 0 ≡ 13) × (begins line_feed (drop (i + 1) raw) ≡ true)
+returned raw i e = (eqb-true (get_or raw i 0) 13 (and_left (get_or raw i 0 == carriage_return) (begins line_feed (drop (i + 1) raw)) e), and_right (get_or raw i 0 == carriage_return) (begins line_feed (drop (i + 1) raw)) e)
+
+pub reading_done : (width left line : ℕ) (text : Text) (raw : List ℕ) (i : ℕ) → length raw ≤ i → reading width left line text (drop i raw) ≡ Ok text
+reading_done width left line text raw i h = ap (reading width left line text) (drop_all i raw h) ∙ reading_none width left line text

@@ -2,7 +2,7 @@
 ghost use Rattle.std.specs.Prelude.{◌≡◌, ◌<◌, ◌≤◌, false, IsTrue, OnOk};
 
 use crate::cursor::{Cursor, Lexed, Lexeme};
-use crate::fault::{TextCode, TextFault, line_number};
+use crate::fault::{TextCode, TextFault};
 use crate::quoted::{push_double, push_single};
 use crate::statement::{Module, Stmt};
 use std::alloc::Global;
@@ -170,7 +170,7 @@ impl<'a> Reader<'a> {
         Ok(Stmt {
             keyword,
             arg,
-            line: line_number(line),
+            line: line as u32,
             subs,
         })
     }
