@@ -1,5 +1,8 @@
 pub mod CursorSteps
+pub mod NameSteps
+pub mod PieceSteps
 pub mod QuotedSteps
+pub mod RowSteps
 pub mod TokenSteps
 pub mod StatementViews
 pub mod Walks

@@ -1,5 +1,5 @@
 -- What a fallible call gives.
-use Rattle.std.specs.Prelude.{ℕ, ◌≡◌, Result, Ok, Err}
+use Rattle.std.specs.Prelude.{ℕ, ◌≡◌, Option, Some, None, Result, Ok, Err}
 use Rattle.yspec.specs.Statement.{Slip, slip}
 use Rattle.ytext.specs.declared.fault.TextCode.{TextCode}
 use Rattle.ytext.specs.declared.fault.TextCode.TheVariants.{L1, L2, L3, L4, L5, L6, L7, L8}
@@ -26,3 +26,8 @@ Fails fault.Memory read = Unit {0}
 abbrev pub Gives : {X Y : Type 0} → (X → Y) → Result X TextFault → Result Y Slip → Type 0
 Gives view (Ok x) read = read ≡ Ok (view x)
 Gives view (Err e) read = Fails e read
+
+-- the refusal that a fault tells
+abbrev pub told_by : TextFault → Option Slip
+told_by (fault.Refused code line) = Some (record { code = number_of code; line = line })
+told_by fault.Memory = None

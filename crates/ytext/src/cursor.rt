@@ -52,7 +52,7 @@ pub(crate) struct Cursor<'a> {
 
 impl<'a> Cursor<'a> {
     ghost use Rattle.yspec.specs.Token.{tokens_of, word, token, word_length, slash_front, single_front, double_front, other_front};
-    ghost use Rattle.ytext.specs.View.{ends_text, front_of, GoesOn};
+    ghost use Rattle.ytext.specs.View.{ends_text, extent, indent, front_of, GoesOn};
     ghost use Rattle.ytext.specs.Left.{left, left_behind, column_of, stands, with_token};
 
     /// The beginning of a text.
@@ -97,7 +97,8 @@ impl<'a> Cursor<'a> {
         requires order { start ≤ end }
         requires start { IsCharBoundary self.text.now start }
         requires end { IsCharBoundary self.text.now end }
-        ensures { result.now ≡ slice_range self.entry.text.now start end }
+        ensures text { result.now ≡ slice_range self.entry.text.now start end }
+        ensures length { length result.now ≡ end - start }
     {
         &self.text[start..end]
     }
@@ -219,6 +220,8 @@ impl<'a> Cursor<'a> {
         ensures at { self.entry.at ≤ result.1.at }
         ensures later { ends_text result.0.lexeme ≡ false → self.entry.at < result.1.at }
         ensures tokens { left self.entry ≡ with_token result.0 result.1 }
+        ensures near { result.0.line + extent result.0.lexeme ≤ result.1.at + 1 }
+        ensures indent { indent result.0.lexeme ≤ result.1.at }
     {
         let bytes = self.text.as_bytes();
         let mut cursor = self;
