@@ -3,13 +3,13 @@ use Rattle.std.proofs.Common.{◌≡◌, ℕ, zero, suc, ◌+◌, ◌<◌, ◌�
 use Rattle.yspec.specs.Forest.{Forest, end, node}
 use Rattle.yspec.specs.Text.{Text, is_name}
 use Rattle.yspec.specs.Token.{Token, Lexeme, word, single, double, semi, open_block, close_block, finish, unclosed_quote, unclosed_comment, stray_end}
-use Rattle.yspec.specs.Statement.{Slip, slip, ◌>>=◌, Statement, Row, piece, pieces, after_piece, appended, some_argument, argument, argument_at, is_plus, is_quoted, begins_quoted, body, body_at, closed, closed_at, statement, row_at, in_row, followed, statements, block_limit}
+use Rattle.yspec.specs.Statement.{Slip, slip, ◌>>=◌, Statement, Row, piece, pieces, after_piece, appended, some_argument, argument, argument_at, is_plus, is_quoted, begins_quoted, body, body_at, closed, closed_at, statement, row_at, in_row, statements, block_limit}
 use Rattle.yspec.specs.Forest.{join}
 use Rattle.yspec.specs.Token.{at}
 use Rattle.ytext.specs.Gives.{Fails}
 use Rattle.ytext.specs.Reading.{rows}
 use Rattle.ytext.specs.Statements.{forest_of, row_of}
-use Rattle.ytext.specs.declared.statement.Stmt.{Stmt, Stmt'}
+use Rattle.ytext.specs.declared.statement.Stmt.{Stmt}
 use Rattle.ytext.specs.declared.fault.TextFault.{TextFault}
 use Rattle.ytext.specs.declared.fault.TextFault.TheVariants.{Refused, Memory}
 
@@ -151,7 +151,7 @@ row_at_shrinks (word w) inner others level t ts h k x e =
     let two = bind_ok (others one.0.1) (in_row one.0) x one.2 in
     let first = statement_shrinks inner level w t.line ts h one.0 one.1 in
     let second = k one.0.1 two.0 two.1 in
-    let same = ap (λ (y : Row). length y.1) (ok_same (followed one.0.0 two.0.0, two.0.1) x two.2) in
+    let same = ap (λ (y : Row). length y.1) (ok_same (join one.0.0 two.0.0, two.0.1) x two.2) in
     omega (arith, first, second, same)
 row_at_shrinks close_block inner others level t ts h k x e = stay t ts x e
 row_at_shrinks finish inner others level t ts h k x e = stay t ts x e
@@ -273,9 +273,6 @@ pub join_end : (f : Forest Statement) → join f end ≡ f
 join_end end = refl
 join_end (node l below after) = ap (λ (r : Forest Statement). node l below r) (join_end after)
 
-pub followed_join : (s : Stmt) (rest : Forest Statement) → followed (forest_of s) rest ≡ join (forest_of s) rest
-followed_join (Stmt' k a l shape subs) rest = refl
-
 pub row_of_push : (ss : List Stmt) (s : Stmt) → row_of (ss ++ s ∷ []) ≡ join (row_of ss) (forest_of s)
 row_of_push [] s = join_end (forest_of s)
 row_of_push (x ∷ ss) s = ap (join (forest_of x)) (row_of_push ss s) ∙ sym (join_again (forest_of x) (row_of ss) (forest_of s))
@@ -287,8 +284,7 @@ pub row_grows : (level : ℕ) (kw : Text) (line : ℕ) (ts us : List Token) (ss 
 unfolding with_front
 row_grows level kw line ts us ss s e =
     ap (with_front (row_of ss)) (rows_by level (at line (word kw)) ts
-      ∙ ap (λ (r : Result Row Slip). r >>= (λ first. rows level first.1 >>= in_row first)) e
-      ∙ bind_same (rows level us) (in_row (forest_of s, us)) (λ x. Ok (join (forest_of s) x.0, x.1)) (λ x _. ap (λ (f : Forest Statement). Ok (f, x.1)) (followed_join s x.0)))
+      ∙ ap (λ (r : Result Row Slip). r >>= (λ first. rows level first.1 >>= in_row first)) e)
     ∙ front_again (row_of ss) (forest_of s) (rows level us)
     ∙ ap (λ (f : Forest Statement). with_front f (rows level us)) (sym (row_of_push ss s))
 

@@ -20,6 +20,9 @@ ends_text UnclosedQuote = true
 ends_text UnclosedComment = true
 ends_text StrayEnd = true
 
+abbrev pub a_word : List ℕ → token.Lexeme
+a_word = token.word
+
 -- the lexeme itself; of a quoted string's line before it only the column counts
 abbrev pub lexeme_of : Lexeme → token.Lexeme
 lexeme_of (Word w) = token.word w.now

@@ -58,6 +58,7 @@ impl<'a> Cursor<'a> {
     /// The beginning of a text.
     pub(crate) fn new(text: &'a str) -> Cursor<'a>
         ensures start { left result ≡ tokens_of text.now }
+        ensures text { result.text.now ≡ text.now }
     {
         Cursor {
             text,

@@ -69,7 +69,7 @@ impl<'a> Lexed<'a> {
 impl<'a> Reader<'a> {
     ghost use Rattle.yspec.specs.Statement.{Statement, piece, pieces, argument, is_quoted, body, closed, statement, ending, top_statement};
     ghost use Rattle.yspec.specs.Forest.{Forest};
-    ghost use Rattle.yspec.specs.Token.{word};
+    ghost use Rattle.ytext.specs.View.{a_word};
     ghost use Rattle.ytext.specs.Statements.{forest_of, row_of};
     ghost use Rattle.yspec.specs.Token.{tokens_of};
     ghost use Rattle.ytext.specs.Gives.{Gives};
@@ -219,7 +219,7 @@ impl<'a> Reader<'a> {
     // The statement whose keyword is at hand.
     #[cycle(reading)]
     fn statement(&mut self, word: &str, level: u32) -> Result<Stmt, TextFault>
-        requires { lexeme_of self.old.token.lexeme ≡ word word.now }
+        requires { lexeme_of self.old.token.lexeme ≡ a_word word.now }
         ensures ahead { OnOk result (ahead self.new < ahead self.old) }
         ensures statement { Gives (λ stmt. (forest_of stmt, tokens_ahead self.new)) result
             (statement (rows (level + 1)) level word.now self.old.token.line (left self.old.cursor)) }
@@ -272,7 +272,7 @@ impl<'a> Reader<'a> {
 
     /// The one statement of a module's text.
     pub(crate) fn module(&mut self) -> Result<Module, TextFault>
-        ensures { Gives (λ module. forest_of module.top) result (top_statement (tokens_ahead self.old)) }
+        ensures { Gives (λ read. forest_of read.top) result (top_statement (tokens_ahead self.old)) }
     {
         match self.token.lexeme {
             Lexeme::Word(word) => {
