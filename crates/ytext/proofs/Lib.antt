@@ -2,6 +2,7 @@ pub mod CursorSteps
 pub mod NameSteps
 pub mod PieceSteps
 pub mod QuotedSteps
+pub mod ReaderSteps
 pub mod RowSteps
 pub mod TokenSteps
 pub mod StatementViews

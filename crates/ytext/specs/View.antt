@@ -23,6 +23,10 @@ ends_text StrayEnd = true
 abbrev pub a_word : List ℕ → token.Lexeme
 a_word = token.word
 
+abbrev pub is_word : token.Lexeme → Bool
+is_word (token.word w) = true
+is_word _ = false
+
 -- the lexeme itself; of a quoted string's line before it only the column counts
 abbrev pub lexeme_of : Lexeme → token.Lexeme
 lexeme_of (Word w) = token.word w.now

@@ -1,5 +1,5 @@
 //! Statements, read from a text's tokens (RFC 7950, 6.3 and 14).
-ghost use Rattle.std.specs.Prelude.{◌≡◌, ◌+◌, ◌<◌, ◌≤◌, ◌^◌, ◌++◌, ◌∷◌, true, false, length, Some, Ok, option_map, string_bytes, IsTrue, OnOk};
+ghost use Rattle.std.specs.Prelude.{◌≡◌, ℕ, ◌+◌, ◌<◌, ◌≤◌, ◌^◌, ◌++◌, ◌∷◌, true, false, length, Some, Ok, option_map, string_bytes, IsTrue, OnOk};
 ghost use Rattle.std.specs.Prelude.{◌==◌, nat_lt};
 ghost use Rattle.std.specs.List.{list_all, list_any, position_or_len};
 ghost use Rattle.yspec.specs.Text.{begins_identifier, continues_identifier, is_identifier, is_name, colon};
@@ -67,15 +67,15 @@ impl<'a> Lexed<'a> {
 }
 
 impl<'a> Reader<'a> {
-    ghost use Rattle.yspec.specs.Statement.{Statement, piece, pieces, argument, is_quoted, body, closed, statement, ending, top_statement};
-    ghost use Rattle.yspec.specs.Forest.{Forest};
-    ghost use Rattle.ytext.specs.View.{a_word};
+    ghost use Rattle.yspec.specs.Statement.{Statement, piece, pieces, argument, is_quoted, body, closed, statement, ending, row_at, top_statement};
+    ghost use Rattle.yspec.specs.Forest.{Forest, end};
+    ghost use Rattle.ytext.specs.View.{a_word, is_word};
     ghost use Rattle.ytext.specs.Statements.{forest_of, row_of};
     ghost use Rattle.yspec.specs.Token.{tokens_of};
     ghost use Rattle.ytext.specs.Gives.{Gives};
     ghost use Rattle.ytext.specs.View.{ends_text, lexeme_of};
     ghost use Rattle.ytext.specs.Left.{left, token_of};
-    ghost use Rattle.ytext.specs.Reading.{ahead, tokens_ahead, added, piece_behind, rows, block_of};
+    ghost use Rattle.ytext.specs.Reading.{ahead, tokens_ahead, added, piece_behind, rows, block_of, first_of, rest_of};
 
     pub(crate) fn new(alloc: Global, text: &'a str) -> Reader<'a>
         requires { length text.now ≤ 4194304 }
@@ -253,8 +253,21 @@ impl<'a> Reader<'a> {
                 Err(fault) => return Err(fault),
             }
         }
+        match self.row_end() {
+            Ok(()) => Ok(subs),
+            Err(fault) => Err(fault),
+        }
+    }
+
+    // A row ends before a `}` and at the end of the text.
+    fn row_end(&self) -> Result<(), TextFault>
+        requires { is_word (lexeme_of self.now.token.lexeme) ≡ false }
+        ensures { (level : ℕ) → Gives (λ _. (end, tokens_ahead self.now)) result
+            (row_at (lexeme_of self.now.token.lexeme) (rows (level + 1)) (rows level) level (first_of self.now) (rest_of self.now)) }
+    {
         match self.token.lexeme {
-            Lexeme::Close | Lexeme::End => Ok(subs),
+            Lexeme::Close => Ok(()),
+            Lexeme::End => Ok(()),
             _ => Err(self.token.misplaced()),
         }
     }
