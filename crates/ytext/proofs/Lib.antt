@@ -4,6 +4,7 @@ pub mod PieceSteps
 pub mod QuotedSteps
 pub mod ReaderSteps
 pub mod RowSteps
+pub mod TextSteps
 pub mod TokenSteps
 pub mod StatementViews
 pub mod Walks

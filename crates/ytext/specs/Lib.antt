@@ -1,3 +1,4 @@
+pub mod Characters
 pub mod Gives
 pub mod Left
 pub mod Quoted
