@@ -1,10 +1,11 @@
 -- The judgement of a whole text, character by character and step by step.
-use Rattle.std.proofs.Common.{◌≡◌, ℕ, ◌+◌, ◌<◌, ◌≤◌, List, [], ◌∷◌, Bool, true, false, ◌&&◌, ◌||◌, ◌==◌, cond, Option, Some, None, Result, length, take, drop, nat_lt, refl, sym, ap, ◌∙◌, arith, lt-ltb, le-ltb}
+use Rattle.std.proofs.Common.{◌≡◌, ℕ, suc, get_or, drop-cons, ◌+◌, ◌<◌, ◌≤◌, List, [], ◌∷◌, Bool, true, false, ◌&&◌, ◌||◌, ◌==◌, cond, Option, Some, None, Result, length, take, drop, nat_lt, refl, sym, ap, ◌∙◌, arith, lt-ltb, le-ltb}
 use Rattle.std.specs.Option.{option_map_or}
 use Rattle.std.specs.Str.{chars, IsUtf8, is_utf8}
 use Rattle.std.specs.Str.Lossy.{utf8_valid_len}
 use Rattle.std.proofs.lemmas.Bool.{ne_eqb}
-use Rattle.std.proofs.lemmas.Str.{is_utf8-from_IsUtf8, IsUtf8-from_is_utf8}
+use Rattle.std.proofs.lemmas.Str.{is_utf8-from_IsUtf8, IsUtf8-from_is_utf8, length-le-encodes, encodes-chars}
+use Rattle.std.proofs.lemmas.List.{drop_all}
 use Rattle.yspec.specs.Forest.{Forest}
 use Rattle.yspec.specs.Text.{begins, is_yang_char, line_after, line_behind, forbidden_line, line_feed, carriage_return}
 use Rattle.yspec.specs.Token.{tokens_of}
@@ -55,3 +56,14 @@ pub judged : (t text : List ℕ) (o : Option ℕ) → text ≡ t → length t �
 judged t text o is h u e =
     fits t h ∙ ap (λ (b : Bool). cond b (allowed_text t) (slip 1 (line_behind 1 (take (utf8_valid_len t) t)))) (is_utf8-from_IsUtf8 t u)
     ∙ ap (λ (p : Option ℕ). option_map_or (λ line. slip 2 line) p (top_statement (tokens_of t))) (sym (e ∙ ap (λ (v : List ℕ). forbidden_line 1 (chars v)) is))
+
+pub char_at : (cs : List ℕ) (n c : ℕ) → (n < length cs) × (c ≡ get_or cs n c) → drop n cs ≡ c ∷ drop (n + 1) cs
+char_at cs n c h =
+    let next : suc n ≡ n + 1 = omega arith in
+    drop-cons cs n c h.0 ∙ ap (λ (k : ℕ). get_or cs n c ∷ drop k cs) next ∙ ap (λ (x : ℕ). x ∷ drop (n + 1) cs) (sym h.1)
+
+pub few_chars : (t : List ℕ) → IsUtf8 t → length (chars t) ≤ length t
+few_chars t u = omega (arith, length-le-encodes (chars t), ap length (encodes-chars t u))
+
+pub none_left : (cs : List ℕ) (n : ℕ) → n ≡ length cs → drop n cs ≡ []
+none_left cs n e = drop_all n cs (omega (arith, e))

@@ -81,9 +81,9 @@ fn forbidden_line(text: &str) -> Option<u64>
     let mut has_returned = false;
     for character in text.chars() {
         match behind_character(character, line, has_returned) {
-            Some((next_line, next_returned)) => {
-                line = next_line;
-                has_returned = next_returned;
+            Some(next) => {
+                line = next.0;
+                has_returned = next.1;
             }
             None => return Some(line),
         }
