@@ -6,7 +6,6 @@ pub mod ReaderSteps
 pub mod RowSteps
 pub mod TextSteps
 pub mod TokenSteps
-pub mod StatementViews
 pub mod Walks
 pub mod ScanSteps
 pub mod SinkSteps

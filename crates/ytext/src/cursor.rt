@@ -32,7 +32,8 @@ pub(crate) struct Lexed<'a> {
 }
 
 // What stands at the front: a gap or a token with the place behind it, or what ends the text.
-enum Front<'a> {
+#[derive(Clone, Copy)]
+pub(crate) enum Front<'a> {
     Gap(usize),
     Token(Lexeme<'a>, usize),
     Last(Lexeme<'a>),
@@ -69,7 +70,7 @@ impl<'a> Cursor<'a> {
     }
 
     // A later place.
-    fn moved(self, end: usize) -> Cursor<'a>
+    pub(crate) fn moved(self, end: usize) -> Cursor<'a>
         requires forward { self.at ≤ end }
         requires place { IsCharBoundary self.text.now end }
         ensures text { result.text.now ≡ self.entry.text.now }
@@ -94,7 +95,7 @@ impl<'a> Cursor<'a> {
     }
 
     // The text between two places.
-    fn between(self, start: usize, end: usize) -> &'a str
+    pub(crate) fn between(self, start: usize, end: usize) -> &'a str
         requires order { start ≤ end }
         requires start { IsCharBoundary self.text.now start }
         requires end { IsCharBoundary self.text.now end }
@@ -213,6 +214,24 @@ impl<'a> Cursor<'a> {
             line: self.line,
             lexeme,
         }
+    }
+
+    /// The place behind the gaps that stand here, and what stands there.
+    pub(crate) fn found(self) -> (Cursor<'a>, Front<'a>)
+        ensures text { result.0.text.now ≡ self.entry.text.now }
+        ensures at { self.entry.at ≤ result.0.at }
+        ensures later { GoesOn result.0.text.now result.0.at result.1 }
+    {
+        let bytes = self.text.as_bytes();
+        let mut cursor = self;
+        while cursor.at < bytes.len() {
+            match cursor.front(bytes[cursor.at]) {
+                Front::Gap(end) => cursor = cursor.moved(end),
+                Front::Token(lexeme, end) => return (cursor, Front::Token(lexeme, end)),
+                Front::Last(lexeme) => return (cursor, Front::Last(lexeme)),
+            }
+        }
+        (cursor, Front::Last(Lexeme::End))
     }
 
     /// The next token, and the place behind it. What ends the text is met again and again.

@@ -8,6 +8,7 @@ mod fault;
 mod quoted;
 mod reader;
 mod scan;
+mod scanner;
 mod sink;
 mod statement;
 mod text;
@@ -17,6 +18,7 @@ mod tests;
 
 pub use count::FailureCount;
 pub use fault::{TextCode, TextFault};
-pub use text::parse;
+pub use scanner::{Token, TokenKind, Tokens};
+pub use text::{parse, tokens};
 pub use sink::{Cut, Sink, SinkFault, write_all};
 pub use statement::{Module, Stmt};

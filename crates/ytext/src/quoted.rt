@@ -333,3 +333,19 @@ pub(crate) fn push_double(text: &mut String, before: &[u8], raw: &str, line: u64
     }
     Ok(())
 }
+
+/// The place of the first backslash that another character follows.
+pub(crate) fn bad_escape_place(raw: &[u8]) -> Option<usize> {
+    let mut slash = None;
+    for (at, byte) in raw.iter().enumerate() {
+        if slash.is_some() {
+            if escape(*byte).is_none() {
+                return slash;
+            }
+            slash = None;
+        } else if *byte == b'\\' {
+            slash = Some(at);
+        }
+    }
+    None
+}

@@ -10,6 +10,7 @@ ghost use Rattle.ytext.specs.Statements.{forest_of};
 
 use crate::fault::{TextCode, TextFault};
 use crate::reader::Reader;
+use crate::scanner::Tokens;
 use crate::statement::Module;
 use std::alloc::Global;
 use std::str;
@@ -40,7 +41,7 @@ fn is_noncharacter(code: u32) -> bool
 }
 
 // Whether a character may stand in a text wherever it is.
-fn is_yang_char(character: char) -> bool
+pub(crate) fn is_yang_char(character: char) -> bool
     ensures { result ≡ is_yang_char character }
 {
     let code = character as u32;
@@ -122,4 +123,9 @@ pub fn parse(alloc: Global, bytes: &[u8]) -> Result<Module, TextFault>
         Ok(text) => Reader::new(alloc, text).module(),
         Err(fault) => Err(fault),
     }
+}
+
+/// The tokens of a text (RFC 7950, 6.1), without taking memory. After an error nothing comes.
+pub fn tokens(text: &str) -> Tokens<'_> {
+    Tokens::new(text)
 }
