@@ -3,6 +3,7 @@ pub mod Gives
 pub mod Left
 pub mod Quoted
 pub mod Reading
+pub mod Scanned
 pub mod Sink
 pub mod Statements
 pub mod View

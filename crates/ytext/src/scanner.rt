@@ -1,5 +1,5 @@
 //! The tokens of a text, for callers that want them alone.
-ghost use Rattle.std.specs.Prelude.{◌≡◌, ◌+◌, ◌-◌, ◌≤◌, length, slice_range, IfSome, if◌then◌else◌};
+ghost use Rattle.std.specs.Prelude.{◌+◌, ◌-◌, length, if◌then◌else◌};
 ghost use Rattle.std.specs.Iterator.{at_most};
 
 use crate::cursor::{Cursor, Front, Lexeme};
@@ -121,6 +121,11 @@ fn kind_of(lexeme: Lexeme<'_>) -> TokenKind {
 impl<'a> Iterator for Tokens<'a> {
     type Item = Result<Token<'a>, TextFault>;
 
+    ghost use Rattle.ytext.specs.Scanned.{IsTokenStep};
+
+    // Each text is the slice of the source at its span, spans rise, and nothing comes after an error.
+    ghost next_gives = { IsTokenStep };
+
     ghost remaining = { λ s. at_most (if s.ended then 0 else (length s.cursor.text.now - s.cursor.at) + 1) };
 
     fn next(&mut self) -> Option<Result<Token<'a>, TextFault>> {
@@ -143,7 +148,10 @@ impl<'a> Iterator for Tokens<'a> {
         }
         self.ended = true;
         match front {
-            Front::Last(lexeme) => self.ending(start.at, lexeme).map(Err),
+            Front::Last(lexeme) => match self.ending(start.at, lexeme) {
+                Some(fault) => Some(Err(fault)),
+                None => None,
+            },
             _ => None,
         }
     }
