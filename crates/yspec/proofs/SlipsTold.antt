@@ -6,10 +6,10 @@ use Rattle.std.specs.Str.Lossy.{utf8_valid_len}
 use Rattle.std.proofs.lemmas.Option.{same_Some}
 use Rattle.std.specs.Option.{option_map_or}
 use Rattle.std.proofs.lemmas.Bool.{eqb-true}
-use Rattle.yspec.specs.Forest.{Forest, end, node}
+use Rattle.yspec.specs.Forest.{Forest, end, node, join}
 use Rattle.yspec.specs.Text.{Text, is_name, line_after, line_feed, backslash, line_behind, forbidden_line}
 use Rattle.yspec.specs.Token.{Lexeme, Token, word, single, double, semi, open_block, close_block, finish, unclosed_quote, unclosed_comment, stray_end, at, bad_escape_line, double_text, escape, tokens_of}
-use Rattle.yspec.specs.Statement.{Statement, Slip, slip, ◌>>=◌, is_quoted, begins_quoted, is_plus, piece, appended, after_piece, pieces, some_argument, argument_at, argument, closed_at, closed, body_at, body, statement, followed, in_row, row_at, statements, ending_at, ending, top_at, top_statement, block_limit, text_limit, module_of}
+use Rattle.yspec.specs.Statement.{Statement, Slip, slip, ◌>>=◌, is_quoted, begins_quoted, is_plus, piece, appended, after_piece, pieces, some_argument, argument_at, argument, closed_at, closed, body_at, body, statement, in_row, row_at, statements, ending_at, ending, top_at, top_statement, block_limit, text_limit, module_of}
 use Rattle.yspec.specs.Statement as read
 use Rattle.yspec.specs.Slips.{State, at_keyword, behind_keyword, behind_word, behind_quoted, behind_plus, behind_top, behind_statement, wrong_escapes, slips_from, slips, first, told}
 use Rattle.yspec.specs.Spelling.{Spells}
@@ -289,7 +289,7 @@ statements_stop (suc fuel) level (t ∷ ts) x h n e = go t.line t.lexeme h e (st
         (λ first. statements fuel level first.1 >>= in_row first) x e in
         let b = bind_ok (statements fuel level a.0.1) (in_row a.0) x a.2 in
         let s : Stated level line w ts a.0 = stated_at fuel level line w ts a.0 h a.1 in
-        stops_is b.0.1 x.1 (ok_rest (followed a.0.0 b.0.0, b.0.1) x b.2)
+        stops_is b.0.1 x.1 (ok_rest (join a.0.0 b.0.0, b.0.1) x b.2)
         (below level a.0.1 b.0 s.ends (omega (arith, s.shorter)) b.1)
     go line close_block h e below = stops_is (at line close_block ∷ ts) x.1
         (ok_rest (end, at line close_block ∷ ts) x e) refl

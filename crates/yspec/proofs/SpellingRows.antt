@@ -3,10 +3,10 @@ use Rattle.std.proofs.Common.{◌≡◌, ℕ, zero, suc, ◌+◌, ◌<◌, ◌�
 use Rattle.std.specs.Prelude.{◌==◌, nat_lt}
 use Rattle.std.specs.Option.{option_map_or}
 use Rattle.std.proofs.lemmas.Bool.{eqb-true, ltb-true, lt-ltb, and_parts}
-use Rattle.yspec.specs.Forest.{Forest, end, node}
+use Rattle.yspec.specs.Forest.{Forest, end, node, join}
 use Rattle.yspec.specs.Text.{Text, is_text, is_name, plus, line_after, backslash}
 use Rattle.yspec.specs.Token.{Lexeme, Token, word, single, double, semi, open_block, close_block, finish, unclosed_quote, unclosed_comment, stray_end, at, bad_escape_line, double_text, single_text, escape}
-use Rattle.yspec.specs.Statement.{Statement, Slip, slip, ◌>>=◌, misplaced, is_quoted, begins_quoted, is_plus, piece, appended, after_piece, pieces, some_argument, argument_at, argument, closed_at, closed, body_at, body, statement, followed, in_row, row_at, statements, ending_at, ending, top_at, top_statement, block_limit}
+use Rattle.yspec.specs.Statement.{Statement, Slip, slip, ◌>>=◌, misplaced, is_quoted, begins_quoted, is_plus, piece, appended, after_piece, pieces, some_argument, argument_at, argument, closed_at, closed, body_at, body, statement, in_row, row_at, statements, ending_at, ending, top_at, top_statement, block_limit}
 use Rattle.yspec.specs.Statement as read
 use Rattle.yspec.specs.Spelling.{Says, as_it_is, stripped, Joined, alone, with, Argument, absent, unquoted_word, quoted, Spelled, none, bare, block, IsOne, TokensSpell}
 use Rattle.yspec.proofs.SpellingCut.{is_ending}
@@ -269,7 +269,7 @@ pub record Stated (level line : ℕ) (k : Text) (ts : List Token) (first : read.
   pub shorter : length first.1 ≤ length ts
   pub one : IsOne first.0
   pub row : (after : Forest Statement) (rest : List Token) → Spelled level first.1 after rest
-      → Spelled level (at line (word k) ∷ ts) (followed first.0 after) rest
+      → Spelled level (at line (word k) ∷ ts) (join first.0 after) rest
 
 pub statement_found : (inner : List Token → Result read.Row Slip) (level line : ℕ) (k : Text) (ts : List Token)
     (first : read.Row) → Reads (level + 1) inner → Ends ts → statement inner level k line ts ≡ Ok first
@@ -311,7 +311,7 @@ statements_found (suc fuel) level (t ∷ ts) f us h e = go t.line t.lexeme h e (
         let b = bind_ok (statements fuel level a.0.1) (in_row a.0) (f, us) a.2 in
         let s : Stated level line w ts a.0 = statement_found (statements fuel (level + 1)) level line w ts a.0
         (below (level + 1)) (ends_by (at line (word w) ∷ ts) ts refl h) a.1 in
-        rest_is (λ g vs. Spelled level (at line (word w) ∷ ts) g vs) (followed a.0.0 b.0.0) b.0.1 f us b.2
+        rest_is (λ g vs. Spelled level (at line (word w) ∷ ts) g vs) (join a.0.0 b.0.0) b.0.1 f us b.2
         (s.row b.0.0 b.0.1 (below level a.0.1 b.0.0 b.0.1 s.ends b.1))
     go line close_block h e below = rest_is (λ g vs. Spelled level (at line close_block ∷ ts) g vs) end
         (at line close_block ∷ ts) f us e none
@@ -330,7 +330,7 @@ ending_found top (t ∷ ts) f h e = go t.line t.lexeme h e
     go line finish h e = (line, ap (λ (vs : List Token). at line finish ∷ drop 1 vs) h.3, ok_is top f e)
     go line _ h e = absurd cc
 
-followed_by_nothing : (f : Forest Statement) → IsOne f → followed f end ≡ f
+followed_by_nothing : (f : Forest Statement) → IsOne f → join f end ≡ f
 followed_by_nothing end h = refl
 followed_by_nothing (node s below end) h = refl
 followed_by_nothing (node s below (node t inner after)) h = absurd h
@@ -357,7 +357,7 @@ top_found (t ∷ ts) f h e = go t.line t.lexeme h e
           row =
               subst (λ (g : Forest Statement). Spelled 0 (at line (word w) ∷ ts) g (at b.0 finish ∷ []))
               (followed_by_nothing a.0.0 s.one ∙ b.2)
-              (subst (λ (vs : List Token). Spelled 0 (at line (word w) ∷ ts) (followed a.0.0 end) vs) b.1
+              (subst (λ (vs : List Token). Spelled 0 (at line (word w) ∷ ts) (join a.0.0 end) vs) b.1
               (s.row end a.0.1 none));
         }
     go line close_block h e = absurd cc

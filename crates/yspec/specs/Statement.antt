@@ -3,7 +3,7 @@ use Rattle.std.specs.Prelude.{ℕ, zero, suc, ◌+◌, Bool, true, false, List, 
 use Rattle.std.specs.Option.{option_map_or}
 use Rattle.std.specs.Str.{chars, is_utf8}
 use Rattle.std.specs.Str.Lossy.{utf8_valid_len}
-use Rattle.yspec.specs.Forest.{Forest, end, node}
+use Rattle.yspec.specs.Forest.{Forest, end, node, join}
 use Rattle.yspec.specs.Text.{Text, is_text, is_name, plus, line_behind, forbidden_line}
 use Rattle.yspec.specs.Token.{Lexeme, Token, word, single, double, semi, open_block, close_block, finish, unclosed_quote, unclosed_comment, tokens_of, bad_escape_line, double_text, single_text}
 
@@ -119,12 +119,8 @@ statement inner level keyword line ts = if is_name keyword
     Ok (node (record { keyword = keyword; argument = a.0; line = line }) b.0 end, b.1)))
     else slip 8 line
 
-abbrev pub followed : Forest Statement → Forest Statement → Forest Statement
-followed end rest = rest
-followed (node s below after) rest = node s below rest
-
 abbrev pub in_row : Row → Row → Result Row Slip
-in_row first rest = Ok (followed first.0 rest.0, rest.1)
+in_row first rest = Ok (join first.0 rest.0, rest.1)
 
 abbrev pub row_at : Lexeme → (List Token → Result Row Slip) → (List Token → Result Row Slip) → ℕ → Token → List Token
     → Result Row Slip

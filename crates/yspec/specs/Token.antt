@@ -134,15 +134,13 @@ tokens_of t = tokens_from 0 1 1 t
 
 -- ---- what a quoted string says (RFC 7950, 6.1.3)
 
-abbrev drop_return : ℕ → List ℕ → List ℕ
-drop_return x rest = if x == carriage_return && begins line_feed rest then rest else x ∷ rest
-
 -- a carriage return and its line feed are one line break, and stand as a line feed
 unfoldable pub joined_breaks : List ℕ → List ℕ
 joined_breaks [] = []
-joined_breaks (x ∷ xs) = drop_return x (joined_breaks xs)
+joined_breaks (x ∷ xs) =
+    if x == carriage_return && begins line_feed xs then joined_breaks xs else x ∷ joined_breaks xs
 
-abbrev drop_blank : ℕ → List ℕ → List ℕ
+abbrev pub drop_blank : ℕ → List ℕ → List ℕ
 drop_blank x rest = if is_blank x && begins line_feed rest then rest else x ∷ rest
 
 -- without the spaces and tabs before each line break

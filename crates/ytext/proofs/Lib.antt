@@ -1,5 +1,11 @@
 pub mod ViewLemmas
 pub mod CursorSteps
+pub mod NameSteps
+pub mod PieceSteps
+pub mod QuotedSteps
+pub mod ReaderSteps
+pub mod RowSteps
+pub mod TextSteps
 pub mod TokenSteps
 pub mod Walks
 pub mod ScanSteps

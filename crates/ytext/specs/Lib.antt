@@ -1,4 +1,9 @@
+pub mod Characters
+pub mod Gives
 pub mod Left
+pub mod Quoted
 pub mod Reading
+pub mod Scanned
 pub mod Sink
+pub mod Statements
 pub mod View

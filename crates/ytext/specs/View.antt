@@ -1,5 +1,5 @@
 -- What the code's tokens and statements are as values of the definitions.
-use Rattle.std.specs.Prelude.{ℕ, ◌-◌, ◌<◌, ◌≡◌, Bool, true, false, List, [], ◌∷◌, map, Option, option_map, String, string_bytes}
+use Rattle.std.specs.Prelude.{ℕ, ◌+◌, ◌-◌, ◌<◌, ◌≤◌, length, ◌≡◌, Bool, true, false, List, [], ◌∷◌, map, Option, option_map, String, string_bytes}
 use Rattle.std.specs.Str.{IsCharBoundary}
 use Rattle.yspec.specs.Token as token
 use Rattle.ytext.specs.declared.cursor.Lexeme.{Lexeme}
@@ -25,6 +25,13 @@ ends_text UnclosedQuote = true
 ends_text UnclosedComment = true
 ends_text StrayEnd = true
 
+abbrev pub a_word : List ℕ → token.Lexeme
+a_word = token.word
+
+abbrev pub is_word : token.Lexeme → Bool
+is_word (token.word w) = true
+is_word _ = false
+
 -- the lexeme itself; of a quoted string's line before it only the column counts
 abbrev pub lexeme_of : Lexeme → token.Lexeme
 lexeme_of (Word w) = token.word w.now
@@ -44,6 +51,15 @@ front_of place (front.Gap later) = token.gap (later - place)
 front_of place (front.Token lexeme later) = token.token (lexeme_of lexeme) (later - place)
 front_of place (front.Last lexeme) = token.last (lexeme_of lexeme)
 
+-- how long a double-quoted string is, and the part of its line before it
+abbrev pub extent : Lexeme → ℕ
+extent (Double before raw) = length raw.now
+extent _ = 0
+
+abbrev pub indent : Lexeme → ℕ
+indent (Double before raw) = length before.now
+indent _ = 0
+
 -- a later place where a text may be cut
 abbrev pub IsLater : List ℕ → ℕ → ℕ → Type 0
 IsLater text at later = (at < later) × IsCharBoundary text later
@@ -51,8 +67,9 @@ IsLater text at later = (at < later) × IsCharBoundary text later
 -- what stands at a place goes on to a later one, or ends the text
 abbrev pub GoesOn : List ℕ → ℕ → Front → Type 0
 GoesOn text at (front.Gap later) = IsLater text at later
-GoesOn text at (front.Token lexeme later) = (ends_text lexeme ≡ false) × IsLater text at later
-GoesOn text at (front.Last lexeme) = ends_text lexeme ≡ true
+GoesOn text at (front.Token lexeme later) =
+    (ends_text lexeme ≡ false) × IsLater text at later × (extent lexeme + at ≤ later) × (indent lexeme ≤ at)
+GoesOn text at (front.Last lexeme) = (ends_text lexeme ≡ true) × (extent lexeme ≡ 0) × (indent lexeme ≡ 0)
 
 -- ---- statements: a label, and the row of what stands below it
 

@@ -31,7 +31,8 @@ pub(crate) struct Lexed<'a> {
 }
 
 // What stands at the front: a gap or a token with the place behind it, or what ends the text.
-enum Front<'a> {
+#[derive(Clone, Copy)]
+pub(crate) enum Front<'a> {
     Gap(usize),
     Token(Lexeme<'a>, usize),
     Last(Lexeme<'a>),
@@ -51,12 +52,13 @@ pub(crate) struct Cursor<'a> {
 
 impl<'a> Cursor<'a> {
     ghost use Rattle.yspec.specs.Token.{tokens_of, word, token, word_length, slash_front, single_front, double_front, other_front};
-    ghost use Rattle.ytext.specs.View.{ends_text, front_of, GoesOn};
+    ghost use Rattle.ytext.specs.View.{ends_text, extent, indent, front_of, GoesOn};
     ghost use Rattle.ytext.specs.Left.{left, left_behind, column_of, stands, with_token};
 
     /// The beginning of a text.
     pub(crate) fn new(text: &'a str) -> Cursor<'a>
         ensures start { left result ≡ tokens_of text.now }
+        ensures text { result.text.now ≡ text.now }
     {
         Cursor {
             text,
@@ -67,7 +69,7 @@ impl<'a> Cursor<'a> {
     }
 
     // A later place.
-    fn moved(self, end: usize) -> Cursor<'a>
+    pub(crate) fn moved(self, end: usize) -> Cursor<'a>
         requires forward { self.at ≤ end }
         requires place { IsCharBoundary self.text.now end }
         ensures text { result.text.now ≡ self.entry.text.now }
@@ -92,11 +94,12 @@ impl<'a> Cursor<'a> {
     }
 
     // The text between two places.
-    fn between(self, start: usize, end: usize) -> &'a str
+    pub(crate) fn between(self, start: usize, end: usize) -> &'a str
         requires order { start ≤ end }
         requires start { IsCharBoundary self.text.now start }
         requires end { IsCharBoundary self.text.now end }
-        ensures { result.now ≡ slice_range self.entry.text.now start end }
+        ensures text { result.now ≡ slice_range self.entry.text.now start end }
+        ensures length { length result.now ≡ end - start }
     {
         &self.text[start..end]
     }
@@ -212,12 +215,32 @@ impl<'a> Cursor<'a> {
         }
     }
 
+    /// The place behind the gaps that stand here, and what stands there.
+    pub(crate) fn found(self) -> (Cursor<'a>, Front<'a>)
+        ensures text { result.0.text.now ≡ self.entry.text.now }
+        ensures at { self.entry.at ≤ result.0.at }
+        ensures later { GoesOn result.0.text.now result.0.at result.1 }
+    {
+        let bytes = self.text.as_bytes();
+        let mut cursor = self;
+        while cursor.at < bytes.len() {
+            match cursor.front(bytes[cursor.at]) {
+                Front::Gap(end) => cursor = cursor.moved(end),
+                Front::Token(lexeme, end) => return (cursor, Front::Token(lexeme, end)),
+                Front::Last(lexeme) => return (cursor, Front::Last(lexeme)),
+            }
+        }
+        (cursor, Front::Last(Lexeme::End))
+    }
+
     /// The next token, and the place behind it. What ends the text is met again and again.
     pub(crate) fn next(self) -> (Lexed<'a>, Cursor<'a>)
         ensures text { result.1.text.now ≡ self.entry.text.now }
         ensures at { self.entry.at ≤ result.1.at }
         ensures later { ends_text result.0.lexeme ≡ false → self.entry.at < result.1.at }
         ensures tokens { left self.entry ≡ with_token result.0 result.1 }
+        ensures near { result.0.line + extent result.0.lexeme ≤ result.1.at + 1 }
+        ensures indent { indent result.0.lexeme ≤ result.1.at }
     {
         let bytes = self.text.as_bytes();
         let mut cursor = self;

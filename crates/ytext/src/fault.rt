@@ -1,7 +1,7 @@
 //! Why a module's text isn't read.
 
-ghost use Rattle.std.specs.Prelude.{◌≡◌};
-ghost use Rattle.ytext.specs.declared.fault.TextFault.TheVariants.{Memory};
+ghost use Rattle.std.specs.Prelude.{◌≡◌, ◌<◌, ◌^◌};
+ghost use Rattle.ytext.specs.declared.fault.TextFault.TheVariants.{Memory, Refused};
 
 use std::alloc::{AllocError, AllocFailed};
 
@@ -33,17 +33,15 @@ pub enum TextFault {
     Memory,
 }
 
-// A line's number, as far as it goes.
-pub(crate) fn line_number(line: u64) -> u32 {
-    u32::try_from(line).unwrap_or(u32::MAX)
-}
-
 impl TextFault {
     // What is wrong with a text, and in which line.
-    pub(crate) fn refused(code: TextCode, line: u64) -> TextFault {
+    pub(crate) fn refused(code: TextCode, line: u64) -> TextFault
+        requires { line < 2 ^ 32 }
+        ensures { result ≡ Refused code line }
+    {
         TextFault::Refused {
             code,
-            line: line_number(line),
+            line: line as u32,
         }
     }
 }

@@ -8,6 +8,7 @@ mod name;
 mod quoted;
 mod reader;
 mod scan;
+mod scanner;
 mod sink;
 mod statement;
 #[cfg(test)]
@@ -17,6 +18,7 @@ mod text;
 pub use count::FailureCount;
 pub use fault::{TextCode, TextFault};
 pub use name::{is_identifier, is_name};
+pub use scanner::{Token, TokenKind, Tokens};
 pub use sink::{Cut, Sink, SinkFault, write_all};
 pub use statement::{Module, Stmt};
-pub use text::parse;
+pub use text::{parse, tokens};

@@ -1,8 +1,12 @@
 //! Statements, read from a text's tokens (RFC 7950, 6.3 and 14).
-ghost use Rattle.std.specs.Prelude.{◌≡◌, ◌<◌, ◌≤◌, false, IsTrue, OnOk};
+ghost use Rattle.std.specs.Prelude.{◌≡◌, ℕ, ◌+◌, ◌<◌, ◌≤◌, ◌^◌, ◌++◌, ◌∷◌, true, false, length, Some, Ok, option_map, string_bytes, IsTrue, OnOk};
+ghost use Rattle.std.specs.Prelude.{◌==◌, nat_lt};
+ghost use Rattle.std.specs.List.{list_all, list_any, position_or_len};
+ghost use Rattle.yspec.specs.Text.{begins_identifier, continues_identifier, is_identifier, is_name, colon};
+ghost use Rattle.ytext.specs.View.{extent, indent};
 
 use crate::cursor::{Cursor, Lexed, Lexeme};
-use crate::fault::{TextCode, TextFault, line_number};
+use crate::fault::{TextCode, TextFault};
 use crate::quoted::{push_double, push_single};
 use crate::statement::{Module, Stmt};
 use std::alloc::Global;
@@ -19,13 +23,21 @@ pub(crate) struct Reader<'a> {
     alloc: Global,
     token: Lexed<'a>,
     cursor: Cursor<'a>,
+    ghost small: { length cursor.text.now ≤ 4194304 },
+    ghost near: { token.line + extent token.lexeme ≤ cursor.at + 1 },
+    ghost indented: { indent token.lexeme ≤ cursor.at },
 }
 
 impl<'a> Lexed<'a> {
-    ghost use Rattle.ytext.specs.View.{ends_text};
+    ghost use Rattle.yspec.specs.Statement.{misplaced_code, is_quoted, is_plus};
+    ghost use Rattle.ytext.specs.Gives.{told_by};
+    ghost use Rattle.ytext.specs.View.{ends_text, lexeme_of};
 
     // What is wrong where this token may not stand.
-    fn misplaced(self) -> TextFault {
+    fn misplaced(self) -> TextFault
+        requires { self.line < 2 ^ 32 }
+        ensures { told_by result ≡ Some (record { code = misplaced_code (lexeme_of self.entry.lexeme); line = self.entry.line }) }
+    {
         let code = match self.lexeme {
             Lexeme::End => TextCode::L6,
             Lexeme::UnclosedQuote | Lexeme::UnclosedComment => TextCode::L3,
@@ -34,7 +46,9 @@ impl<'a> Lexed<'a> {
         TextFault::refused(code, self.line)
     }
 
-    fn is_quoted(self) -> bool {
+    fn is_quoted(self) -> bool
+        ensures { result ≡ is_quoted (lexeme_of self.entry.lexeme) }
+    {
         match self.lexeme {
             Lexeme::Single(_) | Lexeme::Double { .. } | Lexeme::UnclosedQuote => true,
             _ => false,
@@ -42,20 +56,31 @@ impl<'a> Lexed<'a> {
     }
 
     fn is_plus(self) -> bool
-        ensures { IsTrue result → ends_text self.entry.lexeme ≡ false }
+        ensures cases { result ≡ is_plus (lexeme_of self.entry.lexeme) }
+        ensures goes_on { IsTrue result → ends_text self.entry.lexeme ≡ false }
     {
         match self.lexeme {
-            Lexeme::Word(word) => matches!(word.as_bytes(), [b'+']),
+            Lexeme::Word(word) => word == "+",
             _ => false,
         }
     }
 }
 
 impl<'a> Reader<'a> {
-    ghost use Rattle.ytext.specs.View.{ends_text};
-    ghost use Rattle.ytext.specs.Reading.{ahead};
+    ghost use Rattle.yspec.specs.Statement.{Statement, piece, pieces, argument, is_quoted, body, closed, statement, ending, row_at, top_statement};
+    ghost use Rattle.yspec.specs.Forest.{Forest, end};
+    ghost use Rattle.ytext.specs.View.{a_word, is_word};
+    ghost use Rattle.ytext.specs.Statements.{forest_of, row_of};
+    ghost use Rattle.yspec.specs.Token.{tokens_of};
+    ghost use Rattle.ytext.specs.Gives.{Gives};
+    ghost use Rattle.ytext.specs.View.{ends_text, lexeme_of};
+    ghost use Rattle.ytext.specs.Left.{left, token_of};
+    ghost use Rattle.ytext.specs.Reading.{ahead, tokens_ahead, added, piece_behind, rows, block_of, first_of, rest_of};
 
-    pub(crate) fn new(alloc: Global, text: &'a str) -> Reader<'a> {
+    pub(crate) fn new(alloc: Global, text: &'a str) -> Reader<'a>
+        requires { length text.now ≤ 4194304 }
+        ensures { tokens_ahead result ≡ tokens_of text.now }
+    {
         let (token, cursor) = Cursor::new(text).next();
         Reader {
             alloc,
@@ -67,7 +92,9 @@ impl<'a> Reader<'a> {
     // Goes on to the next token.
     fn step(&mut self)
         requires { ends_text self.old.token.lexeme ≡ false }
-        ensures { ahead self.new < ahead self.old }
+        ensures ahead { ahead self.new < ahead self.old }
+        ensures tokens { tokens_ahead self.old ≡ token_of self.old.token ∷ tokens_ahead self.new }
+        ensures behind { left self.old.cursor ≡ tokens_ahead self.new }
     {
         let (token, cursor) = self.cursor.next();
         self.token = token;
@@ -76,7 +103,10 @@ impl<'a> Reader<'a> {
 
     // Adds what the quoted string at hand says.
     fn push_piece(&self, text: &mut String) -> Result<(), TextFault>
-        ensures { OnOk result (ends_text self.now.token.lexeme ≡ false) }
+        requires { is_quoted (lexeme_of self.now.token.lexeme) ≡ true }
+        ensures goes_on { OnOk result (ends_text self.now.token.lexeme ≡ false) }
+        ensures piece { Gives (λ _. string_bytes text.new) result
+            (added (string_bytes text.old) (piece self.now.token.line (lexeme_of self.now.token.lexeme))) }
     {
         match self.token.lexeme {
             Lexeme::Single(raw) => push_single(text, raw),
@@ -85,27 +115,44 @@ impl<'a> Reader<'a> {
         }
     }
 
+    // Adds what the quoted string at hand says, and goes on behind it.
+    fn take_piece(&mut self, text: &mut String) -> Result<(), TextFault>
+        requires { is_quoted (lexeme_of self.old.token.lexeme) ≡ true }
+        ensures ahead { OnOk result (ahead self.new < ahead self.old) }
+        ensures piece { Gives (λ _. (string_bytes text.new, tokens_ahead self.new)) result
+            (piece_behind (string_bytes text.old) (tokens_ahead self.old)) }
+    {
+        self.push_piece(text)?;
+        self.step();
+        Ok(())
+    }
+
     // Quoted strings with `+` between them.
     fn pieces(&mut self) -> Result<String, TextFault>
-        ensures { OnOk result (ahead self.new < ahead self.old) }
+        requires { is_quoted (lexeme_of self.old.token.lexeme) ≡ true }
+        ensures ahead { OnOk result (ahead self.new < ahead self.old) }
+        ensures pieces { Gives (λ text. (string_bytes text, tokens_ahead self.new)) result (pieces (tokens_ahead self.old)) }
     {
         let mut text = String::new(self.alloc);
-        self.push_piece(&mut text)?;
-        self.step();
+        if let Err(fault) = self.take_piece(&mut text) {
+            return Err(fault);
+        }
         while self.token.is_plus() {
             let line = self.token.line;
             self.step();
             if !self.token.is_quoted() {
                 return Err(TextFault::refused(TextCode::L5, line));
             }
-            self.push_piece(&mut text)?;
-            self.step();
+            if let Err(fault) = self.take_piece(&mut text) {
+                return Err(fault);
+            }
         }
         Ok(text)
     }
 
     fn argument(&mut self) -> Result<Option<String>, TextFault>
-        ensures { OnOk result (ahead self.new ≤ ahead self.old) }
+        ensures ahead { OnOk result (ahead self.new ≤ ahead self.old) }
+        ensures argument { Gives (λ arg. (option_map string_bytes arg, tokens_ahead self.new)) result (argument (tokens_ahead self.old)) }
     {
         if let Lexeme::Word(word) = self.token.lexeme {
             let text = String::from_str(self.alloc, word)?;
@@ -121,7 +168,9 @@ impl<'a> Reader<'a> {
     // `;`, or a block.
     #[cycle(reading)]
     fn body(&mut self, level: u32) -> Result<Vec<Stmt>, TextFault>
-        ensures { OnOk result (ahead self.new < ahead self.old) }
+        ensures ahead { OnOk result (ahead self.new < ahead self.old) }
+        ensures body { Gives (λ subs. (row_of subs.items, tokens_ahead self.new)) result
+            (body (rows (level + 1)) level (tokens_ahead self.old)) }
     {
         match self.token.lexeme {
             Lexeme::Semi => {
@@ -133,16 +182,30 @@ impl<'a> Reader<'a> {
                     return Err(TextFault::refused(TextCode::L7, self.token.line));
                 }
                 self.step();
-                let subs = self.statements(level + 1)?;
-                self.close()?;
-                Ok(subs)
+                self.block(level + 1)
             }
             _ => Err(self.token.misplaced()),
         }
     }
 
+    // The statements of a block, and its `}`.
+    #[cycle(reading)]
+    fn block(&mut self, level: u32) -> Result<Vec<Stmt>, TextFault>
+        ensures ahead { OnOk result (ahead self.new < ahead self.old) }
+        ensures block { Gives (λ subs. (row_of subs.items, tokens_ahead self.new)) result
+            (block_of level (tokens_ahead self.old)) }
+    {
+        let subs = self.statements(level)?;
+        match self.close() {
+            Ok(()) => Ok(subs),
+            Err(fault) => Err(fault),
+        }
+    }
+
     fn close(&mut self) -> Result<(), TextFault>
-        ensures { OnOk result (ahead self.new < ahead self.old) }
+        ensures ahead { OnOk result (ahead self.new < ahead self.old) }
+        ensures closed { (below : Forest Statement) → Gives (λ _. (below, tokens_ahead self.new)) result
+            (closed (below, tokens_ahead self.old)) }
     {
         match self.token.lexeme {
             Lexeme::Close => {
@@ -156,8 +219,10 @@ impl<'a> Reader<'a> {
     // The statement whose keyword is at hand.
     #[cycle(reading)]
     fn statement(&mut self, word: &str, level: u32) -> Result<Stmt, TextFault>
-        requires { ends_text self.old.token.lexeme ≡ false }
-        ensures { OnOk result (ahead self.new < ahead self.old) }
+        requires { lexeme_of self.old.token.lexeme ≡ a_word word.now }
+        ensures ahead { OnOk result (ahead self.new < ahead self.old) }
+        ensures statement { Gives (λ stmt. (forest_of stmt, tokens_ahead self.new)) result
+            (statement (rows (level + 1)) level word.now self.old.token.line (left self.old.cursor)) }
     {
         let line = self.token.line;
         if !is_name(word.as_bytes()) {
@@ -170,7 +235,7 @@ impl<'a> Reader<'a> {
         Ok(Stmt {
             keyword,
             arg,
-            line: line_number(line),
+            line: line as u32,
             subs,
         })
     }
@@ -178,38 +243,60 @@ impl<'a> Reader<'a> {
     // Statements up to a `}` or the end of the text, so many blocks being open.
     #[cycle(reading)]
     fn statements(&mut self, level: u32) -> Result<Vec<Stmt>, TextFault>
-        ensures { OnOk result (ahead self.new ≤ ahead self.old) }
+        ensures ahead { OnOk result (ahead self.new ≤ ahead self.old) }
+        ensures rows { Gives (λ subs. (row_of subs.items, tokens_ahead self.new)) result (rows level (tokens_ahead self.old)) }
     {
         let mut subs = Vec::new(self.alloc);
         while let Lexeme::Word(word) = self.token.lexeme {
-            let sub = self.statement(word, level)?;
-            subs.push(sub)?;
+            match self.statement(word, level) {
+                Ok(sub) => subs.push(sub)?,
+                Err(fault) => return Err(fault),
+            }
         }
+        match self.row_end() {
+            Ok(()) => Ok(subs),
+            Err(fault) => Err(fault),
+        }
+    }
+
+    // A row ends before a `}` and at the end of the text.
+    fn row_end(&self) -> Result<(), TextFault>
+        requires { is_word (lexeme_of self.now.token.lexeme) ≡ false }
+        ensures { (level : ℕ) → Gives (λ _. (end, tokens_ahead self.now)) result
+            (row_at (lexeme_of self.now.token.lexeme) (rows (level + 1)) (rows level) level (first_of self.now) (rest_of self.now)) }
+    {
         match self.token.lexeme {
-            Lexeme::Close | Lexeme::End => Ok(subs),
+            Lexeme::Close => Ok(()),
+            Lexeme::End => Ok(()),
             _ => Err(self.token.misplaced()),
         }
     }
 
     // Nothing may follow the top statement.
-    fn end(&self) -> Result<(), TextFault> {
+    fn end(&self) -> Result<(), TextFault>
+        ensures { (top : Forest Statement) → Gives (λ _. top) result (ending (top, tokens_ahead self.now)) }
+    {
         match self.token.lexeme {
             Lexeme::End => Ok(()),
-            Lexeme::Word(_) | Lexeme::Close => Err(TextFault::refused(
-                TextCode::L6,
-                self.token.line,
-            )),
+            Lexeme::Word(_) | Lexeme::Close => Err(TextFault::refused(TextCode::L6, self.token.line)),
             _ => Err(self.token.misplaced()),
         }
     }
 
     /// The one statement of a module's text.
-    pub(crate) fn module(&mut self) -> Result<Module, TextFault> {
+    pub(crate) fn module(&mut self) -> Result<Module, TextFault>
+        ensures { Gives (λ read. forest_of read.top) result (top_statement (tokens_ahead self.old)) }
+    {
         match self.token.lexeme {
             Lexeme::Word(word) => {
-                let top = self.statement(word, 0)?;
-                self.end()?;
-                Ok(Module { top })
+                let top = match self.statement(word, 0) {
+                    Ok(top) => top,
+                    Err(fault) => return Err(fault),
+                };
+                match self.end() {
+                    Ok(()) => Ok(Module { top }),
+                    Err(fault) => Err(fault),
+                }
             }
             Lexeme::Close => Err(TextFault::refused(TextCode::L6, self.token.line)),
             _ => Err(self.token.misplaced()),
@@ -217,29 +304,57 @@ impl<'a> Reader<'a> {
     }
 }
 
-fn begins_identifier(byte: u8) -> bool {
-    byte.is_ascii_alphabetic() || byte == b'_'
+fn begins_identifier(byte: u8) -> bool
+    ensures { result ≡ begins_identifier byte }
+{
+    (65 <= byte && byte <= 90) || (97 <= byte && byte <= 122) || byte == b'_'
 }
 
-fn continues_identifier(byte: u8) -> bool {
-    begins_identifier(byte) || byte.is_ascii_digit() || byte == b'-' || byte == b'.'
+fn continues_identifier(byte: u8) -> bool
+    ensures { result ≡ continues_identifier byte }
+{
+    begins_identifier(byte) || (48 <= byte && byte <= 57) || byte == b'-' || byte == b'.'
 }
 
-fn is_identifier(text: &[u8]) -> bool {
-    match text.split_first() {
-        Some((first, rest)) => {
-            begins_identifier(*first)
-                && rest.len() < IDENTIFIER_LIMIT
-                && rest.iter().all(|byte| continues_identifier(*byte))
-        }
-        None => false,
+fn all_continue(bytes: &[u8]) -> bool
+    ensures { result ≡ list_all continues_identifier bytes.now }
+{
+    bytes.iter().all(|byte| continues_identifier(*byte))
+}
+
+#[tactic(auto, using(crate::proofs::NameSteps::name_by, crate::proofs::NameSteps::no_name))]
+fn is_identifier(text: &[u8]) -> bool
+    ensures { result ≡ is_identifier text.now }
+{
+    if text.is_empty() {
+        return false;
     }
+    let (_, rest) = text.split_at(1);
+    begins_identifier(text[0]) && all_continue(rest) && rest.len() < IDENTIFIER_LIMIT
+}
+
+// Where the first colon stands, or the end.
+fn colon_place(word: &[u8]) -> usize
+    ensures place { result ≡ position_or_len (λ x. x == colon) word.now }
+    ensures any { list_any (λ x. x == colon) word.now ≡ nat_lt result (length word.now) }
+    ensures within { result ≤ length word.now }
+{
+    let mut at = 0;
+    while at < word.len() && word[at] != b':' {
+        at += 1;
+    }
+    at
 }
 
 // Whether a keyword is formed as one: an identifier, or two with a colon between them.
-fn is_name(word: &[u8]) -> bool {
-    match word.iter().position(|byte| *byte == b':') {
-        Some(colon) => is_identifier(&word[..colon]) && is_identifier(&word[colon + 1..]),
-        None => is_identifier(word),
+fn is_name(word: &[u8]) -> bool
+    ensures { result ≡ is_name word.now }
+{
+    let colon = colon_place(word);
+    if colon == word.len() {
+        return is_identifier(word);
     }
+    let (prefix, _) = word.split_at(colon);
+    let (_, name) = word.split_at(colon + 1);
+    is_identifier(prefix) && is_identifier(name)
 }

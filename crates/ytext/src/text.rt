@@ -1,6 +1,16 @@
 //! Module text, as a whole.
+ghost use Rattle.std.specs.Prelude.{◌≡◌, ℕ, ◌+◌, ◌<◌, ◌≤◌, ◌^◌, List, ◌∷◌, Some, IfSome, IfNone, IfOk, IfErr, length};
+ghost use Rattle.std.specs.Str.{chars};
+ghost use Rattle.yspec.specs.Text.{line_behind, is_noncharacter, is_yang_char, forbidden_line};
+ghost use Rattle.yspec.specs.Statement.{module_of, top_statement};
+ghost use Rattle.ytext.specs.Gives.{Gives, Fails};
+ghost use Rattle.yspec.specs.Token.{tokens_of};
+ghost use Rattle.ytext.specs.Characters.{pending};
+ghost use Rattle.ytext.specs.Statements.{forest_of};
+
 use crate::fault::{TextCode, TextFault};
 use crate::reader::Reader;
+use crate::scanner::Tokens;
 use crate::statement::Module;
 use std::alloc::Global;
 use std::str;
@@ -9,63 +19,113 @@ use std::str;
 const TEXT_LIMIT: usize = 4_194_304;
 
 // The line behind these bytes.
-fn line_behind(bytes: &[u8]) -> u64 {
+fn line_behind(bytes: &[u8]) -> u64
+    requires { length bytes.now < 2 ^ 32 }
+    ensures line { result ≡ line_behind 1 bytes.now }
+    ensures bound { result ≤ length bytes.now + 1 }
+{
     let mut line = 1u64;
     for byte in bytes {
         if *byte == b'\n' {
-            line = line.saturating_add(1);
+            line += 1;
         }
     }
     line
 }
 
 // Not U+FDD0 to U+FDEF, and not one of the last two characters of a plane.
-fn is_noncharacter(code: u32) -> bool {
+fn is_noncharacter(code: u32) -> bool
+    ensures { result ≡ is_noncharacter code }
+{
     (0xfdd0 <= code && code <= 0xfdef) || 0xfffe <= code % 0x1_0000
 }
 
 // Whether a character may stand in a text wherever it is.
-fn is_yang_char(character: char) -> bool {
+pub(crate) fn is_yang_char(character: char) -> bool
+    ensures { result ≡ is_yang_char character }
+{
     let code = character as u32;
     character == '\t' || character == '\n' || (0x20 <= code && !is_noncharacter(code))
 }
 
+// The line and whether a carriage return stands just before, behind one more character. None where one of the two
+// characters isn't allowed.
+fn behind_character(character: char, line: u64, has_returned: bool) -> Option<(u64, bool)>
+    requires { line < 2 ^ 63 }
+    ensures allowed { (rest : List ℕ) → IfSome result (λ next. pending has_returned line (character ∷ rest) ≡ pending next.1 next.0 rest) }
+    ensures forbidden { (rest : List ℕ) → IfNone result (pending has_returned line (character ∷ rest) ≡ Some line) }
+    ensures bound { IfSome result (λ next. next.0 ≤ line + 1) }
+{
+    if character == '\n' {
+        return Some((line + 1, false));
+    }
+    if has_returned {
+        return None;
+    }
+    if character == '\r' {
+        return Some((line, true));
+    }
+    if is_yang_char(character) {
+        Some((line, false))
+    } else {
+        None
+    }
+}
+
 // The line of the first character that isn't allowed. A carriage return is allowed before a line feed alone.
-fn forbidden_line(text: &str) -> Option<u64> {
+fn forbidden_line(text: &str) -> Option<u64>
+    requires { length text.now < 2 ^ 32 }
+    ensures line { result ≡ forbidden_line 1 (chars text.now) }
+    ensures bound { IfSome result (λ line. line ≤ length text.now + 1) }
+{
     let mut line = 1u64;
     let mut has_returned = false;
     for character in text.chars() {
-        if has_returned && character != '\n' {
-            return Some(line);
-        }
-        has_returned = character == '\r';
-        if !has_returned && !is_yang_char(character) {
-            return Some(line);
-        }
-        if character == '\n' {
-            line = line.saturating_add(1);
+        match behind_character(character, line, has_returned) {
+            Some(next) => {
+                line = next.0;
+                has_returned = next.1;
+            }
+            None => return Some(line),
         }
     }
     if has_returned { Some(line) } else { None }
 }
 
-/// The statements of a module's text (RFC 7950, 6), or the first thing that is wrong with it: its length is judged
-/// first, then that it is UTF-8, then its characters, and then the rest from left to right.
-pub fn parse(alloc: Global, bytes: &[u8]) -> Result<Module, TextFault> {
+// The text of these bytes, where its length, its encoding and its characters are right.
+fn checked(bytes: &[u8]) -> Result<&str, TextFault>
+    ensures text { IfOk result (λ text. text.now ≡ bytes.now) }
+    ensures length { IfOk result (λ text. length text.now ≤ 4194304) }
+    ensures ok { IfOk result (λ text. module_of bytes.now ≡ top_statement (tokens_of bytes.now)) }
+    ensures err { IfErr result (λ e. Fails e (module_of bytes.now)) }
+{
     if bytes.len() > TEXT_LIMIT {
         return Err(TextFault::refused(TextCode::L7, 1));
     }
-    let text = match str::from_utf8(bytes) {
-        Ok(text) => text,
+    match str::from_utf8(bytes) {
+        Ok(text) => match forbidden_line(text) {
+            Some(line) => Err(TextFault::refused(TextCode::L2, line)),
+            None => Ok(text),
+        },
         Err(error) => {
-            return Err(TextFault::refused(
-                TextCode::L1,
-                line_behind(&bytes[..error.valid_up_to()]),
-            ));
+            let (valid, _) = bytes.split_at(error.valid_up_to());
+            Err(TextFault::refused(TextCode::L1, line_behind(valid)))
         }
-    };
-    if let Some(line) = forbidden_line(text) {
-        return Err(TextFault::refused(TextCode::L2, line));
     }
-    Reader::new(alloc, text).module()
+}
+
+/// The statements of a module's text (RFC 7950, 6), or the first thing that is wrong with it: its length is judged
+/// first, then that it is UTF-8, then its characters, and then the rest from left to right.
+pub fn parse(alloc: Global, bytes: &[u8]) -> Result<Module, TextFault>
+    ensures { Gives (λ read. forest_of read.top) result (module_of bytes.now) }
+{
+    match checked(bytes) {
+        Ok(text) => Reader::new(alloc, text).module(),
+        Err(fault) => Err(fault),
+    }
+}
+
+/// The tokens of a text (RFC 7950, 6.1), without taking memory. After an error nothing comes.
+pub fn tokens(text: &str) -> Tokens<'_> {
+    Tokens::new(text)
 }

@@ -1,9 +1,14 @@
-use Rattle.std.proofs.Common.{◌-◌, ◌<◌, ◌≤◌, length}
-use Rattle.std.specs.Str.{IsCharBoundary}
+use Rattle.std.proofs.Common.{◌≡◌, ℕ, List, ◌++◌, ◌-◌, ◌<◌, ◌≤◌, length, drop}
+use Rattle.std.specs.Prelude.{slice_range}
+use Rattle.ytext.specs.Quoted.{reading}
 use Rattle.ytext.proofs.quoted.plain_end.Given as goal
 
 abbrev pub invariant-loop-at : goal.invariant-loop-at
-invariant-loop-at l = record { forward : l.from < l.at; within : l.at ≤ length l.raw }
+invariant-loop-at l = record {
+    forward : l.from < l.at;
+    within : l.at ≤ length l.raw;
+    same : (width left line : ℕ) (text : List ℕ) → reading width left line text (drop l.from l.raw) ≡ reading width 0 line (text ++ slice_range l.raw l.from l.at) (drop l.at l.raw);
+}
 
 abbrev pub decreases-loop-at : goal.decreases-loop-at
 decreases-loop-at l = length l.raw - l.at

@@ -1,5 +1,19 @@
+use Rattle.std.proofs.Common.{◌≡◌, ◌≤◌, ℕ, List, refl, sym, ap, ◌∙◌, arith, string_bytes, length}
 use Rattle.std.proofs.lemmas.Str.{IsCharBoundary-start}
+use Rattle.ytext.specs.Quoted.{reading}
+use Rattle.ytext.proofs.QuotedSteps.{reading_done}
 use Rattle.ytext.proofs.quoted.push_double.Goals as goal
 
-pub loop-at-init : goal.loop-at-init
-loop-at-init c = record { place = IsCharBoundary-start c.args.raw.now c.utf8.raw }
+pub loop-place-init : goal.loop-place-init
+loop-place-init c = record {
+    place = IsCharBoundary-start c.args.raw.now c.utf8.raw;
+    few_lines = omega (arith, c.requires.few_lines);
+    rest = refl;
+}
+
+pub returns : goal.returns
+returns c =
+    let width : ℕ = c.column_behind-width.result in
+    ap (λ (w : ℕ). reading w 0 c.args.line (string_bytes c.args.text.now) c.args.raw.now) (sym c.column_behind-width.ensures)
+    ∙ sym c.loop-place.invariant.rest
+    ∙ reading_done width c.loop-place.place.left c.loop-place.place.line (string_bytes c.loop-place.text) c.args.raw.now c.loop-place.place.at (omega (arith, c.loop-place-test.false))

@@ -25,7 +25,7 @@ pub returns-in-Last-clause-tokens : goal.returns-in-Last-clause-tokens
 returns-in-Last-clause-tokens c =
     let cursor = c.loop-cursor.cursor in
     let told = c.in-Last.ensures in
-    sym c.loop-cursor.invariant.left ∙ last_met cursor cursor c.lexed-in-Last.result c.in-Last.lexeme c.lexed-in-Last.ensures.lexeme c.lexed-in-Last.ensures.line told.later
+    sym c.loop-cursor.invariant.left ∙ last_met cursor cursor c.lexed-in-Last.result c.in-Last.lexeme c.lexed-in-Last.ensures.lexeme c.lexed-in-Last.ensures.line told.later.0
     (left_by_front cursor (Last c.in-Last.lexeme) (omega (arith, c.loop-cursor-test.true, ap length c.loop-cursor.invariant.text, ap length c.as_bytes-bytes.ensures.value)) told.later told.front)
 
 pub returns-clause-tokens : goal.returns-clause-tokens

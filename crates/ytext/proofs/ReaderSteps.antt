@@ -1,0 +1,43 @@
+-- What a reader's tokens are by the token at hand.
+use Rattle.std.proofs.Common.{◌≡◌, ℕ, List, [], ◌∷◌, ◌++◌, Bor, cond, length, Result, Ok, Err, refl, sym, ap, subst, ◌∙◌, le_refl, ◌+◌}
+use Rattle.yspec.specs.Forest.{Forest, end}
+use Rattle.yspec.specs.Token.{Token, at, word}
+use Rattle.yspec.specs.Statement.{Statement, Slip, Row, ◌>>=◌, statement, statements, ending, top_statement, row_at}
+use Rattle.ytext.specs.Gives.{Fails}
+use Rattle.ytext.specs.Left.{left}
+use Rattle.ytext.specs.Reading.{tokens_ahead, first_of, rest_of, rows}
+use Rattle.ytext.specs.Statements.{row_of}
+use Rattle.ytext.specs.View.{lexeme_of, ends_text}
+use Rattle.ytext.specs.declared.cursor.Lexeme.{Lexeme}
+use Rattle.ytext.specs.declared.cursor.Lexeme.TheVariants.{Word}
+use Rattle.ytext.specs.declared.fault.TextFault.{TextFault}
+use Rattle.ytext.specs.declared.fault.TextFault.TheVariants.{Refused, Memory}
+use Rattle.ytext.specs.declared.reader.Reader.{Reader}
+use Rattle.ytext.specs.declared.statement.Stmt.{Stmt}
+use Rattle.ytext.proofs.RowSteps.{rows_by, rows_agree, statement_same, with_front, front_ok, front_err, join_end}
+
+pub word_ahead : (r : Reader) (w : Bor (List ℕ)) → r.token.lexeme ≡ Word w → tokens_ahead r ≡ at r.token.line (word w.now) ∷ left r.cursor
+word_ahead r w e = ap (λ (l : Lexeme). at r.token.line (lexeme_of l) ∷ cond (ends_text l) [] (left r.cursor)) e
+
+pub top_of : (r : Reader) (w : Bor (List ℕ)) → r.token.lexeme ≡ Word w → top_statement (tokens_ahead r) ≡ statement (rows 1) 0 w.now r.token.line (left r.cursor) >>= ending
+top_of r w e =
+    let ts : List Token = left r.cursor in
+    ap top_statement (word_ahead r w e)
+    ∙ ap (λ (read : Result Row Slip). read >>= ending) (statement_same (statements (length ts) 1) (rows 1) 0 w.now r.token.line ts (length ts) (rows_agree (length ts) 1) (le_refl (length ts)))
+
+pub top_fails : (r : Reader) (w : Bor (List ℕ)) (e : TextFault) → r.token.lexeme ≡ Word w → Fails e (statement (rows 1) 0 w.now r.token.line (left r.cursor)) → Fails e (top_statement (tokens_ahead r))
+top_fails r w Memory is h = tt
+top_fails r w (Refused code line) is h = top_of r w is ∙ ap (λ (read : Result Row Slip). read >>= ending) h
+
+-- the end of a row, and a token that may not stand in one
+pub row_ends : (level : ℕ) (r : Reader) (ss : List Stmt) (read : Result Row Slip) → with_front (row_of ss) (rows level (tokens_ahead r)) ≡ read
+    → row_at (lexeme_of r.token.lexeme) (rows (level + 1)) (rows level) level (first_of r) (rest_of r) ≡ Ok (end, tokens_ahead r) → read ≡ Ok (row_of ss, tokens_ahead r)
+row_ends level r ss read rest e =
+    sym rest ∙ ap (with_front (row_of ss)) (rows_by level (first_of r) (rest_of r) ∙ e) ∙ front_ok (row_of ss) end (tokens_ahead r)
+    ∙ ap (λ (f : Forest Statement). Ok (f, tokens_ahead r)) (join_end (row_of ss))
+
+pub row_breaks : (level : ℕ) (r : Reader) (ss : List Stmt) (read : Result Row Slip) (e : TextFault) → with_front (row_of ss) (rows level (tokens_ahead r)) ≡ read
+    → Fails e (row_at (lexeme_of r.token.lexeme) (rows (level + 1)) (rows level) level (first_of r) (rest_of r)) → Fails e read
+row_breaks level r ss read Memory rest h = tt
+row_breaks level r ss read (Refused code line) rest h =
+    sym rest ∙ ap (with_front (row_of ss)) (rows_by level (first_of r) (rest_of r) ∙ h) ∙ front_err (row_of ss) _

@@ -1,0 +1,17 @@
+use Rattle.std.proofs.Common.{◌≡◌, List, Result, sym, ap, subst, ◌∙◌}
+use Rattle.yspec.specs.Statement.{Slip, Statement, Row, ◌>>=◌, ending}
+use Rattle.yspec.specs.Forest.{Forest}
+use Rattle.ytext.specs.Gives.{Fails}
+use Rattle.ytext.proofs.ReaderSteps.{top_of, top_fails}
+use Rattle.ytext.proofs.reader.Reader.module.Goals as goal
+
+pub returns-in-Err : goal.returns-in-Err
+returns-in-Err c = top_fails c.args.self.now c.in-Word.word c.in-Err.fault c.in-Word.is c.in-Err.ensures.statement
+
+pub returns-in-Ok-end : goal.returns-in-Ok-end
+returns-in-Ok-end c =
+    top_of c.args.self.now c.in-Word.word c.in-Word.is ∙ ap (λ (read : Result Row Slip). read >>= ending) c.in-Ok.ensures.statement ∙ c.in-Ok-end.ensures _
+
+pub returns-in-Err-end : goal.returns-in-Err-end
+returns-in-Err-end c =
+    subst (Fails c.in-Err-end.fault) (sym (top_of c.args.self.now c.in-Word.word c.in-Word.is ∙ ap (λ (read : Result Row Slip). read >>= ending) c.in-Ok.ensures.statement)) (c.in-Err-end.ensures _)

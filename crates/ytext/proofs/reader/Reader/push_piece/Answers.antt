@@ -1,0 +1,19 @@
+use Rattle.std.proofs.Common.{◌≡◌, Result, sym, ap, subst, ◌∙◌, string_bytes}
+use Rattle.yspec.specs.Text.{Text}
+use Rattle.yspec.specs.Token.{column_behind}
+use Rattle.yspec.specs.Statement.{Slip, piece}
+use Rattle.ytext.specs.Gives.{Gives}
+use Rattle.ytext.specs.Reading.{added}
+use Rattle.ytext.specs.View.{lexeme_of}
+use Rattle.ytext.specs.declared.cursor.Lexeme.{Lexeme}
+use Rattle.ytext.proofs.PieceSteps.{reading_piece}
+use Rattle.ytext.proofs.RowSteps.{rows_by}
+use Rattle.ytext.proofs.reader.Reader.push_piece.Goals as goal
+
+pub returns-in-Double-clause-piece : goal.returns-in-Double-clause-piece
+returns-in-Double-clause-piece c =
+    let line = c.args.self.now.token.line in
+    let old = string_bytes c.args.text.now in
+    subst (λ (read : Result Text Slip). Gives (λ _. string_bytes c.push_double.new.text) c.push_double.result read)
+    (reading_piece (column_behind 1 c.in-Double.before.now) line old c.in-Double.raw.now
+    ∙ ap (λ (l : Lexeme). added old (piece line (lexeme_of l))) (sym c.in-Double.is)) c.push_double.ensures
