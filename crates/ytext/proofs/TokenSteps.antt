@@ -91,7 +91,7 @@ word_front text bytes raw place end b e r l =
     let is : end ≡ (place + 1) + n = e ∙ ap (λ (t : List ℕ). (place + 1) + word_length (drop (place + 1) t)) b in
     let long : end - place ≡ suc n = omega arith in
     let said : raw ≡ get_or text place 0 ∷ take n (drop (place + 1) text)
-        = r ∙ ap (λ (m : ℕ). take m (drop place text)) long ∙ ap (λ (xs : List ℕ). take (suc n) xs) (drop_at text place l) in
+    = r ∙ ap (λ (m : ℕ). take m (drop place text)) long ∙ ap (λ (xs : List ℕ). take (suc n) xs) (drop_at text place l) in
     ap (λ (m : ℕ). token (word raw) m) long ∙ ap (λ (w : List ℕ). token (word w) (suc n)) said
 
 -- ---- comments

@@ -2,7 +2,9 @@
 ghost use Rattle.std.specs.Prelude.{◌≡◌, ℕ, suc, ◌+◌, ◌-◌, ◌<◌, ◌≤◌, ◌∷◌, true, false, length, take, drop, slice_index, slice_range};
 ghost use Rattle.std.specs.Str.{IsCharBoundary};
 
-use crate::scan::{behind_ascii, comment_end, double_end, is_white, line_end, single_end, stands_at, word_end};
+use crate::scan::{
+    behind_ascii, comment_end, double_end, is_white, line_end, single_end, stands_at, word_end,
+};
 
 /// What stands at a place: a word, a quoted string without its quotes, `;`, `{`, `}`, or what ends the text.
 #[derive(Clone, Copy)]
@@ -10,10 +12,7 @@ pub(crate) enum Lexeme<'a> {
     Word(&'a str),
     Single(&'a str),
     /// With the part of its line that stands before the opening quote.
-    Double {
-        before: &'a [u8],
-        raw: &'a str,
-    },
+    Double { before: &'a [u8], raw: &'a str },
     Semi,
     Open,
     Close,

@@ -4,21 +4,19 @@
 mod count;
 mod cursor;
 mod fault;
-
 mod quoted;
 mod reader;
 mod scan;
 mod scanner;
 mod sink;
 mod statement;
-mod text;
-
 #[cfg(test)]
 mod tests;
+mod text;
 
 pub use count::FailureCount;
 pub use fault::{TextCode, TextFault};
 pub use scanner::{Token, TokenKind, Tokens};
-pub use text::{parse, tokens};
 pub use sink::{Cut, Sink, SinkFault, write_all};
 pub use statement::{Module, Stmt};
+pub use text::{parse, tokens};

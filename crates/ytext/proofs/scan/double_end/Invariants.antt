@@ -4,9 +4,9 @@ use Rattle.ytext.proofs.scan.double_end.Given as goal
 
 abbrev pub invariant-loop-at : goal.invariant-loop-at
 invariant-loop-at l = record {
-    from : l.from ≤ l.at;
-    within : l.at ≤ length l.bytes;
-    rest : option_map (λ n. l.at + n) (double_length l.is_escaped (drop l.at l.bytes)) ≡ option_map (λ n. l.from + n) (double_length false (drop l.from l.bytes));
+  from : l.from ≤ l.at;
+  within : l.at ≤ length l.bytes;
+  rest : option_map (λ n. l.at + n) (double_length l.is_escaped (drop l.at l.bytes)) ≡ option_map (λ n. l.from + n) (double_length false (drop l.from l.bytes));
 }
 
 abbrev pub decreases-loop-at : goal.decreases-loop-at

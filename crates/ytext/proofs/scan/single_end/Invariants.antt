@@ -4,9 +4,9 @@ use Rattle.ytext.proofs.scan.single_end.Given as goal
 
 abbrev pub invariant-loop-at : goal.invariant-loop-at
 invariant-loop-at l = record {
-    from : l.from ≤ l.at;
-    within : l.at ≤ length l.bytes;
-    rest : option_map (λ n. l.at + n) (single_length (drop l.at l.bytes)) ≡ option_map (λ n. l.from + n) (single_length (drop l.from l.bytes));
+  from : l.from ≤ l.at;
+  within : l.at ≤ length l.bytes;
+  rest : option_map (λ n. l.at + n) (single_length (drop l.at l.bytes)) ≡ option_map (λ n. l.from + n) (single_length (drop l.from l.bytes));
 }
 
 abbrev pub decreases-loop-at : goal.decreases-loop-at

@@ -17,13 +17,13 @@ loop-i-preserved c =
     let line_moves = λ (n : ℕ). tokens_from (end - (i + 1)) n (column_at text c.if-bytes-i-eq10.line_start (i + 1)) (drop (i + 1) text) in
     let start_moves = λ (line start : ℕ). tokens_from (end - (i + 1)) line (column_at text start (i + 1)) (drop (i + 1) text) in
     elim c.if-bytes-i-eq10.branch [
-      then-bytes-i-eq10 w ↦ record {
+      | then-bytes-i-eq10 w ↦ record {
         line = omega (arith, w.line-is, before.line);
         begun = omega (arith, w.line_start-is);
         left = ap line_moves w.line-is ∙ ap (start_moves (c.loop-i.line + 1)) w.line_start-is
             ∙ sym (break_passed end c.loop-i.line (column_at text c.loop-i.line_start i) text i before_end within (sym byte ∙ w.if-bytes-i-eq10.true)) ∙ before.left;
       }
-    | else-bytes-i-eq10 w ↦ record {
+      | else-bytes-i-eq10 w ↦ record {
         line = omega (arith, w.line-is, before.line);
         begun = omega (arith, w.line_start-is, before.begun);
         left = ap line_moves w.line-is ∙ ap (start_moves c.loop-i.line) w.line_start-is
