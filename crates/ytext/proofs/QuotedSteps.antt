@@ -106,7 +106,7 @@ pub single_more : (old text new raw : List ℕ) (i j : ℕ) → text ++ joined_b
     → new ++ joined_breaks (drop (j + 1) raw) ≡ old ++ joined_breaks raw
 single_more old text new raw i j rest same is l return breaks =
     let behind : joined_breaks (drop j raw) ≡ joined_breaks (drop (j + 1) raw)
-        = ap joined_breaks (drop_at raw j l) ∙ ap (λ (x : ℕ). joined_breaks (x ∷ drop (j + 1) raw)) return ∙ joined_return (drop (j + 1) raw) breaks in
+    = ap joined_breaks (drop_at raw j l) ∙ ap (λ (x : ℕ). joined_breaks (x ∷ drop (j + 1) raw)) return ∙ joined_return (drop (j + 1) raw) breaks in
     ap (λ (ys : List ℕ). ys ++ joined_breaks (drop (j + 1) raw)) is ∙ append_assoc text (slice_range raw i j) (joined_breaks (drop (j + 1) raw))
     ∙ ap (λ (ys : List ℕ). text ++ (slice_range raw i j ++ ys)) (sym behind) ∙ ap (λ (ys : List ℕ). text ++ ys) (sym same) ∙ rest
 
@@ -133,10 +133,10 @@ unfolding reading said
 reading_other width left line x text xs feed slash blank return =
     let rest : List ℕ = trimmed_ends (joined_breaks xs) in
     let says : unescaped false (stripped_starts width left (trimmed_ends (joined_breaks (x ∷ xs)))) ≡ x ∷ said width 0 xs
-        = ap (λ (ys : List ℕ). unescaped false (stripped_starts width left (trimmed_ends ys))) (joined_kept x xs return)
-        ∙ ap (λ (ys : List ℕ). unescaped false (stripped_starts width left ys)) (trimmed_other x (joined_breaks xs) blank)
-        ∙ ap (unescaped false) (stripped_other width left x rest feed blank)
-        ∙ unescaped_other x (stripped_starts width 0 rest) slash in
+    = ap (λ (ys : List ℕ). unescaped false (stripped_starts width left (trimmed_ends ys))) (joined_kept x xs return)
+    ∙ ap (λ (ys : List ℕ). unescaped false (stripped_starts width left ys)) (trimmed_other x (joined_breaks xs) blank)
+    ∙ ap (unescaped false) (stripped_other width left x rest feed blank)
+    ∙ unescaped_other x (stripped_starts width 0 rest) slash in
     ap (λ (o : Option ℕ). option_map_or (λ bad. slip 4 bad) o (Ok (text ++ unescaped false (stripped_starts width left (trimmed_ends (joined_breaks (x ∷ xs))))))) (bad_other line x xs feed slash)
     ∙ ap (λ (t : Text). option_map_or (λ bad. slip 4 bad) (bad_escape_line false line xs) (Ok (text ++ t))) says
     ∙ ap (λ (t : Text). option_map_or (λ bad. slip 4 bad) (bad_escape_line false line xs) (Ok t)) (sym (append_assoc text (x ∷ []) (said width 0 xs)))
@@ -181,15 +181,15 @@ to_same width left line y z v w text xs e f h =
 pub reading_escape : (width left line y z : ℕ) (text : Text) (xs : List ℕ) → escape y ≡ Some z → Escaped width left line y z text xs
 reading_escape width left line y z text xs e =
     elim (chosen (y == 110) (Some 10) (cond (y == 116) (Some 9) (cond (y == 34 || y == 92) (Some y) None)) (Some z) e) [
-      inl h ↦ to_same width left line y z 110 10 text xs (eqb-true y 110 h.0) (some_same 10 z h.1) (reading_110 width left line text xs)
-    | inr h ↦ elim (chosen (y == 116) (Some 9) (cond (y == 34 || y == 92) (Some y) None) (Some z) h.1) [
-        inl k ↦ to_same width left line y z 116 9 text xs (eqb-true y 116 k.0) (some_same 9 z k.1) (reading_116 width left line text xs)
-      | inr k ↦ elim (chosen (y == 34 || y == 92) (Some y) None (Some z) k.1) [
-          inl m ↦ elim (either y m.0) [
-            inl q ↦ to_same width left line y z 34 34 text xs q (sym q ∙ some_same y z m.1) (reading_34 width left line text xs)
-          | inr q ↦ to_same width left line y z 92 92 text xs q (sym q ∙ some_same y z m.1) (reading_92 width left line text xs)
+      | inl h ↦ to_same width left line y z 110 10 text xs (eqb-true y 110 h.0) (some_same 10 z h.1) (reading_110 width left line text xs)
+      | inr h ↦ elim (chosen (y == 116) (Some 9) (cond (y == 34 || y == 92) (Some y) None) (Some z) h.1) [
+        | inl k ↦ to_same width left line y z 116 9 text xs (eqb-true y 116 k.0) (some_same 9 z k.1) (reading_116 width left line text xs)
+        | inr k ↦ elim (chosen (y == 34 || y == 92) (Some y) None (Some z) k.1) [
+          | inl m ↦ elim (either y m.0) [
+            | inl q ↦ to_same width left line y z 34 34 text xs q (sym q ∙ some_same y z m.1) (reading_34 width left line text xs)
+            | inr q ↦ to_same width left line y z 92 92 text xs q (sym q ∙ some_same y z m.1) (reading_92 width left line text xs)
           ]
-        | inr m ↦ cc
+          | inr m ↦ cc
         ]
       ]
     ]
@@ -319,10 +319,11 @@ firm_rest (y ∷ ys) e =
     let feed = solid_feed y ys e in
     let rest : List ℕ = trimmed_ends (joined_breaks ys) in
     let is : trimmed_ends (joined_breaks (y ∷ ys)) ≡ y ∷ rest
-        = ap trimmed_ends (joined_kept y ys (solid_return y ys e)) ∙ trimmed_other y (joined_breaks ys) blank in
-    (ap (begins line_feed) is ∙ feed,
-     λ width left. ap (stripped_starts width left) is ∙ stripped_other width left y rest feed blank
-       ∙ sym (stripped_other width 0 y rest feed blank) ∙ ap (stripped_starts width 0) (sym is))
+    = ap trimmed_ends (joined_kept y ys (solid_return y ys e)) ∙ trimmed_other y (joined_breaks ys) blank in (
+      ap (begins line_feed) is ∙ feed,
+      λ width left. ap (stripped_starts width left) is ∙ stripped_other width left y rest feed blank
+          ∙ sym (stripped_other width 0 y rest feed blank) ∙ ap (stripped_starts width 0) (sym is),
+    )
 
 stripped_none : (left : ℕ) → stripped_starts 0 left [] ≡ []
 unfolding stripped_starts
@@ -333,8 +334,8 @@ stripped_blanks width left [] us e same = ap (unescaped false) (same width left)
 stripped_blanks width left (b ∷ bs) us e same =
     let more = and_right (is_blank b) (all_blank bs) e in
     elim (blank_is b (and_left (is_blank b) (all_blank bs) e)) [
-      inl h ↦ subst (λ (x : ℕ). Stripped width left (x ∷ bs) us) (sym h) (strip_space width left bs us (stripped_blanks width (left - 1) bs us more same) (stripped_blanks width 0 bs us more same))
-    | inr h ↦ subst (λ (x : ℕ). Stripped width left (x ∷ bs) us) (sym h) (strip_tab width left bs us (stripped_blanks width (left - 8) bs us more same) (stripped_blanks width 0 bs us more same))
+      | inl h ↦ subst (λ (x : ℕ). Stripped width left (x ∷ bs) us) (sym h) (strip_space width left bs us (stripped_blanks width (left - 1) bs us more same) (stripped_blanks width 0 bs us more same))
+      | inr h ↦ subst (λ (x : ℕ). Stripped width left (x ∷ bs) us) (sym h) (strip_tab width left bs us (stripped_blanks width (left - 8) bs us more same) (stripped_blanks width 0 bs us more same))
     ]
 
 feed_begins : (ys : List ℕ) → begins line_feed ys ≡ true → begins line_feed (joined_breaks ys) ≡ true
@@ -346,10 +347,10 @@ break_begins : (ys : List ℕ) → is_break ys ≡ true → begins line_feed (jo
 unfolding joined_breaks
 break_begins [] e = absurd (false≢true e)
 break_begins (y ∷ ys) e = elim (or_true (y == line_feed) (y == carriage_return && begins line_feed ys) e) [
-    inl h ↦ subst (λ (x : ℕ). begins line_feed (joined_breaks (x ∷ ys)) ≡ true) (sym (eqb-true y line_feed h)) refl
+  | inl h ↦ subst (λ (x : ℕ). begins line_feed (joined_breaks (x ∷ ys)) ≡ true) (sym (eqb-true y line_feed h)) refl
   | inr h ↦ subst (λ (x : ℕ). begins line_feed (joined_breaks (x ∷ ys)) ≡ true) (sym (eqb-true y carriage_return (and_left (y == carriage_return) (begins line_feed ys) h)))
       (ap (begins line_feed) (joined_return ys (and_right (y == carriage_return) (begins line_feed ys) h)) ∙ feed_begins ys (and_right (y == carriage_return) (begins line_feed ys) h))
-  ]
+]
 
 trimmed_begins : (zs : List ℕ) → begins line_feed zs ≡ true → begins line_feed (trimmed_ends zs) ≡ true
 unfolding trimmed_ends
@@ -443,9 +444,9 @@ strip_first_tab left r h = ap (λ (b : Bool). cond b (replicate (8 - left) space
 
 pub strip_first : (left x : ℕ) (r : List ℕ) → 0 < left → is_blank x ≡ true → stripped_starts 0 left (x ∷ r) ≡ replicate (blank_width x - left) space ++ stripped_starts 0 (left - blank_width x) r
 strip_first left x r h e = elim (blank_is x e) [
-    inl k ↦ subst (λ (y : ℕ). stripped_starts 0 left (y ∷ r) ≡ replicate (blank_width y - left) space ++ stripped_starts 0 (left - blank_width y) r) (sym k) (strip_first_space left r h)
+  | inl k ↦ subst (λ (y : ℕ). stripped_starts 0 left (y ∷ r) ≡ replicate (blank_width y - left) space ++ stripped_starts 0 (left - blank_width y) r) (sym k) (strip_first_space left r h)
   | inr k ↦ subst (λ (y : ℕ). stripped_starts 0 left (y ∷ r) ≡ replicate (blank_width y - left) space ++ stripped_starts 0 (left - blank_width y) r) (sym k) (strip_first_tab left r h)
-  ]
+]
 
 keep_32 : (r : List ℕ) → stripped_starts 0 0 (32 ∷ r) ≡ 32 ∷ stripped_starts 0 0 r
 unfolding stripped_starts
@@ -460,8 +461,8 @@ strip_nothing [] e = stripped_none 0
 strip_nothing (b ∷ bs) e =
     let rest = strip_nothing bs (and_right (is_blank b) (all_blank bs) e) in
     elim (blank_is b (and_left (is_blank b) (all_blank bs) e)) [
-      inl h ↦ subst (λ (y : ℕ). stripped_starts 0 0 (y ∷ bs) ≡ y ∷ bs) (sym h) (keep_32 bs ∙ ap (λ (r : List ℕ). 32 ∷ r) rest)
-    | inr h ↦ subst (λ (y : ℕ). stripped_starts 0 0 (y ∷ bs) ≡ y ∷ bs) (sym h) (keep_9 bs ∙ ap (λ (r : List ℕ). 9 ∷ r) rest)
+      | inl h ↦ subst (λ (y : ℕ). stripped_starts 0 0 (y ∷ bs) ≡ y ∷ bs) (sym h) (keep_32 bs ∙ ap (λ (r : List ℕ). 32 ∷ r) rest)
+      | inr h ↦ subst (λ (y : ℕ). stripped_starts 0 0 (y ∷ bs) ≡ y ∷ bs) (sym h) (keep_9 bs ∙ ap (λ (r : List ℕ). 9 ∷ r) rest)
     ]
 
 -- one space or tab of a stretch is stripped
@@ -471,19 +472,20 @@ pub strip_step : (text new old : Text) (raw goal_list : List ℕ) (left i j : �
 strip_step text new old raw goal_list left i j h k l e f is =
     let x : ℕ = get_or raw i 0 in
     let first = slice_first raw i j k l in
-    let both = ap all_blank (sym first) ∙ e in
-    (ap (λ (t : Text). t ++ stripped_starts 0 (left - blank_width x) (slice_range raw (i + 1) j)) is
-     ∙ append_assoc text (replicate (blank_width x - left) space) (stripped_starts 0 (left - blank_width x) (slice_range raw (i + 1) j))
-     ∙ ap (λ (r : List ℕ). text ++ r) (sym (strip_first left x (slice_range raw (i + 1) j) h (and_left (is_blank x) (all_blank (slice_range raw (i + 1) j)) both)))
-     ∙ ap (λ (r : List ℕ). text ++ stripped_starts 0 left r) (sym first) ∙ f,
-     and_right (is_blank x) (all_blank (slice_range raw (i + 1) j)) both)
+    let both = ap all_blank (sym first) ∙ e in (
+      ap (λ (t : Text). t ++ stripped_starts 0 (left - blank_width x) (slice_range raw (i + 1) j)) is
+          ∙ append_assoc text (replicate (blank_width x - left) space) (stripped_starts 0 (left - blank_width x) (slice_range raw (i + 1) j))
+          ∙ ap (λ (r : List ℕ). text ++ r) (sym (strip_first left x (slice_range raw (i + 1) j) h (and_left (is_blank x) (all_blank (slice_range raw (i + 1) j)) both)))
+          ∙ ap (λ (r : List ℕ). text ++ stripped_starts 0 left r) (sym first) ∙ f,
+      and_right (is_blank x) (all_blank (slice_range raw (i + 1) j)) both,
+    )
 
 pub first_blank : (raw : List ℕ) (i j : ℕ) → i < j → j ≤ length raw → all_blank (slice_range raw i j) ≡ true → get_or raw i 0 < 128
 first_blank raw i j k l e =
     let first = slice_first raw i j k l in
     elim (blank_is (get_or raw i 0) (and_left (is_blank (get_or raw i 0)) (all_blank (slice_range raw (i + 1) j)) (ap all_blank (sym first) ∙ e))) [
-      inl h ↦ omega (arith, h)
-    | inr h ↦ omega (arith, h)
+      | inl h ↦ omega (arith, h)
+      | inr h ↦ omega (arith, h)
     ]
 
 pub strip_end : (raw : List ℕ) (left i j : ℕ) → left ≡ 0 ⊎ (j ≤ i) → all_blank (slice_range raw i j) ≡ true → stripped_starts 0 left (slice_range raw i j) ≡ slice_range raw i j
@@ -505,10 +507,10 @@ plain_from raw i l blank feed slash return =
 
 pub solid_at : (raw : List ℕ) (i : ℕ) → (i < length raw → is_blank (get_or raw i 0) ≡ false) → is_break (drop i raw) ≡ false → is_solid (drop i raw) ≡ true
 solid_at raw i blank e = elim (lt_or_le i (length raw)) [
-    inl l ↦ ap is_solid (drop_at raw i l) ∙ ap (λ (b : Bool). not b && not (is_break (get_or raw i 0 ∷ drop (i + 1) raw))) (blank l)
+  | inl l ↦ ap is_solid (drop_at raw i l) ∙ ap (λ (b : Bool). not b && not (is_break (get_or raw i 0 ∷ drop (i + 1) raw))) (blank l)
       ∙ ap (λ (ys : List ℕ). not (is_break ys)) (sym (drop_at raw i l)) ∙ ap (λ (b : Bool). not b) e
   | inr l ↦ ap is_solid (drop_all i raw l)
-  ]
+]
 
 pub step_feed : (width left line : ℕ) (text new : Text) (raw : List ℕ) (i j : ℕ) → i < length raw → get_or raw i 0 ≡ 10 → new ≡ text ++ 10 ∷ [] → j ≡ i + 1
     → reading width width (line + 1) new (drop j raw) ≡ reading width left line text (drop i raw)

@@ -196,16 +196,16 @@ pub statement_same : (f g : List Token → Result Row Slip) (level : ℕ) (keywo
 statement_same f g level keyword line ts n h k =
     ap (λ (r : Result Row Slip). cond (is_name keyword) r (slip 8 line))
     (bind_same (argument ts) (formed f level keyword line) (formed g level keyword line) (λ a e.
-      let short = argument_shrinks ts a e in
-      ap (λ (r : Result Row Slip). r >>= made keyword line a.0) (body_same f g level a.1 n h (omega (arith, short, k)))))
+    let short = argument_shrinks ts a e in
+    ap (λ (r : Result Row Slip). r >>= made keyword line a.0) (body_same f g level a.1 n h (omega (arith, short, k)))))
 
 row_at_same : (l : Lexeme) (f g others more : List Token → Result Row Slip) (level : ℕ) (t : Token) (ts : List Token) (n : ℕ) → AllShrink g → Agree n f g → Agree n others more → length ts ≤ n
     → row_at l f others level t ts ≡ row_at l g more level t ts
 row_at_same (word w) f g others more level t ts n s h k m =
     ap (λ (r : Result Row Slip). r >>= (λ first. others first.1 >>= in_row first)) (statement_same f g level w t.line ts n h m)
     ∙ bind_same (statement g level w t.line ts) (λ first. others first.1 >>= in_row first) (λ first. more first.1 >>= in_row first) (λ first e.
-      let short = statement_shrinks g level w t.line ts s first e in
-      ap (λ (r : Result Row Slip). r >>= in_row first) (k first.1 (omega (arith, short, m))))
+    let short = statement_shrinks g level w t.line ts s first e in
+    ap (λ (r : Result Row Slip). r >>= in_row first) (k first.1 (omega (arith, short, m))))
 row_at_same semi f g others more level t ts n s h k m = refl
 row_at_same open_block f g others more level t ts n s h k m = refl
 row_at_same (single raw) f g others more level t ts n s h k m = refl
@@ -284,7 +284,7 @@ pub row_grows : (level : ℕ) (kw : Text) (line : ℕ) (ts us : List Token) (ss 
 unfolding with_front
 row_grows level kw line ts us ss s e =
     ap (with_front (row_of ss)) (rows_by level (at line (word kw)) ts
-      ∙ ap (λ (r : Result Row Slip). r >>= (λ first. rows level first.1 >>= in_row first)) e)
+    ∙ ap (λ (r : Result Row Slip). r >>= (λ first. rows level first.1 >>= in_row first)) e)
     ∙ front_again (row_of ss) (forest_of s) (rows level us)
     ∙ ap (λ (f : Forest Statement). with_front f (rows level us)) (sym (row_of_push ss s))
 

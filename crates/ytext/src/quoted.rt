@@ -198,7 +198,13 @@ fn push_spaces(text: &mut String, count: usize) -> Result<(), AllocError>
 }
 
 // Adds the spaces and tabs between two places, without so many columns of them.
-fn push_blanks(text: &mut String, raw: &str, start: usize, end: usize, left: usize) -> Result<(), AllocError>
+fn push_blanks(
+    text: &mut String,
+    raw: &str,
+    start: usize,
+    end: usize,
+    left: usize,
+) -> Result<(), AllocError>
     requires order { start ≤ end }
     requires start { IsCharBoundary raw.now start }
     requires end { IsCharBoundary raw.now end }
@@ -279,7 +285,11 @@ fn push_next(text: &mut String, raw: &str, width: usize, place: Place) -> Result
     if is_blank(bytes[at]) {
         let end = blanks_end(raw, at);
         if breaks_at(bytes, end) {
-            return Ok(Place { at: end, line, left });
+            return Ok(Place {
+                at: end,
+                line,
+                left,
+            });
         }
         push_blanks(text, raw, at, end, left)?;
         return Ok(Place {
@@ -317,7 +327,12 @@ fn push_next(text: &mut String, raw: &str, width: usize, place: Place) -> Result
 
 /// Adds what a double-quoted string says, its opening quote standing in a line behind these bytes: its lines
 /// stripped, and its escapes replaced.
-pub(crate) fn push_double(text: &mut String, before: &[u8], raw: &str, line: u64) -> Result<(), TextFault>
+pub(crate) fn push_double(
+    text: &mut String,
+    before: &[u8],
+    raw: &str,
+    line: u64,
+) -> Result<(), TextFault>
     requires few_columns { 8 * length before.now < 2 ^ 63 }
     requires few_lines { line + length raw.now < 2 ^ 32 }
     ensures { Gives (λ _. string_bytes text.new) result (reading (column_behind 1 before.now) 0 line (string_bytes text.old) raw.now) }

@@ -278,7 +278,10 @@ impl<'a> Reader<'a> {
     {
         match self.token.lexeme {
             Lexeme::End => Ok(()),
-            Lexeme::Word(_) | Lexeme::Close => Err(TextFault::refused(TextCode::L6, self.token.line)),
+            Lexeme::Word(_) | Lexeme::Close => Err(TextFault::refused(
+                TextCode::L6,
+                self.token.line,
+            )),
             _ => Err(self.token.misplaced()),
         }
     }

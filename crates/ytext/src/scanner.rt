@@ -80,7 +80,9 @@ impl<'a> Tokens<'a> {
     // What is wrong with a token: a character that isn't allowed, or a wrong escape, whichever comes first.
     fn wrong_before(&self, start: usize, end: usize, lexeme: Lexeme<'a>) -> Option<TextFault> {
         let escape = match lexeme {
-            Lexeme::Double { before: _, raw } => bad_escape_place(raw.as_bytes()).map(|at| start.saturating_add(1).saturating_add(at)),
+            Lexeme::Double { before: _, raw } => bad_escape_place(raw.as_bytes()).map(|at| start
+                .saturating_add(1)
+                .saturating_add(at)),
             _ => None,
         };
         let forbidden = self.forbidden.filter(|place| *place < end);

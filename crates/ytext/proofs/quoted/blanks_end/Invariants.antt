@@ -6,9 +6,9 @@ use Rattle.ytext.proofs.quoted.blanks_end.Given as goal
 
 abbrev pub invariant-loop-at : goal.invariant-loop-at
 invariant-loop-at l = record {
-    forward : l.from ≤ l.at;
-    place : IsCharBoundary l.raw l.at;
-    blank : all_blank (slice_range l.raw l.from l.at) ≡ true;
+  forward : l.from ≤ l.at;
+  place : IsCharBoundary l.raw l.at;
+  blank : all_blank (slice_range l.raw l.from l.at) ≡ true;
 }
 
 abbrev pub decreases-loop-at : goal.decreases-loop-at

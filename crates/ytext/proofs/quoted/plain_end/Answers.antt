@@ -5,9 +5,9 @@ use Rattle.ytext.proofs.quoted.plain_end.Goals as goal
 
 pub loop-at-init : goal.loop-at-init
 loop-at-init c = record {
-    forward = omega arith;
-    within = omega (arith, c.requires.within);
-    same = λ width left line text. plain_first width left line text c.args.raw.now c.args.from c.requires.within c.requires.plain;
+  forward = omega arith;
+  within = omega (arith, c.requires.within);
+  same = λ width left line text. plain_first width left line text c.args.raw.now c.args.from c.requires.within c.requires.plain;
 }
 
 pub loop-at-preserved : goal.loop-at-preserved

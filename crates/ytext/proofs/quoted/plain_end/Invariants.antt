@@ -5,9 +5,9 @@ use Rattle.ytext.proofs.quoted.plain_end.Given as goal
 
 abbrev pub invariant-loop-at : goal.invariant-loop-at
 invariant-loop-at l = record {
-    forward : l.from < l.at;
-    within : l.at ≤ length l.raw;
-    same : (width left line : ℕ) (text : List ℕ) → reading width left line text (drop l.from l.raw) ≡ reading width 0 line (text ++ slice_range l.raw l.from l.at) (drop l.at l.raw);
+  forward : l.from < l.at;
+  within : l.at ≤ length l.raw;
+  same : (width left line : ℕ) (text : List ℕ) → reading width left line text (drop l.from l.raw) ≡ reading width 0 line (text ++ slice_range l.raw l.from l.at) (drop l.at l.raw);
 }
 
 abbrev pub decreases-loop-at : goal.decreases-loop-at

@@ -9,8 +9,8 @@ use Rattle.ytext.proofs.quoted.push_blanks.Goals.{then-loop-at-test+else-left-gt
 
 pub behind_ascii-at-requires : goal.behind_ascii-at-requires
 behind_ascii-at-requires c = record {
-    within = omega (arith, c.loop-at-test.true, c.requires.end.0);
-    ascii = first_blank c.args.raw.now c.loop-at.at c.args.end c.loop-at-test.true c.requires.end.0 c.loop-at.invariant.blank;
+  within = omega (arith, c.loop-at-test.true, c.requires.end.0);
+  ascii = first_blank c.args.raw.now c.loop-at.at c.args.end c.loop-at-test.true c.requires.end.0 c.loop-at.invariant.blank;
 }
 
 pub loop-at-preserved : goal.loop-at-preserved
@@ -25,8 +25,8 @@ loop-at-preserved c =
     let fewer = c.saturating_sub-left.ensures ∙ ap (λ (w : ℕ). c.loop-at.left - w) wide in
     let new = c.in_ok-push_spaces.ensures ∙ ap (λ (n : ℕ). string_bytes c.loop-at.text ++ replicate n space) count in
     let stripped = strip_step (string_bytes c.loop-at.text) (string_bytes c.push_spaces.new.text) (string_bytes c.args.text.now) raw
-        (string_bytes c.args.text.now ++ stripped_starts 0 c.args.left (slice_range raw c.args.start end)) c.loop-at.left at end
-        c.if-left-gt0.true c.loop-at-test.true c.requires.end.0 before.blank before.rest new in
+    (string_bytes c.args.text.now ++ stripped_starts 0 c.args.left (slice_range raw c.args.start end)) c.loop-at.left at end
+    c.if-left-gt0.true c.loop-at-test.true c.requires.end.0 before.blank before.rest new in
     record {
       within = omega (arith, next.next, c.loop-at-test.true);
       place = next.place;
@@ -40,8 +40,8 @@ returns c =
     let raw : List ℕ = c.args.raw.now in
     let before = c.loop-at.invariant in
     let none : (c.loop-at.left ≡ 0) ⊎ (c.args.end ≤ c.loop-at.at) = elim c.loop-at-test.branch [
-        then-loop-at-test+else-left-gt0 w ↦ inl (omega (arith, w.if-left-gt0.false))
+      | then-loop-at-test+else-left-gt0 w ↦ inl (omega (arith, w.if-left-gt0.false))
       | else-loop-at-test w ↦ inr (omega (arith, w.loop-at-test.false))
-      ] in
+    ] in
     c.in_ok-push_str.ensures.bytes ∙ ap (λ (t : List ℕ). string_bytes c.loop-at.text ++ t) (c.between.ensures ∙ sym (strip_end raw c.loop-at.left c.loop-at.at c.args.end none before.blank))
     ∙ before.rest

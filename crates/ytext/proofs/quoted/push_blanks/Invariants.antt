@@ -7,10 +7,10 @@ use Rattle.ytext.proofs.quoted.push_blanks.Given as goal
 
 abbrev pub invariant-loop-at : goal.invariant-loop-at
 invariant-loop-at l = record {
-    within : l.at ≤ l.end;
-    place : IsCharBoundary l.raw l.at;
-    blank : all_blank (slice_range l.raw l.at l.end) ≡ true;
-    rest : string_bytes l.text ++ stripped_starts 0 l.left (slice_range l.raw l.at l.end) ≡ string_bytes l.fn.text ++ stripped_starts 0 l.fn.left (slice_range l.raw l.start l.end);
+  within : l.at ≤ l.end;
+  place : IsCharBoundary l.raw l.at;
+  blank : all_blank (slice_range l.raw l.at l.end) ≡ true;
+  rest : string_bytes l.text ++ stripped_starts 0 l.left (slice_range l.raw l.at l.end) ≡ string_bytes l.fn.text ++ stripped_starts 0 l.fn.left (slice_range l.raw l.start l.end);
 }
 
 abbrev pub decreases-loop-at : goal.decreases-loop-at

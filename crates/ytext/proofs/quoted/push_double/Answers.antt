@@ -6,9 +6,9 @@ use Rattle.ytext.proofs.quoted.push_double.Goals as goal
 
 pub loop-place-init : goal.loop-place-init
 loop-place-init c = record {
-    place = IsCharBoundary-start c.args.raw.now c.utf8.raw;
-    few_lines = omega (arith, c.requires.few_lines);
-    rest = refl;
+  place = IsCharBoundary-start c.args.raw.now c.utf8.raw;
+  few_lines = omega (arith, c.requires.few_lines);
+  rest = refl;
 }
 
 pub returns : goal.returns

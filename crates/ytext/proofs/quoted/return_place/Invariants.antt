@@ -5,9 +5,9 @@ use Rattle.ytext.proofs.quoted.return_place.Given as goal
 
 abbrev pub invariant-loop-at : goal.invariant-loop-at
 invariant-loop-at l = record {
-    forward : l.from ≤ l.at;
-    within : l.at ≤ length l.raw;
-    same : joined_breaks (drop l.from l.raw) ≡ slice_range l.raw l.from l.at ++ joined_breaks (drop l.at l.raw);
+  forward : l.from ≤ l.at;
+  within : l.at ≤ length l.raw;
+  same : joined_breaks (drop l.from l.raw) ≡ slice_range l.raw l.from l.at ++ joined_breaks (drop l.at l.raw);
 }
 
 abbrev pub decreases-loop-at : goal.decreases-loop-at

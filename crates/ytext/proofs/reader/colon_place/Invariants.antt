@@ -5,9 +5,9 @@ use Rattle.ytext.proofs.reader.colon_place.Given as goal
 
 abbrev pub invariant-loop-at : goal.invariant-loop-at
 invariant-loop-at l = record {
-    within : l.at ≤ length l.word;
-    place : l.at + position_or_len (λ x. x == colon) (drop l.at l.word) ≡ position_or_len (λ x. x == colon) l.word;
-    any : list_any (λ x. x == colon) (drop l.at l.word) ≡ list_any (λ x. x == colon) l.word;
+  within : l.at ≤ length l.word;
+  place : l.at + position_or_len (λ x. x == colon) (drop l.at l.word) ≡ position_or_len (λ x. x == colon) l.word;
+  any : list_any (λ x. x == colon) (drop l.at l.word) ≡ list_any (λ x. x == colon) l.word;
 }
 
 abbrev pub decreases-loop-at : goal.decreases-loop-at

@@ -6,7 +6,7 @@ use Rattle.ytext.proofs.text.forbidden_line.Given as goal
 
 abbrev pub invariant-loop-character : goal.invariant-loop-character
 invariant-loop-character l = record {
-    rest : pending l.has_returned l.line (drop (length l.yielded) (chars l.text)) ≡ forbidden_line 1 (chars l.text);
-    bound : l.line ≤ length l.yielded + 1;
-    count : length l.yielded ≤ length l.text;
+  rest : pending l.has_returned l.line (drop (length l.yielded) (chars l.text)) ≡ forbidden_line 1 (chars l.text);
+  bound : l.line ≤ length l.yielded + 1;
+  count : length l.yielded ≤ length l.text;
 }

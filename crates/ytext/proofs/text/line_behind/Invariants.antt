@@ -4,6 +4,6 @@ use Rattle.ytext.proofs.text.line_behind.Given as goal
 
 abbrev pub invariant-loop-byte : goal.invariant-loop-byte
 invariant-loop-byte l = record {
-    rest : line_behind l.line (drop l.byte-index l.bytes) ≡ line_behind 1 l.bytes;
-    bound : l.line ≤ l.byte-index + 1;
+  rest : line_behind l.line (drop l.byte-index l.bytes) ≡ line_behind 1 l.bytes;
+  bound : l.line ≤ l.byte-index + 1;
 }

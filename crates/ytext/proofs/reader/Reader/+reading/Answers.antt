@@ -42,8 +42,8 @@ statements-returns-in-Err-clause-rows t c =
 
 pub statements-returns-in-Ok-row_end : goal.statements-returns-in-Ok-row_end
 statements-returns-in-Ok-row_end t c = record {
-    ahead = c.loop-self.invariant.ahead;
-    rows = row_ends c.args.level c.loop-self.self c.loop-self.subs.items _ c.loop-self.invariant.rest (c.in-Ok-row_end.ensures c.args.level);
+  ahead = c.loop-self.invariant.ahead;
+  rows = row_ends c.args.level c.loop-self.self c.loop-self.subs.items _ c.loop-self.invariant.rest (c.in-Ok-row_end.ensures c.args.level);
 }
 
 pub statements-returns-in-Err-row_end-clause-rows : goal.statements-returns-in-Err-row_end-clause-rows

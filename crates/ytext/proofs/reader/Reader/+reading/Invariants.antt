@@ -18,8 +18,8 @@ decreases-block l = 4 * (65 - l.level) + 3
 
 abbrev pub invariant-statements-loop-self : goal.invariant-statements-loop-self
 invariant-statements-loop-self l = record {
-    ahead : ahead l.self ≤ ahead l.fn.self;
-    rest : with_front (row_of l.subs.items) (rows l.level (tokens_ahead l.self)) ≡ rows l.level (tokens_ahead l.fn.self);
+  ahead : ahead l.self ≤ ahead l.fn.self;
+  rest : with_front (row_of l.subs.items) (rows l.level (tokens_ahead l.self)) ≡ rows l.level (tokens_ahead l.fn.self);
 }
 
 abbrev pub decreases-statements-loop-self : goal.decreases-statements-loop-self
