@@ -1,15 +1,15 @@
 -- Values of one order are one.
-use Rattle.std.proofs.Common.{◌≡◌, ℕ, zero, suc, ◌+◌, ℤ, pos, negsuc, cond, eqb, Bool, true, false, List, [], Option, Some, None, refl, sym, ap, ◌∙◌, arith}
+use Rattle.std.proofs.Common.{◌≡◌, ℕ, zero, suc, ℤ, pos, negsuc, cond, eqb, Bool, true, false, List, Option, Some, None, refl, sym, ap, ◌∙◌, arith}
 use Rattle.std.specs.declared.cmp.Ordering.{Ordering}
 use Rattle.std.specs.declared.cmp.Ordering.TheVariants.{Less, Equal, Greater}
 use Rattle.std.specs.Ordering.{ordering_then, is_eq, nat_cmp, int_cmp}
 use Rattle.std.specs.Cmp.Lexicographic.{slice_cmp}
 use Rattle.std.specs.Cmp.{IsTotalOrder}
-use Rattle.std.specs.FinMap.{IsAntisymmetric, nat_cmp-IsAntisymmetric, int_cmp-IsAntisymmetric, slice_cmp-IsAntisymmetric}
+use Rattle.std.specs.FinMap.{nat_cmp-IsAntisymmetric, int_cmp-IsAntisymmetric, slice_cmp-IsAntisymmetric}
 use Rattle.std.proofs.lemmas.Cmp.{tied_itself, nat_cmp_total, on_total, then_total, nat_list_cmp_total, int_cmp_total, lists_total}
 use Rattle.yspec.specs.Text.{Text}
 use Rattle.yspec.specs.Types.{Content, text_value, number_value, bool_value, empty_value, bits_value, Val}
-use Rattle.yspec.specs.Order.{member_number, kind_number, text_part, number_part, bits_part, member_of, content_of, content_cmp, value_cmp, same_value, TellsValues}
+use Rattle.yspec.specs.Order.{member_number, kind_number, text_part, number_part, bits_part, member_of, content_of, content_cmp, value_cmp, TellsValues}
 
 both_tied : (a b : Ordering) → ordering_then a b ≡ Equal → (a ≡ Equal) × (b ≡ Equal)
 both_tied Less b e = absurd cc
@@ -72,7 +72,9 @@ pub value_total : IsTotalOrder value_cmp
 value_total = then_total (on_total member_of nat_cmp_total) (on_total content_of content_total)
 
 pub tells_values : TellsValues
-tells_values v w = (λ e.
-    let p = both_tied (nat_cmp (member_of v) (member_of w)) _ (is_tied (value_cmp v w) e) in
-    same_parts v w (same_member _ _ (nat_cmp-IsAntisymmetric _ _ p.0)) (same_content _ _ p.1),
-    λ e. rw e (ap is_eq (tied_itself value_total w)))
+tells_values v w = (
+  λ e.
+      let p = both_tied (nat_cmp (member_of v) (member_of w)) _ (is_tied (value_cmp v w) e) in
+      same_parts v w (same_member _ _ (nat_cmp-IsAntisymmetric _ _ p.0)) (same_content _ _ p.1),
+  λ e. rw e (ap is_eq (tied_itself value_total w)),
+)

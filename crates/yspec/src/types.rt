@@ -151,5 +151,4 @@ pub fn lengths()
 /// Two values are the same where the same member took them and their contents are the same.
 pub fn equal_values()
     ensures { TellsValues }
-{
-}
+{}
