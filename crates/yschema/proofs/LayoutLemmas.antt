@@ -64,22 +64,32 @@ drop-laid (suc n) k (r ∷ rows) =
 cons_inj : {X : Type 0} (x y : X) (xs ys : List X) → x ∷ xs ≡ y ∷ ys → (x ≡ y) × (xs ≡ ys)
 cons_inj x y xs ys e = (cc, cc)
 
+-- the first row is the node's, and those below it follow
+pub laid_parts : (l : SchemaNode) (below after : Forest SchemaNode) (p : Option ℕ) (k : ℕ) (r : Row) (rows : List Row)
+    → laid k (r ∷ rows) ≡ places p (node l below after)
+    → (laid (k + 1) (take r.below rows) ≡ places (Some l.number) below)
+    × (laid (k + 1 + length (take r.below rows)) (drop r.below rows) ≡ places p after)
+    × (r.below ≤ length rows)
+    × (node_view k r.node ≡ l)
+laid_parts l below after p k r rows e =
+    let parts = cons_inj (place_of k r) (record { parent = p; label = l; below = size below }) (laid (k + 1) rows) (places (Some l.number) below ++ places p after) e in
+    let below_is : r.below ≡ length (places (Some l.number) below) = ap (λ x. x.below) parts.0 ∙ sym (length-places (Some l.number) below) in
+    let count : length rows ≡ length (places (Some l.number) below) + length (places p after) = sym (length-laid (k + 1) rows) ∙ (ap length parts.1 ∙ length-append (places (Some l.number) below) (places p after)) in
+    (sym (take-laid r.below (k + 1) rows) ∙ (ap (take r.below) parts.1 ∙ take_at (places (Some l.number) below) (places p after) r.below (sym below_is)),
+    sym (drop-laid r.below (k + 1) rows) ∙ (ap (drop r.below) parts.1 ∙ drop_at (places (Some l.number) below) (places p after) r.below (sym below_is)),
+    omega (arith, below_is, count),
+    ap (λ x. x.label) parts.0)
+
 pub forest_of-laid : (f : Forest SchemaNode) (p : Option ℕ) (k : ℕ) (rows : List Row) → laid k rows ≡ places p f → forest_of k rows ≡ f
 forest_of-laid end p k [] e = no_node k [] refl
 forest_of-laid end p k (r ∷ rows) e = absurd cc
 forest_of-laid (node l below after) p k [] e = absurd cc
 forest_of-laid (node l below after) p k (r ∷ rows) e =
-    let parts = cons_inj (place_of k r) (record { parent = p; label = l; below = size below }) (laid (k + 1) rows) (places (Some l.number) below ++ places p after) e in
-    let label_is : node_view k r.node ≡ l = ap (λ x. x.label) parts.0 in
-    let below_is : r.below ≡ length (places (Some l.number) below) = ap (λ x. x.below) parts.0 ∙ sym (length-places (Some l.number) below) in
-    let front : laid (k + 1) (take r.below rows) ≡ places (Some l.number) below = sym (take-laid r.below (k + 1) rows)
-        ∙ (ap (take r.below) parts.1 ∙ take_at (places (Some l.number) below) (places p after) r.below (sym below_is)) in
-    let back : laid (k + 1 + length (take r.below rows)) (drop r.below rows) ≡ places p after = sym (drop-laid r.below (k + 1) rows)
-        ∙ (ap (drop r.below) parts.1 ∙ drop_at (places (Some l.number) below) (places p after) r.below (sym below_is)) in
+    let parts = laid_parts l below after p k r rows e in
     forest_of-cons k r rows
-    ∙ (ap (λ x. node x (forest_of (k + 1) (take r.below rows)) (forest_of (k + 1 + length (take r.below rows)) (drop r.below rows))) label_is
-    ∙ ap₂ (node l) (forest_of-laid below (Some l.number) (k + 1) (take r.below rows) front)
-        (forest_of-laid after p (k + 1 + length (take r.below rows)) (drop r.below rows) back))
+    ∙ (ap (λ x. node x (forest_of (k + 1) (take r.below rows)) (forest_of (k + 1 + length (take r.below rows)) (drop r.below rows))) parts.3
+    ∙ ap₂ (node l) (forest_of-laid below (Some l.number) (k + 1) (take r.below rows) parts.0)
+        (forest_of-laid after p (k + 1 + length (take r.below rows)) (drop r.below rows) parts.1))
 
 -- ---- one statement of a row, and the others
 
@@ -202,11 +212,11 @@ unfolding nodes_from
 laid_all m ss i rows p whole ended so =
     sym (append-nil (laid 0 rows)) ∙ (ap (λ f. laid 0 rows ++ places p (nodes_from m (length rows) f)) (sym (at_drop_all row_view ss i ended)) ∙ so)
 
-pub whole_forest : (ms : List Module) (i : ℕ) (rows : List Row)
+pub whole_laid : (ms : List Module) (i : ℕ) (rows : List Row)
     → length ms ≤ i → laid 0 rows ++ places None (all_nodes i (length rows) (modules_view (drop i ms))) ≡ places None (all_nodes 0 0 (modules_view ms))
-    → forest_of 0 rows ≡ all_nodes 0 0 (modules_view ms)
-whole_forest ms i rows ended so = forest_of-laid (all_nodes 0 0 (modules_view ms)) None 0 rows
-    (sym (append-nil (laid 0 rows)) ∙ (ap (λ f. laid 0 rows ++ places None (all_nodes i (length rows) f)) (sym (at_drop_all modules_view ms i ended)) ∙ so))
+    → laid 0 rows ≡ places None (all_nodes 0 0 (modules_view ms))
+whole_laid ms i rows ended so =
+    sym (append-nil (laid 0 rows)) ∙ (ap (λ f. laid 0 rows ++ places None (all_nodes i (length rows) f)) (sym (at_drop_all modules_view ms i ended)) ∙ so)
 
 pub whole_set : (ms : List Module) (i : ℕ) (done : List SchemaModule)
     → length ms ≤ i → done ++ modules_of (modules_view (drop i ms)) ≡ modules_of (modules_view ms) → done ≡ modules_of (modules_view ms)

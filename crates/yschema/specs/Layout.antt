@@ -1,5 +1,5 @@
 -- How the nodes of a schema lie in rows: each before those below it, with how many these are.
-use Rattle.std.specs.Prelude.{ℕ, ◌+◌, List, [], ◌∷◌, ◌++◌, Option, Some, option_map, string_bytes}
+use Rattle.std.specs.Prelude.{ℕ, zero, suc, ◌+◌, Bool, true, ◌&&◌, nat_le, length, take, drop, List, [], ◌∷◌, ◌++◌, Option, Some, option_map, string_bytes}
 use Rattle.yspec.specs.Forest.{Forest, end, node, size}
 use Rattle.yspec.specs.Schema as spec
 use Rattle.yschema.specs.declared.node.SchemaId.{SchemaId}
@@ -53,3 +53,10 @@ place_of number r =
 abbrev pub laid : ℕ → List Row → List Place
 laid number [] = []
 laid number (r ∷ rows) = place_of number r ∷ laid (number + 1) rows
+
+-- whether the rows below each row lie within those of the row above it; there are at most so many rows
+abbrev pub fits_within : ℕ → List Row → Bool
+fits_within zero rows = true
+fits_within (suc n) [] = true
+fits_within (suc n) (r ∷ rows) =
+    nat_le r.below (length rows) && (fits_within n (take r.below rows) && fits_within n (drop r.below rows))

@@ -1,6 +1,8 @@
 //! The schema of a set of modules, and what can be asked of it.
 
-ghost use Rattle.std.specs.Prelude.{◌≡◌, ◌+◌, ◌<◌, ◌^◌, vec_len};
+ghost use Rattle.std.specs.Prelude.{◌≡◌, ◌+◌, ◌<◌, ◌^◌, true, length, vec_len, position, string_bytes};
+ghost use Rattle.yspec.specs.Text.{is_text};
+ghost use Rattle.yschema.specs.Layout.{fits_within};
 
 use crate::children::Children;
 use crate::node::{SchemaId, SchemaNode};
@@ -19,27 +21,35 @@ pub struct Schema {
     modules: Vec<SchemaModule>,
     nodes: Nodes,
     ghost numbered: { vec_len nodes.rows < 2 ^ 32 },
+    ghost nested: { fits_within (length nodes.rows.items) nodes.rows.items ≡ true },
 }
 
 impl Schema {
     ghost use Rattle.std.specs.Prelude.{◌≡◌, map, option_map, slice_get};
     ghost use Rattle.yspec.specs.Forest.{size};
+    ghost use Rattle.yspec.specs.Schema.{node_at, children_of};
+    ghost use Rattle.yschema.specs.Layout.{node_view};
     ghost use Rattle.yschema.specs.View.{view, row_view, forest_of, module_view};
 
     pub(crate) fn new(modules: Vec<SchemaModule>, nodes: Nodes) -> Schema
-        requires { vec_len nodes.rows < 2 ^ 32 }
+        requires numbered { vec_len nodes.rows < 2 ^ 32 }
+        requires nested { fits_within (length nodes.rows.items) nodes.rows.items ≡ true }
         ensures { view result ≡ record { modules = map module_view modules.items; nodes = forest_of 0 nodes.rows.items } }
     {
         Schema { modules, nodes }
     }
 
     /// How many nodes it has.
-    pub fn nodes(&self) -> usize {
+    pub fn nodes(&self) -> usize
+        ensures { result ≡ size (view self.now).nodes }
+    {
         self.nodes.rows.len()
     }
 
     /// All that it holds of a node; nothing of a number that no node has.
-    pub fn kind(&self, id: SchemaId) -> Option<&SchemaNode> {
+    pub fn kind(&self, id: SchemaId) -> Option<&SchemaNode>
+        ensures { option_map (λ n. node_view id.0 n.now) result ≡ node_at (view self.now) id.0 }
+    {
         match self.nodes.rows.get(id.number()) {
             Some(row) => Some(&row.node),
             None => None,
@@ -54,13 +64,11 @@ impl Schema {
     }
 
     /// The children of a node, in order of definition; none of a number that no node has.
-    pub fn children(&self, id: SchemaId) -> Children<'_> {
+    pub fn children(&self, id: SchemaId) -> Children<'_>
+        ensures { row_view result ≡ children_of (view self.now) id.0 }
+    {
         let rows = self.nodes.rows.as_slice();
-        let number = id.number();
-        if number >= rows.len() {
-            return Children::new(&[], 0);
-        }
-        let (_, from) = rows.split_at(number);
+        let (_, from) = rows.split_at(id.number().min(rows.len()));
         match from.split_first() {
             Some((first, rest)) => {
                 let (below, _) = rest.split_at(first.below.min(rest.len()));
@@ -76,30 +84,39 @@ impl Schema {
     }
 
     /// How many modules the set has.
-    pub fn modules(&self) -> usize {
+    pub fn modules(&self) -> usize
+        ensures { result ≡ length (view self.now).modules }
+    {
         self.modules.len()
     }
 
     /// The place of the module of a name.
-    pub fn module(&self, name: &str) -> Option<usize> {
-        self.modules
-            .iter()
-            .position(|module| module.name.as_str() == name)
+    pub fn module(&self, name: &str) -> Option<usize>
+        ensures { result ≡ position (λ m. is_text m.name name.now) (view self.now).modules }
+    {
+        place_of(&self.modules, name)
     }
 
     /// The name of the module at a place; nothing where the set has fewer.
     pub fn module_name(&self, module: usize) -> Option<&str>
-        ensures { option_map (λ t. t.now) result
-            ≡ option_map (λ m. m.name) (slice_get (view self.now).modules «module») }
+        ensures { option_map (λ t. t.now) result ≡ option_map (λ m. m.name) (slice_get (view self.now).modules «module») }
     {
-        match self.modules.get(module) {
-            Some(found) => Some(found.name.as_str()),
-            None => None,
-        }
+        Some(self.modules.get(module)?.name.as_str())
     }
 
     /// The prefix of the module at a place, by its own `prefix` statement; nothing where the set has fewer.
-    pub fn module_prefix(&self, module: usize) -> Option<&str> {
+    pub fn module_prefix(&self, module: usize) -> Option<&str>
+        ensures { option_map (λ t. t.now) result ≡ option_map (λ m. m.prefix) (slice_get (view self.now).modules «module») }
+    {
         Some(self.modules.get(module)?.prefix.as_str())
     }
+}
+
+/// The place of the first of some modules that has a name.
+fn place_of(modules: &[SchemaModule], name: &str) -> Option<usize>
+    ensures { result ≡ position (λ m. is_text (string_bytes m.name) name.now) modules.now }
+{
+    modules
+        .iter()
+        .position(|module| module.name.as_str() == name)
 }

@@ -1,9 +1,10 @@
-use Rattle.std.proofs.Common.{◌≡◌, ◌+◌, ◌++◌, drop, ap, ap₂, sym, ◌∙◌, map, arith, rules, vec_len}
+use Rattle.std.proofs.Common.{◌≡◌, ◌+◌, ◌++◌, drop, ap, ap₂, sym, None, length, ◌∙◌, map, arith, rules, vec_len}
 use Rattle.std.proofs.lemmas.List.{map_push}
-use Rattle.yspec.specs.Schema.{data_size, modules_of}
+use Rattle.yspec.specs.Schema.{data_size, modules_of, all_nodes}
 use Rattle.ytext.specs.View.{row_view, modules_view}
 use Rattle.yschema.specs.View.{module_view}
-use Rattle.yschema.proofs.LayoutLemmas.{laid_module, length_module, named_module, size_at_module, whole_forest, whole_set}
+use Rattle.yschema.proofs.LayoutLemmas.{laid_module, length_module, named_module, size_at_module, forest_of-laid, whole_laid, whole_set}
+use Rattle.yschema.proofs.QueryLemmas.{fits_laid}
 use Rattle.yschema.proofs.building.build.Goals as goal
 
 pub loop-module-preserved : goal.loop-module-preserved
@@ -31,4 +32,12 @@ returns c =
     let ms = c.args.modules.now in
     c.new.ensures ∙ ap₂ (λ set nodes. record { modules = set; nodes = nodes })
         (whole_set ms c.loop-module.module (map module_view c.loop-module.set.items) (omega arith) c.loop-module.invariant.named)
-        (whole_forest ms c.loop-module.module c.loop-module.nodes.rows.items (omega arith) c.loop-module.invariant.so_far)
+        (forest_of-laid (all_nodes 0 0 (modules_view ms)) None 0 c.loop-module.nodes.rows.items
+            (whole_laid ms c.loop-module.module c.loop-module.nodes.rows.items (omega arith) c.loop-module.invariant.so_far))
+
+pub new-requires-clause-nested : goal.new-requires-clause-nested
+new-requires-clause-nested c =
+    let ms = c.args.modules.now in
+    let rows = c.loop-module.nodes.rows.items in
+    fits_laid (all_nodes 0 0 (modules_view ms)) None (length rows) 0 rows (omega arith)
+        (whole_laid ms c.loop-module.module rows (omega arith) c.loop-module.invariant.so_far)
