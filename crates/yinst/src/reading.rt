@@ -85,8 +85,11 @@ fn stored(
     value: &Value,
 ) -> Result<Stored, AllocError>
     ensures { let n = schema_view.label_of child.entry in let d = json.view value.now in
-        IfOk result (λ s. view s ≡ (stored_node n d, stored_rows (schema_view.view schema.now)
-        (Some n.module_number) (schema_view.below_of child.entry) (members_of d))) }
+        IfOk result (λ s. view s ≡ (
+          stored_node n d,
+          stored_rows (schema_view.view schema.now)
+              (Some n.module_number) (schema_view.below_of child.entry) (members_of d),
+        )) }
 {
     let held = held_of(alloc, child.node(), value)?;
     match value {

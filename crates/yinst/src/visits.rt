@@ -31,7 +31,15 @@ pub(crate) fn visit_members(
     ensures place { OnOk result (place.new.items ≡ place.old.items) }
 {
     for (name, value) in members.iter() {
-        match visit_member(alloc, schema, parent_module, children, name.as_str(), value, place) {
+        match visit_member(
+            alloc,
+            schema,
+            parent_module,
+            children,
+            name.as_str(),
+            value,
+            place,
+        ) {
             Ok(()) => {}
             Err(fault) => return Err(fault),
         }

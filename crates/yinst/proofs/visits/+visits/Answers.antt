@@ -1,4 +1,5 @@
-use Rattle.std.proofs.Common.{Some, ◌∙◌, sym, ap, string_bytes}
+use Rattle.std.proofs.Common.{◌≡◌, ◌∷◌, Some, ◌∙◌, sym, ap, string_bytes}
+use Rattle.serde_json.specs.Data.{object}
 use Rattle.serde_json.specs.View as json
 use Rattle.serde_json.proofs.Views.{view-Object}
 use Rattle.yspec.specs.Schema.{SchemaNode}
@@ -10,11 +11,11 @@ use Rattle.yinst.proofs.visits.+visits.Goals as goal
 
 pub visit_members-loop-name-preserved : goal.visit_members-loop-name-preserved
 visit_members-loop-name-preserved t c = (
-    c.in-Ok.ensures.place ∙ c.loop-name.invariant.0,
-    member_right (view c.args.schema.now) c.args.parent_module (row_view c.args.children) (place_view c.args.place.now.items) (place_view c.loop-name.place.items)
-    (string_bytes c.in-Some.name.now) c.as_str.result.now (json.view c.in-Some.value.now) (json.members_view c.loop-name.name-iterator) (json.members_view c.next.new.self) _
-    (ap json.members_view c.in-Some.ensures.steps) c.as_str.ensures.value (ap place_view c.loop-name.invariant.0) c.in-Ok.ensures.told c.loop-name.invariant.1,
-  )
+  c.in-Ok.ensures.place ∙ c.loop-name.invariant.0,
+  member_right (view c.args.schema.now) c.args.parent_module (row_view c.args.children) (place_view c.args.place.now.items) (place_view c.loop-name.place.items)
+      (string_bytes c.in-Some.name.now) c.as_str.result.now (json.view c.in-Some.value.now) (json.members_view c.loop-name.name-iterator) (json.members_view c.next.new.self) _
+      (ap json.members_view c.in-Some.ensures.steps) c.as_str.ensures.value (ap place_view c.loop-name.invariant.0) c.in-Ok.ensures.told c.loop-name.invariant.1,
+)
 
 pub visit_members-returns-in-Err-clause-told : goal.visit_members-returns-in-Err-clause-told
 visit_members-returns-in-Err-clause-told t c =
