@@ -1,2 +1,4 @@
 pub mod ValueLemmas
 pub mod RowLemmas
+pub mod VisitLemmas
+pub mod ReadLemmas

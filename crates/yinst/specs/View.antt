@@ -4,9 +4,14 @@ use Rattle.yspec.specs.Forest.{end, node}
 use Rattle.yspec.specs.Document as spec
 use Rattle.yspec.specs.Document.{Tree}
 use Rattle.ytype.specs.View.{raw_of}
+use Rattle.yspec.specs.Reading as reading
+use Rattle.yschema.specs.View.{label_of, below_of}
+use Rattle.yinst.specs.declared.names.Named.{Named}
+use Rattle.yinst.specs.declared.names.Named.TheVariants as names
 use Rattle.yinst.specs.declared.tree.Stored.{Stored, fold-Stored}
 use Rattle.yinst.specs.declared.tree.Stored.TheOpen.{Stored-F}
 use Rattle.yinst.specs.declared.tree.Step.{Step}
+use Rattle.yinst.specs.declared.tree.Tree as tree
 
 abbrev pub Labelled : Type 0
 Labelled = spec.Stored × Tree
@@ -26,8 +31,17 @@ view = fold-Stored Labelled view_step
 abbrev pub row_view : List Stored → Tree
 row_view ss = row_of (map view ss)
 
+abbrev pub tree_view : tree.Tree → Tree
+tree_view t = row_view t.nodes.items
+
 abbrev pub step_view : Step → spec.Step
 step_view s = record { schema_number = s.id.0; position = s.position }
 
 abbrev pub place_view : List Step → List spec.Step
 place_view = map step_view
+
+-- what a name means, as it is read
+abbrev pub named_view : Named → reading.Named
+named_view (names.Child c) = reading.child (label_of c) (below_of c)
+named_view names.OtherForm = reading.other_form
+named_view names.Unknown = reading.unknown

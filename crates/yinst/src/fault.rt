@@ -1,6 +1,8 @@
 //! Why a document isn't read.
 
-ghost use Rattle.std.specs.Prelude.{◌≡◌};
+ghost use Rattle.std.specs.Prelude.{◌≡◌, Some};
+ghost use Rattle.yinst.specs.View.{place_view};
+ghost use Rattle.yinst.specs.Told.{Tells, code_number};
 ghost use Rattle.yinst.specs.declared.fault.DocFault.TheVariants.{Memory};
 
 use crate::tree::Step;
@@ -47,7 +49,9 @@ impl<T: Drop> From<AllocFailed<T>> for DocFault {
 }
 
 /// The refusal of a document at a place; for want of memory for the place, that.
-pub(crate) fn refused(alloc: Global, code: DocCode, place: &[Step]) -> DocFault {
+pub(crate) fn refused(alloc: Global, code: DocCode, place: &[Step]) -> DocFault
+    ensures { Tells result (Some (record { code = code_number code; place = place_view place.now })) }
+{
     match Vec::from_slice(alloc, place) {
         Ok(place) => DocFault::Refused { code, place },
         Err(_) => DocFault::Memory,

@@ -1,11 +1,12 @@
 //! From bytes to a document.
 
-ghost use Rattle.std.specs.Prelude.{◌≡◌, IfOk, Some, option_map};
+ghost use Rattle.std.specs.Prelude.{◌≡◌, [], IfOk, Some, option_map};
 ghost use Rattle.serde_json.specs.View as json;
-ghost use Rattle.yspec.specs.Reading.{stored_rows, stored_node, members_of, value_of};
+ghost use Rattle.yspec.specs.Reading.{stored_rows, stored_node, members_of, value_of, tree_or_refusal, document_of};
 ghost use Rattle.ytype.specs.View.{raw_of};
 ghost use Rattle.yschema.specs.View as schema_view;
-ghost use Rattle.yinst.specs.View.{view, row_view};
+ghost use Rattle.yinst.specs.View.{view, row_view, tree_view};
+ghost use Rattle.yinst.specs.Told.{Gives, Tells, code_number};
 
 use crate::fault::{DocCode, DocFault};
 use crate::names::written_name;
@@ -19,24 +20,37 @@ use ytype::Raw;
 
 /// The document that JSON bytes denote under a schema, or the first refusal: J1 and J2, then J3 to J6 depth first, members
 /// in byte order of their names (RFC 7951).
-pub fn read(alloc: Global, schema: &Schema, bytes: &[u8]) -> Result<Tree, DocFault> {
-    let value = match Value::from_slice(alloc, bytes) {
-        Ok(value) => value,
-        Err(error) if error.is_memory() => return Err(DocFault::Memory),
-        Err(_) => return Err(at_root(alloc, DocCode::J1)),
-    };
-    let Value::Object(members) = &value else {
-        return Err(at_root(alloc, DocCode::J2));
-    };
-    visit_members(alloc, schema, None, members, &mut Vec::new(alloc))?;
-    let nodes = rows_of(alloc, schema, None, schema.roots(), members)?;
-    Ok(Tree::new(nodes))
+pub fn read(alloc: Global, schema: &Schema, bytes: &[u8]) -> Result<Tree, DocFault>
+    ensures { Gives tree_view result (document_of (schema_view.view schema.now) bytes.now) }
+{
+    match Value::from_slice(alloc, bytes) {
+        Ok(value) => tree_of(alloc, schema, &value),
+        Err(error) if error.is_memory() => Err(DocFault::Memory),
+        Err(_) => Err(at_root(alloc, DocCode::J1)),
+    }
 }
 
-fn at_root(alloc: Global, code: DocCode) -> DocFault {
+fn at_root(alloc: Global, code: DocCode) -> DocFault
+    ensures { Tells result (Some (record { code = code_number code; place = [] })) }
+{
     DocFault::Refused {
         code,
         place: Vec::new(alloc),
+    }
+}
+
+/// The document that a value denotes, or its first refusal.
+fn tree_of(alloc: Global, schema: &Schema, value: &Value) -> Result<Tree, DocFault>
+    ensures { Gives tree_view result
+        (tree_or_refusal (schema_view.view schema.now) (json.view value.now)) }
+{
+    let Value::Object(members) = value else {
+        return Err(at_root(alloc, DocCode::J2));
+    };
+    let mut place = Vec::new(alloc);
+    match visit_members(alloc, schema, None, schema.roots(), members, &mut place) {
+        Ok(()) => Ok(Tree::new(rows_of(alloc, schema, None, schema.roots(), members)?)),
+        Err(fault) => Err(fault),
     }
 }
 
@@ -71,8 +85,11 @@ fn stored(
     value: &Value,
 ) -> Result<Stored, AllocError>
     ensures { let n = schema_view.label_of child.entry in let d = json.view value.now in
-        IfOk result (λ s. view s ≡ (stored_node n d, stored_rows (schema_view.view schema.now)
-        (Some n.module_number) (schema_view.below_of child.entry) (members_of d))) }
+        IfOk result (λ s. view s ≡ (
+          stored_node n d,
+          stored_rows (schema_view.view schema.now)
+              (Some n.module_number) (schema_view.below_of child.entry) (members_of d),
+        )) }
 {
     let held = held_of(alloc, child.node(), value)?;
     match value {

@@ -1,24 +1,48 @@
 //! The walk over a document's values that finds the first refusal: depth first, members in byte order of their names.
 
+ghost use Rattle.std.specs.Prelude.{◌≡◌, OnOk, Some};
+ghost use Rattle.serde_json.specs.View as json;
+ghost use Rattle.yspec.specs.Reading.{named, at_named, below_place, leaf_visit, value_visit, member_visits, node_visits, first_wrong};
+ghost use Rattle.yschema.specs.View.{view, row_view, label_of, below_of, kind_view};
+ghost use Rattle.yinst.specs.View.{place_view};
+ghost use Rattle.yinst.specs.Told.{Judges};
+
 use crate::fault::{DocCode, DocFault, refused};
 use crate::names::{Named, meaning_of};
 use crate::tree::Step;
 use crate::values::refusal_of;
 use serde_json::{Map, Value};
 use std::alloc::Global;
-use yschema::{Kind, Schema, SchemaId};
+use yschema::{Child, Children, Kind, Schema, SchemaNode};
 
-/// Refuses the members of an object below a node, or at the top, whose steps are given; the place is as before.
+/// Refuses the members of an object below a node of a module, or at the top, whose children and steps are given. The
+/// place is as before.
 #[cycle(visits)]
 pub(crate) fn visit_members(
     alloc: Global,
     schema: &Schema,
-    parent: Option<SchemaId>,
+    parent_module: Option<usize>,
+    children: Children<'_>,
     members: &Map<String, Value>,
     place: &mut Vec<Step>,
-) -> Result<(), DocFault> {
+) -> Result<(), DocFault>
+    ensures told { Judges result (first_wrong (member_visits (view schema.now) parent_module (row_view children.entry)
+        (place_view place.old.items) (json.members_view members.now.entries))) }
+    ensures place { OnOk result (place.new.items ≡ place.old.items) }
+{
     for (name, value) in members.iter() {
-        visit_member(alloc, schema, parent, name.as_str(), value, place)?;
+        match visit_member(
+            alloc,
+            schema,
+            parent_module,
+            children,
+            name.as_str(),
+            value,
+            place,
+        ) {
+            Ok(()) => {}
+            Err(fault) => return Err(fault),
+        }
     }
     Ok(())
 }
@@ -27,17 +51,30 @@ pub(crate) fn visit_members(
 fn visit_member(
     alloc: Global,
     schema: &Schema,
-    parent: Option<SchemaId>,
+    parent_module: Option<usize>,
+    children: Children<'_>,
     name: &str,
     value: &Value,
     place: &mut Vec<Step>,
-) -> Result<(), DocFault> {
-    match meaning_of(schema, parent, name) {
-        Named::Child(id) => {
-            place.push(Step { id, position: None })?;
-            visit_node(alloc, schema, id, value, place)?;
-            place.pop();
-            Ok(())
+) -> Result<(), DocFault>
+    ensures told { let s = view schema.now in let steps = place_view place.old.items in
+        Judges result (first_wrong (at_named (named s parent_module name.now (row_view children.entry)) steps
+        (λ n below. node_visits s n below (below_place steps n) (json.view value.now)))) }
+    ensures place { OnOk result (place.new.items ≡ place.old.items) }
+{
+    match meaning_of(alloc, schema, parent_module, children, name)? {
+        Named::Child(child) => {
+            place.push(Step {
+                id: child.id(),
+                position: None,
+            })?;
+            match visit_node(alloc, schema, child, value, place) {
+                Ok(()) => {
+                    place.pop();
+                    Ok(())
+                }
+                Err(fault) => Err(fault),
+            }
         }
         Named::OtherForm => Err(refused(alloc, DocCode::J4, place)),
         Named::Unknown => Err(refused(alloc, DocCode::J3, place)),
@@ -48,24 +85,44 @@ fn visit_member(
 fn visit_node(
     alloc: Global,
     schema: &Schema,
-    id: SchemaId,
+    child: Child<'_>,
     value: &Value,
     place: &mut Vec<Step>,
-) -> Result<(), DocFault> {
-    let is_leaf = match schema.kind(id) {
-        Some(node) => matches!(node.kind, Kind::Leaf { .. }),
-        None => false,
-    };
+) -> Result<(), DocFault>
+    ensures told { Judges result (first_wrong (node_visits (view schema.now) (label_of child.entry) (below_of child.entry)
+        (place_view place.old.items) (json.view value.now))) }
+    ensures place { OnOk result (place.new.items ≡ place.old.items) }
+{
     match value {
-        Value::Object(members) if !is_leaf => {
-            visit_members(alloc, schema, Some(id), members, place)
-        }
-        _ if is_leaf => visit_leaf(alloc, value, place),
-        _ => Err(refused(alloc, DocCode::J5, place)),
+        Value::Object(members) => match child.node().kind {
+            Kind::Container { .. } => {
+                let module = Some(child.node().module);
+                visit_members(alloc, schema, module, child.children(), members, place)
+            }
+            Kind::Leaf { .. } => Err(refused(alloc, DocCode::J5, place)),
+        },
+        _ => visit_value(alloc, child.node(), value, place),
     }
 }
 
-fn visit_leaf(alloc: Global, value: &Value, place: &[Step]) -> Result<(), DocFault> {
+/// Refuses a value that is no object.
+fn visit_value(
+    alloc: Global,
+    node: &SchemaNode,
+    value: &Value,
+    place: &[Step],
+) -> Result<(), DocFault>
+    ensures { Judges result (first_wrong (value_visit (kind_view node.now.kind) (place_view place.now) (json.view value.now))) }
+{
+    match node.kind {
+        Kind::Leaf { .. } => visit_leaf(alloc, value, place),
+        Kind::Container { .. } => Err(refused(alloc, DocCode::J5, place)),
+    }
+}
+
+fn visit_leaf(alloc: Global, value: &Value, place: &[Step]) -> Result<(), DocFault>
+    ensures { Judges result (first_wrong (leaf_visit (place_view place.now) (json.view value.now))) }
+{
     match refusal_of(value) {
         None => Ok(()),
         Some(code) => Err(refused(alloc, code, place)),

@@ -28,8 +28,8 @@ rows_of-loop-child-preserved t c =
     view_of_ref c.get.result ∙ (ap (option_map json.view) c.get.ensures.value ∙ (view-lookup c.as_str.result.now c.args.members.now.entries
     ∙ ap (λ k. get_member k ms) (c.as_str.ensures.value ∙ (c.in_ok-name.ensures ∙ named)))) in
     elim c.match-get.branch [
-      rows_of-in-Some-get+in_ok-stored+in_ok-push w ↦ goes_on_with s c.args.parent_module n before below after ms found (json.view w.in-Some-get.value.now) c.loop-child.nodes.items c.match-get.nodes.items w.in_ok-stored.field-0 _ c.in-Some.ensures.steps here
-        (ap (option_map (λ x. json.view x.now)) w.in-Some-get.is) (ap (λ v. v.items) w.nodes-is ∙ w.in_ok-push.ensures.items) w.in_ok-stored.ensures c.loop-child.invariant
+      | rows_of-in-Some-get+in_ok-stored+in_ok-push w ↦ goes_on_with s c.args.parent_module n before below after ms found (json.view w.in-Some-get.value.now) c.loop-child.nodes.items c.match-get.nodes.items w.in_ok-stored.field-0 _ c.in-Some.ensures.steps here
+          (ap (option_map (λ x. json.view x.now)) w.in-Some-get.is) (ap (λ v. v.items) w.nodes-is ∙ w.in_ok-push.ensures.items) w.in_ok-stored.ensures c.loop-child.invariant
       | rows_of-in_default w ↦ goes_on_without s c.args.parent_module n before below after ms found c.loop-child.nodes.items c.match-get.nodes.items _ c.in-Some.ensures.steps here (ap (option_map (λ x. json.view x.now)) w.in_default.is) (ap (λ v. v.items) w.nodes-is) c.loop-child.invariant
     ]
 
