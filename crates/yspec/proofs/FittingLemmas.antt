@@ -1,9 +1,9 @@
 -- Where the numbers of a row of schema nodes lie, and which of them are stored.
-use Rattle.std.proofs.Common.{◌≡◌, ◌≢◌, ℕ, suc, ◌+◌, ◌≤◌, ◌<◌, Bool, true, false, cond, eqb, List, [], ◌∷◌, ◌++◌, map, Option, Some, None, refl, sym, ap, ap₂, ◌∙◌, zero-add, arith}
-use Rattle.std.proofs.lemmas.Bool.{eq-eqb, eqb-true, eqb-false}
+use Rattle.std.proofs.Common.{◌≡◌, ◌≢◌, ℕ, ◌+◌, ◌≤◌, ◌<◌, Bool, true, false, cond, eqb, Some, None, refl, sym, ap, ap₂, ◌∙◌, zero-add, arith}
+use Rattle.std.proofs.lemmas.Bool.{eqb-true}
 use Rattle.std.proofs.lemmas.List.Sums.{sum_by-cons}
 use Rattle.yspec.specs.Forest.{Forest, end, node, size, row, first_of, joined_below, find_below}
-use Rattle.yspec.specs.Schema.{SchemaNode, node_in, row_below}
+use Rattle.yspec.specs.Schema.{SchemaNode, node_in}
 use Rattle.yspec.specs.Document.{Stored, Tree, instances_in}
 use Rattle.yspec.specs.Fitting.{IsNumbered, Fits, at_end, not_stored, is_stored}
 
