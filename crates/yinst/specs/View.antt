@@ -7,6 +7,7 @@ use Rattle.ytype.specs.View.{raw_of}
 use Rattle.yinst.specs.declared.tree.Stored.{Stored, fold-Stored}
 use Rattle.yinst.specs.declared.tree.Stored.TheOpen.{Stored-F}
 use Rattle.yinst.specs.declared.tree.Step.{Step}
+use Rattle.yinst.specs.declared.tree.Tree as declared
 
 abbrev pub Labelled : Type 0
 Labelled = spec.Stored × Tree
@@ -31,3 +32,7 @@ step_view s = record { schema_number = s.id.0; position = s.position }
 
 abbrev pub place_view : List Step → List spec.Step
 place_view = map step_view
+
+-- the tree of a document
+abbrev pub tree_view : declared.Tree → Tree
+tree_view t = row_view t.nodes.items

@@ -67,13 +67,18 @@ pub struct Tree {
 
 impl Tree {
     ghost use Rattle.std.specs.Prelude.{◌≡◌};
+    ghost use Rattle.yinst.specs.View.{row_view, tree_view};
 
-    pub(crate) fn new(nodes: Vec<Stored>) -> Tree {
+    pub(crate) fn new(nodes: Vec<Stored>) -> Tree
+        ensures { tree_view result ≡ row_view nodes.items }
+    {
         Tree { nodes }
     }
 
     /// The top nodes, in the order of their schema nodes.
-    pub fn nodes(&self) -> &[Stored] {
+    pub fn nodes(&self) -> &[Stored]
+        ensures { row_view result.now ≡ tree_view self.now }
+    {
         self.nodes.as_slice()
     }
 }

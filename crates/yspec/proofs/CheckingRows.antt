@@ -34,7 +34,7 @@ none_told answers whole (node s b a) m none =
 
 -- ---- a node that isn't stored
 
-prefixed_twice : (above : List Step) (step : Step) (fs : List Fault) → map (prefixed (above ++ step ∷ [])) fs ≡ map (prefixed above) (map (under step) fs)
+pub prefixed_twice : (above : List Step) (step : Step) (fs : List Fault) → map (prefixed (above ++ step ∷ [])) fs ≡ map (prefixed above) (map (under step) fs)
 prefixed_twice above step [] = refl
 prefixed_twice above step (f ∷ fs) =
     ap₂ ◌∷◌ (ap (λ (steps : List Step). record f { steps = steps }) (append_assoc above (step ∷ []) f.steps)) (prefixed_twice above step fs)

@@ -1,6 +1,6 @@
 -- The faults of a document by one walk over a row of schema nodes and the row that is stored under it. For a document
 -- that fits its schema they are the faults of the document.
-use Rattle.std.specs.Prelude.{ℕ, ◌++◌, ◌==◌, List, [], ◌∷◌, map, Option, None, if◌then◌else◌}
+use Rattle.std.specs.Prelude.{ℕ, ◌++◌, ◌==◌, List, [], ◌∷◌, map, Bool, false, Option, None, if◌then◌else◌}
 use Rattle.std.specs.Option.{option_map_or}
 use Rattle.yspec.specs.Forest.{Forest, end, node}
 use Rattle.yspec.specs.Types.{Raw}
@@ -30,6 +30,11 @@ stored_faults n value inside = map (under (step_at n.number)) (stored_own n.kind
 
 abbrev pub absent_faults : SchemaNode → List Fault → List Fault
 absent_faults n inside = map (under (step_at n.number)) (absent_own n.kind inside)
+
+-- whether a stored row begins with an instance of a schema node
+abbrev pub begins_with : ℕ → Tree → Bool
+begins_with number end = false
+begins_with number (node s below after) = s.schema_number == number
 
 -- their steps lead from the node above the row
 unfoldable pub row_faults : Forest SchemaNode → Tree → List Fault
