@@ -69,8 +69,9 @@ impl Findings {
 /// All faults of a document under its schema, in order of definition: a leaf whose type doesn't take its value, and a
 /// mandatory leaf that is missing where it is in play. A container without presence is in play though it isn't stored.
 pub fn faults(alloc: Global, schema: &Schema, tree: &Tree) -> Result<Vec<Fault>, AllocError>
-    requires { Fits (schema_view.view schema.now).nodes (document_view.tree_view tree.now) }
-    ensures { IfOk result (λ found. views found.items ≡ faults_of (schema_view.view schema.now) (document_view.tree_view tree.now)) }
+    // of a document that fits its schema, as one that is read under it does
+    ensures { let schema' = schema_view.view schema.now in let tree' = document_view.tree_view tree.now in
+        Fits schema'.nodes tree' → IfOk result (λ found. views found.items ≡ faults_of schema' tree') }
 {
     let mut findings = Findings {
         alloc,

@@ -6,9 +6,9 @@ use Rattle.ycheck.proofs.NumberedLemmas.{numbered}
 use Rattle.ycheck.proofs.checking.faults.Goals as goal
 
 pub returns : goal.returns
-returns c =
+returns c = λ fits.
     let schema = c.args.schema.now in
     let tree = document_view.tree_view c.args.tree.now in
     all_found (schema_view.view schema) tree (schema_view.row_view c.roots.result) (document_view.row_view c.nodes.result.now) c.new.result.items c.new-2.result.items
     (views c.check_row.new.findings.faults.items) c.new.ensures.items c.new-2.ensures.items c.roots.ensures c.nodes.ensures
-    (numbered 0 schema.rows.items) c.requires c.in_ok-check_row.ensures.found
+    (numbered 0 _) fits c.in_ok-check_row.ensures.found
