@@ -1,9 +1,15 @@
 //! The line that a fault prints, and the text of a path.
 
+ghost use Rattle.std.specs.Prelude.{◌≡◌, ◌+◌, ◌++◌, [], ◌∷◌, codes, decimal};
+ghost use Rattle.yspec.specs.Faults.{printed_tag};
+ghost use Rattle.yspec.specs.Schema as spec;
+ghost use Rattle.ycheck.specs.View.{tag_name};
+ghost use Rattle.ycheck.specs.Writes.{Writes, failures_met};
+
 use crate::fault::{ErrorTag, Fault, FaultCode};
 use itoa::Buffer;
 use yinst::Step;
-use yschema::Schema;
+use yschema::{Schema, SchemaNode};
 use ytext::{Sink, SinkFault, write_all};
 
 /// Why a line wasn't written.
@@ -21,9 +27,11 @@ impl From<SinkFault> for LineFault {
 
 /// Writes the path of some steps: `/module:name` at the top and where the module changes, else `/name`, with `[n]` at a
 /// position; the root is `/`.
-pub fn write_path<W: Sink>(schema: &Schema, steps: &[Step], sink: &mut W) -> Result<(), LineFault> {
+pub fn write_path<W: Sink>(schema: &Schema, steps: &[Step], sink: &mut W) -> Result<(), LineFault>
+    ensures counted { W.failures sink.new ≡ W.failures sink.old + failures_met result }
+{
     if steps.is_empty() {
-        write_all(sink, b"/")?;
+        return write_text("/", sink);
     }
     let mut parent_module = None;
     for step in steps {
@@ -38,43 +46,95 @@ fn write_step<W: Sink>(
     parent_module: Option<usize>,
     step: &Step,
     sink: &mut W,
-) -> Result<Option<usize>, LineFault> {
-    let Some(node) = schema.kind(step.id) else {
-        return Ok(None);
+) -> Result<Option<usize>, LineFault>
+    ensures counted { W.failures sink.new ≡ W.failures sink.old + failures_met result }
+{
+    let module = match schema.kind(step.id) {
+        Some(node) => {
+            write_name(schema, parent_module, node, sink)?;
+            Some(node.module)
+        }
+        None => None,
     };
-    write_all(sink, b"/")?;
-    if parent_module != Some(node.module) {
+    write_position(step.position, sink)?;
+    Ok(module)
+}
+
+/// Writes the name of a node below a node of a module, or at the top.
+fn write_name<W: Sink>(
+    schema: &Schema,
+    parent_module: Option<usize>,
+    node: &SchemaNode,
+    sink: &mut W,
+) -> Result<(), LineFault>
+    ensures counted { W.failures sink.new ≡ W.failures sink.old + failures_met result }
+{
+    write_text("/", sink)?;
+    if !is_module(node.module, parent_module) {
         write_text(schema.module_name(node.module).unwrap_or(""), sink)?;
-        write_all(sink, b":")?;
+        write_text(":", sink)?;
     }
-    write_text(node.name.as_str(), sink)?;
-    if let Some(position) = step.position {
-        write_all(sink, b"[")?;
-        write_number(position, sink)?;
-        write_all(sink, b"]")?;
-    }
-    Ok(Some(node.module))
+    write_text(node.name.as_str(), sink)
 }
 
-fn write_text<W: Sink>(text: &str, sink: &mut W) -> Result<(), LineFault> {
-    write_all(sink, text.as_bytes())?;
-    Ok(())
+fn is_module(module: usize, parent_module: Option<usize>) -> bool
+    ensures { result ≡ spec.is_module «module» parent_module }
+{
+    match parent_module {
+        Some(parent) => module == parent,
+        None => false,
+    }
 }
 
-fn write_number<W: Sink>(number: u32, sink: &mut W) -> Result<(), LineFault> {
+fn write_position<W: Sink>(position: Option<u32>, sink: &mut W) -> Result<(), LineFault>
+    ensures counted { W.failures sink.new ≡ W.failures sink.old + failures_met result }
+{
+    match position {
+        Some(number) => {
+            write_text("[", sink)?;
+            write_number(number, sink)?;
+            write_text("]", sink)
+        }
+        None => Ok(()),
+    }
+}
+
+fn write_bytes<W: Sink>(bytes: &[u8], sink: &mut W) -> Result<(), LineFault>
+    ensures written { Writes (W.taken sink.old) (W.taken sink.new) bytes.now result }
+    ensures counted { W.failures sink.new ≡ W.failures sink.old + failures_met result }
+{
+    match write_all(sink, bytes) {
+        Ok(()) => Ok(()),
+        Err(fault) => Err(LineFault::from(fault)),
+    }
+}
+
+fn write_text<W: Sink>(text: &str, sink: &mut W) -> Result<(), LineFault>
+    ensures written { Writes (W.taken sink.old) (W.taken sink.new) text.now result }
+    ensures counted { W.failures sink.new ≡ W.failures sink.old + failures_met result }
+{
+    write_bytes(text.as_bytes(), sink)
+}
+
+fn write_number<W: Sink>(number: u32, sink: &mut W) -> Result<(), LineFault>
+    ensures written { Writes (W.taken sink.old) (W.taken sink.new) (decimal number) result }
+    ensures counted { W.failures sink.new ≡ W.failures sink.old + failures_met result }
+{
     let mut buffer = Buffer::new();
-    write_all(sink, buffer.format(number).as_bytes())?;
-    Ok(())
+    write_text(buffer.format(number), sink)
 }
 
-fn code_text(code: FaultCode) -> &'static str {
+fn code_text(code: FaultCode) -> &'static str
+{
     match code {
         FaultCode::V1 => "V1 ",
         FaultCode::V3 => "V3 ",
     }
 }
 
-fn tag_text(tag: ErrorTag) -> &'static str {
+fn tag_text(tag: ErrorTag) -> &'static str
+    ensures { result.now ≡ tag_name tag ++ codes " " }
+{
     match tag {
         ErrorTag::InvalidValue => "invalid-value ",
         ErrorTag::DataMissing => "data-missing ",
@@ -82,24 +142,50 @@ fn tag_text(tag: ErrorTag) -> &'static str {
 }
 
 /// Writes an error-app-tag, `-` for none or for an empty one. White space and control characters in it print as `_`.
-fn write_app_tag<W: Sink>(app_tag: &Option<String>, sink: &mut W) -> Result<(), LineFault> {
-    let tag = match app_tag {
-        Some(tag) => tag.as_str(),
-        None => "",
-    };
-    if tag.is_empty() {
-        return write_text("-", sink);
+fn write_app_tag<W: Sink>(app_tag: &Option<String>, sink: &mut W) -> Result<(), LineFault>
+    ensures counted { W.failures sink.new ≡ W.failures sink.old + failures_met result }
+{
+    match app_tag {
+        Some(tag) => write_or_dash(tag.as_bytes(), sink),
+        None => write_text("-", sink),
     }
-    for byte in tag.as_bytes() {
-        let printed = if *byte <= b' ' { b'_' } else { *byte };
-        write_all(sink, &[printed])?;
+}
+
+fn write_or_dash<W: Sink>(tag: &[u8], sink: &mut W) -> Result<(), LineFault>
+    ensures counted { W.failures sink.new ≡ W.failures sink.old + failures_met result }
+{
+    match tag.split_first() {
+        Some((first, rest)) => {
+            write_printed(*first, sink)?;
+            write_all_printed(rest, sink)
+        }
+        None => write_text("-", sink),
+    }
+}
+
+fn write_all_printed<W: Sink>(bytes: &[u8], sink: &mut W) -> Result<(), LineFault>
+    ensures counted { W.failures sink.new ≡ W.failures sink.old + failures_met result }
+{
+    for byte in bytes {
+        write_printed(*byte, sink)?;
     }
     Ok(())
 }
 
+/// Writes one byte of an error-app-tag.
+fn write_printed<W: Sink>(byte: u8, sink: &mut W) -> Result<(), LineFault>
+    ensures written { Writes (W.taken sink.old) (W.taken sink.new) (printed_tag (byte ∷ [])) result }
+    ensures counted { W.failures sink.new ≡ W.failures sink.old + failures_met result }
+{
+    let printed = if byte <= b' ' { b'_' } else { byte };
+    write_bytes(&[printed], sink)
+}
+
 /// Writes the line of a fault: its code, error-tag, error-app-tag, path and info, parted by single spaces, with `-` for
 /// none, and a line feed. It takes no memory.
-pub fn write_line<W: Sink>(schema: &Schema, fault: &Fault, sink: &mut W) -> Result<(), LineFault> {
+pub fn write_line<W: Sink>(schema: &Schema, fault: &Fault, sink: &mut W) -> Result<(), LineFault>
+    ensures counted { W.failures sink.new ≡ W.failures sink.old + failures_met result }
+{
     write_text(code_text(fault.code), sink)?;
     write_text(tag_text(fault.tag), sink)?;
     write_app_tag(&fault.app_tag, sink)?;

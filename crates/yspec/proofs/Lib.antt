@@ -1,5 +1,7 @@
 pub mod LeastLemmas
 pub mod OnLiterals
+pub mod FittingLemmas
+pub mod CheckingRows
 pub mod SpellingCut
 pub mod SpellingTokens
 pub mod SpellingRows

@@ -22,6 +22,8 @@ pub mod Path
 pub mod Reading
 pub mod Play
 pub mod Faults
+pub mod Fitting
+pub mod RowFaults
 pub mod Edit
 pub mod Output
 pub mod Examples

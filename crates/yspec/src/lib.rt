@@ -3,6 +3,7 @@
 //! worked examples of those definitions.
 #![tactic(auto)]
 
+pub mod checking;
 pub mod examples;
 pub mod spelling;
 pub mod text;

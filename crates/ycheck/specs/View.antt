@@ -1,0 +1,36 @@
+-- Faults as the specification's.
+use Rattle.std.specs.Prelude.{ℕ, List, map, codes, option_map, string_bytes}
+use Rattle.yspec.specs.Text.{Text}
+use Rattle.yspec.specs.Faults as spec
+use Rattle.yspec.specs.Faults.{no_info}
+use Rattle.yinst.specs.View.{place_view}
+use Rattle.ycheck.specs.declared.fault.FaultCode.{FaultCode}
+use Rattle.ycheck.specs.declared.fault.FaultCode.TheVariants.{V1, V3}
+use Rattle.ycheck.specs.declared.fault.ErrorTag.{ErrorTag}
+use Rattle.ycheck.specs.declared.fault.ErrorTag.TheVariants.{InvalidValue, DataMissing}
+use Rattle.ycheck.specs.declared.fault.Info.{Info}
+use Rattle.ycheck.specs.declared.fault.Info.TheVariants as infos
+use Rattle.ycheck.specs.declared.fault.Fault.{Fault}
+
+abbrev pub code_number : FaultCode → ℕ
+code_number V1 = 1
+code_number V3 = 3
+
+abbrev pub tag_name : ErrorTag → Text
+tag_name InvalidValue = codes "invalid-value"
+tag_name DataMissing = codes "data-missing"
+
+abbrev pub info_view : Info → spec.Info
+info_view infos.None = no_info
+
+abbrev pub view : Fault → spec.Fault
+view f = record {
+  code = code_number f.code;
+  tag = tag_name f.tag;
+  app_tag = option_map string_bytes f.app_tag;
+  steps = place_view f.steps.items;
+  info = info_view f.info;
+}
+
+abbrev pub views : List Fault → List spec.Fault
+views = map view

@@ -1,0 +1,7 @@
+use Rattle.std.proofs.Common.{sym}
+use Rattle.yspec.specs.Faults.{answers_of}
+use Rattle.yspec.proofs.CheckingRows.{rows_are_faults}
+use Rattle.yspec.proofs.checking.faults_by_rows.Goals as goal
+
+pub returns : goal.returns
+returns c = λ schema tree numbered fits. sym (rows_are_faults (answers_of schema tree) schema tree numbered fits)
