@@ -45,7 +45,3 @@ abbrev pub named_view : Named → reading.Named
 named_view (names.Child c) = reading.child (label_of c) (below_of c)
 named_view names.OtherForm = reading.other_form
 named_view names.Unknown = reading.unknown
-
--- the tree of a document
-abbrev pub tree_view : tree.Tree → Tree
-tree_view t = row_view t.nodes.items
