@@ -5,3 +5,4 @@ pub mod NameLemmas
 pub mod QueryLemmas
 pub mod RowLemmas
 pub mod ToldLemmas
+pub mod KindLemmas
