@@ -1,5 +1,5 @@
 -- Rows that lie as a forest does are that forest.
-use Rattle.std.proofs.Common.{◌≡◌, ℕ, zero, suc, ◌+◌, ◌≤◌, ◌<◌, Bool, true, false, cond, List, [], ◌∷◌, ◌++◌, length, take, drop, get_or, map, Option, Some, None, refl, sym, ap, ap₂, ◌∙◌, append_assoc, arith, length-append, add-zero}
+use Rattle.std.proofs.Common.{◌≡◌, ℕ, zero, suc, ◌+◌, ◌≤◌, ◌<◌, Bool, true, false, cond, List, [], ◌∷◌, ◌++◌, length, take, drop, get_or, Option, Some, None, refl, sym, ap, ap₂, ◌∙◌, append_assoc, arith, length-append, add-zero}
 use Rattle.std.proofs.lemmas.List.{take_at, drop_at, append-nil, at_drop_all}
 use Rattle.ytext.specs.View.{view, row_view, modules_view}
 use Rattle.ytext.specs.declared.statement.Stmt.{Stmt}
@@ -36,8 +36,8 @@ size-nodes_from m k end = refl
 size-nodes_from m k (node s below after) =
     size_cond (is_data_definition s.keyword) (node (schema_node m k s below) (nodes_from m (k + 1) below) (nodes_from m (k + 1 + data_size below) after)) (nodes_from m k after)
     ∙ ap₂ (λ x y. cond (is_data_definition s.keyword) (suc x) y)
-        (ap₂ (λ a b. a + b) (size-nodes_from m (k + 1) below) (size-nodes_from m (k + 1 + data_size below) after))
-        (size-nodes_from m k after)
+    (ap₂ (λ a b. a + b) (size-nodes_from m (k + 1) below) (size-nodes_from m (k + 1 + data_size below) after))
+    (size-nodes_from m k after)
 
 -- ---- parts of what is laid
 
@@ -74,11 +74,12 @@ pub laid_parts : (l : SchemaNode) (below after : Forest SchemaNode) (p : Option 
 laid_parts l below after p k r rows e =
     let parts = cons_inj (place_of k r) (record { parent = p; label = l; below = size below }) (laid (k + 1) rows) (places (Some l.number) below ++ places p after) e in
     let below_is : r.below ≡ length (places (Some l.number) below) = ap (λ x. x.below) parts.0 ∙ sym (length-places (Some l.number) below) in
-    let count : length rows ≡ length (places (Some l.number) below) + length (places p after) = sym (length-laid (k + 1) rows) ∙ (ap length parts.1 ∙ length-append (places (Some l.number) below) (places p after)) in
-    (sym (take-laid r.below (k + 1) rows) ∙ (ap (take r.below) parts.1 ∙ take_at (places (Some l.number) below) (places p after) r.below (sym below_is)),
-    sym (drop-laid r.below (k + 1) rows) ∙ (ap (drop r.below) parts.1 ∙ drop_at (places (Some l.number) below) (places p after) r.below (sym below_is)),
-    omega (arith, below_is, count),
-    ap (λ x. x.label) parts.0)
+    let count : length rows ≡ length (places (Some l.number) below) + length (places p after) = sym (length-laid (k + 1) rows) ∙ (ap length parts.1 ∙ length-append (places (Some l.number) below) (places p after)) in (
+      sym (take-laid r.below (k + 1) rows) ∙ (ap (take r.below) parts.1 ∙ take_at (places (Some l.number) below) (places p after) r.below (sym below_is)),
+      sym (drop-laid r.below (k + 1) rows) ∙ (ap (drop r.below) parts.1 ∙ drop_at (places (Some l.number) below) (places p after) r.below (sym below_is)),
+      omega (arith, below_is, count),
+      ap (λ x. x.label) parts.0,
+    )
 
 pub forest_of-laid : (f : Forest SchemaNode) (p : Option ℕ) (k : ℕ) (rows : List Row) → laid k rows ≡ places p f → forest_of k rows ≡ f
 forest_of-laid end p k [] e = no_node k [] refl
@@ -89,7 +90,7 @@ forest_of-laid (node l below after) p k (r ∷ rows) e =
     forest_of-cons k r rows
     ∙ (ap (λ x. node x (forest_of (k + 1) (take r.below rows)) (forest_of (k + 1 + length (take r.below rows)) (drop r.below rows))) parts.3
     ∙ ap₂ (node l) (forest_of-laid below (Some l.number) (k + 1) (take r.below rows) parts.0)
-        (forest_of-laid after p (k + 1 + length (take r.below rows)) (drop r.below rows) parts.1))
+    (forest_of-laid after p (k + 1 + length (take r.below rows)) (drop r.below rows) parts.1))
 
 -- ---- one statement of a row, and the others
 
@@ -122,7 +123,7 @@ length_after old new here m k below new_is =
 pub laid_row : (m : ℕ) (ss : List Stmt) (i : ℕ) (s : Stmt) (old new : List Row) (p : Option ℕ) (whole : List Place)
     → i < length ss → s ≡ get_or ss i s → is_data_definition (view s).0.keyword ≡ true
     → laid 0 new ≡ laid 0 old ++ (record { parent = p; label = schema_node m (length old) (view s).0 (view s).1; below = data_size (view s).1 }
-        ∷ places (Some (length old)) (nodes_from m (length old + 1) (view s).1))
+    ∷ places (Some (length old)) (nodes_from m (length old + 1) (view s).1))
     → laid 0 old ++ places p (nodes_from m (length old) (row_view (drop i ss))) ≡ whole
     → laid 0 new ++ places p (nodes_from m (length new) (row_view (drop (i + 1) ss))) ≡ whole
 unfolding nodes_from
@@ -134,7 +135,7 @@ laid_row m ss i s old new p whole within is stands added so =
     let after = nodes_from m (length old + 1 + data_size (view s).1) rest in
     let split : nodes_from m (length old) (row_view (drop i ss)) ≡ node label below after = ap (nodes_from m (length old)) (row_view_at ss i s within is) ∙ rw stands refl in
     let sized : places p (node label below after) ≡ here ∷ (places (Some (length old)) below ++ places p after) =
-        ap (λ n. record { parent = p; label = label; below = n } ∷ (places (Some (length old)) below ++ places p after)) (size-nodes_from m (length old + 1) (view s).1) in
+    ap (λ n. record { parent = p; label = label; below = n } ∷ (places (Some (length old)) below ++ places p after)) (size-nodes_from m (length old + 1) (view s).1) in
     let count : length new ≡ length old + 1 + data_size (view s).1 = length_after old new here m (length old) (view s).1 added in
     ap₂ (λ a n. a ++ places p (nodes_from m n rest)) added count
     ∙ (regrouped (laid 0 old) here (places (Some (length old)) below) (places p after)

@@ -25,9 +25,9 @@ name_breaks-alike m bs cs end same = refl
 name_breaks-alike m bs cs (node s below after) same =
     let a = argument_text s in
     ap₂ (λ x y. cond (is_data_definition s.keyword) x y)
-        (ap₂ (λ w z. when w (broken 13 m s.line) ++ (name_breaks m [] below ++ z)) (same a)
-            (name_breaks-alike m (a ∷ bs) (a ∷ cs) after (λ t. ap (λ b. is_text t a || b) (same t))))
-        (name_breaks-alike m bs cs after same)
+    (ap₂ (λ w z. when w (broken 13 m s.line) ++ (name_breaks m [] below ++ z)) (same a)
+    (name_breaks-alike m (a ∷ bs) (a ∷ cs) after (λ t. ap (λ b. is_text t a || b) (same t))))
+    (name_breaks-alike m bs cs after same)
 
 -- ---- what a set of names holds after one more
 

@@ -1,9 +1,9 @@
 -- What is found in a forest by its number, from the rows that it lies in.
-use Rattle.std.proofs.Common.{◌≡◌, ℕ, zero, suc, ◌+◌, ◌-◌, ◌≤◌, ◌<◌, ◌≢◌, Bool, true, false, cond, not, ◌&&◌, min, List, [], ◌∷◌, ◌++◌, length, take, drop, map, Option, Some, None, refl, sym, ap, ap₂, ◌∙◌, arith, length-append, length-take, length-drop}
+use Rattle.std.proofs.Common.{◌≡◌, ℕ, zero, suc, ◌+◌, ◌-◌, ◌≤◌, ◌≢◌, Bool, true, false, cond, not, ◌&&◌, min, List, [], ◌∷◌, ◌++◌, length, take, drop, map, Option, Some, None, refl, sym, ap, ap₂, ◌∙◌, arith, length-append, length-take, length-drop}
 use Rattle.std.specs.Prelude.{◌==◌, option_map, find, slice_get, nat_le, nat_lt, position}
 use Rattle.std.specs.List.{position_or_len}
 use Rattle.std.proofs.lemmas.Bool.{eq-eqb, ne_eqb, le-leb, leb-true}
-use Rattle.std.proofs.lemmas.List.{take-append-drop, take_at, drop_at, take_min, length-map}
+use Rattle.std.proofs.lemmas.List.{take-append-drop, take_min, length-map}
 use Rattle.std.proofs.lemmas.Option.{slice_get_past}
 use Rattle.yspec.specs.Forest.{Forest, node, end, size, find_label, first_of, find_below, joined_below}
 use Rattle.yspec.specs.Schema.{SchemaNode}
@@ -11,7 +11,7 @@ use Rattle.yschema.specs.declared.children.Row.{Row}
 use Rattle.yschema.specs.Layout.{node_view, places, laid, fits_within}
 use Rattle.yschema.specs.View.{forest_within, forest_of}
 use Rattle.yschema.proofs.RowLemmas.{forest_of-cons, no_node}
-use Rattle.yschema.proofs.LayoutLemmas.{length-places, laid_parts}
+use Rattle.yschema.proofs.LayoutLemmas.{laid_parts}
 
 abbrev Found : Type 0
 Found = SchemaNode × Forest SchemaNode
@@ -47,8 +47,8 @@ unfolding all_below
 find_label-is test end = refl
 find_label-is test (node l below after) =
     ap (cond (test l) (Some l)) (ap₂ first_of (find_label-is test below) (find_label-is test after)
-        ∙ (sym (label_of_first (find (λ p. test p.0) (all_below below)) (find (λ p. test p.0) (all_below after)))
-        ∙ ap (option_map (λ p. p.0)) (sym (find-append (λ p. test p.0) (all_below below) (all_below after)))))
+    ∙ (sym (label_of_first (find (λ p. test p.0) (all_below below)) (find (λ p. test p.0) (all_below after)))
+    ∙ ap (option_map (λ p. p.0)) (sym (find-append (λ p. test p.0) (all_below below) (all_below after)))))
     ∙ sym (map_cond (λ p. p.0) (test l) (Some (l, below)) (find (λ p. test p.0) (all_below below ++ all_below after)))
 
 find_below-is : (test : SchemaNode → Bool) (f : Forest SchemaNode) → find_below test f ≡ option_map (λ p. p.1) (find (λ p. test p.0) (all_below f))
@@ -56,8 +56,8 @@ unfolding all_below
 find_below-is test end = refl
 find_below-is test (node l below after) =
     ap (cond (test l) (Some below)) (ap₂ joined_below (find_below-is test below) (find_below-is test after)
-        ∙ (sym (below_of_first (find (λ p. test p.0) (all_below below)) (find (λ p. test p.0) (all_below after)))
-        ∙ ap (option_map (λ p. p.1)) (sym (find-append (λ p. test p.0) (all_below below) (all_below after)))))
+    ∙ (sym (below_of_first (find (λ p. test p.0) (all_below below)) (find (λ p. test p.0) (all_below after)))
+    ∙ ap (option_map (λ p. p.1)) (sym (find-append (λ p. test p.0) (all_below below) (all_below after)))))
     ∙ sym (map_cond (λ p. p.1) (test l) (Some (l, below)) (find (λ p. test p.0) (all_below below ++ all_below after)))
 
 -- ---- the same, row by row
@@ -85,8 +85,8 @@ is_short-append [] ys e f = f
 is_short-append (x ∷ xs) ys e f =
     let parts = and_is (nat_le x.below (length xs)) (is_short xs) e in
     is_and (nat_le x.below (length (xs ++ ys))) (is_short (xs ++ ys))
-        (le-leb x.below (length (xs ++ ys)) (omega (arith, leb-true x.below (length xs) parts.0, length-append xs ys)))
-        (is_short-append xs ys parts.1 f)
+    (le-leb x.below (length (xs ++ ys)) (omega (arith, leb-true x.below (length xs) parts.0, length-append xs ys)))
+    (is_short-append xs ys parts.1 f)
 
 is_short-fits : (n : ℕ) (rows : List Row) → length rows ≤ n → fits_within n rows ≡ true → is_short rows ≡ true
 unfolding is_short
@@ -97,10 +97,10 @@ is_short-fits (suc n) (r ∷ rows) h e =
     let parts = and_is (nat_le r.below (length rows)) (fits_within n (take r.below rows) && fits_within n (drop r.below rows)) e in
     let inner = and_is (fits_within n (take r.below rows)) (fits_within n (drop r.below rows)) parts.1 in
     is_and (nat_le r.below (length rows)) (is_short rows) parts.0
-        (ap is_short (sym (take-append-drop r.below rows))
-        ∙ is_short-append (take r.below rows) (drop r.below rows)
-            (is_short-fits n (take r.below rows) (omega (arith, length-take r.below rows)) inner.0)
-            (is_short-fits n (drop r.below rows) (omega (arith, length-drop r.below rows)) inner.1))
+    (ap is_short (sym (take-append-drop r.below rows))
+    ∙ is_short-append (take r.below rows) (drop r.below rows)
+    (is_short-fits n (take r.below rows) (omega (arith, length-take r.below rows)) inner.0)
+    (is_short-fits n (drop r.below rows) (omega (arith, length-drop r.below rows)) inner.1))
 
 take-append-within : (n : ℕ) (xs ys : List Row) → n ≤ length xs → take n (xs ++ ys) ≡ take n xs
 take-append-within zero xs ys h = refl
@@ -114,8 +114,8 @@ pairs-append k (x ∷ xs) ys e =
     let parts = and_is (nat_le x.below (length xs)) (is_short xs) e in
     let here : k + 1 + length xs ≡ k + suc (length xs) = omega arith in
     ap₂ (λ inner rest. (node_view k x.node, forest_of (k + 1) inner) ∷ rest)
-        (take-append-within x.below xs ys (leb-true x.below (length xs) parts.0))
-        (pairs-append (k + 1) xs ys parts.1 ∙ ap (λ n. pairs (k + 1) xs ++ pairs n ys) here)
+    (take-append-within x.below xs ys (leb-true x.below (length xs) parts.0))
+    (pairs-append (k + 1) xs ys parts.1 ∙ ap (λ n. pairs (k + 1) xs ++ pairs n ys) here)
 
 all_below-forest : (n k : ℕ) (rows : List Row) → length rows ≤ n → fits_within n rows ≡ true → all_below (forest_of k rows) ≡ pairs k rows
 unfolding all_below pairs
@@ -129,10 +129,10 @@ all_below-forest (suc n) k (r ∷ rows) h e =
     let back : length (drop r.below rows) ≤ n = omega (arith, length-drop r.below rows) in
     ap all_below (forest_of-cons k r rows)
     ∙ ap (λ rest. (node_view k r.node, forest_of (k + 1) (take r.below rows)) ∷ rest)
-        (ap₂ (λ a b. a ++ b) (all_below-forest n (k + 1) (take r.below rows) front inner.0)
-            (all_below-forest n (k + 1 + length (take r.below rows)) (drop r.below rows) back inner.1)
-        ∙ (sym (pairs-append (k + 1) (take r.below rows) (drop r.below rows) (is_short-fits n (take r.below rows) front inner.0))
-        ∙ ap (pairs (k + 1)) (take-append-drop r.below rows)))
+    (ap₂ (λ a b. a ++ b) (all_below-forest n (k + 1) (take r.below rows) front inner.0)
+    (all_below-forest n (k + 1 + length (take r.below rows)) (drop r.below rows) back inner.1)
+    ∙ (sym (pairs-append (k + 1) (take r.below rows) (drop r.below rows) (is_short-fits n (take r.below rows) front inner.0))
+    ∙ ap (pairs (k + 1)) (take-append-drop r.below rows)))
 
 found_at : (k j id : ℕ) (rows : List Row) → id ≡ k + j
     → find (λ p. p.0.number == id) (pairs k rows) ≡ option_map (λ r. (node_view id r.node, forest_of (id + 1) (take r.below (drop (suc j) rows)))) (slice_get rows j)
@@ -191,10 +191,10 @@ fits_laid end p (suc n) k (r ∷ rows) h e = absurd cc
 fits_laid (node l below after) p (suc n) k (r ∷ rows) h e =
     let parts = laid_parts l below after p k r rows e in
     is_and (nat_le r.below (length rows)) (fits_within n (take r.below rows) && fits_within n (drop r.below rows))
-        (le-leb r.below (length rows) parts.2)
-        (is_and (fits_within n (take r.below rows)) (fits_within n (drop r.below rows))
-            (fits_laid below (Some l.number) n (k + 1) (take r.below rows) (omega (arith, length-take r.below rows)) parts.0)
-            (fits_laid after p n (k + 1 + length (take r.below rows)) (drop r.below rows) (omega (arith, length-drop r.below rows)) parts.1))
+    (le-leb r.below (length rows) parts.2)
+    (is_and (fits_within n (take r.below rows)) (fits_within n (drop r.below rows))
+    (fits_laid below (Some l.number) n (k + 1) (take r.below rows) (omega (arith, length-take r.below rows)) parts.0)
+    (fits_laid after p n (k + 1 + length (take r.below rows)) (drop r.below rows) (omega (arith, length-drop r.below rows)) parts.1))
 
 -- ---- the rows below one
 

@@ -1,8 +1,8 @@
 -- What is told of several phases.
-use Rattle.std.proofs.Common.{◌≡◌, ℕ, zero, suc, ◌+◌, ◌-◌, ◌<◌, ◌≤◌, Bool, true, false, cond, ltb, List, [], ◌∷◌, length, get_or, Option, Some, None, Result, Ok, Err, refl, sym, ap, ap₂, ◌∙◌, arith}
+use Rattle.std.proofs.Common.{◌≡◌, ℕ, zero, suc, ◌+◌, ◌-◌, ◌<◌, ◌≤◌, Bool, true, false, List, [], ◌∷◌, length, get_or, Option, Some, None, Ok, Err, refl, sym, ap, ap₂, ◌∙◌, arith}
 use Rattle.std.specs.Option.{option_map_or}
 use Rattle.std.specs.Prelude.{nat_lt}
-use Rattle.std.proofs.lemmas.Bool.{ltb-false, ltb-true}
+use Rattle.std.proofs.lemmas.Bool.{ltb-false}
 use Rattle.ytext.specs.View.{view, modules_view}
 use Rattle.ytext.specs.declared.statement.Module.{Module}
 use Rattle.yspec.specs.Forest.{Forest, node, end}
@@ -61,7 +61,7 @@ passed ms m is_passed b some is true_is b_is =
     let found : last_module 0 (modules_view ms) ≡ Some (0 + (length ms - 1), (view m.top).0.line) = last_module-is 0 (length ms - 1) ms m (omega arith) is in
     let place : 0 + (length ms - 1) ≡ length ms - 1 = omega arith in
     ap Some b_is ∙ sym (ap₂ (λ c x. least_from None (when c (option_map_or (λ last. broken 18 last.0 last.1) x []))) true_is
-        (found ∙ ap (λ n. Some (n, (view m.top).0.line)) place))
+    (found ∙ ap (λ n. Some (n, (view m.top).0.line)) place))
 
 last_some : (k : ℕ) (s : Statement) (below after : Forest Statement) → (x : ℕ × ℕ) × (last_module k (node s below after) ≡ Some x)
 last_some k s below end = ((k, s.line), refl)

@@ -1,5 +1,5 @@
 -- The table of statements as the specification's.
-use Rattle.std.specs.Prelude.{List, map, Option}
+use Rattle.std.specs.Prelude.{List, map}
 use Rattle.yspec.specs.Grammar as spec
 use Rattle.yspec.specs.Grammar.{identifier, name, flag, any_text, exactly_one, at_most_one, any_number}
 use Rattle.yschema.specs.declared.grammar.Form.{Form}

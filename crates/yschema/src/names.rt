@@ -43,10 +43,7 @@ fn repeated_in(
 }
 
 /// The least of the statements of all modules that share a name with one before them.
-pub(crate) fn repeated_name(
-    alloc: Global,
-    modules: &[Module],
-) -> Result<Option<Break>, AllocError>
+pub(crate) fn repeated_name(alloc: Global, modules: &[Module]) -> Result<Option<Break>, AllocError>
     ensures { IfOk result (λ told. seen told ≡ least_from None (by_body (λ m s. name_breaks m [] s) 0 (modules_view modules.now))) }
 {
     let mut told = None;

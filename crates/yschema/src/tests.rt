@@ -17,11 +17,9 @@ fn module_p(alloc: Global, lines: &str) -> Result<Module, Fail> {
 }
 
 fn schema_of_two(alloc: Global) -> Result<Schema, Fail> {
-    let lines = "  container c {\n    leaf id { type uint8; mandatory true; }\n    leaf note { type string; }\n  }\n";
-    let modules = [
-        module_p(alloc, lines)?,
-        parse(alloc, OTHER.as_bytes())?,
-    ];
+    let lines =
+        "  container c {\n    leaf id { type uint8; mandatory true; }\n    leaf note { type string; }\n  }\n";
+    let modules = [module_p(alloc, lines)?, parse(alloc, OTHER.as_bytes())?];
     Ok(compile(alloc, &modules)?)
 }
 
@@ -54,9 +52,25 @@ fn kinds(rt: HostRuntime) -> Result<(), Fail> {
     assert!(rt; container.config);
     let id = schema.kind(SchemaId(1)).ok_or("no leaf")?;
     assert_eq!(rt; id.name.as_str(), "id");
-    assert!(rt; matches!(&id.kind, Kind::Leaf { mandatory: true, .. }));
+    assert!(rt;
+        matches!(
+            &id.kind,
+            Kind::Leaf {
+                mandatory: true,
+                ..
+            }
+        )
+    );
     let note = schema.kind(SchemaId(2)).ok_or("no leaf")?;
-    assert!(rt; matches!(&note.kind, Kind::Leaf { mandatory: false, .. }));
+    assert!(rt;
+        matches!(
+            &note.kind,
+            Kind::Leaf {
+                mandatory: false,
+                ..
+            }
+        )
+    );
     assert!(rt; schema.kind(SchemaId(4)).is_none());
     Ok(())
 }
@@ -66,7 +80,10 @@ fn children_by_name(rt: HostRuntime) -> Result<(), Fail> {
     let schema = schema_of_two(rt.alloc())?;
     assert_eq!(rt; schema.child(None, 0, "c"), Some(SchemaId(0)));
     assert_eq!(rt; schema.child(None, 1, "c"), Some(SchemaId(3)));
-    assert_eq!(rt; schema.child(Some(SchemaId(0)), 0, "note"), Some(SchemaId(2)));
+    assert_eq!(rt;
+        schema.child(Some(SchemaId(0)), 0, "note"),
+        Some(SchemaId(2))
+    );
     assert_eq!(rt; schema.child(Some(SchemaId(0)), 1, "note"), None);
     assert_eq!(rt; schema.child(None, 0, "note"), None);
     assert_eq!(rt; schema.child(None, 0, "d"), None);
@@ -98,12 +115,28 @@ fn refusals(rt: HostRuntime) -> Result<(), Fail> {
         ("  typo a;\n", CompileCode::C1, 5),
         ("  leaf a { }\n", CompileCode::C2, 5),
         ("  leaf 1 { type string; }\n", CompileCode::C3, 5),
-        ("  leaf a { type string; mandatory yes; }\n", CompileCode::C3, 5),
+        (
+            "  leaf a { type string; mandatory yes; }\n",
+            CompileCode::C3,
+            5,
+        ),
         ("  yang-version 1.1;\n", CompileCode::C2, 1),
-        ("  leaf a { type string; }\n  leaf a { type uint8; }\n", CompileCode::C13, 6),
+        (
+            "  leaf a { type string; }\n  leaf a { type uint8; }\n",
+            CompileCode::C13,
+            6,
+        ),
         // The least by line, and the table before names.
-        ("  leaf a { type int32; }\n  leaf 1 { type string; }\n", CompileCode::C1, 5),
-        ("  leaf a { type string; }\n  leaf a { type string; }\n  leaf b;\n", CompileCode::C2, 7),
+        (
+            "  leaf a { type int32; }\n  leaf 1 { type string; }\n",
+            CompileCode::C1,
+            5,
+        ),
+        (
+            "  leaf a { type string; }\n  leaf a { type string; }\n  leaf b;\n",
+            CompileCode::C2,
+            7,
+        ),
     ];
     for (lines, code, line) in table {
         let modules = [module_p(rt.alloc(), lines)?];
@@ -121,7 +154,10 @@ fn refusals(rt: HostRuntime) -> Result<(), Fail> {
 fn the_module_that_is_told(rt: HostRuntime) -> Result<(), Fail> {
     let alloc = rt.alloc();
     let text = "module r { namespace \"urn:r\"; prefix r; }";
-    let modules = [parse(alloc, OTHER.as_bytes())?, parse(alloc, text.as_bytes())?];
+    let modules = [
+        parse(alloc, OTHER.as_bytes())?,
+        parse(alloc, text.as_bytes())?,
+    ];
     let wanted = CompileFault::Refused {
         code: CompileCode::C4,
         module: 1,

@@ -1,4 +1,4 @@
-use Rattle.std.proofs.Common.{◌≡◌, ◌≤◌, ◌+◌, ◌++◌, drop, suc, Some, ap, ap₂, sym, ◌∙◌, refl, arith, rules, length}
+use Rattle.std.proofs.Common.{◌≡◌, ◌+◌, ◌++◌, drop, Some, ap, ap₂, ◌∙◌, refl, arith, rules, length}
 use Rattle.std.proofs.lemmas.Result.{on_ok_weaker}
 use Rattle.ytext.specs.declared.statement.Stmt.{the_lemmas}
 use Rattle.std.proofs.lemmas.Grind.{common_steps}
@@ -17,16 +17,18 @@ add_node-returns t c =
     let count : c.count_nodes.result ≡ data_size s.1 = let e = ap data_size below in omega (arith, c.count_nodes.ensures, e, c.requires) in
     let here : Place = record { parent = number_of c.args.parent; label = schema_node c.args.«module» number s.0 s.1; below = data_size s.1 } in
     on_ok_weaker c.add_nodes.result (λ added. laid_below c.args.nodes.now.rows.items c.add.new.self.rows.items c.add_nodes.new.nodes.rows.items
-        (record { parent = c.args.parent; node = c.in_ok-node_of.field-0; below = c.count_nodes.result }) c.args.«module»
-        (row_view c.substatements-statements.result.now) s.1 (Some c.in_ok-id.id.0) here number
-        c.in_ok-id.ensures.rows refl
-        (ap₂ (λ l n. record { parent = number_of c.args.parent; label = l; below = n }) (c.in_ok-node_of.ensures number) count)
-        below (ap Some (c.in_ok-id.ensures.number ∙ c.args.nodes.now.rows.ok.0)) added) c.add_nodes.ensures
+    (record { parent = c.args.parent; node = c.in_ok-node_of.field-0; below = c.count_nodes.result }) c.args.«module»
+    (row_view c.substatements-statements.result.now) s.1 (Some c.in_ok-id.id.0) here number
+    c.in_ok-id.ensures.rows refl
+    (ap₂ (λ l n. record { parent = number_of c.args.parent; label = l; below = n }) (c.in_ok-node_of.ensures number) count)
+    below (ap Some (c.in_ok-id.ensures.number ∙ c.args.nodes.now.rows.ok.0)) added) c.add_nodes.ensures
 
 pub add_nodes-add_node-requires : goal.add_nodes-add_node-requires
-add_nodes-add_node-requires t c = (first_of (search (rules, the_lemmas), grind (arith, the_lemmas), grind (arith, common_steps, the_lemmas)),
-    room_at c.args.statements.now c.loop-statement.statement-index (length c.loop-statement.nodes.rows.items) c.statement-item.result
-    (omega arith) c.statement-item.is (search rules) c.loop-statement.invariant.room)
+add_nodes-add_node-requires t c = (
+  first_of (search (rules, the_lemmas), grind (arith, the_lemmas), grind (arith, common_steps, the_lemmas)),
+  room_at c.args.statements.now c.loop-statement.statement-index (length c.loop-statement.nodes.rows.items) c.statement-item.result
+      (omega arith) c.statement-item.is (search rules) c.loop-statement.invariant.room,
+)
 
 pub add_nodes-loop-statement-preserved : goal.add_nodes-loop-statement-preserved
 add_nodes-loop-statement-preserved t c =
@@ -38,25 +40,25 @@ add_nodes-loop-statement-preserved t c =
     let p = number_of c.args.parent in
     elim c.if-is_data_node.branch [
       | add_nodes-then-is_data_node+in_ok-add_node w ↦
-        (let new = w.add_node.new.nodes.rows.items in
-        let row_is : c.if-is_data_node.nodes.rows.items ≡ new = ap (λ n. n.rows.items) w.nodes-is in
-        let sized = size_at_data ss i s (omega arith) c.statement-item.is (search rules) in
-        let count = length_after old new (record { parent = p; label = schema_node m (length old) (view s).0 (view s).1; below = data_size (view s).1 }) m (length old) (view s).1 w.in_ok-add_node.ensures in
-        let counted : length c.if-is_data_node.nodes.rows.items ≡ length new = ap length row_is in
-        record {
-          room = omega (arith, sized, count, counted, c.loop-statement.invariant.room);
-          so_far = ap (λ rows. laid 0 rows ++ places p (nodes_from m (length rows) (row_view (drop (i + 1) ss)))) row_is
-              ∙ laid_row m ss i s old new p _ (omega arith) c.statement-item.is (search rules) w.in_ok-add_node.ensures c.loop-statement.invariant.so_far;
-        })
+          (let new = w.add_node.new.nodes.rows.items in
+          let row_is : c.if-is_data_node.nodes.rows.items ≡ new = ap (λ n. n.rows.items) w.nodes-is in
+          let sized = size_at_data ss i s (omega arith) c.statement-item.is (search rules) in
+          let count = length_after old new (record { parent = p; label = schema_node m (length old) (view s).0 (view s).1; below = data_size (view s).1 }) m (length old) (view s).1 w.in_ok-add_node.ensures in
+          let counted : length c.if-is_data_node.nodes.rows.items ≡ length new = ap length row_is in
+          record {
+            room = omega (arith, sized, count, counted, c.loop-statement.invariant.room);
+            so_far = ap (λ rows. laid 0 rows ++ places p (nodes_from m (length rows) (row_view (drop (i + 1) ss)))) row_is
+                ∙ laid_row m ss i s old new p _ (omega arith) c.statement-item.is (search rules) w.in_ok-add_node.ensures c.loop-statement.invariant.so_far;
+          })
       | add_nodes-else-is_data_node w ↦
-        (let row_is : c.if-is_data_node.nodes.rows.items ≡ old = ap (λ n. n.rows.items) w.nodes-is in
-        let sized = size_at_other ss i s (omega arith) c.statement-item.is (search rules) in
-        let counted : length c.if-is_data_node.nodes.rows.items ≡ length old = ap length row_is in
-        record {
-          room = omega (arith, sized, counted, c.loop-statement.invariant.room);
-          so_far = ap (λ rows. laid 0 rows ++ places p (nodes_from m (length rows) (row_view (drop (i + 1) ss)))) row_is
-              ∙ laid_other m ss i s old p _ (omega arith) c.statement-item.is (search rules) c.loop-statement.invariant.so_far;
-        })
+          (let row_is : c.if-is_data_node.nodes.rows.items ≡ old = ap (λ n. n.rows.items) w.nodes-is in
+          let sized = size_at_other ss i s (omega arith) c.statement-item.is (search rules) in
+          let counted : length c.if-is_data_node.nodes.rows.items ≡ length old = ap length row_is in
+          record {
+            room = omega (arith, sized, counted, c.loop-statement.invariant.room);
+            so_far = ap (λ rows. laid 0 rows ++ places p (nodes_from m (length rows) (row_view (drop (i + 1) ss)))) row_is
+                ∙ laid_other m ss i s old p _ (omega arith) c.statement-item.is (search rules) c.loop-statement.invariant.so_far;
+          })
     ]
 
 pub add_nodes-returns : goal.add_nodes-returns

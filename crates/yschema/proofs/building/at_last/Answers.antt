@@ -1,4 +1,4 @@
-use Rattle.std.proofs.Common.{ap, ◌∙◌, arith, rules}
+use Rattle.std.proofs.Common.{ap}
 use Rattle.yschema.specs.Told.{view}
 use Rattle.yschema.proofs.ToldLemmas.{passed}
 use Rattle.yschema.proofs.building.at_last.Goals as goal

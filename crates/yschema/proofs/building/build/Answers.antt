@@ -1,4 +1,4 @@
-use Rattle.std.proofs.Common.{◌≡◌, ◌+◌, ◌++◌, drop, ap, ap₂, sym, None, length, ◌∙◌, map, arith, rules, vec_len}
+use Rattle.std.proofs.Common.{◌+◌, ◌++◌, drop, ap, ap₂, None, length, ◌∙◌, map, arith}
 use Rattle.std.proofs.lemmas.List.{map_push}
 use Rattle.yspec.specs.Schema.{data_size, modules_of, all_nodes}
 use Rattle.ytext.specs.View.{row_view, modules_view}
@@ -31,13 +31,13 @@ pub returns : goal.returns
 returns c =
     let ms = c.args.modules.now in
     c.new.ensures ∙ ap₂ (λ set nodes. record { modules = set; nodes = nodes })
-        (whole_set ms c.loop-module.module (map module_view c.loop-module.set.items) (omega arith) c.loop-module.invariant.named)
-        (forest_of-laid (all_nodes 0 0 (modules_view ms)) None 0 c.loop-module.nodes.rows.items
-            (whole_laid ms c.loop-module.module c.loop-module.nodes.rows.items (omega arith) c.loop-module.invariant.so_far))
+    (whole_set ms c.loop-module.module (map module_view c.loop-module.set.items) (omega arith) c.loop-module.invariant.named)
+    (forest_of-laid (all_nodes 0 0 (modules_view ms)) None 0 c.loop-module.nodes.rows.items
+    (whole_laid ms c.loop-module.module c.loop-module.nodes.rows.items (omega arith) c.loop-module.invariant.so_far))
 
 pub new-requires-clause-nested : goal.new-requires-clause-nested
 new-requires-clause-nested c =
     let ms = c.args.modules.now in
     let rows = c.loop-module.nodes.rows.items in
     fits_laid (all_nodes 0 0 (modules_view ms)) None (length rows) 0 rows (omega arith)
-        (whole_laid ms c.loop-module.module rows (omega arith) c.loop-module.invariant.so_far)
+    (whole_laid ms c.loop-module.module rows (omega arith) c.loop-module.invariant.so_far)

@@ -11,4 +11,4 @@ build-requires c = few_nodes (modules_view c.args.modules.now) (sym (ap seen c.i
 pub returns-in-Some : goal.returns-in-Some
 returns-in-Some c =
     subst (λ fault. Fails fault (compiled (modules_view c.args.modules.now))) (sym c.from.ensures)
-        (refused_as (modules_view c.args.modules.now) (view c.in-Some.found) (sym (ap seen c.in-Some.is) ∙ c.in_ok-found.ensures))
+    (refused_as (modules_view c.args.modules.now) (view c.in-Some.found) (sym (ap seen c.in-Some.is) ∙ c.in_ok-found.ensures))

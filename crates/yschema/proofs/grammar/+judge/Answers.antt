@@ -1,6 +1,5 @@
-use Rattle.std.proofs.Common.{rules, arith, ap, ◌∙◌}
+use Rattle.std.proofs.Common.{rules, arith}
 use Rattle.ytext.specs.View.{view, row_view}
-use Rattle.ytext.proofs.ViewLemmas.{row_of_substatements}
 use Rattle.yschema.specs.Table.{allowed_views, rule_view}
 use Rattle.yschema.specs.Told.{seen}
 use Rattle.yschema.proofs.GrammarLemmas.{judged_known, judged_row}

@@ -1,4 +1,4 @@
-use Rattle.std.proofs.Common.{◌≡◌, [], refl, ◌∷◌, min, length, drop, ap, ap₂, ◌∙◌, rules, arith}
+use Rattle.std.proofs.Common.{◌≡◌, [], refl, ◌∷◌, min, length, drop, ap, ◌∙◌, rules, arith}
 use Rattle.std.specs.Prelude.{unwrap_or}
 use Rattle.yspec.specs.Forest.{end}
 use Rattle.yschema.specs.View.{row_view}
@@ -13,7 +13,7 @@ returns-in-Some c =
     let from_is : from ≡ drop (min c.args.id.0 (length rows)) rows = first_of (search rules, grind arith, cc) in
     let split : from ≡ c.in-Some.first.now ∷ c.in-Some.rest.now = search rules in
     ap (λ o. unwrap_or o end) (rows_below rows from c.in-Some.rest.now c.split_at-in-Some.result.0.now c.in-Some.first.now c.args.id.0 c.min-in-Some.result
-        (row_view c.new.result) c.args.self.now.nested from_is split c.min-in-Some.ensures c.split_at-in-Some.ensures.front c.new.ensures)
+    (row_view c.new.result) c.args.self.now.nested from_is split c.min-in-Some.ensures c.split_at-in-Some.ensures.front c.new.ensures)
 
 pub returns-in-None : goal.returns-in-None
 returns-in-None c =
