@@ -1,13 +1,12 @@
 -- How the faults that are found grow.
-use Rattle.std.proofs.Common.{◌≡◌, ℕ, ◌+◌, ◌-◌, Bool, true, false, cond, eqb, List, [], ◌∷◌, ◌++◌, length, take, map, Option, Some, None, is_some, refl, sym, ap, ap₂, ◌∙◌, arith, append_assoc, length-append}
+use Rattle.std.proofs.Common.{◌≡◌, ℕ, ◌-◌, true, false, cond, List, [], ◌∷◌, ◌++◌, length, take, map, Option, None, refl, sym, ap, ap₂, ◌∙◌, arith, append_assoc, length-append}
 use Rattle.std.proofs.lemmas.List.{append-nil, map-append, map-id, take_at}
 use Rattle.yspec.specs.Forest.{Forest, end, node}
-use Rattle.yspec.specs.Text.{Text}
-use Rattle.yspec.specs.Types.{Raw, Val, YangType, taken, app_tag_of}
+use Rattle.yspec.specs.Types.{Raw}
 use Rattle.yspec.specs.Schema.{Schema, SchemaNode, Kind}
 use Rattle.yspec.specs.Document.{Stored, Tree, Step}
-use Rattle.yspec.specs.Faults.{Fault, fault, under, value_faults, faults_of, answers_of}
-use Rattle.yspec.specs.RowFaults.{step_at, prefixed, begins_with, stored_own, absent_own, stored_faults, absent_faults, row_faults}
+use Rattle.yspec.specs.Faults.{Fault, under, faults_of, answers_of}
+use Rattle.yspec.specs.RowFaults.{step_at, prefixed, begins_with, stored_own, stored_faults, absent_faults, row_faults}
 use Rattle.yspec.specs.Fitting.{IsNumbered, Fits}
 use Rattle.yspec.proofs.CheckingRows.{prefixed_twice, rows_are_faults}
 use Rattle.yschema.specs.declared.node.SchemaId.{SchemaId}

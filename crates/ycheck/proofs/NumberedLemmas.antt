@@ -1,7 +1,6 @@
 -- The nodes of a schema are numbered in preorder, however they lie there.
-use Rattle.std.proofs.Common.{◌≡◌, ℕ, zero, suc, ◌+◌, ◌≤◌, List, [], ◌∷◌, length, take, drop, refl, sym, ap, subst, arith, length-take, length-drop}
-use Rattle.yspec.specs.Forest.{Forest, size}
-use Rattle.yspec.specs.Schema.{SchemaNode}
+use Rattle.std.proofs.Common.{◌≡◌, ℕ, zero, suc, ◌+◌, ◌≤◌, List, [], ◌∷◌, length, take, drop, refl, sym, subst, arith, length-take, length-drop}
+use Rattle.yspec.specs.Forest.{size}
 use Rattle.yspec.specs.Fitting.{IsNumbered}
 use Rattle.yschema.specs.declared.children.Row.{Row}
 use Rattle.yschema.specs.View.{forest_within, forest_of}
@@ -23,10 +22,12 @@ numbered_within zero k (r ∷ rows) enough = absurd (omega arith)
 numbered_within (suc n) k [] enough = tt
 numbered_within (suc n) k (r ∷ rows) enough =
     let inner = take r.below rows in
-    let few : length inner ≤ n = omega (arith, length-take r.below rows) in
-    (refl, numbered_within n (k + 1) inner few,
-    subst (λ (m : ℕ). IsNumbered (k + 1 + m) (forest_within n (k + 1 + length inner) (drop r.below rows))) (sym (size_within n (k + 1) inner few))
-    (numbered_within n (k + 1 + length inner) (drop r.below rows) (omega (arith, length-drop r.below rows))))
+    let few : length inner ≤ n = omega (arith, length-take r.below rows) in (
+      refl,
+      numbered_within n (k + 1) inner few,
+      subst (λ (m : ℕ). IsNumbered (k + 1 + m) (forest_within n (k + 1 + length inner) (drop r.below rows))) (sym (size_within n (k + 1) inner few))
+          (numbered_within n (k + 1 + length inner) (drop r.below rows) (omega (arith, length-drop r.below rows))),
+    )
 
 pub numbered : (k : ℕ) (rows : List Row) → IsNumbered k (forest_of k rows)
 numbered k rows = numbered_within (length rows) k rows (omega arith)

@@ -1,11 +1,13 @@
 -- What is written one after another.
-use Rattle.std.proofs.Common.{◌≡◌, ℕ, ◌+◌, ◌<◌, ◌≤◌, min, cond, leb, [], ◌∷◌, ◌++◌, length, get_or, take, drop, map, Option, Some, None, refl, sym, ap, ◌∙◌, arith, append_assoc}
+use Rattle.std.proofs.Common.{◌≡◌, ℕ, ◌+◌, ◌<◌, ◌≤◌, min, cond, leb, [], ◌∷◌, ◌++◌, length, get_or, take, drop, Option, Some, None, Result, Ok, Err, refl, sym, ap, ◌∙◌, arith, append_assoc}
 use Rattle.std.proofs.lemmas.List.{append-nil, map-append, map_more, take-append-drop, take-append-le, take_min}
 use Rattle.std.proofs.Math.Seq.{take-append-add}
+use Rattle.std.proofs.lemmas.Bool.{false≢true}
+use Rattle.std.specs.Result.{IsErr}
 use Rattle.yspec.specs.Text.{Text}
 use Rattle.yspec.specs.Faults.{printed_tag}
 use Rattle.ytext.specs.Sink.{followed_by}
-use Rattle.ycheck.specs.Writes.{Wrote, WroteBeginning}
+use Rattle.ycheck.specs.Writes.{Wrote, WroteBeginning, Writes}
 
 followed_on : (t : Option Text) (p q : Text) → followed_by (followed_by t p) q ≡ followed_by t (p ++ q)
 followed_on None p q = refl
@@ -64,3 +66,17 @@ pub printed_part : {a b c : Option Text} (bytes : Text) (i : ℕ) → i < length
 printed_part bytes i within before now = some_as
     (ap (λ (xs : Text). xs ++ printed_tag (drop (i + 1) bytes)) (sym (map_more printed bytes i 0 within)) ∙ printed_rest bytes (i + 1))
     (some_of (printed_tag (drop (i + 1) bytes)) (then_some before now))
+
+-- ---- whatever a call answered
+
+pub writes_then : {A E : Type 0} (r : Result A E) {a b : Option Text} {p : Text} (c : Option Text) (q : Text) → Wrote a b p → Writes b c q r → Writes a c (p ++ q) r
+writes_then (Ok x) c q first second = then_all first second
+writes_then (Err e) c q first second = then_some first second
+
+pub writes_as : {A E : Type 0} (r : Result A E) (a b : Option Text) (p q : Text) → p ≡ q → Writes a b p r → Writes a b q r
+writes_as (Ok x) a b p q same first = all_as same first
+writes_as (Err e) a b p q same first = some_as same first
+
+pub writes_failed : {A E : Type 0} (r : Result A E) {a b : Option Text} {p : Text} → IsErr r → WroteBeginning a b p → Writes a b p r
+writes_failed (Ok x) is first = absurd (false≢true is)
+writes_failed (Err e) is first = first

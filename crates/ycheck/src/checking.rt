@@ -50,8 +50,13 @@ impl Findings {
         app_tag: Option<String>,
     ) -> Result<(), AllocError>
         ensures found { OnOk result (views self.new.faults.items ≡ views self.old.faults.items
-            ++ record { code = code_number code; tag = tag_name tag; app_tag = option_map string_bytes app_tag;
-            steps = place_view self.old.steps.items; info = no_info } ∷ []) }
+            ++ record {
+              code = code_number code;
+              tag = tag_name tag;
+              app_tag = option_map string_bytes app_tag;
+              steps = place_view self.old.steps.items;
+              info = no_info;
+            } ∷ []) }
         ensures place { OnOk result (self.new.steps.items ≡ self.old.steps.items) }
     {
         let steps = Vec::from_slice(self.alloc, &self.steps)?;

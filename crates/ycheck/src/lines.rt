@@ -1,9 +1,10 @@
 //! The line that a fault prints, and the text of a path.
 
-ghost use Rattle.std.specs.Prelude.{◌≡◌, ◌+◌, ◌++◌, [], ◌∷◌, codes, decimal};
-ghost use Rattle.yspec.specs.Faults.{printed_tag};
+ghost use Rattle.std.specs.Prelude.{◌≡◌, ◌+◌, ◌++◌, [], ◌∷◌, codes, decimal, option_map, string_bytes, unwrap_or};
+ghost use Rattle.yspec.specs.Faults.{or_dash, printed_tag};
+ghost use Rattle.yspec.specs.Path.{position_text};
 ghost use Rattle.yspec.specs.Schema as spec;
-ghost use Rattle.ycheck.specs.View.{tag_name};
+ghost use Rattle.ycheck.specs.View.{code_number, tag_name};
 ghost use Rattle.ycheck.specs.Writes.{Writes, failures_met};
 
 use crate::fault::{ErrorTag, Fault, FaultCode};
@@ -87,6 +88,7 @@ fn is_module(module: usize, parent_module: Option<usize>) -> bool
 }
 
 fn write_position<W: Sink>(position: Option<u32>, sink: &mut W) -> Result<(), LineFault>
+    ensures written { Writes (W.taken sink.old) (W.taken sink.new) (position_text position) result }
     ensures counted { W.failures sink.new ≡ W.failures sink.old + failures_met result }
 {
     match position {
@@ -125,6 +127,7 @@ fn write_number<W: Sink>(number: u32, sink: &mut W) -> Result<(), LineFault>
 }
 
 fn code_text(code: FaultCode) -> &'static str
+    ensures { result.now ≡ codes "V" ++ (decimal (code_number code) ++ codes " ") }
 {
     match code {
         FaultCode::V1 => "V1 ",
@@ -143,6 +146,8 @@ fn tag_text(tag: ErrorTag) -> &'static str
 
 /// Writes an error-app-tag, `-` for none or for an empty one. White space and control characters in it print as `_`.
 fn write_app_tag<W: Sink>(app_tag: &Option<String>, sink: &mut W) -> Result<(), LineFault>
+    ensures written { Writes (W.taken sink.old) (W.taken sink.new)
+        (or_dash (printed_tag (unwrap_or (option_map string_bytes app_tag.now) []))) result }
     ensures counted { W.failures sink.new ≡ W.failures sink.old + failures_met result }
 {
     match app_tag {
@@ -152,6 +157,7 @@ fn write_app_tag<W: Sink>(app_tag: &Option<String>, sink: &mut W) -> Result<(), 
 }
 
 fn write_or_dash<W: Sink>(tag: &[u8], sink: &mut W) -> Result<(), LineFault>
+    ensures written { Writes (W.taken sink.old) (W.taken sink.new) (or_dash (printed_tag tag.now)) result }
     ensures counted { W.failures sink.new ≡ W.failures sink.old + failures_met result }
 {
     match tag.split_first() {
@@ -164,6 +170,7 @@ fn write_or_dash<W: Sink>(tag: &[u8], sink: &mut W) -> Result<(), LineFault>
 }
 
 fn write_all_printed<W: Sink>(bytes: &[u8], sink: &mut W) -> Result<(), LineFault>
+    ensures written { Writes (W.taken sink.old) (W.taken sink.new) (printed_tag bytes.now) result }
     ensures counted { W.failures sink.new ≡ W.failures sink.old + failures_met result }
 {
     for byte in bytes {

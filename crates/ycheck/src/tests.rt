@@ -7,6 +7,7 @@ use ytext::{Cut, parse};
 
 const CONTAINER: &str = "module p { yang-version 1.1; namespace \"urn:p\"; prefix p; container c { \
     leaf id { type uint8; mandatory true; } leaf note { type string; } } }";
+
 const NESTED: &str = "module q { yang-version 1.1; namespace \"urn:q\"; prefix q; container a { \
     container b { leaf c { type uint8; mandatory true; } } leaf d { type string; } } }";
 
