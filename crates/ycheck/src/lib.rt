@@ -8,6 +8,3 @@ mod lines;
 pub use checking::faults;
 pub use fault::{ErrorTag, Fault, FaultCode, Info};
 pub use lines::{LineFault, write_line, write_path};
-
-#[cfg(test)]
-mod tests;

@@ -18,6 +18,3 @@ pub use fault::{CompileCode, CompileFault};
 pub use limits::{LEVEL_LIMIT, NODE_LIMIT};
 pub use node::{Kind, SchemaId, SchemaNode, Status};
 pub use schema::{Schema, SchemaModule};
-
-#[cfg(test)]
-mod tests;
