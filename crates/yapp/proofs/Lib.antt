@@ -1,3 +1,2 @@
 pub mod CommandSteps
 pub mod RunningSteps
-pub mod WritingSteps

@@ -3,4 +3,3 @@ pub mod Command
 pub mod Failing
 pub mod Files
 pub mod Running
-pub mod Writing

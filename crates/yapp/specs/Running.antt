@@ -3,7 +3,7 @@ use Rattle.std.specs.Prelude.{◌≡◌, ◌⊎◌, ℕ, List, [], codes, take}
 use Rattle.clap.specs.Words.{Kinds, IsAmong}
 use Rattle.clap.specs.declared.error.kind.ErrorKind.TheVariants.{DisplayHelp}
 use Rattle.yspec.specs.Output.{Outcome, failed, found}
-use Rattle.yapp.specs.Writing.{Side, Wrote, Broke}
+use Rattle.ytext.specs.Writing.{Side, Wrote, Broke}
 
 -- the status where a file, a stream or memory failed
 abbrev pub failure : ℕ
@@ -27,6 +27,12 @@ abbrev pub Brings : Side → Side → Side → Side → Outcome → ℕ → Type
 Brings output output_after errors errors_after o status = BringsAll output output_after errors errors_after o status
     ⊎ (OutputBreaks output output_after errors errors_after o status
     ⊎ ErrorsBreak output output_after errors errors_after o status)
+
+-- a run that writes to one side alone ends with some bytes and a status, or with the status of a failure where a call
+-- failed
+abbrev pub Ends : Side → Side → List ℕ → ℕ → ℕ → Type 0
+Ends before after bytes status result =
+    (Wrote before after bytes × (result ≡ status)) ⊎ (Broke before after bytes × (result ≡ failure))
 
 -- ---- what comes in place of a request
 

@@ -2,19 +2,19 @@
 
 ghost use Rattle.std.specs.Prelude.{◌≡◌, ◌++◌, codes, IfSome};
 ghost use Rattle.yapp.specs.Failing.{outcome_of, refusal_in, text_code_number};
-ghost use Rattle.yapp.specs.Writing.{Writes, side};
+ghost use Rattle.ytext.specs.Writing.{Writes, side};
 ghost use Rattle.yschema.specs.Told.{code_number};
 ghost use Rattle.yapp.specs.declared.failure.Failure.TheVariants.{Memory};
 
 use crate::files::FileFault;
 use crate::status::{FAILED, REFUSED};
-use crate::writing::write_texts;
+
 use itoa::Buffer;
 use std::alloc::{AllocError, AllocFailed};
 use ycheck::write_path;
 use yinst::{DocCode, Step};
 use yschema::{CompileCode, Schema};
-use ytext::{Sink, SinkFault, TextCode};
+use ytext::{Sink, SinkFault, TextCode, write_texts};
 
 /// Why a command gives no report. Files are named by the words that were given.
 #[derive(Drop)]

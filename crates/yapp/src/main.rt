@@ -11,7 +11,6 @@ mod system;
 #[cfg(test)]
 mod tests;
 mod validation;
-mod writing;
 
 use std::process::ExitCode;
 use std::{env, io};

@@ -3,16 +3,15 @@
 ghost use Rattle.std.specs.Prelude.{◌≡◌, ◌⊎◌, [], codes, is_ok, if◌then◌else◌, map, string_bytes};
 ghost use Rattle.yspec.specs.Output.{Outcome};
 ghost use Rattle.yapp.specs.Command.{refusals};
-ghost use Rattle.yapp.specs.Running.{AnswersWords, Brings, refused, without_memory};
-ghost use Rattle.yapp.specs.Writing.{Ends, side};
+ghost use Rattle.yapp.specs.Running.{AnswersWords, Brings, Ends, refused, without_memory};
+ghost use Rattle.ytext.specs.Writing.{side};
 
 use crate::command::{NoRequest, Request, read_request};
 use crate::files::Files;
 use crate::status::{FAILED, GOOD, MISUSED};
 use crate::validation::validate;
-use crate::writing::write_texts;
 use std::alloc::Global;
-use ytext::{Sink, SinkFault};
+use ytext::{Sink, SinkFault, write_texts};
 
 /// The exit status after something was to be written: another one where a write failed.
 fn status_after(written: Result<(), SinkFault>, status: u8) -> u8

@@ -3,11 +3,11 @@
 ghost use Rattle.std.specs.Prelude.{◌≡◌, ◌==◌, length, if◌then◌else◌};
 
 use crate::status::{FAULTY, GOOD};
-use crate::writing::write_texts;
+
 use itoa::Buffer;
 use ycheck::{Fault, write_line};
 use yschema::Schema;
-use ytext::{Sink, SinkFault};
+use ytext::{Sink, SinkFault, write_texts};
 
 /// The faults of a document under its schema, in order.
 #[derive(Drop)]

@@ -10,3 +10,4 @@ pub mod TokenSteps
 pub mod Walks
 pub mod ScanSteps
 pub mod SinkSteps
+pub mod WritingSteps

@@ -7,3 +7,4 @@ pub mod Scanned
 pub mod Sink
 pub mod Statements
 pub mod View
+pub mod Writing

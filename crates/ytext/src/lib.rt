@@ -19,6 +19,6 @@ pub use count::FailureCount;
 pub use fault::{TextCode, TextFault};
 pub use name::{is_identifier, is_name};
 pub use scanner::{Token, TokenKind, Tokens};
-pub use sink::{Cut, Sink, SinkFault, write_all};
+pub use sink::{Cut, Sink, SinkFault, write_all, write_texts};
 pub use statement::{Module, Stmt};
 pub use text::{parse, tokens};

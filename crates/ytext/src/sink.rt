@@ -1,6 +1,8 @@
 //! Where bytes are written to.
 ghost use Rattle.std.specs.Prelude.{◌≡◌, ℕ, ◌+◌, ◌≤◌, List, [], length, take, Option, Some, IfOk, OnOk, OnErr};
+ghost use Rattle.std.specs.List.{flat_map};
 ghost use Rattle.ytext.specs.Sink.{followed_by, failed_calls};
+ghost use Rattle.ytext.specs.Writing.{Writes, side};
 
 use crate::count::FailureCount;
 use std::alloc::{AllocError, Global};
@@ -27,10 +29,7 @@ pub trait Sink {
 
 /// Writes bytes until all are taken. After a failed call it makes no other, and what is taken is a beginning of them.
 pub fn write_all<S: Sink>(sink: &mut S, bytes: &[u8]) -> Result<(), SinkFault>
-    ensures ok { OnOk result (S.taken sink.new ≡ followed_by (S.taken sink.old) bytes.now) }
-    ensures without_failure { OnOk result (S.failures sink.new ≡ S.failures sink.old) }
-    ensures err { OnErr result ((n : ℕ) × (S.taken sink.new ≡ followed_by (S.taken sink.old) (take n bytes.now))) }
-    ensures one_failure { OnErr result (S.failures sink.new ≡ S.failures sink.old + 1) }
+    ensures { Writes (side S.taken S.failures sink.old) (side S.taken S.failures sink.new) bytes.now result }
 {
     let mut at = 0;
     while at < bytes.len() {
@@ -40,6 +39,17 @@ pub fn write_all<S: Sink>(sink: &mut S, bytes: &[u8]) -> Result<(), SinkFault>
             return Err(SinkFault);
         }
         at += n;
+    }
+    Ok(())
+}
+
+/// Writes some texts, one after the other. After a failed call it makes no other.
+pub fn write_texts<S: Sink>(sink: &mut S, texts: &[&str]) -> Result<(), SinkFault>
+    ensures { Writes (side S.taken S.failures sink.old) (side S.taken S.failures sink.new)
+        (flat_map (λ t. t.now) texts.now) result }
+{
+    for text in texts {
+        write_all(sink, text.as_bytes())?;
     }
     Ok(())
 }

@@ -1,5 +1,6 @@
 use Rattle.std.proofs.lemmas.List.{append-nil}
-use Rattle.yapp.proofs.WritingSteps.{ends, writes_same}
+use Rattle.ytext.proofs.WritingSteps.{writes_same}
+use Rattle.yapp.proofs.RunningSteps.{ends}
 use Rattle.yapp.proofs.program.refuse.Goals as goal
 
 pub returns : goal.returns

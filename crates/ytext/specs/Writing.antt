@@ -1,5 +1,5 @@
--- What writing to a side comes to.
-use Rattle.std.specs.Prelude.{◌≡◌, ◌⊎◌, ℕ, ◌+◌, List, Option, Result, Ok, Err, take}
+-- What writing to a sink comes to.
+use Rattle.std.specs.Prelude.{◌≡◌, ℕ, ◌+◌, List, Option, Result, Ok, Err, take}
 use Rattle.ytext.specs.Sink.{followed_by}
 
 -- a side, as its sink tells of it: the bytes that it has taken, where it tells them, and how many of its calls failed
@@ -24,8 +24,3 @@ pub record Broke (before after : Side) (bytes : List ℕ) : Type 0 where
 abbrev pub Writes : {X E : Type 0} → Side → Side → List ℕ → Result X E → Type 0
 Writes before after bytes (Ok x) = Wrote before after bytes
 Writes before after bytes (Err e) = Broke before after bytes
-
--- a run ends with some bytes and a status, or with the status of a failure where a call failed
-abbrev pub Ends : Side → Side → List ℕ → ℕ → ℕ → Type 0
-Ends before after bytes status result =
-    (Wrote before after bytes × (result ≡ status)) ⊎ (Broke before after bytes × (result ≡ 4))

@@ -1,12 +1,12 @@
 -- Writing one text after another.
 use Rattle.std.proofs.Common.{◌≡◌, ◌⊎◌, inl, inr, ℕ, zero, suc, ◌+◌, ◌<◌, List, [], ◌∷◌, ◌++◌, length, take, drop, get_or, min, Option, Some, None, refl, sym, subst, ap, ◌∙◌, append_assoc, add-one, arith}
 use Rattle.std.specs.Borrow.{Bor}
-use Rattle.std.specs.Prelude.{Result, Ok, Err, IsErr, is_ok, if◌then◌else◌}
+use Rattle.std.specs.Prelude.{Result, Ok, Err, IsErr}
 use Rattle.std.specs.List.{flat_map}
 use Rattle.std.proofs.lemmas.List.{append-nil, take-append-le, take_min}
 use Rattle.std.proofs.Math.Seq.{take-append-add}
 use Rattle.ytext.specs.Sink.{followed_by}
-use Rattle.yapp.specs.Writing.{Side, Wrote, Broke, Writes, Ends}
+use Rattle.ytext.specs.Writing.{Side, Wrote, Broke, Writes}
 
 pub followed_by_both : (t : Option (List ℕ)) (xs ys : List ℕ) → followed_by (followed_by t xs) ys ≡ followed_by t (xs ++ ys)
 followed_by_both None xs ys = refl
@@ -42,36 +42,6 @@ broke_first a b xs ys first = record {
   failures = first.failures;
 }
 
--- the writing of a row of texts, of which the first i are written
-abbrev pub all_of : List (Bor (List ℕ)) → List ℕ
-all_of = flat_map (λ t. t.now)
-
--- the text at a place, those before it and those after it
-pub cut_at : (xs : List (Bor (List ℕ))) (i : ℕ) (d : Bor (List ℕ)) → i < length xs
-    → all_of xs ≡ all_of (take i xs) ++ ((get_or xs i d).now ++ all_of (drop (suc i) xs))
-cut_at [] i d within = absurd (omega arith)
-cut_at (y ∷ ys) zero d within = refl
-cut_at (y ∷ ys) (suc i) d within = ap (λ (zs : List ℕ). y.now ++ zs) (cut_at ys i d (omega arith))
-    ∙ sym (append_assoc y.now (all_of (take i ys)) ((get_or ys i d).now ++ all_of (drop (suc i) ys)))
-
-one_later : (xs : List (Bor (List ℕ))) (i : ℕ) (d : Bor (List ℕ)) → i < length xs
-    → all_of (take (suc i) xs) ≡ all_of (take i xs) ++ (get_or xs i d).now
-one_later [] i d within = absurd (omega arith)
-one_later (y ∷ ys) zero d within = append-nil y.now
-one_later (y ∷ ys) (suc i) d within = ap (λ (zs : List ℕ). y.now ++ zs) (one_later ys i d (omega arith))
-    ∙ sym (append_assoc y.now (all_of (take i ys)) (get_or ys i d).now)
-
-pub one_more : (xs : List (Bor (List ℕ))) (i : ℕ) (d : Bor (List ℕ)) → i < length xs
-    → all_of (take (i + 1) xs) ≡ all_of (take i xs) ++ (get_or xs i d).now
-one_more xs i d within = ap (λ (n : ℕ). all_of (take n xs)) (add-one i) ∙ one_later xs i d within
-
--- what a call of `write_all` says
-pub wrote : (a b : Side) (bytes : List ℕ) → b.taken ≡ followed_by a.taken bytes → b.failures ≡ a.failures → Wrote a b bytes
-wrote a b bytes taken failures = record { taken = taken; failures = failures }
-
-pub broke : (a b : Side) (bytes : List ℕ) → (n : ℕ) × (b.taken ≡ followed_by a.taken (take n bytes)) → b.failures ≡ a.failures + 1 → Broke a b bytes
-broke a b bytes taken failures = record { count = taken.0; taken = taken.1; failures = failures }
-
 -- other texts, which are equal
 pub wrote_same : (a b : Side) (xs ys : List ℕ) → xs ≡ ys → Wrote a b xs → Wrote a b ys
 wrote_same a b xs ys e w = subst (λ zs. Wrote a b zs) e w
@@ -83,11 +53,33 @@ pub writes_err : {X E : Type 0} → (a b : Side) (bytes : List ℕ) (r : Result 
 writes_err a b bytes (Ok x) e w = cc
 writes_err a b bytes (Err x) e w = w
 
--- a text that is written alone ends a run
-pub ends : {X E : Type 0} → (a b : Side) (bytes : List ℕ) (status result : ℕ) (r : Result X E) → Writes a b bytes r
-    → result ≡ (if is_ok r then status else 4) → Ends a b bytes status result
-ends a b bytes status result (Ok x) w e = inl (w, e)
-ends a b bytes status result (Err x) w e = inr (w, e)
-
 pub writes_same : {X E : Type 0} → (a b : Side) (xs ys : List ℕ) (r : Result X E) → xs ≡ ys → Writes a b xs r → Writes a b ys r
 writes_same a b xs ys r e w = subst (λ zs. Writes a b zs r) e w
+
+-- ---- a text that is written part by part
+
+-- what is written of it, and what is left
+pub record Left (before now : Side) (whole rest : List ℕ) : Type 0 where
+  pub written : List ℕ
+  pub wrote : Wrote before now written
+  pub is : written ++ rest ≡ whole
+
+pub left_all : (a : Side) (whole : List ℕ) → Left a a whole whole
+left_all a whole = record { written = []; wrote = wrote_none a; is = refl }
+
+pub left_same : (a b : Side) (whole xs ys : List ℕ) → xs ≡ ys → Left a b whole xs → Left a b whole ys
+left_same a b whole xs ys e l = subst (λ zs. Left a b whole zs) e l
+
+pub left_after : (a b c : Side) (whole xs ys : List ℕ) → Left a b whole (xs ++ ys) → Wrote b c xs → Left a c whole ys
+left_after a b c whole xs ys l w = record {
+  written = l.written ++ xs;
+  wrote = wrote_both a b c l.written xs l.wrote w;
+  is = append_assoc l.written xs ys ∙ l.is;
+}
+
+pub left_none : (a b : Side) (whole : List ℕ) → Left a b whole [] → Wrote a b whole
+left_none a b whole l = wrote_same a b l.written whole (sym (append-nil l.written) ∙ l.is) l.wrote
+
+pub left_broken : (a b c : Side) (whole xs ys : List ℕ) → Left a b whole (xs ++ ys) → Broke b c xs → Broke a c whole
+left_broken a b c whole xs ys l broken = broke_same a c (l.written ++ (xs ++ ys)) whole l.is
+    (broke_second a b c l.written (xs ++ ys) l.wrote (broke_first b c xs ys broken))
