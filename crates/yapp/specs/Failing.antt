@@ -1,13 +1,18 @@
--- Why there is no report, as the outcome that says so.
-use Rattle.std.specs.Prelude.{ℕ, ◌++◌, List, codes, decimal, Option, Some, None}
+-- What a report or a failure comes to, as the outcome that it prints.
+use Rattle.std.specs.Prelude.{◌≡◌, ℕ, ◌++◌, ◌==◌, List, [], length, codes, decimal, Result, Ok, Err, if◌then◌else◌}
 use Rattle.ytext.specs.declared.fault.TextCode.{TextCode}
 use Rattle.ytext.specs.declared.fault.TextCode.TheVariants.{L1, L2, L3, L4, L5, L6, L7, L8}
 use Rattle.yschema.specs.Told.{code_number}
-use Rattle.yspec.specs.Output.{Outcome, failed, slip_line, unread}
+use Rattle.yschema.specs.View as schema_view
+use Rattle.yinst.specs.Told as document
+use Rattle.yinst.specs.View.{place_view}
+use Rattle.ycheck.specs.View.{views}
+use Rattle.yspec.specs.Output.{Outcome, failed, found, refusal_line, report, unread}
 use Rattle.yspec.specs.Text.{Text}
 use Rattle.yapp.specs.Running.{without_memory}
 use Rattle.yapp.specs.declared.failure.Failure.{Failure}
 use Rattle.yapp.specs.declared.failure.Failure.TheVariants as failures
+use Rattle.yapp.specs.declared.report.Report.{Report}
 
 abbrev pub text_code_number : TextCode → ℕ
 text_code_number L1 = 1
@@ -23,10 +28,26 @@ text_code_number L8 = 8
 abbrev pub refusal_in : Text → ℕ → Text → ℕ → List ℕ
 refusal_in name line kind code = name ++ (codes ":" ++ (decimal line ++ (kind ++ decimal code)))
 
--- for a document's refusal it isn't said yet
-abbrev pub outcome_of : Failure → Option Outcome
-outcome_of (failures.Unread name) = Some (unread name.now)
-outcome_of (failures.Text name code line) = Some (failed 2 (refusal_in name.now line (codes ": L") (text_code_number code)))
-outcome_of (failures.Compile name code line) = Some (failed 2 (refusal_in name.now line (codes ": C") (code_number code)))
-outcome_of (failures.Document name schema code place) = None
-outcome_of failures.Memory = Some without_memory
+abbrev pub outcome_of : Failure → Outcome
+outcome_of (failures.Unread name) = unread name.now
+outcome_of (failures.Text name code line) = failed 2 (refusal_in name.now line (codes ": L") (text_code_number code))
+outcome_of (failures.Compile name code line) = failed 2 (refusal_in name.now line (codes ": C") (code_number code))
+outcome_of (failures.Document name schema code place) = failed 2 (refusal_line (schema_view.view schema) name.now
+    (record { code = document.code_number code; place = place_view place.items }))
+outcome_of failures.Memory = without_memory
+
+abbrev pub reported : Report → Outcome
+reported r = found (if length r.faults.items == 0 then 0 else 1) (report (schema_view.view r.schema) (views r.faults.items))
+
+-- a failure is the outcome; of want of memory nothing is said
+abbrev pub FailsWith : Failure → Outcome → Type 0
+FailsWith (failures.Unread name) o = o ≡ outcome_of (failures.Unread name)
+FailsWith (failures.Text name code line) o = o ≡ outcome_of (failures.Text name code line)
+FailsWith (failures.Compile name code line) o = o ≡ outcome_of (failures.Compile name code line)
+FailsWith (failures.Document name schema code place) o = o ≡ outcome_of (failures.Document name schema code place)
+FailsWith failures.Memory o = Unit {0}
+
+-- what was returned goes on to the outcome so, or is the failure that it is
+abbrev pub LeadsTo : {X : Type 0} → Outcome → (X → Outcome) → Result X Failure → Type 0
+LeadsTo o next (Ok x) = o ≡ next x
+LeadsTo o next (Err failure) = FailsWith failure o

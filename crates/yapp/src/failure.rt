@@ -1,9 +1,13 @@
 //! Why there is no report, and the line that says so.
 
-ghost use Rattle.std.specs.Prelude.{◌≡◌, ◌++◌, codes, IfSome};
-ghost use Rattle.yapp.specs.Failing.{outcome_of, refusal_in, text_code_number};
+ghost use Rattle.std.specs.Prelude.{◌≡◌, ◌++◌, codes};
+ghost use Rattle.yspec.specs.Output.{refusal_line};
 ghost use Rattle.ytext.specs.Writing.{Writes, side};
 ghost use Rattle.yschema.specs.Told.{code_number};
+ghost use Rattle.yschema.specs.View as schema_view;
+ghost use Rattle.yinst.specs.Told as document;
+ghost use Rattle.yinst.specs.View.{place_view};
+ghost use Rattle.yapp.specs.Failing.{outcome_of, refusal_in, text_code_number};
 ghost use Rattle.yapp.specs.declared.failure.Failure.TheVariants.{Memory};
 
 use crate::files::FileFault;
@@ -72,7 +76,7 @@ impl<'a> Failure<'a> {
 
     /// The exit status that it brings.
     pub fn status(&self) -> u8
-        ensures { IfSome (outcome_of self.now) (λ o. result ≡ o.status) }
+        ensures { result ≡ (outcome_of self.now).status }
     {
         match self {
             Failure::Unread { .. } | Failure::Memory => FAILED,
@@ -82,8 +86,8 @@ impl<'a> Failure<'a> {
 
     /// Writes its line.
     pub fn write<S: Sink>(&self, sink: &mut S) -> Result<(), SinkFault>
-        ensures { IfSome (outcome_of self.now) (λ o.
-            Writes (side S.taken S.failures sink.old) (side S.taken S.failures sink.new) o.errors result) }
+        ensures { Writes (side S.taken S.failures sink.old) (side S.taken S.failures sink.new)
+            (outcome_of self.now).errors result }
     {
         match self {
             Failure::Unread { name } => write_texts(sink, &["cannot read ", *name, "\n"]),
@@ -98,7 +102,7 @@ impl<'a> Failure<'a> {
                 schema,
                 code,
                 place,
-            } => write_document_refusal(*name, schema, *code as u8, place, sink),
+            } => write_document_refusal(*name, schema, document_number(*code), place, sink),
             Failure::Memory => write_texts(sink, &["memory\n"]),
         }
     }
@@ -114,6 +118,13 @@ fn text_number(code: TextCode) -> u8
 /// The number of the code of a module's rule.
 fn rule_number(code: CompileCode) -> u8
     ensures { result ≡ code_number code }
+{
+    code as u8
+}
+
+/// The number of the code of a document's refusal.
+fn document_number(code: DocCode) -> u8
+    ensures { result ≡ document.code_number code }
 {
     code as u8
 }
@@ -143,11 +154,14 @@ fn write_document_refusal<S: Sink>(
     code: u8,
     place: &[Step],
     sink: &mut S,
-) -> Result<(), SinkFault> {
-    let mut code_digits = Buffer::new();
-    write_texts(sink, &[name, ": J", code_digits.format(code), " "])?;
-    if write_path(schema, place, sink).is_err() {
-        return Err(SinkFault);
+) -> Result<(), SinkFault>
+    ensures { Writes (side S.taken S.failures sink.old) (side S.taken S.failures sink.new)
+        (refusal_line (schema_view.view schema.now) name.now (record { code = code; place = place_view place.now }) ++ codes "\n") result }
+{
+    let mut digits = Buffer::new();
+    write_texts(sink, &[name, ": J", digits.format(code), " "])?;
+    match write_path(schema, place, sink) {
+        Ok(()) => write_texts(sink, &["\n"]),
+        Err(_) => Err(SinkFault),
     }
-    write_texts(sink, &["\n"])
 }

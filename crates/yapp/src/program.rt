@@ -2,7 +2,8 @@
 
 ghost use Rattle.std.specs.Prelude.{◌≡◌, ◌⊎◌, [], codes, is_ok, if◌then◌else◌, map, string_bytes};
 ghost use Rattle.yspec.specs.Output.{Outcome};
-ghost use Rattle.yapp.specs.Command.{refusals};
+ghost use Rattle.yapp.specs.Command.{refusals, request_of, view};
+ghost use Rattle.yapp.specs.Files.{IsOutcome};
 ghost use Rattle.yapp.specs.Running.{AnswersWords, Brings, Ends, refused, without_memory};
 ghost use Rattle.ytext.specs.Writing.{side};
 
@@ -54,7 +55,11 @@ fn perform<F: Files, O: Sink, E: Sink>(
     files: &mut F,
     output: &mut O,
     errors: &mut E,
-) -> u8 {
+) -> u8
+    ensures { (o : Outcome) × IsOutcome (F.contents files.old) (F.failures files.old) (F.failures files.new) (view request.now) o
+        × Brings (side O.taken O.failures output.old) (side O.taken O.failures output.new)
+        (side E.taken E.failures errors.old) (side E.taken E.failures errors.new) o result }
+{
     let Request::Validate { document, modules } = request;
     match validate(alloc, *document, modules, files) {
         Ok(report) => status_after(report.write(output), report.status()),
@@ -71,6 +76,10 @@ pub fn run<F: Files, O: Sink, E: Sink>(
     output: &mut O,
     errors: &mut E,
 ) -> u8
+    ensures taken { (refusals (map string_bytes words.now) ≡ []) → (o : Outcome)
+        × IsOutcome (F.contents files.old) (F.failures files.old) (F.failures files.new) (request_of (map string_bytes words.now)) o
+        × Brings (side O.taken O.failures output.old) (side O.taken O.failures output.new)
+        (side E.taken E.failures errors.old) (side E.taken E.failures errors.new) o result }
     ensures words { (refusals (map string_bytes words.now) ≡ [])
         ⊎ ((o : Outcome) × AnswersWords (refusals (map string_bytes words.now)) o
         × Brings (side O.taken O.failures output.old) (side O.taken O.failures output.new)

@@ -1,3 +1,3 @@
 pub mod FoundLemmas
+pub mod LineLemmas
 pub mod NumberedLemmas
-pub mod WriteLemmas

@@ -1,17 +1,22 @@
 //! The line that a fault prints, and the text of a path.
 
-ghost use Rattle.std.specs.Prelude.{◌≡◌, ◌+◌, ◌++◌, [], ◌∷◌, codes, decimal, option_map, string_bytes, unwrap_or};
-ghost use Rattle.yspec.specs.Faults.{or_dash, printed_tag};
-ghost use Rattle.yspec.specs.Path.{position_text};
+ghost use Rattle.std.specs.Prelude.{◌≡◌, ◌++◌, [], codes, decimal, option_map, string_bytes, unwrap_or, if◌then◌else◌, nat_le};
+ghost use Rattle.std.specs.List.{flat_map};
+ghost use Rattle.yspec.specs.Faults.{line_of, or_dash, printed_tag};
+ghost use Rattle.yspec.specs.Path as path;
+ghost use Rattle.yspec.specs.Path.{path_text};
 ghost use Rattle.yspec.specs.Schema as spec;
-ghost use Rattle.ycheck.specs.View.{code_number, tag_name};
-ghost use Rattle.ycheck.specs.Writes.{Writes, failures_met};
+ghost use Rattle.ytext.specs.Writing.{Writes, side};
+ghost use Rattle.yschema.specs.View as schema_view;
+ghost use Rattle.yschema.specs.View.{node_view};
+ghost use Rattle.yinst.specs.View.{place_view, step_view};
+ghost use Rattle.ycheck.specs.View.{code_number, tag_name, view};
 
 use crate::fault::{ErrorTag, Fault, FaultCode};
 use itoa::Buffer;
 use yinst::Step;
 use yschema::{Schema, SchemaNode};
-use ytext::{Sink, SinkFault, write_all};
+use ytext::{Sink, SinkFault, write_all, write_texts};
 
 /// Why a line wasn't written.
 #[derive(Clone, Copy, Debug, PartialEq, Eq)]
@@ -26,39 +31,61 @@ impl From<SinkFault> for LineFault {
     }
 }
 
+/// Writes some texts, one after the other.
+fn put<W: Sink>(sink: &mut W, texts: &[&str]) -> Result<(), LineFault>
+    ensures { Writes (side W.taken W.failures sink.old) (side W.taken W.failures sink.new)
+        (flat_map (λ t. t.now) texts.now) result }
+{
+    match write_texts(sink, texts) {
+        Ok(()) => Ok(()),
+        Err(fault) => Err(LineFault::from(fault)),
+    }
+}
+
 /// Writes the path of some steps: `/module:name` at the top and where the module changes, else `/name`, with `[n]` at a
 /// position; the root is `/`.
 pub fn write_path<W: Sink>(schema: &Schema, steps: &[Step], sink: &mut W) -> Result<(), LineFault>
-    ensures counted { W.failures sink.new ≡ W.failures sink.old + failures_met result }
+    ensures { Writes (side W.taken W.failures sink.old) (side W.taken W.failures sink.new)
+        (path_text (schema_view.view schema.now) (place_view steps.now)) result }
 {
     if steps.is_empty() {
-        return write_text("/", sink);
+        return put(sink, &["/"]);
     }
     let mut parent_module = None;
     for step in steps {
-        parent_module = write_step(schema, parent_module, step, sink)?;
+        write_step(schema, parent_module, step, sink)?;
+        parent_module = module_after(schema, step);
     }
     Ok(())
 }
 
-/// Writes one step below a node of a module, or at the top, and answers the module of its node.
+/// The module of the node that a step names.
+fn module_after(schema: &Schema, step: &Step) -> Option<usize>
+    ensures { result ≡ path.module_after (schema_view.view schema.now) (step_view step.now) }
+{
+    match schema.kind(step.id) {
+        Some(node) => Some(node.module),
+        None => None,
+    }
+}
+
+/// Writes one step below a node of a module, or at the top.
 fn write_step<W: Sink>(
     schema: &Schema,
     parent_module: Option<usize>,
     step: &Step,
     sink: &mut W,
-) -> Result<Option<usize>, LineFault>
-    ensures counted { W.failures sink.new ≡ W.failures sink.old + failures_met result }
+) -> Result<(), LineFault>
+    ensures { Writes (side W.taken W.failures sink.old) (side W.taken W.failures sink.new)
+        (path.step_text (schema_view.view schema.now) parent_module (step_view step.now)) result }
 {
-    let module = match schema.kind(step.id) {
+    match schema.kind(step.id) {
         Some(node) => {
             write_name(schema, parent_module, node, sink)?;
-            Some(node.module)
+            write_position(step.position, sink)
         }
-        None => None,
-    };
-    write_position(step.position, sink)?;
-    Ok(module)
+        None => write_position(step.position, sink),
+    }
 }
 
 /// Writes the name of a node below a node of a module, or at the top.
@@ -68,62 +95,29 @@ fn write_name<W: Sink>(
     node: &SchemaNode,
     sink: &mut W,
 ) -> Result<(), LineFault>
-    ensures counted { W.failures sink.new ≡ W.failures sink.old + failures_met result }
+    ensures { Writes (side W.taken W.failures sink.old) (side W.taken W.failures sink.new)
+        (codes "/" ++ spec.written_name (schema_view.view schema.now) parent_module (node_view 0 node.now)) result }
 {
-    write_text("/", sink)?;
-    if !is_module(node.module, parent_module) {
-        write_text(schema.module_name(node.module).unwrap_or(""), sink)?;
-        write_text(":", sink)?;
-    }
-    write_text(node.name.as_str(), sink)
-}
-
-fn is_module(module: usize, parent_module: Option<usize>) -> bool
-    ensures { result ≡ spec.is_module «module» parent_module }
-{
-    match parent_module {
-        Some(parent) => module == parent,
-        None => false,
+    let name = node.name.as_str();
+    if parent_module == Some(node.module) {
+        put(sink, &["/", name])
+    } else {
+        let module = schema.module_name(node.module).unwrap_or("");
+        put(sink, &["/", module, ":", name])
     }
 }
 
 fn write_position<W: Sink>(position: Option<u32>, sink: &mut W) -> Result<(), LineFault>
-    ensures written { Writes (W.taken sink.old) (W.taken sink.new) (position_text position) result }
-    ensures counted { W.failures sink.new ≡ W.failures sink.old + failures_met result }
+    ensures { Writes (side W.taken W.failures sink.old) (side W.taken W.failures sink.new)
+        (path.position_text position) result }
 {
     match position {
         Some(number) => {
-            write_text("[", sink)?;
-            write_number(number, sink)?;
-            write_text("]", sink)
+            let mut digits = Buffer::new();
+            put(sink, &["[", digits.format(number), "]"])
         }
         None => Ok(()),
     }
-}
-
-fn write_bytes<W: Sink>(bytes: &[u8], sink: &mut W) -> Result<(), LineFault>
-    ensures written { Writes (W.taken sink.old) (W.taken sink.new) bytes.now result }
-    ensures counted { W.failures sink.new ≡ W.failures sink.old + failures_met result }
-{
-    match write_all(sink, bytes) {
-        Ok(()) => Ok(()),
-        Err(fault) => Err(LineFault::from(fault)),
-    }
-}
-
-fn write_text<W: Sink>(text: &str, sink: &mut W) -> Result<(), LineFault>
-    ensures written { Writes (W.taken sink.old) (W.taken sink.new) text.now result }
-    ensures counted { W.failures sink.new ≡ W.failures sink.old + failures_met result }
-{
-    write_bytes(text.as_bytes(), sink)
-}
-
-fn write_number<W: Sink>(number: u32, sink: &mut W) -> Result<(), LineFault>
-    ensures written { Writes (W.taken sink.old) (W.taken sink.new) (decimal number) result }
-    ensures counted { W.failures sink.new ≡ W.failures sink.old + failures_met result }
-{
-    let mut buffer = Buffer::new();
-    write_text(buffer.format(number), sink)
 }
 
 fn code_text(code: FaultCode) -> &'static str
@@ -146,57 +140,45 @@ fn tag_text(tag: ErrorTag) -> &'static str
 
 /// Writes an error-app-tag, `-` for none or for an empty one. White space and control characters in it print as `_`.
 fn write_app_tag<W: Sink>(app_tag: &Option<String>, sink: &mut W) -> Result<(), LineFault>
-    ensures written { Writes (W.taken sink.old) (W.taken sink.new)
+    ensures { Writes (side W.taken W.failures sink.old) (side W.taken W.failures sink.new)
         (or_dash (printed_tag (unwrap_or (option_map string_bytes app_tag.now) []))) result }
-    ensures counted { W.failures sink.new ≡ W.failures sink.old + failures_met result }
 {
     match app_tag {
-        Some(tag) => write_or_dash(tag.as_bytes(), sink),
-        None => write_text("-", sink),
+        Some(tag) if !tag.is_empty() => write_printed(tag.as_bytes(), sink),
+        _ => put(sink, &["-"]),
     }
 }
 
-fn write_or_dash<W: Sink>(tag: &[u8], sink: &mut W) -> Result<(), LineFault>
-    ensures written { Writes (W.taken sink.old) (W.taken sink.new) (or_dash (printed_tag tag.now)) result }
-    ensures counted { W.failures sink.new ≡ W.failures sink.old + failures_met result }
+/// A byte of an error-app-tag as it prints.
+fn printed(byte: u8) -> u8
+    ensures { result ≡ (if nat_le byte 32 then 95 else byte) }
 {
-    match tag.split_first() {
-        Some((first, rest)) => {
-            write_printed(*first, sink)?;
-            write_all_printed(rest, sink)
-        }
-        None => write_text("-", sink),
-    }
+    if byte <= b' ' { b'_' } else { byte }
 }
 
-fn write_all_printed<W: Sink>(bytes: &[u8], sink: &mut W) -> Result<(), LineFault>
-    ensures written { Writes (W.taken sink.old) (W.taken sink.new) (printed_tag bytes.now) result }
-    ensures counted { W.failures sink.new ≡ W.failures sink.old + failures_met result }
+/// Writes the bytes of an error-app-tag as they print.
+fn write_printed<W: Sink>(bytes: &[u8], sink: &mut W) -> Result<(), LineFault>
+    ensures { Writes (side W.taken W.failures sink.old) (side W.taken W.failures sink.new)
+        (printed_tag bytes.now) result }
 {
     for byte in bytes {
-        write_printed(*byte, sink)?;
+        match write_all(sink, &[printed(*byte)]) {
+            Ok(()) => {}
+            Err(fault) => return Err(LineFault::from(fault)),
+        }
     }
     Ok(())
-}
-
-/// Writes one byte of an error-app-tag.
-fn write_printed<W: Sink>(byte: u8, sink: &mut W) -> Result<(), LineFault>
-    ensures written { Writes (W.taken sink.old) (W.taken sink.new) (printed_tag (byte ∷ [])) result }
-    ensures counted { W.failures sink.new ≡ W.failures sink.old + failures_met result }
-{
-    let printed = if byte <= b' ' { b'_' } else { byte };
-    write_bytes(&[printed], sink)
 }
 
 /// Writes the line of a fault: its code, error-tag, error-app-tag, path and info, parted by single spaces, with `-` for
 /// none, and a line feed. It takes no memory.
 pub fn write_line<W: Sink>(schema: &Schema, fault: &Fault, sink: &mut W) -> Result<(), LineFault>
-    ensures counted { W.failures sink.new ≡ W.failures sink.old + failures_met result }
+    ensures { Writes (side W.taken W.failures sink.old) (side W.taken W.failures sink.new)
+        (line_of (schema_view.view schema.now) (view fault.now)) result }
 {
-    write_text(code_text(fault.code), sink)?;
-    write_text(tag_text(fault.tag), sink)?;
+    put(sink, &[code_text(fault.code), tag_text(fault.tag)])?;
     write_app_tag(&fault.app_tag, sink)?;
-    write_text(" ", sink)?;
+    put(sink, &[" "])?;
     write_path(schema, &fault.steps, sink)?;
-    write_text(" -\n", sink)
+    put(sink, &[" -\n"])
 }

@@ -83,3 +83,18 @@ left_none a b whole l = wrote_same a b l.written whole (sym (append-nil l.writte
 pub left_broken : (a b c : Side) (whole xs ys : List ℕ) → Left a b whole (xs ++ ys) → Broke b c xs → Broke a c whole
 left_broken a b c whole xs ys l broken = broke_same a c (l.written ++ (xs ++ ys)) whole l.is
     (broke_second a b c l.written (xs ++ ys) l.wrote (broke_first b c xs ys broken))
+
+-- ---- whatever a call answered
+
+pub writes_after : {X E : Type 0} → (a b c : Side) (xs ys : List ℕ) (r : Result X E) → Wrote a b xs → Writes b c ys r → Writes a c (xs ++ ys) r
+writes_after a b c xs ys (Ok x) first second = wrote_both a b c xs ys first second
+writes_after a b c xs ys (Err e) first second = broke_second a b c xs ys first second
+
+-- the last part of a text
+pub left_last : {X E : Type 0} → (a b c : Side) (whole xs : List ℕ) (r : Result X E) → Left a b whole xs → Writes b c xs r → Writes a c whole r
+left_last a b c whole xs r l w = writes_same a c (l.written ++ xs) whole r l.is (writes_after a b c l.written xs r l.wrote w)
+
+-- a part of a text, after which it ended
+pub left_failed : {X E : Type 0} → (a b c : Side) (whole xs ys : List ℕ) (r : Result X E) → IsErr r → Left a b whole (xs ++ ys) → Broke b c xs
+    → Writes a c whole r
+left_failed a b c whole xs ys r failed l broken = writes_err a c whole r failed (left_broken a b c whole xs ys l broken)

@@ -1,0 +1,49 @@
+-- The text of a step, of a path and of a line, part by part.
+use Rattle.std.proofs.Common.{◌≡◌, ℕ, List, [], ◌∷◌, ◌++◌, length, codes, decimal, Option, Some, refl, sym, subst, ap, ◌∙◌, append_assoc, Bool, false}
+use Rattle.std.proofs.lemmas.List.{append-nil}
+use Rattle.std.specs.Prelude.{◌==◌, option_map, string_bytes, unwrap_or, None}
+use Rattle.std.specs.Option.{option_map_or}
+use Rattle.yspec.specs.Schema.{Schema, SchemaNode, node_at, written_name}
+use Rattle.yspec.specs.Document.{Step}
+use Rattle.yspec.specs.Faults.{info_text, line_of, or_dash, printed_tag}
+use Rattle.yspec.specs.Path.{path_from, path_text, position_text, step_text}
+use Rattle.yspec.specs.Text.{Text}
+use Rattle.yinst.specs.View.{place_view}
+use Rattle.yinst.specs.declared.tree.Step as code
+use Rattle.ycheck.specs.View.{code_number, info_view, tag_name, view}
+use Rattle.ycheck.specs.declared.fault.Fault.{Fault}
+use Rattle.ycheck.specs.declared.fault.Info.{Info}
+use Rattle.ycheck.specs.declared.fault.Info.TheVariants as infos
+
+pub named_step : (schema : Schema) (parent : Option ℕ) (step : Step) (n : SchemaNode) → Some n ≡ node_at schema step.schema_number
+    → (codes "/" ++ written_name schema parent n) ++ position_text step.position ≡ step_text schema parent step
+named_step schema parent step n is =
+    ap (λ (found : Option SchemaNode). option_map_or (λ n. codes "/" ++ written_name schema parent n) found [] ++ position_text step.position) is
+
+pub path_of_some : (schema : Schema) (steps : List code.Step) → false ≡ (length steps == 0) → path_from schema None (place_view steps) ≡ path_text schema (place_view steps)
+path_of_some schema [] some = cc
+path_of_some schema (step ∷ steps) some = refl
+
+-- ---- lines
+
+without_info : (info : Info) → or_dash (info_text (info_view info)) ≡ 45 ∷ []
+without_info infos.None = refl
+
+-- the first two words, each with its space
+two_words : (number tag rest : Text) → number ++ (32 ∷ (tag ++ (32 ∷ rest))) ≡ ((number ++ 32 ∷ []) ++ ((tag ++ 32 ∷ []) ++ [])) ++ rest
+two_words number tag rest = sym (append_assoc (number ++ 32 ∷ []) ((tag ++ 32 ∷ []) ++ []) rest
+    ∙ append_assoc number (32 ∷ []) (((tag ++ 32 ∷ []) ++ []) ++ rest)
+    ∙ ap (λ (xs : Text). number ++ (32 ∷ xs)) (ap (λ (xs : Text). xs ++ rest) (append-nil (tag ++ 32 ∷ [])) ∙ append_assoc tag (32 ∷ []) rest))
+
+pub line_parts : (schema : Schema) (f : Fault) (code tag : Text) → code ≡ codes "V" ++ (decimal (code_number f.code) ++ codes " ")
+    → tag ≡ tag_name f.tag ++ codes " " → line_of schema (view f)
+    ≡ (code ++ (tag ++ [])) ++ (or_dash (printed_tag (unwrap_or (option_map string_bytes f.app_tag) []))
+    ++ ((codes " " ++ []) ++ (path_text schema (place_view f.steps.items) ++ (codes " -\n" ++ []))))
+line_parts schema f code tag code_is tag_is =
+    let rest : Text = or_dash (printed_tag (unwrap_or (option_map string_bytes f.app_tag) []))
+    ++ ((codes " " ++ []) ++ (path_text schema (place_view f.steps.items) ++ (codes " -\n" ++ []))) in
+    let head : Text → Text → Text = λ code tag. (code ++ (tag ++ [])) ++ rest in
+    ap (λ (info : Text). 86 ∷ (decimal (code_number f.code) ++ (32 ∷ (tag_name f.tag ++ (32 ∷ (or_dash (printed_tag (unwrap_or (option_map string_bytes f.app_tag) []))
+    ++ (32 ∷ (path_text schema (place_view f.steps.items) ++ (32 ∷ (info ++ 10 ∷ [])))))))))) (without_info f.info)
+    ∙ ap (λ (xs : Text). 86 ∷ xs) (two_words (decimal (code_number f.code)) (tag_name f.tag) rest)
+    ∙ ap (λ (xs : Text). head xs (tag_name f.tag ++ codes " ")) (sym code_is) ∙ ap (head code) (sym tag_is)

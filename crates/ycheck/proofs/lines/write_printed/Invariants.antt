@@ -1,0 +1,9 @@
+use Rattle.std.proofs.Common.{drop}
+use Rattle.yspec.specs.Faults.{printed_tag}
+use Rattle.ytext.specs.Writing.{side}
+use Rattle.ytext.proofs.WritingSteps.{Left}
+use Rattle.ycheck.proofs.lines.write_printed.Given as goal
+
+abbrev pub invariant-loop-byte : goal.invariant-loop-byte
+invariant-loop-byte g l = Left (side g.W.Sink.taken g.W.Sink.failures l.fn.sink) (side g.W.Sink.taken g.W.Sink.failures l.sink)
+    (printed_tag l.bytes) (printed_tag (drop l.byte-index l.bytes))
