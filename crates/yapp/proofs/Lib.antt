@@ -1,2 +1,3 @@
 pub mod CommandSteps
 pub mod RunningSteps
+pub mod ValidationSteps

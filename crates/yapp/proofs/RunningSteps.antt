@@ -1,9 +1,13 @@
 -- A run that writes to one side alone.
-use Rattle.std.proofs.Common.{◌≡◌, ◌⊎◌, inl, inr, ℕ, List, [], take, sym, ◌∙◌, refl}
+use Rattle.std.proofs.Common.{◌≡◌, ◌⊎◌, inl, inr, ℕ, List, [], ◌∷◌, ◌++◌, take, ap, sym, ◌∙◌, refl, append_assoc}
 use Rattle.yspec.specs.Output.{Outcome}
 use Rattle.std.specs.Prelude.{Result, Ok, Err, is_ok, if◌then◌else◌}
 use Rattle.ytext.specs.Writing.{Side, Wrote, Broke, Writes}
 use Rattle.yapp.specs.Running.{Brings, Ends}
+use Rattle.yapp.specs.Failing.{outcome_of, reported}
+use Rattle.yapp.specs.declared.failure.Failure.{Failure}
+use Rattle.yapp.specs.declared.failure.Failure.TheVariants as failures
+use Rattle.yapp.specs.declared.report.Report.{Report}
 use Rattle.ytext.proofs.WritingSteps.{wrote_none, wrote_same}
 
 pub on_output : (output output_after errors : Side) (o : Outcome) (result : ℕ) → o.errors ≡ []
@@ -23,3 +27,31 @@ pub ends : {X E : Type 0} → (a b : Side) (bytes : List ℕ) (status result : �
     → result ≡ (if is_ok r then status else 4) → Ends a b bytes status result
 ends a b bytes status result (Ok x) w e = inl (w, e)
 ends a b bytes status result (Err x) w e = inr (w, e)
+
+-- the line of a document's refusal: up to its path, and from there on
+pub refusal_parts : (name kind code path : List ℕ) → (name ++ (kind ++ (code ++ (32 ∷ path)))) ++ (10 ∷ [])
+    ≡ (name ++ (kind ++ (code ++ (32 ∷ [])))) ++ (path ++ 10 ∷ [])
+refusal_parts name kind code path =
+    append_assoc name (kind ++ (code ++ (32 ∷ path))) (10 ∷ [])
+    ∙ ap (λ (xs : List ℕ). name ++ xs) (append_assoc kind (code ++ (32 ∷ path)) (10 ∷ [])
+    ∙ ap (λ (xs : List ℕ). kind ++ xs) (append_assoc code (32 ∷ path) (10 ∷ []) ∙ sym (append_assoc code (32 ∷ []) (path ++ 10 ∷ [])))
+    ∙ sym (append_assoc kind (code ++ (32 ∷ [])) (path ++ 10 ∷ [])))
+    ∙ sym (append_assoc name (kind ++ (code ++ (32 ∷ []))) (path ++ 10 ∷ []))
+
+-- ---- what a validation comes to
+
+no_output : (failure : Failure) → (outcome_of failure).output ≡ []
+no_output (failures.Unread name) = refl
+no_output (failures.Text name code line) = refl
+no_output (failures.Compile name code line) = refl
+no_output (failures.Document name schema code place) = refl
+no_output failures.Memory = refl
+
+pub on_report : (output output_after errors : Side) (r : Report) (result : ℕ)
+    → Ends output output_after (reported r).output (reported r).status result → Brings output output_after errors errors (reported r) result
+on_report output output_after errors r result ends = on_output output output_after errors (reported r) result refl ends
+
+pub on_failure : (output errors errors_after : Side) (failure : Failure) (result : ℕ)
+    → Ends errors errors_after (outcome_of failure).errors (outcome_of failure).status result → Brings output output errors errors_after (outcome_of failure) result
+on_failure output errors errors_after failure result ends =
+    on_errors output errors errors_after (outcome_of failure) result (no_output failure) ends

@@ -1,12 +1,20 @@
 -- Reading files and modules one after another.
-use Rattle.std.proofs.Common.{◌≡◌, ◌⊎◌, inl, inr, ℕ, zero, suc, ◌+◌, List, [], ◌∷◌, ◌++◌, length, take, drop, map, Option, Some, None, refl, sym, subst, ap, ◌∙◌, append_assoc}
-use Rattle.std.specs.Prelude.{Result, Ok, Err}
+use Rattle.std.proofs.Common.{◌≡◌, ◌⊎◌, inl, inr, ℕ, ◌+◌, List, [], ◌∷◌, ◌++◌, map, Option, Some, None, refl, sym, subst, ap, ◌∙◌, append_assoc, arith}
+use Rattle.std.specs.Prelude.{Result, Ok, Err, IsErrAnd}
 use Rattle.std.proofs.lemmas.List.{append-nil, map-append}
 use Rattle.yspec.specs.Forest.{Forest, end, node, join}
-use Rattle.yspec.specs.Statement.{Statement, Slip}
+use Rattle.yspec.specs.Statement.{Statement, Slip, module_of}
 use Rattle.yspec.specs.Text.{Text}
-use Rattle.yspec.specs.Output.{Outcome, failed, slip_line, with_files, with_module, with_modules, unread}
-use Rattle.yapp.specs.Files.{Answered, Answers, Contents, Tells, unread_in}
+use Rattle.yspec.specs.Output.{Outcome, failed, outcome, slip_line, unread, validate, validation, with_files, with_module, with_modules}
+use Rattle.ytext.specs.View.{view, modules_view}
+use Rattle.ytext.specs.declared.statement.Module.{Module}
+use Rattle.yapp.specs.Failing.{FailsWith, FromFile, LeadsTo, outcome_of, reported}
+use Rattle.yapp.specs.Files.{Answered, Answers, Contents, IsOutcome, Reads, Tells, came_to, failed_reads, unread_in}
+use Rattle.yapp.specs.declared.failure.Failure.{Failure}
+use Rattle.yapp.specs.declared.failure.Failure.TheVariants as failures
+use Rattle.yapp.specs.declared.files.FileFault.{FileFault}
+use Rattle.yapp.specs.declared.files.FileFault.TheVariants as faults
+use Rattle.yapp.specs.declared.report.Report.{Report}
 
 -- ---- files
 
@@ -58,3 +66,127 @@ with_all_read contents (name ∷ names) (text ∷ texts) next a = with_all_read 
 unread_behind : (texts : List (List ℕ)) → unread_in (map Some texts ++ None ∷ []) ≡ 1
 unread_behind [] = refl
 unread_behind (text ∷ texts) = unread_behind texts
+
+-- ---- modules
+
+with_module_same : (name : Text) (read : Result (Forest Statement) Slip) (f g : Forest Statement → Outcome) → ((top : Forest Statement) → f top ≡ g top)
+    → with_module name read f ≡ with_module name read g
+with_module_same name (Ok top) f g same = same top
+with_module_same name (Err slip) f g same = refl
+
+with_modules_same : (names : List Text) (texts : List (List ℕ)) (f g : Forest Statement → List (List ℕ) → Outcome)
+    → ((rest : Forest Statement) (files : List (List ℕ)) → f rest files ≡ g rest files) → with_modules names texts f ≡ with_modules names texts g
+with_modules_same [] texts f g same = same end texts
+with_modules_same (name ∷ names) [] f g same = same end []
+with_modules_same (name ∷ names) (text ∷ texts) f g same = with_module_same name (module_of text)
+    (λ top. with_modules names texts (λ rest. f (join top rest))) (λ top. with_modules names texts (λ rest. g (join top rest)))
+    (λ top. with_modules_same names texts (λ rest. f (join top rest)) (λ rest. g (join top rest)) (λ rest files. same (join top rest) files))
+
+join_end : (f : Forest Statement) → join f end ≡ f
+join_end end = refl
+join_end (node s below after) = ap (node s below) (join_end after)
+
+join_assoc : (f g h : Forest Statement) → join (join f g) h ≡ join f (join g h)
+join_assoc end g h = refl
+join_assoc (node s below after) g h = ap (node s below) (join_assoc after g h)
+
+modules_behind : (ms : List Module) (m : Module) → modules_view (ms ++ m ∷ []) ≡ join (modules_view ms) (node (view m.top).0 (view m.top).1 end)
+modules_behind [] m = refl
+modules_behind (x ∷ ms) m = ap (node (view x.top).0 (view x.top).1) (modules_behind ms m)
+
+-- so many modules are read, and these names and texts are left
+abbrev pub ParsedSoFar : List Text → List (List ℕ) → List Text → List (List ℕ) → Forest Statement → Type 0
+ParsedSoFar names texts left_names left_texts modules = (next : Forest Statement → List (List ℕ) → Outcome)
+    → with_modules names texts next ≡ with_modules left_names left_texts (λ rest files. next (join modules rest) files)
+
+pub none_parsed : (names : List Text) (texts : List (List ℕ)) → ParsedSoFar names texts names texts end
+none_parsed names texts next = refl
+
+pub one_parsed : (names left_names : List Text) (texts left_texts : List (List ℕ)) (name : Text) (text : List ℕ) (ms : List Module) (m : Module) (top : Forest Statement)
+    → ParsedSoFar names texts (name ∷ left_names) (text ∷ left_texts) (modules_view ms) → top ≡ node (view m.top).0 (view m.top).1 end
+    → ((next : Forest Statement → Outcome) → with_module name (module_of text) next ≡ next top)
+    → ParsedSoFar names texts left_names left_texts (modules_view (ms ++ m ∷ []))
+one_parsed names left_names texts left_texts name text ms m top so_far is read next = so_far next
+    ∙ read (λ top. with_modules left_names left_texts (λ rest files. next (join (modules_view ms) (join top rest)) files))
+    ∙ with_modules_same left_names left_texts (λ rest files. next (join (modules_view ms) (join top rest)) files)
+    (λ rest files. next (join (modules_view (ms ++ m ∷ [])) rest) files)
+    (λ rest files. ap (λ (f : Forest Statement). next f files)
+    (ap (λ (f : Forest Statement). join (modules_view ms) (join f rest)) is ∙ sym (join_assoc (modules_view ms) (node (view m.top).0 (view m.top).1 end) rest)
+    ∙ ap (λ (f : Forest Statement). join f rest) (sym (modules_behind ms m))))
+
+pub all_parsed : (names : List Text) (texts left_texts : List (List ℕ)) (ms : List Module) → ParsedSoFar names texts [] left_texts (modules_view ms)
+    → (next : Forest Statement → List (List ℕ) → Outcome) → with_modules names texts next ≡ next (modules_view ms) left_texts
+all_parsed names texts left_texts ms so_far next = so_far next ∙ ap (λ (f : Forest Statement). next f left_texts) (join_end (modules_view ms))
+
+pub texts_parsed : (names left_names : List Text) (texts : List (List ℕ)) (name : Text) (ms : List Module) → ParsedSoFar names texts (name ∷ left_names) [] (modules_view ms)
+    → (next : Forest Statement → List (List ℕ) → Outcome) → with_modules names texts next ≡ next (modules_view ms) []
+texts_parsed names left_names texts name ms so_far next = so_far next ∙ ap (λ (f : Forest Statement). next f []) (join_end (modules_view ms))
+
+-- the module of which the text is refused
+pub parsing_fails : (names left_names : List Text) (texts left_texts : List (List ℕ)) (name : Text) (text : List ℕ) (ms : List Module) (f : Failure)
+    → ParsedSoFar names texts (name ∷ left_names) (text ∷ left_texts) (modules_view ms)
+    → ((next : Forest Statement → Outcome) → FailsWith f (with_module name (module_of text) next))
+    → (next : Forest Statement → List (List ℕ) → Outcome) → FailsWith f (with_modules names texts next)
+parsing_fails names left_names texts left_texts name text ms f so_far refused next = subst (FailsWith f) (sym (so_far next))
+    (refused (λ top. with_modules left_names left_texts (λ rest files. next (join (modules_view ms) (join top rest)) files)))
+
+-- ---- what a call answers
+
+-- the file at hand couldn't be read, or there was no memory for it
+pub reading_fails : (contents : Contents) (names left : List Text) (texts : List (List ℕ)) (name : Text) (fault : FileFault) (f : Failure) (before now after : ℕ)
+    → ReadSoFar contents names (name ∷ left) texts → now ≡ before → after ≡ now + failed_reads {X = ℕ} (Err fault) → FromFile name fault f
+    → ((answers : Answers) × Answered contents names answers × (after ≡ before + unread_in answers)
+    × ((next : List (List ℕ) → Outcome) → with_files names answers next ≡ outcome_of f))
+    ⊎ ((after ≡ before) × (f ≡ failures.Memory))
+reading_fails contents names left texts name faults.Unread f before now after so_far same counted is = inl (
+  map Some texts ++ None ∷ [],
+  so_far.answered (None ∷ []) refl,
+  counted ∙ ap (λ (n : ℕ). n + 1) same ∙ ap (λ (n : ℕ). before + n) (sym (unread_behind texts)),
+  λ next. so_far.goes_on (None ∷ []) next ∙ sym is,
+)
+reading_fails contents names left texts name faults.Memory f before now after so_far same counted is =
+    inr (omega (arith, counted, same), is)
+
+pub memory_reads : {X : Type 0} (see : X → List (List ℕ)) (contents : Contents) (before after : ℕ) (names : List Text) (r : Result X Failure)
+    → IsErrAnd r (λ e. e ≡ failures.Memory) → after ≡ before → Reads see contents before after names r
+memory_reads see contents before after names (Ok x) e same = absurd e
+memory_reads see contents before after names (Err f) e same = inr (same, e)
+
+-- a validation after its files were read
+pub came_of_texts : (contents : Contents) (before after : ℕ) (document : Text) (names : List Text) (texts : List (List ℕ)) (r : Result Report Failure)
+    → Answered contents (names ++ document ∷ []) (map Some texts) → after ≡ before → LeadsTo (validation document names texts) reported r
+    → IsOutcome contents before after (validate document names) (came_to r)
+unfolding outcome
+came_of_texts contents before after document names texts (Ok report) answered same is = inl (
+  map Some texts,
+  answered,
+  same ∙ ap (λ (n : ℕ). before + n) (sym (none_unread texts)),
+  sym is ∙ sym (with_all_read contents (names ++ document ∷ []) texts (validation document names) answered),
+)
+came_of_texts contents before after document names texts (Err failures.Memory) answered same is = inr (same, refl)
+came_of_texts contents before after document names texts (Err (failures.Unread name)) answered same is = inl (
+  map Some texts, answered, same ∙ ap (λ (n : ℕ). before + n) (sym (none_unread texts)),
+  sym is ∙ sym (with_all_read contents (names ++ document ∷ []) texts (validation document names) answered),
+)
+came_of_texts contents before after document names texts (Err (failures.Text name code line)) answered same is = inl (
+  map Some texts, answered, same ∙ ap (λ (n : ℕ). before + n) (sym (none_unread texts)),
+  sym is ∙ sym (with_all_read contents (names ++ document ∷ []) texts (validation document names) answered),
+)
+came_of_texts contents before after document names texts (Err (failures.Compile name code line)) answered same is = inl (
+  map Some texts, answered, same ∙ ap (λ (n : ℕ). before + n) (sym (none_unread texts)),
+  sym is ∙ sym (with_all_read contents (names ++ document ∷ []) texts (validation document names) answered),
+)
+came_of_texts contents before after document names texts (Err (failures.Document name schema code place)) answered same is = inl (
+  map Some texts, answered, same ∙ ap (λ (n : ℕ). before + n) (sym (none_unread texts)),
+  sym is ∙ sym (with_all_read contents (names ++ document ∷ []) texts (validation document names) answered),
+)
+
+-- a validation whose files couldn't all be read
+pub came_of_reading : (contents : Contents) (before after : ℕ) (document : Text) (names : List Text) (f : Failure)
+    → ((answers : Answers) × Answered contents (names ++ document ∷ []) answers × (after ≡ before + unread_in answers)
+    × ((next : List (List ℕ) → Outcome) → with_files (names ++ document ∷ []) answers next ≡ outcome_of f))
+    ⊎ ((after ≡ before) × (f ≡ failures.Memory))
+    → IsOutcome contents before after (validate document names) (outcome_of f)
+unfolding outcome
+came_of_reading contents before after document names f (inl read) = inl (read.0, read.1, read.2, sym (read.3 (validation document names)))
+came_of_reading contents before after document names f (inr none) = inr (none.0, ap outcome_of none.1)

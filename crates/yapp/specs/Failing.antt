@@ -12,6 +12,8 @@ use Rattle.yspec.specs.Text.{Text}
 use Rattle.yapp.specs.Running.{without_memory}
 use Rattle.yapp.specs.declared.failure.Failure.{Failure}
 use Rattle.yapp.specs.declared.failure.Failure.TheVariants as failures
+use Rattle.yapp.specs.declared.files.FileFault.{FileFault}
+use Rattle.yapp.specs.declared.files.FileFault.TheVariants.{Unread, Memory}
 use Rattle.yapp.specs.declared.report.Report.{Report}
 
 abbrev pub text_code_number : TextCode → ℕ
@@ -38,6 +40,11 @@ outcome_of failures.Memory = without_memory
 
 abbrev pub reported : Report → Outcome
 reported r = found (if length r.faults.items == 0 then 0 else 1) (report (schema_view.view r.schema) (views r.faults.items))
+
+-- the failure of the file of a name
+abbrev pub FromFile : Text → FileFault → Failure → Type 0
+FromFile name Unread failure = outcome_of failure ≡ unread name
+FromFile name Memory failure = failure ≡ failures.Memory
 
 -- a failure is the outcome; of want of memory nothing is said
 abbrev pub FailsWith : Failure → Outcome → Type 0

@@ -1,13 +1,13 @@
 //! Why there is no report, and the line that says so.
 
-ghost use Rattle.std.specs.Prelude.{◌≡◌, ◌++◌, codes};
+ghost use Rattle.std.specs.Prelude.{◌≡◌, ◌++◌, codes, decimal};
 ghost use Rattle.yspec.specs.Output.{refusal_line};
 ghost use Rattle.ytext.specs.Writing.{Writes, side};
 ghost use Rattle.yschema.specs.Told.{code_number};
 ghost use Rattle.yschema.specs.View as schema_view;
 ghost use Rattle.yinst.specs.Told as document;
 ghost use Rattle.yinst.specs.View.{place_view};
-ghost use Rattle.yapp.specs.Failing.{outcome_of, refusal_in, text_code_number};
+ghost use Rattle.yapp.specs.Failing.{FromFile, outcome_of, refusal_in, text_code_number};
 ghost use Rattle.yapp.specs.declared.failure.Failure.TheVariants.{Memory};
 
 use crate::files::FileFault;
@@ -67,7 +67,9 @@ impl<'a, T: Drop> From<AllocFailed<T>> for Failure<'a> {
 
 impl<'a> Failure<'a> {
     /// A fault of the file of a name.
-    pub fn of_file(name: &'a str, fault: FileFault) -> Failure<'a> {
+    pub fn of_file(name: &'a str, fault: FileFault) -> Failure<'a>
+        ensures { FromFile name.entry.now fault result }
+    {
         match fault {
             FileFault::Unread => Failure::Unread { name },
             FileFault::Memory => Failure::Memory,
@@ -158,10 +160,18 @@ fn write_document_refusal<S: Sink>(
     ensures { Writes (side S.taken S.failures sink.old) (side S.taken S.failures sink.new)
         (refusal_line (schema_view.view schema.now) name.now (record { code = code; place = place_view place.now }) ++ codes "\n") result }
 {
-    let mut digits = Buffer::new();
-    write_texts(sink, &[name, ": J", digits.format(code), " "])?;
+    write_document_code(name, code, sink)?;
     match write_path(schema, place, sink) {
         Ok(()) => write_texts(sink, &["\n"]),
         Err(_) => Err(SinkFault),
     }
+}
+
+/// Writes the beginning of the line of a document's refusal: `FILE: CODE` and a space.
+fn write_document_code<S: Sink>(name: &str, code: u8, sink: &mut S) -> Result<(), SinkFault>
+    ensures { Writes (side S.taken S.failures sink.old) (side S.taken S.failures sink.new)
+        (name.now ++ (codes ": J" ++ (decimal code ++ codes " "))) result }
+{
+    let mut digits = Buffer::new();
+    write_texts(sink, &[name, ": J", digits.format(code), " "])
 }

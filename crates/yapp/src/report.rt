@@ -1,7 +1,11 @@
 //! The faults of a document, and how they are printed.
 
-ghost use Rattle.std.specs.Prelude.{◌≡◌};
+ghost use Rattle.std.specs.Prelude.{◌≡◌, ◌++◌, codes, decimal};
+ghost use Rattle.std.specs.List.{flat_map};
+ghost use Rattle.yspec.specs.Faults.{line_of};
 ghost use Rattle.ytext.specs.Writing.{Writes, side};
+ghost use Rattle.yschema.specs.View as schema_view;
+ghost use Rattle.ycheck.specs.View.{views};
 ghost use Rattle.yapp.specs.Failing.{reported};
 
 use crate::status::{FAULTY, GOOD};
@@ -30,12 +34,30 @@ impl Report {
         ensures { Writes (side S.taken S.failures sink.old) (side S.taken S.failures sink.new)
             (reported self.now).output result }
     {
-        for fault in &self.faults {
-            if write_line(&self.schema, fault, sink).is_err() {
-                return Err(SinkFault);
-            }
-        }
-        let mut digits = Buffer::new();
-        write_texts(sink, &[digits.format(self.faults.len()), " faults\n"])
+        write_lines(&self.schema, &self.faults, sink)?;
+        write_count(self.faults.len(), sink)
     }
+}
+
+/// Writes a line for each fault.
+fn write_lines<S: Sink>(schema: &Schema, faults: &[Fault], sink: &mut S) -> Result<(), SinkFault>
+    ensures { Writes (side S.taken S.failures sink.old) (side S.taken S.failures sink.new)
+        (flat_map (line_of (schema_view.view schema.now)) (views faults.now)) result }
+{
+    for fault in faults {
+        match write_line(schema, fault, sink) {
+            Ok(()) => {}
+            Err(_) => return Err(SinkFault),
+        }
+    }
+    Ok(())
+}
+
+/// Writes how many faults there are.
+fn write_count<S: Sink>(count: usize, sink: &mut S) -> Result<(), SinkFault>
+    ensures { Writes (side S.taken S.failures sink.old) (side S.taken S.failures sink.new)
+        (decimal count ++ codes " faults\n") result }
+{
+    let mut digits = Buffer::new();
+    write_texts(sink, &[digits.format(count), " faults\n"])
 }

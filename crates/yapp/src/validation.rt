@@ -1,14 +1,13 @@
 //! From the names of a document and of modules to the faults of the document.
 
-ghost use Rattle.std.specs.Prelude.{◌≡◌, ℕ, List, drop, length, map};
+ghost use Rattle.std.specs.Prelude.{◌≡◌, ◌∷◌, [], ℕ, List, IfOk, map};
 ghost use Rattle.yspec.specs.Forest.{Forest};
 ghost use Rattle.yspec.specs.Breaks.{compiled};
 ghost use Rattle.yspec.specs.Output as spec;
-ghost use Rattle.yspec.specs.Output.{Outcome, first_file, judged, validation, with_compiled, with_modules, with_tree};
+ghost use Rattle.yspec.specs.Output.{Outcome, files_of, first_file, judged, validation, with_compiled, with_modules, with_tree};
 ghost use Rattle.yspec.specs.Reading.{document_of};
 ghost use Rattle.yspec.specs.Schema as schema_spec;
 ghost use Rattle.yspec.specs.Statement.{Statement, module_of};
-ghost use Rattle.ytext.specs.Statements.{forest_of};
 ghost use Rattle.ytext.specs.View.{modules_view};
 ghost use Rattle.yschema.specs.View as schema_view;
 ghost use Rattle.yapp.specs.Failing.{LeadsTo, reported};
@@ -17,7 +16,7 @@ ghost use Rattle.yapp.specs.Files.{IsOutcome, Reads, came_to};
 use crate::failure::Failure;
 use crate::files::Files;
 use crate::report::Report;
-use std::alloc::Global;
+use std::alloc::{AllocError, Global};
 use ycheck::faults;
 use yinst::{DocFault, Tree, read};
 use yschema::{CompileFault, Schema, compile};
@@ -42,27 +41,38 @@ fn read_files<'a, F: Files>(
     Ok(contents)
 }
 
-/// The statements of the modules of some names, in order, up to the first whose text is refused.
-fn parse_modules<'a>(
+/// The statements of the modules of some names, in order, up to the first whose text is refused, and the files behind
+/// theirs.
+fn parse_modules<'a, 'b>(
     alloc: Global,
     names: &[&'a str],
-    contents: &[Vec<u8>],
-) -> Result<Vec<Module>, Failure<'a>>
+    contents: &'b [Vec<u8>],
+) -> Result<(Vec<Module>, &'b [Vec<u8>]), Failure<'a>>
     ensures { (next : Forest Statement → List (List ℕ) → Outcome)
-        → LeadsTo (with_modules (map (λ n. n.now) names.now) (map (λ c. c.items) contents.now) next)
-        (λ modules. next (modules_view modules.items) (drop (length names.now) (map (λ c. c.items) contents.now))) result }
+        → LeadsTo (with_modules (map (λ n. n.now) names.now) (map (λ c. c.items) contents.entry.now) next)
+        (λ parsed. next (modules_view parsed.0.items) (map (λ c. c.items) parsed.1.now)) result }
 {
     let mut modules = Vec::new(alloc);
-    for (name, text) in names.iter().zip(contents) {
-        modules.push(parse_module(alloc, *name, text)?)?;
+    let mut rest = contents;
+    for name in names {
+        match rest.split_first() {
+            Some((text, others)) => {
+                match parse_module(alloc, *name, text) {
+                    Ok(module) => modules.push(module)?,
+                    Err(failure) => return Err(failure),
+                }
+                rest = others;
+            }
+            None => return Ok((modules, rest)),
+        }
     }
-    Ok(modules)
+    Ok((modules, rest))
 }
 
 fn parse_module<'a>(alloc: Global, name: &'a str, text: &[u8]) -> Result<Module, Failure<'a>>
     ensures { (next : Forest Statement → Outcome)
         → LeadsTo (spec.with_module name.entry.now (module_of text.now) next)
-        (λ module. next (forest_of module.top)) result }
+        (λ parsed. next (modules_view (parsed ∷ []))) result }
 {
     match parse(alloc, text) {
         Ok(module) => Ok(module),
@@ -116,17 +126,17 @@ fn judge<'a>(
     }
 }
 
-/// The contents at a place; none where there are fewer.
-fn contents_at(contents: &[Vec<u8>], place: usize) -> &[u8]
-    ensures { result.now ≡ first_file (drop place (map (λ c. c.items) contents.now)) }
+/// The first of some contents; nothing where there is none.
+fn first_of(contents: &[Vec<u8>]) -> &[u8]
+    ensures { result.now ≡ first_file (map (λ c. c.items) contents.entry.now) }
 {
-    match contents.get(place) {
-        Some(bytes) => bytes.as_slice(),
+    match contents.split_first() {
+        Some((bytes, _)) => bytes.as_slice(),
         None => &[],
     }
 }
 
-/// What files say: the faults of a document under modules, the names of the modules standing first.
+/// The faults of a document under modules, by the contents of their files: those of the modules, then the document's.
 fn judge_files<'a>(
     alloc: Global,
     document: &'a str,
@@ -135,9 +145,13 @@ fn judge_files<'a>(
 ) -> Result<Report, Failure<'a>>
     ensures { LeadsTo (validation document.entry.now (map (λ n. n.now) modules.now) (map (λ c. c.items) contents.now)) reported result }
 {
-    let parsed = parse_modules(alloc, modules, contents)?;
-    let schema = compile_modules(alloc, modules, &parsed)?;
-    judge(alloc, document, schema, contents_at(contents, modules.len()))
+    match parse_modules(alloc, modules, contents) {
+        Ok((parsed, rest)) => match compile_modules(alloc, modules, &parsed) {
+            Ok(schema) => judge(alloc, document, schema, first_of(rest)),
+            Err(failure) => Err(failure),
+        },
+        Err(failure) => Err(failure),
+    }
 }
 
 /// The faults of a document under modules. All files are read first: the modules in order, then the document. The first
@@ -151,8 +165,25 @@ pub fn validate<'a, F: Files>(
     ensures { IsOutcome (F.contents files.old) (F.failures files.old) (F.failures files.new)
         (spec.validate document.entry.now (map (λ n. n.now) modules.now)) (came_to result) }
 {
+    match names_of(alloc, document, modules) {
+        Ok(names) => match read_files(alloc, &names, files) {
+            Ok(contents) => judge_files(alloc, document, modules, &contents),
+            Err(failure) => Err(failure),
+        },
+        Err(_) => Err(Failure::Memory),
+    }
+}
+
+/// The names of the files in the order in which they are read.
+fn names_of<'a>(
+    alloc: Global,
+    document: &'a str,
+    modules: &[&'a str],
+) -> Result<Vec<&'a str>, AllocError>
+    ensures { IfOk result (λ names. map (λ n. n.now) names.items
+        ≡ files_of (spec.validate document.entry.now (map (λ n. n.now) modules.now))) }
+{
     let mut names = Vec::from_slice(alloc, modules)?;
     names.push(document)?;
-    let contents = read_files(alloc, &names, files)?;
-    judge_files(alloc, document, modules, &contents)
+    Ok(names)
 }
