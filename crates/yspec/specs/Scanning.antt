@@ -103,15 +103,15 @@ pub record Scanned : Type 0 where
 abbrev pub told_of : Text → Cause → Result Scanned Slip
 told_of text c = slip c.code (min 4294967295 (line_behind 1 (take c.place text)))
 
-abbrev pub scanned : Text → Piece → Kind → Result Scanned Slip
+abbrev pub scanned : Text → Piece → Kind → Scanned
 scanned text p kind =
-    Ok (record { kind = kind; start = p.start; end = p.end; text = slice_range text p.start p.end })
+    record { kind = kind; start = p.start; end = p.end; text = slice_range text p.start p.end }
 
 -- what comes of a piece, and of those behind it where it is a token with nothing wrong
 abbrev pub given : Text → Option ℕ → Piece → List (Result Scanned Slip) → List (Result Scanned Slip)
 given text forbidden p rest = option_map_or (λ c. told_of text c ∷ [])
     (first_cause forbidden p.end (cause_within p.start p.token.lexeme))
-    (option_map_or (λ kind. scanned text p kind ∷ rest) (kind_of p.token.lexeme) [])
+    (option_map_or (λ kind. Ok (scanned text p kind) ∷ rest) (kind_of p.token.lexeme) [])
 
 unfoldable pub given_of : Text → Option ℕ → List Piece → List (Result Scanned Slip)
 given_of text forbidden [] = []

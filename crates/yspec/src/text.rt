@@ -1,9 +1,11 @@
 //! Worked examples of module text: what quoted strings say, where words end, and what is refused in which line.
 
-ghost use Rattle.std.specs.Prelude.{◌≡◌, ◌++◌, [], ◌∷◌, codes, Some, None, Ok};
+ghost use Rattle.std.specs.Prelude.{◌≡◌, ◌++◌, map, [], ◌∷◌, codes, Some, None, Ok};
 ghost use Rattle.yspec.specs.Forest.{end, node};
 ghost use Rattle.yspec.specs.Statement.{module_of, slip};
-ghost use Rattle.yspec.specs.Scanning.{scan_of, unquoted, single_quoted, double_quoted, semicolon, opening, closing};
+ghost use Rattle.yspec.specs.Scanning.{Piece, pieces_of, scan_of, unquoted, single_quoted, double_quoted, semicolon, opening, closing};
+ghost use Rattle.yspec.specs.Text.{Text};
+ghost use Rattle.yspec.specs.Token.{tokens_of};
 ghost use Rattle.yspec.specs.TextSamples.{with_argument, token_of};
 
 /// Later lines of a double-quoted string lose white space up to the column of its opening quote; a tab that is met
@@ -64,4 +66,9 @@ pub fn scanned_texts()
     ensures behind_an_escape { scan_of (codes "\"\\x\r\"") ≡ slip 4 1 ∷ [] }
     ensures before_an_escape { scan_of (codes "\"\r\\x\"") ≡ slip 2 1 ∷ [] }
     ensures in_an_open_quote { scan_of (codes "a \"\r") ≡ token_of unquoted 0 1 (codes "a") ∷ slip 3 1 ∷ [] }
+{}
+
+/// The tokens that a scan meets are those of the text.
+pub fn scanned_tokens()
+    ensures { (text : Text) → map (λ (p : Piece). p.token) (pieces_of text) ≡ tokens_of text }
 {}

@@ -9,4 +9,5 @@ pub mod TextSteps
 pub mod TokenSteps
 pub mod Walks
 pub mod ScanSteps
+pub mod ScannerSteps
 pub mod SinkSteps
