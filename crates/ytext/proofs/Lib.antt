@@ -1,6 +1,5 @@
 pub mod ViewLemmas
 pub mod CursorSteps
-pub mod NameSteps
 pub mod PieceSteps
 pub mod QuotedSteps
 pub mod ReaderSteps

@@ -6,5 +6,4 @@ pub mod Reading
 pub mod Scanned
 pub mod Shown
 pub mod Sink
-pub mod Statements
 pub mod View

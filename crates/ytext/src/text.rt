@@ -1,5 +1,5 @@
 //! Module text, as a whole.
-ghost use Rattle.std.specs.Prelude.{◌≡◌, ℕ, ◌+◌, ◌<◌, ◌≤◌, ◌^◌, List, ◌∷◌, true, Some, IfSome, IfNone, IfOk, IfErr, length};
+ghost use Rattle.std.specs.Prelude.{◌≡◌, ℕ, ◌+◌, ◌<◌, ◌≤◌, ◌^◌, List, [], ◌∷◌, true, Some, IfSome, IfNone, IfOk, IfErr, length};
 ghost use Rattle.std.specs.Str.{chars};
 ghost use Rattle.std.specs.Char.{len_utf8};
 ghost use Rattle.yspec.specs.Text.{line_behind, is_noncharacter, is_yang_char, forbidden_line};
@@ -9,7 +9,7 @@ ghost use Rattle.yspec.specs.Token.{tokens_of};
 ghost use Rattle.yspec.specs.Scanning.{forbidden_place, scan_of};
 ghost use Rattle.ytext.specs.Characters.{pending, pending_place};
 ghost use Rattle.ytext.specs.Scanned.{tokens_left};
-ghost use Rattle.ytext.specs.Statements.{forest_of};
+ghost use Rattle.ytext.specs.View.{modules_view};
 
 use crate::fault::{TextCode, TextFault};
 use crate::reader::Reader;
@@ -163,7 +163,7 @@ fn checked(bytes: &[u8]) -> Result<&str, TextFault>
 /// The statements of a module's text (RFC 7950, 6), or the first thing that is wrong with it: its length is judged
 /// first, then that it is UTF-8, then its characters, and then the rest from left to right.
 pub fn parse(alloc: Global, bytes: &[u8]) -> Result<Module, TextFault>
-    ensures { Gives (λ read. forest_of read.top) result (module_of bytes.now) }
+    ensures { Gives (λ read. modules_view (read ∷ [])) result (module_of bytes.now) }
 {
     match checked(bytes) {
         Ok(text) => Reader::new(alloc, text).module(),
