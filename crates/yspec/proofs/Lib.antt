@@ -4,6 +4,7 @@ pub mod FittingLemmas
 pub mod CheckingRows
 pub mod SpellingCut
 pub mod SpellingTokens
+pub mod ScanningLaws
 pub mod SpellingRows
 pub mod SpellingLaws
 pub mod SlipsTold

@@ -4,6 +4,7 @@ pub mod Token
 pub mod Statement
 pub mod Spelling
 pub mod Slips
+pub mod Scanning
 pub mod SpellingExamples
 pub mod TextSamples
 pub mod Grammar

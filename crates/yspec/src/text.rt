@@ -1,9 +1,12 @@
 //! Worked examples of module text: what quoted strings say, where words end, and what is refused in which line.
 
-ghost use Rattle.std.specs.Prelude.{◌≡◌, ◌++◌, [], ◌∷◌, codes, Some, None, Ok};
+ghost use Rattle.std.specs.Prelude.{◌≡◌, ◌++◌, map, [], ◌∷◌, codes, Some, None, Ok};
 ghost use Rattle.yspec.specs.Forest.{end, node};
 ghost use Rattle.yspec.specs.Statement.{module_of, slip};
-ghost use Rattle.yspec.specs.TextSamples.{with_argument};
+ghost use Rattle.yspec.specs.Scanning.{Piece, pieces_of, scan_of, unquoted, single_quoted, double_quoted, semicolon, opening, closing};
+ghost use Rattle.yspec.specs.Text.{Text};
+ghost use Rattle.yspec.specs.Token.{tokens_of};
+ghost use Rattle.yspec.specs.TextSamples.{with_argument, token_of};
 
 /// Later lines of a double-quoted string lose white space up to the column of its opening quote; a tab that is met
 /// counts as eight spaces, and the columns past that one stay. Escapes are replaced after that.
@@ -45,4 +48,27 @@ pub fn refused_texts()
     ensures second_top { module_of (codes "module a;\n1b;") ≡ slip 6 2 }
     ensures ends_within { module_of (codes "module a {\n\n") ≡ slip 6 3 }
     ensures no_keyword { module_of (codes "module a {\n1b; }") ≡ slip 8 2 }
+{}
+
+/// What a scan of a text gives: its tokens with their places, up to the first thing that is wrong.
+pub fn scanned_texts()
+    ensures kinds { scan_of (codes "a/**/\"b\"+'c' {\n}; //")
+        ≡ token_of unquoted 0 1 (codes "a") ∷ token_of double_quoted 5 8 (codes "\"b\"") ∷ token_of unquoted 8 9 (codes "+")
+        ∷ token_of single_quoted 9 12 (codes "'c'") ∷ token_of opening 13 14 (codes "{") ∷ token_of closing 15 16 (codes "}")
+        ∷ token_of semicolon 16 17 (codes ";") ∷ [] }
+    ensures long_words { scan_of (codes "a\\b/c*d//e") ≡ token_of unquoted 0 7 (codes "a\\b/c*d") ∷ [] }
+    ensures nothing { scan_of (codes " \n// a") ≡ [] }
+    ensures stray_end { scan_of (codes "a\n; */ b") ≡ token_of unquoted 0 1 (codes "a") ∷ token_of semicolon 2 3 (codes ";") ∷ slip 5 2 ∷ [] }
+    ensures open_quote { scan_of (codes "a\n'b\n") ≡ token_of unquoted 0 1 (codes "a") ∷ slip 3 2 ∷ [] }
+    ensures open_comment { scan_of (codes "a\n\n/*\n") ≡ token_of unquoted 0 1 (codes "a") ∷ slip 3 3 ∷ [] }
+    ensures wrong_escape { scan_of (codes "a \"\n\\\\\\x\" b") ≡ token_of unquoted 0 1 (codes "a") ∷ slip 4 2 ∷ [] }
+    ensures return_in_a_gap { scan_of (codes "a\r\n \r b") ≡ token_of unquoted 0 1 (codes "a") ∷ slip 2 2 ∷ [] }
+    ensures behind_an_escape { scan_of (codes "\"\\x\r\"") ≡ slip 4 1 ∷ [] }
+    ensures before_an_escape { scan_of (codes "\"\r\\x\"") ≡ slip 2 1 ∷ [] }
+    ensures in_an_open_quote { scan_of (codes "a \"\r") ≡ token_of unquoted 0 1 (codes "a") ∷ slip 3 1 ∷ [] }
+{}
+
+/// The tokens that a scan meets are those of the text.
+pub fn scanned_tokens()
+    ensures { (text : Text) → map (λ (p : Piece). p.token) (pieces_of text) ≡ tokens_of text }
 {}

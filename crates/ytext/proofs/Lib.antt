@@ -1,6 +1,5 @@
 pub mod ViewLemmas
 pub mod CursorSteps
-pub mod NameSteps
 pub mod PieceSteps
 pub mod QuotedSteps
 pub mod ReaderSteps
@@ -9,5 +8,6 @@ pub mod TextSteps
 pub mod TokenSteps
 pub mod Walks
 pub mod ScanSteps
+pub mod ScannerSteps
 pub mod SinkSteps
 pub mod WritingSteps

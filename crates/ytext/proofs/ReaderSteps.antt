@@ -6,7 +6,7 @@ use Rattle.yspec.specs.Statement.{Statement, Slip, Row, ◌>>=◌, statement, st
 use Rattle.ytext.specs.Gives.{Fails}
 use Rattle.ytext.specs.Left.{left}
 use Rattle.ytext.specs.Reading.{tokens_ahead, first_of, rest_of, rows}
-use Rattle.ytext.specs.Statements.{row_of}
+use Rattle.ytext.specs.View.{row_view}
 use Rattle.ytext.specs.View.{lexeme_of, ends_text}
 use Rattle.ytext.specs.declared.cursor.Lexeme.{Lexeme}
 use Rattle.ytext.specs.declared.cursor.Lexeme.TheVariants.{Word}
@@ -30,14 +30,14 @@ top_fails r w Memory is h = tt
 top_fails r w (Refused code line) is h = top_of r w is ∙ ap (λ (read : Result Row Slip). read >>= ending) h
 
 -- the end of a row, and a token that may not stand in one
-pub row_ends : (level : ℕ) (r : Reader) (ss : List Stmt) (read : Result Row Slip) → with_front (row_of ss) (rows level (tokens_ahead r)) ≡ read
-    → row_at (lexeme_of r.token.lexeme) (rows (level + 1)) (rows level) level (first_of r) (rest_of r) ≡ Ok (end, tokens_ahead r) → read ≡ Ok (row_of ss, tokens_ahead r)
+pub row_ends : (level : ℕ) (r : Reader) (ss : List Stmt) (read : Result Row Slip) → with_front (row_view ss) (rows level (tokens_ahead r)) ≡ read
+    → row_at (lexeme_of r.token.lexeme) (rows (level + 1)) (rows level) level (first_of r) (rest_of r) ≡ Ok (end, tokens_ahead r) → read ≡ Ok (row_view ss, tokens_ahead r)
 row_ends level r ss read rest e =
-    sym rest ∙ ap (with_front (row_of ss)) (rows_by level (first_of r) (rest_of r) ∙ e) ∙ front_ok (row_of ss) end (tokens_ahead r)
-    ∙ ap (λ (f : Forest Statement). Ok (f, tokens_ahead r)) (join_end (row_of ss))
+    sym rest ∙ ap (with_front (row_view ss)) (rows_by level (first_of r) (rest_of r) ∙ e) ∙ front_ok (row_view ss) end (tokens_ahead r)
+    ∙ ap (λ (f : Forest Statement). Ok (f, tokens_ahead r)) (join_end (row_view ss))
 
-pub row_breaks : (level : ℕ) (r : Reader) (ss : List Stmt) (read : Result Row Slip) (e : TextFault) → with_front (row_of ss) (rows level (tokens_ahead r)) ≡ read
+pub row_breaks : (level : ℕ) (r : Reader) (ss : List Stmt) (read : Result Row Slip) (e : TextFault) → with_front (row_view ss) (rows level (tokens_ahead r)) ≡ read
     → Fails e (row_at (lexeme_of r.token.lexeme) (rows (level + 1)) (rows level) level (first_of r) (rest_of r)) → Fails e read
 row_breaks level r ss read Memory rest h = tt
 row_breaks level r ss read (Refused code line) rest h =
-    sym rest ∙ ap (with_front (row_of ss)) (rows_by level (first_of r) (rest_of r) ∙ h) ∙ front_err (row_of ss) _
+    sym rest ∙ ap (with_front (row_view ss)) (rows_by level (first_of r) (rest_of r) ∙ h) ∙ front_err (row_view ss) _

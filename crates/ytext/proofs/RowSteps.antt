@@ -8,7 +8,7 @@ use Rattle.yspec.specs.Forest.{join}
 use Rattle.yspec.specs.Token.{at}
 use Rattle.ytext.specs.Gives.{Fails}
 use Rattle.ytext.specs.Reading.{rows}
-use Rattle.ytext.specs.Statements.{forest_of, row_of}
+use Rattle.ytext.specs.View.{view, row_view}
 use Rattle.ytext.specs.declared.statement.Stmt.{Stmt}
 use Rattle.ytext.specs.declared.fault.TextFault.{TextFault}
 use Rattle.ytext.specs.declared.fault.TextFault.TheVariants.{Refused, Memory}
@@ -273,24 +273,24 @@ pub join_end : (f : Forest Statement) → join f end ≡ f
 join_end end = refl
 join_end (node l below after) = ap (λ (r : Forest Statement). node l below r) (join_end after)
 
-pub row_of_push : (ss : List Stmt) (s : Stmt) → row_of (ss ++ s ∷ []) ≡ join (row_of ss) (forest_of s)
-row_of_push [] s = join_end (forest_of s)
-row_of_push (x ∷ ss) s = ap (join (forest_of x)) (row_of_push ss s) ∙ sym (join_again (forest_of x) (row_of ss) (forest_of s))
+pub row_view_push : (ss : List Stmt) (s : Stmt) → row_view (ss ++ s ∷ []) ≡ join (row_view ss) (row_view (s ∷ []))
+row_view_push [] s = refl
+row_view_push (x ∷ ss) s = ap (node (view x).0 (view x).1) (row_view_push ss s)
 
 -- a statement at the front of a row
 pub row_grows : (level : ℕ) (kw : Text) (line : ℕ) (ts us : List Token) (ss : List Stmt) (s : Stmt)
-    → statement (rows (level + 1)) level kw line ts ≡ Ok (forest_of s, us)
-    → with_front (row_of ss) (rows level (at line (word kw) ∷ ts)) ≡ with_front (row_of (ss ++ s ∷ [])) (rows level us)
+    → statement (rows (level + 1)) level kw line ts ≡ Ok (row_view (s ∷ []), us)
+    → with_front (row_view ss) (rows level (at line (word kw) ∷ ts)) ≡ with_front (row_view (ss ++ s ∷ [])) (rows level us)
 unfolding with_front
 row_grows level kw line ts us ss s e =
-    ap (with_front (row_of ss)) (rows_by level (at line (word kw)) ts
+    ap (with_front (row_view ss)) (rows_by level (at line (word kw)) ts
     ∙ ap (λ (r : Result Row Slip). r >>= (λ first. rows level first.1 >>= in_row first)) e)
-    ∙ front_again (row_of ss) (forest_of s) (rows level us)
-    ∙ ap (λ (f : Forest Statement). with_front f (rows level us)) (sym (row_of_push ss s))
+    ∙ front_again (row_view ss) (row_view (s ∷ [])) (rows level us)
+    ∙ ap (λ (f : Forest Statement). with_front f (rows level us)) (sym (row_view_push ss s))
 
 pub row_fails : (level : ℕ) (kw : Text) (line : ℕ) (ts : List Token) (ss : List Stmt) (e : TextFault)
-    → Fails e (statement (rows (level + 1)) level kw line ts) → Fails e (with_front (row_of ss) (rows level (at line (word kw) ∷ ts)))
+    → Fails e (statement (rows (level + 1)) level kw line ts) → Fails e (with_front (row_view ss) (rows level (at line (word kw) ∷ ts)))
 unfolding with_front
 row_fails level kw line ts ss Memory h = tt
 row_fails level kw line ts ss (Refused code l) h =
-    ap (with_front (row_of ss)) (rows_by level (at line (word kw)) ts ∙ ap (λ (r : Result Row Slip). r >>= (λ first. rows level first.1 >>= in_row first)) h)
+    ap (with_front (row_view ss)) (rows_by level (at line (word kw)) ts ∙ ap (λ (r : Result Row Slip). r >>= (λ first. rows level first.1 >>= in_row first)) h)

@@ -1,11 +1,13 @@
 -- The judgement of a whole text, character by character and step by step.
 use Rattle.std.proofs.Common.{◌≡◌, ℕ, suc, get_or, drop-cons, ◌+◌, ◌<◌, ◌≤◌, List, [], ◌∷◌, Bool, true, false, ◌&&◌, ◌||◌, ◌==◌, cond, Option, Some, None, Result, length, take, drop, nat_lt, refl, sym, ap, ◌∙◌, arith, lt-ltb, le-ltb}
 use Rattle.std.specs.Option.{option_map_or}
+use Rattle.std.specs.Char.{len_utf8}
+use lib.Utf8.{encodes, encode}
 use Rattle.std.specs.Str.{chars, IsUtf8, is_utf8}
 use Rattle.std.specs.Str.Lossy.{utf8_valid_len}
 use Rattle.std.proofs.lemmas.Bool.{ne_eqb}
-use Rattle.std.proofs.lemmas.Str.{is_utf8-from_IsUtf8, IsUtf8-from_is_utf8, length-le-encodes, encodes-chars}
-use Rattle.std.proofs.lemmas.List.{drop_all}
+use Rattle.std.proofs.lemmas.Str.{is_utf8-from_IsUtf8, IsUtf8-from_is_utf8, length-le-encodes, encodes-chars, length-encode}
+use Rattle.std.proofs.lemmas.List.{drop_all, length-append}
 use Rattle.yspec.specs.Forest.{Forest}
 use Rattle.yspec.specs.Text.{begins, is_yang_char, line_after, line_behind, forbidden_line, line_feed, carriage_return}
 use Rattle.yspec.specs.Token.{tokens_of}
@@ -67,3 +69,13 @@ few_chars t u = omega (arith, length-le-encodes (chars t), ap length (encodes-ch
 
 pub none_left : (cs : List ℕ) (n : ℕ) → n ≡ length cs → drop n cs ≡ []
 none_left cs n e = drop_all n cs (omega (arith, e))
+
+-- a character of a text by its bytes
+pub char_bytes : (cs : List ℕ) (n c : ℕ) → drop n cs ≡ c ∷ drop (n + 1) cs
+    → length (encodes (drop n cs)) ≡ len_utf8 c + length (encodes (drop (n + 1) cs))
+char_bytes cs n c e =
+    ap (λ (ds : List ℕ). length (encodes ds)) e ∙ length-append (encode c) (encodes (drop (n + 1) cs))
+    ∙ ap (λ (k : ℕ). k + length (encodes (drop (n + 1) cs))) (length-encode c)
+
+pub no_return : false ≡ true → 0 < 0
+no_return e = cc

@@ -4,31 +4,44 @@ use Rattle.std.specs.Prelude.{slice_range}
 use Rattle.std.proofs.lemmas.Bool.{ne_eqb}
 use Rattle.std.proofs.lemmas.List.{take_more, get_or-drop, drop-drop}
 use Rattle.std.specs.Option.{option_map_or}
-use Rattle.yspec.specs.Text.{line_after, begins}
-use Rattle.yspec.specs.Token.{Token, Front, tokens_from, column_after, column_behind, front, met, at, finish, token, word, word_length, gap, last, unclosed_comment, slash_front, comment_front, comment_rest_length, line_comment_length}
+use Rattle.yspec.specs.Text.{line_after, begins, is_white}
+use Rattle.yspec.specs.Scanning.{piece_at, placed, pieces_from}
+use Rattle.yspec.specs.Token.{Front, column_after, column_behind, front, at, finish, token, word, word_length, gap, last, unclosed_comment, slash_front, comment_front, comment_rest_length, line_comment_length}
 use Rattle.ytext.proofs.ScanSteps.{drop_at}
 
 -- the first byte of a piece is passed over like the others
-pub first_passed : (n line column x : ℕ) (xs : List ℕ) → 0 < n
-    → tokens_from (n - 1) (line_after x line) (column_after x column) xs ≡ tokens_from n line column (x ∷ xs)
-unfolding tokens_from
-first_passed zero line column x xs h = absurd (omega (arith, h))
-first_passed (suc n) line column x xs h = let one : suc n - 1 ≡ n = omega arith in
-    ap (λ (m : ℕ). tokens_from m (line_after x line) (column_after x column) xs) one
+pub first_passed : (n start line column x : ℕ) (xs : List ℕ) → 0 < n
+    → pieces_from (n - 1) (start + 1) (line_after x line) (column_after x column) xs ≡ pieces_from n start line column (x ∷ xs)
+unfolding pieces_from
+first_passed zero start line column x xs h = absurd (omega (arith, h))
+first_passed (suc n) start line column x xs h = let one : suc n - 1 ≡ n = omega arith in
+    ap (λ (m : ℕ). pieces_from m (start + 1) (line_after x line) (column_after x column) xs) one
 
-pub met_at : (line column : ℕ) (text : List ℕ) (i : ℕ) → i < length text → tokens_from 0 line column (drop i text)
-    ≡ met line (front column (get_or text i 0) (drop (i + 1) text)) (λ n. tokens_from (n - 1) (line_after (get_or text i 0) line) (column_after (get_or text i 0) column) (drop (i + 1) text))
-unfolding tokens_from
-met_at line column text i h = ap (λ (xs : List ℕ). tokens_from 0 line column xs) (drop_at text i h)
+pub met_at : (line column : ℕ) (text : List ℕ) (i : ℕ) → i < length text → pieces_from 0 i line column (drop i text)
+    ≡ placed i line (front column (get_or text i 0) (drop (i + 1) text)) (λ n. pieces_from (n - 1) (i + 1) (line_after (get_or text i 0) line) (column_after (get_or text i 0) column) (drop (i + 1) text))
+unfolding pieces_from
+met_at line column text i h = ap (λ (xs : List ℕ). pieces_from 0 i line column xs) (drop_at text i h)
 
-pub passed_at : (n line column : ℕ) (text : List ℕ) (i : ℕ) → i < length text → tokens_from (suc n) line column (drop i text)
-    ≡ tokens_from n (line_after (get_or text i 0) line) (column_after (get_or text i 0) column) (drop (i + 1) text)
-unfolding tokens_from
-passed_at n line column text i h = ap (λ (xs : List ℕ). tokens_from (suc n) line column xs) (drop_at text i h)
+pub passed_at : (n line column : ℕ) (text : List ℕ) (i : ℕ) → i < length text → pieces_from (suc n) i line column (drop i text)
+    ≡ pieces_from n (i + 1) (line_after (get_or text i 0) line) (column_after (get_or text i 0) column) (drop (i + 1) text)
+unfolding pieces_from
+passed_at n line column text i h = ap (λ (xs : List ℕ). pieces_from (suc n) i line column xs) (drop_at text i h)
 
-pub at_end : (line column : ℕ) → tokens_from 0 line column [] ≡ at line finish ∷ []
-unfolding tokens_from
-at_end line column = refl
+pub at_end : (start line column : ℕ) → pieces_from 0 start line column [] ≡ piece_at start start (at line finish) ∷ []
+unfolding pieces_from
+at_end start line column = refl
+
+-- a byte of white space is passed over
+pub white_passed : (line column : ℕ) (text : List ℕ) (i : ℕ) → i < length text → is_white (get_or text i 0) ≡ true
+    → pieces_from 0 i line column (drop i text) ≡ pieces_from 1 i line column (drop i text)
+white_passed line column text i h e =
+    met_at line column text i h
+    ∙ ap (λ (f : Front). placed i line f (λ n. pieces_from (n - 1) (i + 1) (line_after (get_or text i 0) line) (column_after (get_or text i 0) column) (drop (i + 1) text)))
+    (front_white column (get_or text i 0) (drop (i + 1) text) e)
+    ∙ sym (passed_at 0 line column text i h)
+  where
+    front_white : (column x : ℕ) (xs : List ℕ) → is_white x ≡ true → front column x xs ≡ gap 1
+    front_white column x xs e = rw e refl
 
 -- ---- columns
 
@@ -56,30 +69,56 @@ nothing_between text i = let none : i - i ≡ 0 = omega arith in ap (λ (n : ℕ
 -- ---- a byte of a piece is passed over
 
 pub byte_passed : (end line column : ℕ) (text : List ℕ) (i : ℕ) → i < end → i < length text
-    → tokens_from (end - i) line column (drop i text)
-    ≡ tokens_from (end - (i + 1)) (line_after (get_or text i 0) line) (column_after (get_or text i 0) column) (drop (i + 1) text)
+    → pieces_from (end - i) i line column (drop i text)
+    ≡ pieces_from (end - (i + 1)) (i + 1) (line_after (get_or text i 0) line) (column_after (get_or text i 0) column) (drop (i + 1) text)
 byte_passed end line column text i h l =
     let more : end - i ≡ suc (end - (i + 1)) = omega arith in
-    ap (λ (n : ℕ). tokens_from n line column (drop i text)) more ∙ passed_at (end - (i + 1)) line column text i l
+    ap (λ (n : ℕ). pieces_from n i line column (drop i text)) more ∙ passed_at (end - (i + 1)) line column text i l
 
 pub break_passed : (end line column : ℕ) (text : List ℕ) (i : ℕ) → i < end → i < length text → get_or text i 0 ≡ 10
-    → tokens_from (end - i) line column (drop i text)
-    ≡ tokens_from (end - (i + 1)) (line + 1) (column_behind 1 (slice_range text (i + 1) (i + 1))) (drop (i + 1) text)
+    → pieces_from (end - i) i line column (drop i text)
+    ≡ pieces_from (end - (i + 1)) (i + 1) (line + 1) (column_behind 1 (slice_range text (i + 1) (i + 1))) (drop (i + 1) text)
 break_passed end line column text i h l e =
     byte_passed end line column text i h l
-    ∙ ap (λ (x : ℕ). tokens_from (end - (i + 1)) (line_after x line) (column_after x column) (drop (i + 1) text)) e
-    ∙ ap (λ (xs : List ℕ). tokens_from (end - (i + 1)) (line + 1) (column_behind 1 xs) (drop (i + 1) text)) (sym (nothing_between text (i + 1)))
+    ∙ ap (λ (x : ℕ). pieces_from (end - (i + 1)) (i + 1) (line_after x line) (column_after x column) (drop (i + 1) text)) e
+    ∙ ap (λ (xs : List ℕ). pieces_from (end - (i + 1)) (i + 1) (line + 1) (column_behind 1 xs) (drop (i + 1) text)) (sym (nothing_between text (i + 1)))
 
 test_fails : (a b : ℕ) → (a ≡ b → ⊥) → (a == b) ≡ false
 test_fails = ne_eqb
 
 pub other_passed : (end line start : ℕ) (text : List ℕ) (i : ℕ) → i < end → i < length text → start ≤ i → (get_or text i 0 ≡ 10 → ⊥)
-    → tokens_from (end - i) line (column_behind 1 (slice_range text start i)) (drop i text)
-    ≡ tokens_from (end - (i + 1)) line (column_behind 1 (slice_range text start (i + 1))) (drop (i + 1) text)
+    → pieces_from (end - i) i line (column_behind 1 (slice_range text start i)) (drop i text)
+    ≡ pieces_from (end - (i + 1)) (i + 1) line (column_behind 1 (slice_range text start (i + 1))) (drop (i + 1) text)
 other_passed end line start text i h l s e =
     byte_passed end line (column_behind 1 (slice_range text start i)) text i h l
-    ∙ ap (λ (b : Bool). tokens_from (end - (i + 1)) (cond b (line + 1) line) (column_after (get_or text i 0) (column_behind 1 (slice_range text start i))) (drop (i + 1) text)) (test_fails (get_or text i 0) 10 e)
-    ∙ ap (λ (column : ℕ). tokens_from (end - (i + 1)) line column (drop (i + 1) text)) (sym (column_more text start i s l))
+    ∙ ap (λ (b : Bool). pieces_from (end - (i + 1)) (i + 1) (cond b (line + 1) line) (column_after (get_or text i 0) (column_behind 1 (slice_range text start i))) (drop (i + 1) text)) (test_fails (get_or text i 0) 10 e)
+    ∙ ap (λ (column : ℕ). pieces_from (end - (i + 1)) (i + 1) line column (drop (i + 1) text)) (sym (column_more text start i s l))
+
+-- ---- white space is passed over byte by byte
+
+abbrev one_behind : (i : ℕ) → 1 ≡ (i + 1) - i
+one_behind i = omega arith
+
+abbrev none_behind : (i : ℕ) → (i + 1) - (i + 1) ≡ 0
+none_behind i = omega arith
+
+pub white_break : (line column : ℕ) (text : List ℕ) (i : ℕ) → i < length text → is_white (get_or text i 0) ≡ true → get_or text i 0 ≡ 10
+    → pieces_from 0 i line column (drop i text)
+    ≡ pieces_from 0 (i + 1) (line + 1) (column_behind 1 (slice_range text (i + 1) (i + 1))) (drop (i + 1) text)
+white_break line column text i l w e =
+    white_passed line column text i l w
+    ∙ ap (λ (n : ℕ). pieces_from n i line column (drop i text)) (one_behind i)
+    ∙ break_passed (i + 1) line column text i (omega arith) l e
+    ∙ ap (λ (n : ℕ). pieces_from n (i + 1) (line + 1) (column_behind 1 (slice_range text (i + 1) (i + 1))) (drop (i + 1) text)) (none_behind i)
+
+pub white_other : (line start : ℕ) (text : List ℕ) (i : ℕ) → i < length text → start ≤ i → is_white (get_or text i 0) ≡ true → (get_or text i 0 ≡ 10 → ⊥)
+    → pieces_from 0 i line (column_behind 1 (slice_range text start i)) (drop i text)
+    ≡ pieces_from 0 (i + 1) line (column_behind 1 (slice_range text start (i + 1))) (drop (i + 1) text)
+white_other line start text i l s w e =
+    white_passed line (column_behind 1 (slice_range text start i)) text i l w
+    ∙ ap (λ (n : ℕ). pieces_from n i line (column_behind 1 (slice_range text start i)) (drop i text)) (one_behind i)
+    ∙ other_passed (i + 1) line start text i (omega arith) l s e
+    ∙ ap (λ (n : ℕ). pieces_from n (i + 1) line (column_behind 1 (slice_range text start (i + 1))) (drop (i + 1) text)) (none_behind i)
 
 -- ---- words
 

@@ -1,8 +1,14 @@
 -- What is still to be judged of a text's characters.
-use Rattle.std.specs.Prelude.{ℕ, List, Bool, true, false, Option, Some, if◌then◌else◌}
+use Rattle.std.specs.Prelude.{ℕ, ◌-◌, List, Bool, true, false, Option, Some, if◌then◌else◌}
 use Rattle.yspec.specs.Text.{begins, line_feed, forbidden_line}
+use Rattle.yspec.specs.Scanning.{forbidden_place}
 
 -- the first line with a character that isn't allowed, from a line on, a carriage return standing just before or not
 abbrev pub pending : Bool → ℕ → List ℕ → Option ℕ
 pending true line cs = if begins line_feed cs then forbidden_line line cs else Some line
 pending false line cs = forbidden_line line cs
+
+-- the same for its place
+abbrev pub pending_place : Bool → ℕ → List ℕ → Option ℕ
+pending_place true place cs = if begins line_feed cs then forbidden_place place cs else Some (place - 1)
+pending_place false place cs = forbidden_place place cs

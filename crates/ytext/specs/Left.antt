@@ -1,8 +1,10 @@
 -- What is left of a text's tokens at a place.
-use Rattle.std.specs.Prelude.{ℕ, ◌+◌, List, [], ◌∷◌, drop, slice_range, slice_index, if◌then◌else◌}
-use Rattle.yspec.specs.Token.{Token, tokens_from, column_behind, at, Front, front}
+use Rattle.std.specs.Prelude.{ℕ, ◌+◌, ◌-◌, List, [], ◌∷◌, drop, map, slice_range, slice_index, if◌then◌else◌}
+use Rattle.yspec.specs.Token.{Token, column_behind, at, Front, front}
+use Rattle.yspec.specs.Scanning.{Piece, piece_at, pieces_from}
 use Rattle.ytext.specs.View.{lexeme_of, ends_text}
 use Rattle.ytext.specs.declared.cursor.Cursor.{Cursor}
+use Rattle.ytext.specs.declared.cursor.Found.{Found}
 use Rattle.ytext.specs.declared.cursor.Lexed.{Lexed}
 
 abbrev pub column_at : List ℕ → ℕ → ℕ → ℕ
@@ -11,12 +13,23 @@ column_at text line_start place = column_behind 1 (slice_range text line_start p
 abbrev pub column_of : Cursor → ℕ
 column_of c = column_at c.text.now c.line_start c.at
 
--- the tokens from a cursor on, the first so many bytes belonging to a piece before
-abbrev pub left_behind : ℕ → Cursor → List Token
-left_behind skip c = tokens_from skip c.line (column_of c) (drop c.at c.text.now)
+-- the tokens with their places from a cursor on, the first so many bytes belonging to a piece before
+abbrev pub pieces_behind : ℕ → Cursor → List Piece
+pieces_behind skip c = pieces_from skip c.at c.line (column_of c) (drop c.at c.text.now)
 
+abbrev pub pieces_left : Cursor → List Piece
+pieces_left c = pieces_behind 0 c
+
+-- the tokens alone
 abbrev pub left : Cursor → List Token
-left c = left_behind 0 c
+left c = map (λ p. p.token) (pieces_left c)
+
+abbrev pub piece_of : Found → Piece
+piece_of f = piece_at f.cursor.at f.end (at f.cursor.line (lexeme_of f.lexeme))
+
+-- what is found, and what is behind it where it isn't the last
+abbrev pub with_piece : Found → List Piece
+with_piece f = piece_of f ∷ (if ends_text f.lexeme then [] else pieces_behind (f.end - f.cursor.at) f.cursor)
 
 abbrev pub token_of : Lexed → Token
 token_of t = at t.line (lexeme_of t.lexeme)

@@ -4,7 +4,7 @@ pub mod Left
 pub mod Quoted
 pub mod Reading
 pub mod Scanned
+pub mod Shown
 pub mod Sink
-pub mod Statements
 pub mod View
 pub mod Writing

@@ -71,6 +71,11 @@ GoesOn text at (front.Token lexeme later) =
     (ends_text lexeme ≡ false) × IsLater text at later × (extent lexeme + at ≤ later) × (indent lexeme ≤ at)
 GoesOn text at (front.Last lexeme) = (ends_text lexeme ≡ true) × (extent lexeme ≡ 0) × (indent lexeme ≡ 0)
 
+-- Where what is found ends: a token at a later place, and what ends the text where it begins.
+abbrev pub Reaches : List ℕ → ℕ → Lexeme → ℕ → Type 0
+Reaches text at lexeme later = (at ≤ later) × IsCharBoundary text later × (extent lexeme + at ≤ later) × (indent lexeme ≤ at)
+    × (ends_text lexeme ≡ false → at < later)
+
 -- ---- statements: a label, and the row of what stands below it
 
 abbrev pub Labelled : Type 0

@@ -50,14 +50,24 @@ pub(crate) struct Cursor<'a> {
     pub ghost few_lines: { line ≤ at + 1 },
 }
 
+/// What stands at a place, and where it ends. What ends the text ends where it begins.
+#[derive(Clone, Copy)]
+pub(crate) struct Found<'a> {
+    pub(crate) cursor: Cursor<'a>,
+    pub(crate) lexeme: Lexeme<'a>,
+    pub(crate) end: usize,
+}
+
 impl<'a> Cursor<'a> {
     ghost use Rattle.yspec.specs.Token.{tokens_of, word, token, word_length, slash_front, single_front, double_front, other_front};
-    ghost use Rattle.ytext.specs.View.{ends_text, extent, indent, front_of, GoesOn};
-    ghost use Rattle.ytext.specs.Left.{left, left_behind, column_of, stands, with_token};
+    ghost use Rattle.yspec.specs.Scanning.{pieces_of};
+    ghost use Rattle.ytext.specs.View.{ends_text, extent, indent, front_of, GoesOn, Reaches};
+    ghost use Rattle.ytext.specs.Left.{left, pieces_left, pieces_behind, column_of, stands, with_piece, with_token};
 
     /// The beginning of a text.
     pub(crate) fn new(text: &'a str) -> Cursor<'a>
         ensures start { left result ≡ tokens_of text.now }
+        ensures pieces { pieces_left result ≡ pieces_of text.now }
         ensures text { result.text.now ≡ text.now }
     {
         Cursor {
@@ -74,7 +84,7 @@ impl<'a> Cursor<'a> {
         requires place { IsCharBoundary self.text.now end }
         ensures text { result.text.now ≡ self.entry.text.now }
         ensures at { result.at ≡ end }
-        ensures left { left result ≡ left_behind (end - self.entry.at) self.entry }
+        ensures pieces { pieces_left result ≡ pieces_behind (end - self.entry.at) self.entry }
     {
         let bytes = self.text.as_bytes();
         let mut line = self.line;
@@ -215,22 +225,65 @@ impl<'a> Cursor<'a> {
         }
     }
 
-    /// The place behind the gaps that stand here, and what stands there.
-    pub(crate) fn found(self) -> (Cursor<'a>, Front<'a>)
-        ensures text { result.0.text.now ≡ self.entry.text.now }
-        ensures at { self.entry.at ≤ result.0.at }
-        ensures later { GoesOn result.0.text.now result.0.at result.1 }
+    // The place behind the white space that stands here.
+    fn past_white(self) -> Cursor<'a>
+        ensures text { result.text.now ≡ self.entry.text.now }
+        ensures at { self.entry.at ≤ result.at }
+        ensures pieces { pieces_left self.entry ≡ pieces_left result }
     {
         let bytes = self.text.as_bytes();
-        let mut cursor = self;
+        let mut at = self.at;
+        let mut line = self.line;
+        let mut line_start = self.line_start;
+        while at < bytes.len() && is_white(bytes[at]) {
+            if bytes[at] == b'\n' {
+                line += 1;
+                line_start = at + 1;
+            }
+            at = behind_ascii(self.text, at);
+        }
+        Cursor {
+            text: self.text,
+            at,
+            line,
+            line_start,
+        }
+    }
+
+    /// What stands behind the gaps that stand here.
+    pub(crate) fn found(self) -> Found<'a>
+        ensures text { result.cursor.text.now ≡ self.entry.text.now }
+        ensures at { self.entry.at ≤ result.cursor.at }
+        ensures reaches { Reaches result.cursor.text.now result.cursor.at result.lexeme result.end }
+        ensures pieces { pieces_left self.entry ≡ with_piece result }
+    {
+        let bytes = self.text.as_bytes();
+        let mut cursor = self.past_white();
         while cursor.at < bytes.len() {
             match cursor.front(bytes[cursor.at]) {
-                Front::Gap(end) => cursor = cursor.moved(end),
-                Front::Token(lexeme, end) => return (cursor, Front::Token(lexeme, end)),
-                Front::Last(lexeme) => return (cursor, Front::Last(lexeme)),
+                Front::Gap(end) => cursor = cursor.moved(end).past_white(),
+                Front::Token(lexeme, end) => return Found {
+                    cursor,
+                    lexeme,
+                    end,
+                },
+                Front::Last(lexeme) => return cursor.ended(lexeme),
             }
         }
-        (cursor, Front::Last(Lexeme::End))
+        cursor.ended(Lexeme::End)
+    }
+
+    // What ends the text at this place.
+    fn ended(self, lexeme: Lexeme<'a>) -> Found<'a>
+        ensures cursor { result.cursor ≡ self.entry }
+        ensures lexeme { result.lexeme ≡ lexeme.entry }
+        ensures end { result.end ≡ self.entry.at }
+    {
+        Found {
+            cursor: self,
+            lexeme,
+            end: self.at,
+        }
     }
 
     /// The next token, and the place behind it. What ends the text is met again and again.
@@ -242,15 +295,10 @@ impl<'a> Cursor<'a> {
         ensures near { result.0.line + extent result.0.lexeme ≤ result.1.at + 1 }
         ensures indent { indent result.0.lexeme ≤ result.1.at }
     {
-        let bytes = self.text.as_bytes();
-        let mut cursor = self;
-        while cursor.at < bytes.len() {
-            match cursor.front(bytes[cursor.at]) {
-                Front::Gap(end) => cursor = cursor.moved(end),
-                Front::Token(lexeme, end) => return (cursor.lexed(lexeme), cursor.moved(end)),
-                Front::Last(lexeme) => return (cursor.lexed(lexeme), cursor),
-            }
-        }
-        (cursor.lexed(Lexeme::End), cursor)
+        let found = self.found();
+        (
+            found.cursor.lexed(found.lexeme),
+            found.cursor.moved(found.end),
+        )
     }
 }

@@ -1,6 +1,7 @@
 //! Module text: from bytes to statements.
 #![tactic(auto)]
 
+mod cause;
 mod count;
 mod cursor;
 mod fault;
@@ -14,11 +15,13 @@ mod statement;
 #[cfg(test)]
 mod tests;
 mod text;
+mod token;
 
 pub use count::FailureCount;
 pub use fault::{TextCode, TextFault};
 pub use name::{is_identifier, is_name};
-pub use scanner::{Token, TokenKind, Tokens};
+pub use scanner::Tokens;
 pub use sink::{Cut, Sink, SinkFault, write_all, write_texts};
 pub use statement::{Module, Stmt};
 pub use text::{parse, tokens};
+pub use token::{Token, TokenKind};

@@ -3,6 +3,7 @@ ghost use Rattle.std.specs.Prelude.{◌≡◌, ℕ, ◌+◌, ◌*◌, ◌^◌, �
 ghost use Rattle.std.specs.Str.{IsCharBoundary};
 ghost use Rattle.yspec.specs.Text.{is_blank, space, begins, line_feed, carriage_return};
 ghost use Rattle.yspec.specs.Token.{joined_breaks, stripped_starts, single_text, escape, column_behind, column_after};
+ghost use Rattle.yspec.specs.Scanning.{wrong_escape};
 ghost use Rattle.ytext.specs.Gives.{Gives, Fails};
 ghost use Rattle.ytext.specs.Quoted.{reading, all_blank, blank_width, is_break, is_plain};
 
@@ -349,18 +350,21 @@ pub(crate) fn push_double(
     Ok(())
 }
 
-/// The place of the first backslash that another character follows.
-pub(crate) fn bad_escape_place(raw: &[u8]) -> Option<usize> {
-    let mut slash = None;
-    for (at, byte) in raw.iter().enumerate() {
-        if slash.is_some() {
-            if escape(*byte).is_none() {
-                return slash;
-            }
-            slash = None;
-        } else if *byte == b'\\' {
-            slash = Some(at);
+#[tactic(auto, unfolding(yspec::specs::Scanning::wrong_escape))]
+/// The place of the first backslash that another character follows, the first byte standing at a place.
+pub(crate) fn wrong_escape(raw: &[u8], from: usize) -> Option<usize>
+    requires { from + length raw.now < 2 ^ 64 }
+    ensures place { result ≡ wrong_escape false from raw.now }
+    ensures within { IfSome result (λ place. place < from + length raw.now) }
+{
+    let mut place = from;
+    let mut is_escaped = false;
+    for byte in raw {
+        if is_escaped && escape(*byte).is_none() {
+            return Some(place - 1);
         }
+        is_escaped = !is_escaped && *byte == b'\\';
+        place += 1;
     }
     None
 }

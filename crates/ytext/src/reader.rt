@@ -1,21 +1,16 @@
 //! Statements, read from a text's tokens (RFC 7950, 6.3 and 14).
-ghost use Rattle.std.specs.Prelude.{◌≡◌, ℕ, ◌+◌, ◌<◌, ◌≤◌, ◌^◌, ◌++◌, ◌∷◌, true, false, length, Some, Ok, option_map, string_bytes, IsTrue, OnOk};
-ghost use Rattle.std.specs.Prelude.{◌==◌, nat_lt};
-ghost use Rattle.std.specs.List.{list_all, list_any, position_or_len};
-ghost use Rattle.yspec.specs.Text.{begins_identifier, continues_identifier, is_identifier, is_name, colon};
+ghost use Rattle.std.specs.Prelude.{◌≡◌, ℕ, ◌+◌, ◌<◌, ◌≤◌, ◌^◌, ◌++◌, [], ◌∷◌, true, false, length, Some, Ok, option_map, string_bytes, IsTrue, OnOk};
 ghost use Rattle.ytext.specs.View.{extent, indent};
 
 use crate::cursor::{Cursor, Lexed, Lexeme};
 use crate::fault::{TextCode, TextFault};
+use crate::name::is_name;
 use crate::quoted::{push_double, push_single};
 use crate::statement::{Module, Stmt};
 use std::alloc::Global;
 
 /// Blocks may nest so deep.
 const BLOCK_LIMIT: u32 = 64;
-
-/// An identifier has at most so many characters.
-const IDENTIFIER_LIMIT: usize = 64;
 
 /// A token and what follows it.
 #[derive(Drop)]
@@ -70,7 +65,7 @@ impl<'a> Reader<'a> {
     ghost use Rattle.yspec.specs.Statement.{Statement, piece, pieces, argument, is_quoted, body, closed, statement, ending, row_at, top_statement};
     ghost use Rattle.yspec.specs.Forest.{Forest, end};
     ghost use Rattle.ytext.specs.View.{a_word, is_word};
-    ghost use Rattle.ytext.specs.Statements.{forest_of, row_of};
+    ghost use Rattle.ytext.specs.View.{row_view, modules_view};
     ghost use Rattle.yspec.specs.Token.{tokens_of};
     ghost use Rattle.ytext.specs.Gives.{Gives};
     ghost use Rattle.ytext.specs.View.{ends_text, lexeme_of};
@@ -169,7 +164,7 @@ impl<'a> Reader<'a> {
     #[cycle(reading)]
     fn body(&mut self, level: u32) -> Result<Vec<Stmt>, TextFault>
         ensures ahead { OnOk result (ahead self.new < ahead self.old) }
-        ensures body { Gives (λ subs. (row_of subs.items, tokens_ahead self.new)) result
+        ensures body { Gives (λ subs. (row_view subs.items, tokens_ahead self.new)) result
             (body (rows (level + 1)) level (tokens_ahead self.old)) }
     {
         match self.token.lexeme {
@@ -192,7 +187,7 @@ impl<'a> Reader<'a> {
     #[cycle(reading)]
     fn block(&mut self, level: u32) -> Result<Vec<Stmt>, TextFault>
         ensures ahead { OnOk result (ahead self.new < ahead self.old) }
-        ensures block { Gives (λ subs. (row_of subs.items, tokens_ahead self.new)) result
+        ensures block { Gives (λ subs. (row_view subs.items, tokens_ahead self.new)) result
             (block_of level (tokens_ahead self.old)) }
     {
         let subs = self.statements(level)?;
@@ -221,11 +216,11 @@ impl<'a> Reader<'a> {
     fn statement(&mut self, word: &str, level: u32) -> Result<Stmt, TextFault>
         requires { lexeme_of self.old.token.lexeme ≡ a_word word.now }
         ensures ahead { OnOk result (ahead self.new < ahead self.old) }
-        ensures statement { Gives (λ stmt. (forest_of stmt, tokens_ahead self.new)) result
+        ensures statement { Gives (λ stmt. (row_view (stmt ∷ []), tokens_ahead self.new)) result
             (statement (rows (level + 1)) level word.now self.old.token.line (left self.old.cursor)) }
     {
         let line = self.token.line;
-        if !is_name(word.as_bytes()) {
+        if !is_name(word) {
             return Err(TextFault::refused(TextCode::L8, line));
         }
         let keyword = String::from_str(self.alloc, word)?;
@@ -244,7 +239,7 @@ impl<'a> Reader<'a> {
     #[cycle(reading)]
     fn statements(&mut self, level: u32) -> Result<Vec<Stmt>, TextFault>
         ensures ahead { OnOk result (ahead self.new ≤ ahead self.old) }
-        ensures rows { Gives (λ subs. (row_of subs.items, tokens_ahead self.new)) result (rows level (tokens_ahead self.old)) }
+        ensures rows { Gives (λ subs. (row_view subs.items, tokens_ahead self.new)) result (rows level (tokens_ahead self.old)) }
     {
         let mut subs = Vec::new(self.alloc);
         while let Lexeme::Word(word) = self.token.lexeme {
@@ -288,7 +283,7 @@ impl<'a> Reader<'a> {
 
     /// The one statement of a module's text.
     pub(crate) fn module(&mut self) -> Result<Module, TextFault>
-        ensures { Gives (λ read. forest_of read.top) result (top_statement (tokens_ahead self.old)) }
+        ensures { Gives (λ read. modules_view (read ∷ [])) result (top_statement (tokens_ahead self.old)) }
     {
         match self.token.lexeme {
             Lexeme::Word(word) => {
@@ -305,59 +300,4 @@ impl<'a> Reader<'a> {
             _ => Err(self.token.misplaced()),
         }
     }
-}
-
-fn begins_identifier(byte: u8) -> bool
-    ensures { result ≡ begins_identifier byte }
-{
-    (65 <= byte && byte <= 90) || (97 <= byte && byte <= 122) || byte == b'_'
-}
-
-fn continues_identifier(byte: u8) -> bool
-    ensures { result ≡ continues_identifier byte }
-{
-    begins_identifier(byte) || (48 <= byte && byte <= 57) || byte == b'-' || byte == b'.'
-}
-
-fn all_continue(bytes: &[u8]) -> bool
-    ensures { result ≡ list_all continues_identifier bytes.now }
-{
-    bytes.iter().all(|byte| continues_identifier(*byte))
-}
-
-#[tactic(auto, using(crate::proofs::NameSteps::name_by, crate::proofs::NameSteps::no_name))]
-fn is_identifier(text: &[u8]) -> bool
-    ensures { result ≡ is_identifier text.now }
-{
-    if text.is_empty() {
-        return false;
-    }
-    let (_, rest) = text.split_at(1);
-    begins_identifier(text[0]) && all_continue(rest) && rest.len() < IDENTIFIER_LIMIT
-}
-
-// Where the first colon stands, or the end.
-fn colon_place(word: &[u8]) -> usize
-    ensures place { result ≡ position_or_len (λ x. x == colon) word.now }
-    ensures any { list_any (λ x. x == colon) word.now ≡ nat_lt result (length word.now) }
-    ensures within { result ≤ length word.now }
-{
-    let mut at = 0;
-    while at < word.len() && word[at] != b':' {
-        at += 1;
-    }
-    at
-}
-
-// Whether a keyword is formed as one: an identifier, or two with a colon between them.
-fn is_name(word: &[u8]) -> bool
-    ensures { result ≡ is_name word.now }
-{
-    let colon = colon_place(word);
-    if colon == word.len() {
-        return is_identifier(word);
-    }
-    let (prefix, _) = word.split_at(colon);
-    let (_, name) = word.split_at(colon + 1);
-    is_identifier(prefix) && is_identifier(name)
 }

@@ -1,12 +1,15 @@
 //! Module text, as a whole.
-ghost use Rattle.std.specs.Prelude.{◌≡◌, ℕ, ◌+◌, ◌<◌, ◌≤◌, ◌^◌, List, ◌∷◌, Some, IfSome, IfNone, IfOk, IfErr, length};
+ghost use Rattle.std.specs.Prelude.{◌≡◌, ℕ, ◌+◌, ◌<◌, ◌≤◌, ◌^◌, List, [], ◌∷◌, true, Some, IfSome, IfNone, IfOk, IfErr, length};
 ghost use Rattle.std.specs.Str.{chars};
+ghost use Rattle.std.specs.Char.{len_utf8};
 ghost use Rattle.yspec.specs.Text.{line_behind, is_noncharacter, is_yang_char, forbidden_line};
 ghost use Rattle.yspec.specs.Statement.{module_of, top_statement};
 ghost use Rattle.ytext.specs.Gives.{Gives, Fails};
 ghost use Rattle.yspec.specs.Token.{tokens_of};
-ghost use Rattle.ytext.specs.Characters.{pending};
-ghost use Rattle.ytext.specs.Statements.{forest_of};
+ghost use Rattle.yspec.specs.Scanning.{forbidden_place, scan_of};
+ghost use Rattle.ytext.specs.Characters.{pending, pending_place};
+ghost use Rattle.ytext.specs.Scanned.{tokens_left};
+ghost use Rattle.ytext.specs.View.{modules_view};
 
 use crate::fault::{TextCode, TextFault};
 use crate::reader::Reader;
@@ -19,8 +22,7 @@ use std::str;
 const TEXT_LIMIT: usize = 4_194_304;
 
 // The line behind these bytes.
-fn line_behind(bytes: &[u8]) -> u64
-    requires { length bytes.now < 2 ^ 32 }
+pub(crate) fn line_behind(bytes: &[u8]) -> u64
     ensures line { result ≡ line_behind 1 bytes.now }
     ensures bound { result ≤ length bytes.now + 1 }
 {
@@ -41,7 +43,7 @@ fn is_noncharacter(code: u32) -> bool
 }
 
 // Whether a character may stand in a text wherever it is.
-pub(crate) fn is_yang_char(character: char) -> bool
+fn is_yang_char(character: char) -> bool
     ensures { result ≡ is_yang_char character }
 {
     let code = character as u32;
@@ -92,6 +94,50 @@ fn forbidden_line(text: &str) -> Option<u64>
     if has_returned { Some(line) } else { None }
 }
 
+// The place behind one more character, and whether that is a carriage return. The place of the character or of the
+// carriage return before it, where it isn't allowed.
+fn passed_character(
+    character: char,
+    place: usize,
+    has_returned: bool,
+) -> Result<(usize, bool), usize>
+    requires room { place + 4 < 2 ^ 64 }
+    requires behind { has_returned ≡ true → 0 < place }
+    ensures allowed { (rest : List ℕ) → IfOk result (λ next. pending_place has_returned place (character ∷ rest) ≡ pending_place next.1 next.0 rest) }
+    ensures forbidden { (rest : List ℕ) → IfErr result (λ found. pending_place has_returned place (character ∷ rest) ≡ Some found) }
+    ensures next { IfOk result (λ next. next.0 ≡ place + len_utf8 character) }
+    ensures before { IfErr result (λ found. found ≤ place) }
+{
+    if has_returned && character != '\n' {
+        return Err(place - 1);
+    }
+    let returns = character == '\r';
+    if returns || is_yang_char(character) {
+        Ok((place + character.len_utf8(), returns))
+    } else {
+        Err(place)
+    }
+}
+
+// The place of the first character that isn't allowed.
+pub(crate) fn forbidden_place(text: &str) -> Option<usize>
+    ensures place { result ≡ forbidden_place 0 (chars text.now) }
+    ensures within { IfSome result (λ place. place ≤ length text.now) }
+{
+    let mut place = 0usize;
+    let mut has_returned = false;
+    for character in text.chars() {
+        match passed_character(character, place, has_returned) {
+            Ok(next) => {
+                place = next.0;
+                has_returned = next.1;
+            }
+            Err(found) => return Some(found),
+        }
+    }
+    if has_returned { Some(place - 1) } else { None }
+}
+
 // The text of these bytes, where its length, its encoding and its characters are right.
 fn checked(bytes: &[u8]) -> Result<&str, TextFault>
     ensures text { IfOk result (λ text. text.now ≡ bytes.now) }
@@ -117,7 +163,7 @@ fn checked(bytes: &[u8]) -> Result<&str, TextFault>
 /// The statements of a module's text (RFC 7950, 6), or the first thing that is wrong with it: its length is judged
 /// first, then that it is UTF-8, then its characters, and then the rest from left to right.
 pub fn parse(alloc: Global, bytes: &[u8]) -> Result<Module, TextFault>
-    ensures { Gives (λ read. forest_of read.top) result (module_of bytes.now) }
+    ensures { Gives (λ read. modules_view (read ∷ [])) result (module_of bytes.now) }
 {
     match checked(bytes) {
         Ok(text) => Reader::new(alloc, text).module(),
@@ -125,7 +171,10 @@ pub fn parse(alloc: Global, bytes: &[u8]) -> Result<Module, TextFault>
     }
 }
 
-/// The tokens of a text (RFC 7950, 6.1), without taking memory. After an error nothing comes.
-pub fn tokens(text: &str) -> Tokens<'_> {
+/// The tokens of a text (RFC 7950, 6.1), up to the first thing that is wrong with its characters, quotes, comments or
+/// escapes; without taking memory. After an error nothing comes.
+pub fn tokens(text: &str) -> Tokens<'_>
+    ensures { tokens_left result ≡ scan_of text.now }
+{
     Tokens::new(text)
 }

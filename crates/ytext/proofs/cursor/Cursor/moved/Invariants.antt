@@ -1,11 +1,11 @@
 use Rattle.std.proofs.Common.{◌≡◌, ◌+◌, ◌-◌, ◌≤◌, drop}
-use Rattle.yspec.specs.Token.{tokens_from}
-use Rattle.ytext.specs.Left.{left_behind, column_at}
+use Rattle.yspec.specs.Scanning.{pieces_from}
+use Rattle.ytext.specs.Left.{pieces_behind, column_at}
 use Rattle.ytext.proofs.cursor.Cursor.moved.Given as goal
 
 abbrev pub invariant-loop-i : goal.invariant-loop-i
 invariant-loop-i l = record {
   line : l.line ≤ l.i + 1;
   begun : l.line_start ≤ l.i;
-  left : tokens_from (l.end - l.i) l.line (column_at l.self.text.now l.line_start l.i) (drop l.i l.self.text.now) ≡ left_behind (l.end - l.self.at) l.self;
+  pieces : pieces_from (l.end - l.i) l.i l.line (column_at l.self.text.now l.line_start l.i) (drop l.i l.self.text.now) ≡ pieces_behind (l.end - l.self.at) l.self;
 }

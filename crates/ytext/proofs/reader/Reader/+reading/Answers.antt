@@ -4,7 +4,7 @@ use Rattle.yspec.specs.Statement.{Slip, Row}
 use Rattle.ytext.specs.Gives.{Fails}
 use Rattle.ytext.specs.Left.{left}
 use Rattle.ytext.specs.Reading.{tokens_ahead, rows}
-use Rattle.ytext.specs.Statements.{row_of}
+use Rattle.ytext.specs.View.{row_view}
 use Rattle.ytext.specs.declared.statement.Stmt.{Stmt}
 use Rattle.ytext.proofs.RowSteps.{with_front, front_nothing, row_grows, row_fails}
 use Rattle.ytext.proofs.ReaderSteps.{word_ahead, row_ends, row_breaks}
@@ -15,7 +15,7 @@ statements-loop-self-init t c =
     let read = rows c.args.level (tokens_ahead c.args.self.now) in
     record {
       ahead = omega arith;
-      rest = ap (λ (ss : List Stmt). with_front (row_of ss) read) c.new-subs.ensures.items ∙ front_nothing read;
+      rest = ap (λ (ss : List Stmt). with_front (row_view ss) read) c.new-subs.ensures.items ∙ front_nothing read;
     }
 
 pub statements-loop-self-preserved : goal.statements-loop-self-preserved
@@ -26,9 +26,9 @@ statements-loop-self-preserved t c =
     let ss = c.loop-self.subs.items in
     record {
       ahead = omega (arith, c.loop-self.invariant.ahead, c.in-Ok.ensures.ahead);
-      rest = ap (λ (xs : List Stmt). with_front (row_of xs) (rows level behind)) c.in_ok-push-in-Ok.ensures.items
+      rest = ap (λ (xs : List Stmt). with_front (row_view xs) (rows level behind)) c.in_ok-push-in-Ok.ensures.items
           ∙ sym (row_grows level c.in-Word.word.now before.token.line (left before.cursor) behind ss c.in-Ok.sub c.in-Ok.ensures.statement)
-          ∙ ap (λ (ts : List Token). with_front (row_of ss) (rows level ts)) (sym (word_ahead before c.in-Word.word c.in-Word.is))
+          ∙ ap (λ (ts : List Token). with_front (row_view ss) (rows level ts)) (sym (word_ahead before c.in-Word.word c.in-Word.is))
           ∙ c.loop-self.invariant.rest;
     }
 
@@ -37,7 +37,7 @@ statements-returns-in-Err-clause-rows t c =
     let level = c.args.level in
     let before = c.loop-self.self in
     let ss = c.loop-self.subs.items in
-    subst (Fails c.in-Err.fault) (ap (λ (ts : List Token). with_front (row_of ss) (rows level ts)) (sym (word_ahead before c.in-Word.word c.in-Word.is)) ∙ c.loop-self.invariant.rest)
+    subst (Fails c.in-Err.fault) (ap (λ (ts : List Token). with_front (row_view ss) (rows level ts)) (sym (word_ahead before c.in-Word.word c.in-Word.is)) ∙ c.loop-self.invariant.rest)
     (row_fails level c.in-Word.word.now before.token.line (left before.cursor) ss c.in-Err.fault c.in-Err.ensures.statement)
 
 pub statements-returns-in-Ok-row_end : goal.statements-returns-in-Ok-row_end

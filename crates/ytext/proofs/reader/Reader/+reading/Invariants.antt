@@ -1,6 +1,6 @@
 use Rattle.std.proofs.Common.{◌≡◌, ◌≤◌, ◌+◌, ◌-◌, ◌*◌}
 use Rattle.ytext.specs.Reading.{ahead, rows, tokens_ahead}
-use Rattle.ytext.specs.Statements.{row_of}
+use Rattle.ytext.specs.View.{row_view}
 use Rattle.ytext.proofs.RowSteps.{with_front}
 use Rattle.ytext.proofs.reader.Reader.+reading.Given as goal
 
@@ -19,7 +19,7 @@ decreases-block l = 4 * (65 - l.level) + 3
 abbrev pub invariant-statements-loop-self : goal.invariant-statements-loop-self
 invariant-statements-loop-self l = record {
   ahead : ahead l.self ≤ ahead l.fn.self;
-  rest : with_front (row_of l.subs.items) (rows l.level (tokens_ahead l.self)) ≡ rows l.level (tokens_ahead l.fn.self);
+  rest : with_front (row_view l.subs.items) (rows l.level (tokens_ahead l.self)) ≡ rows l.level (tokens_ahead l.fn.self);
 }
 
 abbrev pub decreases-statements-loop-self : goal.decreases-statements-loop-self
