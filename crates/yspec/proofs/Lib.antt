@@ -2,6 +2,7 @@ pub mod LeastLemmas
 pub mod OnLiterals
 pub mod FittingLemmas
 pub mod CheckingRows
+pub mod FittingRead
 pub mod SpellingCut
 pub mod SpellingTokens
 pub mod SpellingRows
