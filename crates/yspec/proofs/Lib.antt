@@ -3,6 +3,9 @@ pub mod OnLiterals
 pub mod FittingLemmas
 pub mod CheckingRows
 pub mod FittingRead
+pub mod VisitLaws
+pub mod WrittenRows
+pub mod ReadBack
 pub mod SpellingCut
 pub mod SpellingTokens
 pub mod SpellingRows

@@ -1,9 +1,8 @@
 //! Laws of the faults of a document.
 
-ghost use Rattle.std.specs.Prelude.{◌≡◌, ℕ, List, Ok};
+ghost use Rattle.std.specs.Prelude.{◌≡◌};
 ghost use Rattle.yspec.specs.Schema.{Schema};
 ghost use Rattle.yspec.specs.Document.{Tree};
-ghost use Rattle.yspec.specs.Reading.{document_of};
 ghost use Rattle.yspec.specs.Faults.{faults_of};
 ghost use Rattle.yspec.specs.Fitting.{IsNumbered, Fits};
 ghost use Rattle.yspec.specs.RowFaults.{row_faults};
@@ -12,9 +11,4 @@ ghost use Rattle.yspec.specs.RowFaults.{row_faults};
 pub fn faults_by_rows()
     ensures { (schema : Schema) (tree : Tree) → IsNumbered 0 schema.nodes → Fits schema.nodes tree
         → row_faults schema.nodes tree ≡ faults_of schema tree }
-{}
-
-/// A document that is read fits its schema.
-pub fn read_documents_fit()
-    ensures { (schema : Schema) (bytes : List ℕ) (tree : Tree) → document_of schema bytes ≡ Ok tree → Fits schema.nodes tree }
 {}
