@@ -1,3 +1,2 @@
 pub mod FoundLemmas
-pub mod NumberedLemmas
 pub mod WriteLemmas

@@ -3,6 +3,7 @@
 ghost use Rattle.std.specs.Prelude.{◌≡◌, [], IfOk, Some, option_map};
 ghost use Rattle.serde_json.specs.View as json;
 ghost use Rattle.yspec.specs.Reading.{stored_rows, stored_node, members_of, value_of, tree_or_refusal, document_of};
+ghost use Rattle.yspec.specs.Fitting.{Fits};
 ghost use Rattle.ytype.specs.View.{raw_of};
 ghost use Rattle.yschema.specs.View as schema_view;
 ghost use Rattle.yinst.specs.View.{view, row_view, tree_view};
@@ -21,7 +22,8 @@ use ytype::Raw;
 /// The document that JSON bytes denote under a schema, or the first refusal: J1 and J2, then J3 to J6 depth first, members
 /// in byte order of their names (RFC 7951).
 pub fn read(alloc: Global, schema: &Schema, bytes: &[u8]) -> Result<Tree, DocFault>
-    ensures { Gives tree_view result (document_of (schema_view.view schema.now) bytes.now) }
+    ensures answer { Gives tree_view result (document_of (schema_view.view schema.now) bytes.now) }
+    ensures fitting { IfOk result (λ tree. Fits (schema_view.view schema.now).nodes (tree_view tree)) }
 {
     match Value::from_slice(alloc, bytes) {
         Ok(value) => tree_of(alloc, schema, &value),

@@ -1,5 +1,5 @@
 -- How deep what is written nests, and that it has no fractions.
-use Rattle.std.proofs.Common.{◌≡◌, ℕ, suc, ◌≤◌, ℤ, pos, negsuc, Bool, true, false, cond, Option, Some, None, Ordering, Less, Equal, Greater, nat_cmp, refl, ap, ap₂, ◌∙◌, arith}
+use Rattle.std.proofs.Common.{◌≡◌, ℕ, suc, ◌≤◌, ℤ, pos, negsuc, Bool, true, false, cond, Option, Some, None, Ordering, Less, Equal, Greater, nat_cmp, refl, ap₂, arith}
 use Rattle.std.proofs.Math.Nat.{le-max_left, le-max_right, max-le}
 use Rattle.std.specs.Prelude.{max, ◌||◌}
 use Rattle.std.specs.Cmp.Lexicographic.{slice_cmp}
@@ -12,7 +12,7 @@ use Rattle.yspec.specs.Text.{Text}
 use Rattle.yspec.specs.Ranges.{lies_in}
 use Rattle.yspec.specs.Types.{Raw, text, int, bool, empty}
 use Rattle.yspec.specs.Schema.{Schema, SchemaNode, Kind, container, leaf, node_at, written_name}
-use Rattle.yspec.specs.Document.{Stored, Tree}
+use Rattle.yspec.specs.Document.{Tree}
 use Rattle.yspec.specs.Fitting.{FitsBy, at_end, not_stored, is_stored}
 use Rattle.yspec.specs.Writing.{whole_numbers, data_of, written_node, with_node, row_members, written_value}
 

@@ -29,12 +29,15 @@ data_of (int z) = whole_number z
 data_of (bool b) = boolean b
 data_of empty = array (item null no_items)
 
+abbrev pub leaf_data : Option Raw → Data
+leaf_data value = option_map_or data_of value null
+
 -- ---- nodes
 
 -- `inner` are the members of what stands below the node
 abbrev pub written_node : Kind → Option Raw → Members → Data
 written_node (container presence) value inner = object inner
-written_node (leaf type in_use mandatory) value inner = option_map_or data_of value null
+written_node (leaf type in_use mandatory) value inner = leaf_data value
 
 -- The members with that of a stored node, whose name is the one that is due below a parent of a module. `inner` are the
 -- members of what stands below the node, given its module.
