@@ -7,6 +7,7 @@ pub mod VisitLaws
 pub mod WrittenRows
 pub mod ReadBack
 pub mod WrittenShape
+pub mod ReadWhole
 pub mod SpellingCut
 pub mod SpellingTokens
 pub mod SpellingRows

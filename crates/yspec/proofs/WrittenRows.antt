@@ -15,9 +15,9 @@ use Rattle.yspec.specs.Ranges.{lies_in}
 use Rattle.yspec.specs.Types.{Raw, text, int, bool, empty}
 use Rattle.yspec.specs.Schema.{Schema, SchemaNode, Kind, container, leaf, node_in, node_at, written_name, other_name}
 use Rattle.yspec.specs.Document.{Stored, Tree, Step}
-use Rattle.yspec.specs.Reading.{Visit, right, wrong, refused_value, raw_of, child, named, other_or, at_named, below_place, value_visit, member_visits, node_visits, first_wrong, members_of, value_of, placed, stored_rows}
+use Rattle.yspec.specs.Reading.{whole_numbers, raw_integer, Visit, right, wrong, refused_value, raw_of, child, named, other_or, at_named, below_place, value_visit, member_visits, node_visits, first_wrong, members_of, value_of, placed, stored_rows}
 use Rattle.yspec.specs.Fitting.{IsNumbered, at_end, not_stored, is_stored}
-use Rattle.yspec.specs.Writing.{whole_numbers, data_of, written_node, with_node, row_members, IsNew, NamesDiffer, HasText, HasForm, IsDocument}
+use Rattle.yspec.specs.Writing.{data_of, written_node, with_node, row_members, IsNew, NamesDiffer, HasText, HasForm, IsDocument}
 use Rattle.yspec.proofs.FittingLemmas.{eqb_other, no_node_before}
 use Rattle.yspec.proofs.CheckingRows.{skips_node}
 use Rattle.yspec.proofs.VisitLaws.{passes, first_part, other_part, other_value}
@@ -59,13 +59,13 @@ finds_after whole n below after k numbered finds = λ m from to.
 whole_number_back : (z : ℤ) → lies_in z whole_numbers ≡ true → data_of (int z) ≡ number (of_integer z)
 whole_number_back z h = ap (λ b. cond b (number (of_integer z)) null) h
 
-integer_back : (z : ℤ) → raw_of (number (of_integer z)) ≡ Some (int z)
-integer_back (pos n) = refl
-integer_back (negsuc n) = refl
+integer_read : (z : ℤ) → raw_of (number (of_integer z)) ≡ raw_integer z
+integer_read (pos n) = refl
+integer_read (negsuc n) = refl
 
 raw_back : (raw : Raw) → HasText (Some raw) → raw_of (data_of raw) ≡ Some raw
 raw_back (text t) h = refl
-raw_back (int z) h = ap raw_of (whole_number_back z h) ∙ integer_back z
+raw_back (int z) h = ap raw_of (whole_number_back z h) ∙ (integer_read z ∙ ap (λ b. cond b (Some (int z)) None) h)
 raw_back (bool b) h = refl
 raw_back empty h = refl
 
@@ -79,7 +79,7 @@ no_object (int z) = by_whole z (lies_in z whole_numbers)
 no_object (bool b) = refl
 no_object empty = refl
 
-no_members_of : (d : Data) → as_object d ≡ None → members_of d ≡ no_members
+pub no_members_of : (d : Data) → as_object d ≡ None → members_of d ≡ no_members
 no_members_of null h = refl
 no_members_of (boolean b) h = refl
 no_members_of (number x) h = refl
@@ -90,7 +90,7 @@ no_members_of (object ms) h = let no : ⊥ = cc in absurd no
 -- ---- names
 
 -- each child of a row is the one that its written name means among the children of a parent
-abbrev AreMeant : Schema → Option ℕ → Forest SchemaNode → Forest SchemaNode → Type 0
+abbrev pub AreMeant : Schema → Option ℕ → Forest SchemaNode → Forest SchemaNode → Type 0
 AreMeant s parent children end = Unit {0}
 AreMeant s parent children (node n below after) = (named s parent (written_name s parent n) children ≡ child n below) × AreMeant s parent children after
 
@@ -140,11 +140,11 @@ absent_still s parent (node n below after) name d ms new absent =
 
 -- ---- visits of members
 
-abbrev visits_of : Schema → Option ℕ → Forest SchemaNode → List Step → Text → Data → List Visit
+abbrev pub visits_of : Schema → Option ℕ → Forest SchemaNode → List Step → Text → Data → List Visit
 visits_of s parent children place name d = at_named (named s parent name children) place (λ n below. node_visits s n below (below_place place n) d)
 
 -- all members are right
-abbrev AreRight : Schema → Option ℕ → Forest SchemaNode → List Step → Members → Type 0
+abbrev pub AreRight : Schema → Option ℕ → Forest SchemaNode → List Step → Members → Type 0
 AreRight s parent children place ms = first_wrong (member_visits s parent children place ms) ≡ None
 
 pub none_right : (s : Schema) (parent : Option ℕ) (children : Forest SchemaNode) (place : List Step) → AreRight s parent children place no_members
@@ -157,12 +157,12 @@ unfolding member_visits
 one_right s parent children place name d ms this others =
     passes (visits_of s parent children place name d) (member_visits s parent children place ms) this ∙ others
 
-first_right : (s : Schema) (parent : Option ℕ) (children : Forest SchemaNode) (place : List Step) (name : Text) (d : Data) (ms : Members)
+pub first_right : (s : Schema) (parent : Option ℕ) (children : Forest SchemaNode) (place : List Step) (name : Text) (d : Data) (ms : Members)
     → AreRight s parent children place (member name d ms) → first_wrong (visits_of s parent children place name d) ≡ None
 unfolding member_visits
 first_right s parent children place name d ms h = first_part (visits_of s parent children place name d) (member_visits s parent children place ms) h
 
-others_right : (s : Schema) (parent : Option ℕ) (children : Forest SchemaNode) (place : List Step) (name : Text) (d : Data) (ms : Members)
+pub others_right : (s : Schema) (parent : Option ℕ) (children : Forest SchemaNode) (place : List Step) (name : Text) (d : Data) (ms : Members)
     → AreRight s parent children place (member name d ms) → AreRight s parent children place ms
 unfolding member_visits
 others_right s parent children place name d ms h = other_part (visits_of s parent children place name d) (member_visits s parent children place ms) h
@@ -213,17 +213,17 @@ module _ (s : Schema) where
       ∙ (others_kept parent after (k + 1 + size below) a _ name numbered.2 (finds_after s.nodes n below after k numbered finds) fits new.1
       ∙ get_member-put_other name (written_name s parent n) (written n st b) found new.0)
 
-  rows_at_end : (parent : Option ℕ) (ms : Members) → stored_rows s parent end ms ≡ end
+  pub rows_at_end : (parent : Option ℕ) (ms : Members) → stored_rows s parent end ms ≡ end
   unfolding stored_rows
   rows_at_end parent ms = refl
 
-  rows_of_none : (parent : Option ℕ) (f : Forest SchemaNode) → stored_rows s parent f no_members ≡ end
+  pub rows_of_none : (parent : Option ℕ) (f : Forest SchemaNode) → stored_rows s parent f no_members ≡ end
   unfolding stored_rows
   rows_of_none parent end = refl
   rows_of_none parent (node n below after) = rows_of_none parent after
 
   -- a row whose first node has a value, or none
-  rows_with : (parent : Option ℕ) (n : SchemaNode) (below after : Forest SchemaNode) (ms : Members) (found : Option Data) → get_member (written_name s parent n) ms ≡ found
+  pub rows_with : (parent : Option ℕ) (n : SchemaNode) (below after : Forest SchemaNode) (ms : Members) (found : Option Data) → get_member (written_name s parent n) ms ≡ found
       → stored_rows s parent (node n below after) ms ≡ placed n found (λ d. stored_rows s (Some n.module_number) below (members_of d)) (stored_rows s parent after ms)
   unfolding stored_rows
   rows_with parent n below after ms found is =

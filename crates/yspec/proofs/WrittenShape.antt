@@ -13,8 +13,9 @@ use Rattle.yspec.specs.Ranges.{lies_in}
 use Rattle.yspec.specs.Types.{Raw, text, int, bool, empty}
 use Rattle.yspec.specs.Schema.{Schema, SchemaNode, Kind, container, leaf, node_at, written_name}
 use Rattle.yspec.specs.Document.{Tree}
+use Rattle.yspec.specs.Reading.{whole_numbers}
 use Rattle.yspec.specs.Fitting.{FitsBy, at_end, not_stored, is_stored}
-use Rattle.yspec.specs.Writing.{whole_numbers, data_of, written_node, with_node, row_members, written_value}
+use Rattle.yspec.specs.Writing.{data_of, written_node, with_node, row_members, written_value}
 
 -- ---- depth
 

@@ -1,24 +1,21 @@
 -- The JSON text of a document (RFC 7951, 4 to 6).
-use Rattle.std.specs.Prelude.{◌≡◌, ◌≢◌, ℕ, ◌-◌, ◌^◌, ℤ, pos, negsuc, true, Option, Some, None, if◌then◌else◌}
+use Rattle.std.specs.Prelude.{◌≡◌, ◌≢◌, ℕ, ℤ, true, Option, Some, None, if◌then◌else◌}
 use Rattle.std.specs.Option.{option_map_or}
 use Rattle.serde_json.specs.Data.{Data, null, boolean, number, string, array, object, no_items, item, Members, no_members, put}
 use Rattle.serde_json.specs.Find.{of_integer}
 use Rattle.serde_json.specs.Written.{compact_text}
 use Rattle.yspec.specs.Forest.{Forest, end, node}
 use Rattle.yspec.specs.Text.{Text}
-use Rattle.yspec.specs.Ranges.{Part, lies_in}
+use Rattle.yspec.specs.Ranges.{lies_in}
 use Rattle.yspec.specs.Types.{Raw, text, int, bool, empty}
 use Rattle.yspec.specs.Schema.{Schema, SchemaNode, Kind, container, leaf, node_at, written_name}
 use Rattle.yspec.specs.Document.{Tree}
+use Rattle.yspec.specs.Reading.{whole_numbers}
 use Rattle.yspec.specs.Fitting.{FitsBy}
 
 -- ---- values of leafs
 
--- the whole numbers that documents have
-abbrev pub whole_numbers : Part
-whole_numbers = record { low = negsuc (2 ^ 63 - 1); high = pos (2 ^ 64 - 1) }
-
--- no other number has a text
+-- a whole number of 64 bits; no other has a text
 abbrev pub whole_number : ℤ → Data
 whole_number z = if lies_in z whole_numbers then number (of_integer z) else null
 
