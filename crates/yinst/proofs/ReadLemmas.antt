@@ -8,7 +8,9 @@ use Rattle.serde_json.specs.Read.{read}
 use Rattle.yspec.specs.Schema.{Schema}
 use Rattle.yspec.specs.Reading.{Refusal, tree_or_refusal, json_of, document_of}
 use Rattle.yspec.specs.Fitting.{Fits}
+use Rattle.yspec.specs.Writing.{NamesDiffer, IsDocument}
 use Rattle.yspec.proofs.FittingRead.{read_fits}
+use Rattle.yspec.proofs.ReadWhole.{read_whole}
 use Rattle.yinst.specs.Told.{Tells, Fails, Gives, code_number}
 use Rattle.yinst.specs.View.{place_view, tree_view}
 use Rattle.yinst.specs.declared.tree.Tree as tree
@@ -48,3 +50,8 @@ gives_same {X} {Y} see given a b is h = subst (λ (r : Result Y Refusal). Gives 
 pub fits_if_read : (given : Result tree.Tree DocFault) (s : Schema) (bytes : List ℕ) → Gives tree_view given (document_of s bytes) → IfOk given (λ t. Fits s.nodes (tree_view t))
 fits_if_read (Ok t) s bytes is = read_fits s bytes (tree_view t) is
 fits_if_read (Err f) s bytes is = tt
+
+pub whole_if_read : (given : Result tree.Tree DocFault) (s : Schema) (bytes : List ℕ) → Gives tree_view given (document_of s bytes)
+    → IfOk given (λ t. NamesDiffer s None s.nodes → IsDocument s.nodes (tree_view t))
+whole_if_read (Ok t) s bytes is = λ differ. read_whole s bytes (tree_view t) differ is
+whole_if_read (Err f) s bytes is = tt

@@ -3,7 +3,7 @@ use Rattle.serde_json.specs.Errors.{IsMemory}
 use Rattle.serde_json.specs.View as json
 use Rattle.yschema.specs.View as schema_view
 use Rattle.yinst.specs.View.{tree_view}
-use Rattle.yinst.proofs.ReadLemmas.{json_found, no_json, of_json, of_none, fails_by, gives_same, fits_if_read}
+use Rattle.yinst.proofs.ReadLemmas.{json_found, no_json, of_json, of_none, fails_by, gives_same, fits_if_read, whole_if_read}
 use Rattle.yinst.proofs.reading.read.Goals as goal
 
 pub returns-in-Ok-clause-answer : goal.returns-in-Ok-clause-answer
@@ -20,3 +20,6 @@ returns-in-Err-2-clause-answer c =
 
 pub returns-in-Ok-clause-fitting : goal.returns-in-Ok-clause-fitting
 returns-in-Ok-clause-fitting c = fits_if_read c.tree_of.result (schema_view.view c.args.schema.now) c.args.bytes.now (returns-in-Ok-clause-answer c)
+
+pub returns-in-Ok-clause-whole : goal.returns-in-Ok-clause-whole
+returns-in-Ok-clause-whole c = whole_if_read c.tree_of.result (schema_view.view c.args.schema.now) c.args.bytes.now (returns-in-Ok-clause-answer c)
