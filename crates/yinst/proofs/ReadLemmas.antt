@@ -1,5 +1,5 @@
 -- From bytes to what is told of them.
-use Rattle.std.proofs.Common.{◌≡◌, ℕ, Bool, true, false, cond, List, [], ◌∷◌, Option, Some, None, Result, Err, refl, sym, ap, ◌∙◌, subst}
+use Rattle.std.proofs.Common.{◌≡◌, ℕ, Bool, true, false, cond, List, [], Option, Some, None, Result, Ok, Err, IfOk, refl, sym, ap, ◌∙◌, subst}
 use Rattle.std.specs.Str.{is_utf8, IsUtf8}
 use Rattle.std.specs.Option.{option_map_or}
 use Rattle.std.proofs.lemmas.Str.{IsUtf8-from_is_utf8, is_utf8-from_IsUtf8}
@@ -7,8 +7,13 @@ use Rattle.serde_json.specs.Data.{Data}
 use Rattle.serde_json.specs.Read.{read}
 use Rattle.yspec.specs.Schema.{Schema}
 use Rattle.yspec.specs.Reading.{Refusal, tree_or_refusal, json_of, document_of}
+use Rattle.yspec.specs.Fitting.{Fits}
+use Rattle.yspec.specs.Writing.{NamesDiffer, IsDocument}
+use Rattle.yspec.proofs.FittingRead.{read_fits}
+use Rattle.yspec.proofs.ReadWhole.{read_whole}
 use Rattle.yinst.specs.Told.{Tells, Fails, Gives, code_number}
-use Rattle.yinst.specs.View.{place_view}
+use Rattle.yinst.specs.View.{place_view, tree_view}
+use Rattle.yinst.specs.declared.tree.Tree as tree
 use Rattle.yinst.specs.declared.fault.DocFault.{DocFault}
 use Rattle.yinst.specs.declared.fault.DocFault.TheVariants.{Refused, Memory}
 
@@ -41,3 +46,12 @@ fails_by Memory told r answer tells is said = tt
 
 pub gives_same : {X Y : Type 0} (see : X → Y) (given : Result X DocFault) (a b : Result Y Refusal) → a ≡ b → Gives see given b → Gives see given a
 gives_same {X} {Y} see given a b is h = subst (λ (r : Result Y Refusal). Gives see given r) (sym is) h
+
+pub fits_if_read : (given : Result tree.Tree DocFault) (s : Schema) (bytes : List ℕ) → Gives tree_view given (document_of s bytes) → IfOk given (λ t. Fits s.nodes (tree_view t))
+fits_if_read (Ok t) s bytes is = read_fits s bytes (tree_view t) is
+fits_if_read (Err f) s bytes is = tt
+
+pub whole_if_read : (given : Result tree.Tree DocFault) (s : Schema) (bytes : List ℕ) → Gives tree_view given (document_of s bytes)
+    → IfOk given (λ t. NamesDiffer s None s.nodes → IsDocument s.nodes (tree_view t))
+whole_if_read (Ok t) s bytes is = λ differ. read_whole s bytes (tree_view t) differ is
+whole_if_read (Err f) s bytes is = tt

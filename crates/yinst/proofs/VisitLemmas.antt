@@ -1,6 +1,6 @@
 -- The first refusal of visits, member by member and node by node.
 use Rattle.std.proofs.Common.{◌≡◌, ℕ, Bool, List, [], ◌∷◌, ◌++◌, Option, Some, None, Result, Ok, Err, OnOk, rules, refl, sym, ap, ◌∙◌, subst}
-use Rattle.serde_json.specs.Data.{Data, null, boolean, number, string, array, object, Members, no_members, member}
+use Rattle.serde_json.specs.Data.{Data, object, Members, no_members, member}
 use Rattle.serde_json.specs.Find.{as_object}
 use Rattle.serde_json.specs.View as json
 use Rattle.serde_json.specs.declared.value.Value.{Value, Object, the_lemmas}
@@ -10,17 +10,13 @@ use Rattle.yspec.specs.Types.{YangType, Val}
 use Rattle.yspec.specs.Schema.{Schema, SchemaNode, container, leaf}
 use Rattle.yspec.specs.Document.{Step}
 use Rattle.yspec.specs.Reading.{Refusal, Visit, right, wrong, named, at_named, below_place, value_visit, member_visits, node_visits, first_wrong}
+use Rattle.yspec.proofs.VisitLaws.{passes, other_value}
 use Rattle.yinst.specs.Told.{Tells, Judges, code_number}
 use Rattle.yinst.specs.View.{place_view}
 use Rattle.yinst.specs.declared.fault.DocFault.{DocFault}
 use Rattle.yinst.specs.declared.fault.DocFault.TheVariants.{Refused, Memory}
 
 -- ---- two lists of visits
-
-pub passes : (vs ws : List Visit) → first_wrong vs ≡ None → first_wrong (vs ++ ws) ≡ first_wrong ws
-passes [] ws none = refl
-passes (right place ∷ vs) ws none = passes vs ws none
-passes (wrong code place ∷ vs) ws none = let no : ⊥ = cc in absurd no
 
 stays : (vs ws : List Visit) (r : Refusal) → first_wrong vs ≡ Some r → first_wrong (vs ++ ws) ≡ Some r
 stays [] ws r is = let no : ⊥ = cc in absurd no
@@ -94,16 +90,6 @@ pub object_at_leaf : (s : Schema) (n : SchemaNode) (below : Forest SchemaNode) (
     → first_wrong (node_visits s n below place d) ≡ Some (record { code = 5; place = place })
 unfolding node_visits
 object_at_leaf s n below place d ms type in_use mandatory is kind = rw (is, kind) refl
-
-other_value : (s : Schema) (n : SchemaNode) (below : Forest SchemaNode) (place : List Step) (d : Data)
-    → as_object d ≡ None → node_visits s n below place d ≡ value_visit n.kind place d
-unfolding node_visits
-other_value s n below place null h = refl
-other_value s n below place (boolean b) h = refl
-other_value s n below place (number x) h = refl
-other_value s n below place (string t) h = refl
-other_value s n below place (array ds) h = refl
-other_value s n below place (object ms) h = let no : ⊥ = cc in absurd no
 
 pub no_object : (v : Value) → ((m : _) → v ≡ Object m → ⊥) → as_object (json.view v) ≡ None
 no_object v h = search (rules, the_lemmas)

@@ -1,5 +1,5 @@
 -- Documents as the specification's.
-use Rattle.std.specs.Prelude.{List, [], ◌∷◌, map, Option, option_map}
+use Rattle.std.specs.Prelude.{List, [], ◌∷◌, map, option_map}
 use Rattle.yspec.specs.Forest.{end, node}
 use Rattle.yspec.specs.Document as spec
 use Rattle.yspec.specs.Document.{Tree}

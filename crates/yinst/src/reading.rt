@@ -1,8 +1,10 @@
 //! From bytes to a document.
 
-ghost use Rattle.std.specs.Prelude.{◌≡◌, [], IfOk, Some, option_map};
+ghost use Rattle.std.specs.Prelude.{◌≡◌, [], IfOk, None, Some, option_map};
 ghost use Rattle.serde_json.specs.View as json;
 ghost use Rattle.yspec.specs.Reading.{stored_rows, stored_node, members_of, value_of, tree_or_refusal, document_of};
+ghost use Rattle.yspec.specs.Fitting.{Fits};
+ghost use Rattle.yspec.specs.Writing.{NamesDiffer, IsDocument};
 ghost use Rattle.ytype.specs.View.{raw_of};
 ghost use Rattle.yschema.specs.View as schema_view;
 ghost use Rattle.yinst.specs.View.{view, row_view, tree_view};
@@ -21,7 +23,11 @@ use ytype::Raw;
 /// The document that JSON bytes denote under a schema, or the first refusal: J1 and J2, then J3 to J6 depth first, members
 /// in byte order of their names (RFC 7951).
 pub fn read(alloc: Global, schema: &Schema, bytes: &[u8]) -> Result<Tree, DocFault>
-    ensures { Gives tree_view result (document_of (schema_view.view schema.now) bytes.now) }
+    ensures answer { Gives tree_view result (document_of (schema_view.view schema.now) bytes.now) }
+    ensures fitting { IfOk result (λ tree. Fits (schema_view.view schema.now).nodes (tree_view tree)) }
+    // where no two siblings are written with one name
+    ensures whole { let s = schema_view.view schema.now in
+        IfOk result (λ tree. NamesDiffer s None s.nodes → IsDocument s.nodes (tree_view tree)) }
 {
     match Value::from_slice(alloc, bytes) {
         Ok(value) => tree_of(alloc, schema, &value),

@@ -62,7 +62,7 @@ record Sees (answers : Answers) (f : Forest SchemaNode) (k : ℕ) (t : Tree) (wh
   counts : (m : ℕ) → k ≤ m → m < k + size f → stored m ≡ instances_in t m
   tellings : (m : ℕ) → k ≤ m → m < k + size f → faults_of_instances tolds m ≡ map (prefixed above) (faults_of_instances (told_in answers whole t) m)
 
-skips_node : (n : SchemaNode) (below after : Forest SchemaNode) (k m : ℕ) → IsNumbered k (node n below after) → k + 1 + size below ≤ m → node_in (node n below after) m ≡ node_in after m
+pub skips_node : (n : SchemaNode) (below after : Forest SchemaNode) (k m : ℕ) → IsNumbered k (node n below after) → k + 1 + size below ≤ m → node_in (node n below after) m ≡ node_in after m
 skips_node n below after k m numbered behind =
     ap (λ t. cond t (Some n) (first_of (node_in below m) (node_in after m))) (eqb_other n.number m (λ e. absurd (omega (arith, numbered.0, e))))
     ∙ ap (λ (o : Option SchemaNode). first_of o (node_in after m)) (no_node_in below (k + 1) m numbered.1 behind)

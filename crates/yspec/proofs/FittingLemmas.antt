@@ -21,6 +21,14 @@ no_node_in (node n below after) k m numbered behind =
     ap (λ t. cond t (Some n) (first_of (node_in below m) (node_in after m))) other
     ∙ ap₂ first_of (no_node_in below (k + 1) m numbered.1 (omega arith)) (no_node_in after (k + 1 + size below) m numbered.2 (omega arith))
 
+-- a number before those of a row names none of its nodes
+pub no_node_before : (f : Forest SchemaNode) (k m : ℕ) → IsNumbered k f → m < k → node_in f m ≡ None
+no_node_before end k m numbered before = refl
+no_node_before (node n below after) k m numbered before =
+    let other : eqb n.number m ≡ false = eqb_other n.number m (λ e. absurd (omega (arith, numbered.0, e))) in
+    ap (λ t. cond t (Some n) (first_of (node_in below m) (node_in after m))) other
+    ∙ ap₂ first_of (no_node_before below (k + 1) m numbered.1 (omega arith)) (no_node_before after (k + 1 + size below) m numbered.2 (omega arith))
+
 pub no_row_in : (f : Forest SchemaNode) (k m : ℕ) → IsNumbered k f → k + size f ≤ m → find_below (λ (n : SchemaNode). eqb n.number m) f ≡ None
 no_row_in end k m numbered behind = refl
 no_row_in (node n below after) k m numbered behind =

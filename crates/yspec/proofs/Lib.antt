@@ -2,6 +2,12 @@ pub mod LeastLemmas
 pub mod OnLiterals
 pub mod FittingLemmas
 pub mod CheckingRows
+pub mod FittingRead
+pub mod VisitLaws
+pub mod WrittenRows
+pub mod ReadBack
+pub mod WrittenShape
+pub mod ReadWhole
 pub mod SpellingCut
 pub mod SpellingTokens
 pub mod ScanningLaws

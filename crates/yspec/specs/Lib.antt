@@ -25,6 +25,7 @@ pub mod Play
 pub mod Faults
 pub mod Fitting
 pub mod RowFaults
+pub mod Writing
 pub mod Edit
 pub mod Output
 pub mod Examples

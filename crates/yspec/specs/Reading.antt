@@ -1,5 +1,5 @@
 -- What document a JSON text denotes under a schema, or why none (RFC 7951, 4 to 6).
-use Rattle.std.specs.Prelude.{ℕ, pos, Bool, true, false, List, [], ◌∷◌, ◌++◌, Option, Some, None, Result, Ok, Err, if◌then◌else◌}
+use Rattle.std.specs.Prelude.{ℕ, ◌-◌, ◌^◌, ℤ, pos, negsuc, Bool, true, false, List, [], ◌∷◌, ◌++◌, Option, Some, None, Result, Ok, Err, if◌then◌else◌}
 use Rattle.std.specs.Option.{option_map_or}
 use Rattle.std.specs.Str.{is_utf8}
 use Rattle.serde_json.specs.Data.{Num, unsigned, negative, float, Data, null, boolean, number, string, array, object, Items, no_items, item, Members, no_members, member}
@@ -7,6 +7,7 @@ use Rattle.serde_json.specs.Find.{get_member}
 use Rattle.serde_json.specs.Read.{read}
 use Rattle.yspec.specs.Forest.{Forest, end, node}
 use Rattle.yspec.specs.Text.{Text, is_text}
+use Rattle.yspec.specs.Ranges.{Part, lies_in}
 use Rattle.yspec.specs.Types.{Raw, text, int, bool, empty}
 use Rattle.yspec.specs.Schema.{Schema, SchemaNode, Kind, container, leaf, written_name, other_name}
 use Rattle.yspec.specs.Document.{Stored, Tree, Step}
@@ -23,9 +24,16 @@ pub data Visit : Type 0 where
 
 -- ---- values of leafs
 
+-- the whole numbers of 64 bits
+abbrev pub whole_numbers : Part
+whole_numbers = record { low = negsuc (2 ^ 63 - 1); high = pos (2 ^ 64 - 1) }
+
+abbrev pub raw_integer : ℤ → Option Raw
+raw_integer z = if lies_in z whole_numbers then Some (int z) else None
+
 abbrev pub raw_number : Num → Option Raw
-raw_number (unsigned n) = Some (int (pos n))
-raw_number (negative z) = Some (int z)
+raw_number (unsigned n) = raw_integer (pos n)
+raw_number (negative z) = raw_integer z
 raw_number (float x) = None
 
 -- an array whose one item is null (RFC 7951, 6.9)
@@ -41,7 +49,7 @@ raw_of (string s) = Some (text s)
 raw_of (array ds) = raw_array ds
 raw_of (object ms) = None
 
--- a number that is held as a floating one, or another value that no leaf has
+-- a number that is no whole one of 64 bits, or another value that no leaf has
 abbrev pub refused_value : Data → ℕ
 refused_value (number n) = 6
 refused_value _ = 5

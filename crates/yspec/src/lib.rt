@@ -5,6 +5,7 @@
 
 pub mod checking;
 pub mod examples;
+pub mod reading;
 pub mod spelling;
 pub mod text;
 pub mod types;

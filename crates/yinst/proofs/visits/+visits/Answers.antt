@@ -1,5 +1,4 @@
-use Rattle.std.proofs.Common.{◌≡◌, ◌∷◌, Some, ◌∙◌, sym, ap, string_bytes}
-use Rattle.serde_json.specs.Data.{object}
+use Rattle.std.proofs.Common.{Some, ◌∙◌, sym, ap, string_bytes}
 use Rattle.serde_json.specs.View as json
 use Rattle.serde_json.proofs.Views.{view-Object}
 use Rattle.yspec.specs.Schema.{SchemaNode}

@@ -1,0 +1,5 @@
+use Rattle.yspec.proofs.ReadWhole.{read_whole}
+use Rattle.yspec.proofs.reading.read_documents_are_whole.Goals as goal
+
+pub returns : goal.returns
+returns c = read_whole

@@ -1,0 +1,5 @@
+use Rattle.yspec.proofs.FittingRead.{read_fits}
+use Rattle.yspec.proofs.reading.read_documents_fit.Goals as goal
+
+pub returns : goal.returns
+returns c = read_fits

@@ -1,0 +1,25 @@
+//! Laws of reading and writing documents.
+
+ghost use Rattle.std.specs.Prelude.{◌≡◌, ℕ, List, None, Some, Ok};
+ghost use Rattle.yspec.specs.Schema.{Schema};
+ghost use Rattle.yspec.specs.Document.{Tree};
+ghost use Rattle.yspec.specs.Reading.{json_of, document_of};
+ghost use Rattle.yspec.specs.Fitting.{IsNumbered, Fits};
+ghost use Rattle.yspec.specs.Writing.{NamesDiffer, IsDocument, written_value};
+
+/// A document that is read fits its schema.
+pub fn read_documents_fit()
+    ensures { (schema : Schema) (bytes : List ℕ) (tree : Tree) → document_of schema bytes ≡ Ok tree → Fits schema.nodes tree }
+{}
+
+/// It does so in its values too, where no two siblings are written with one name.
+pub fn read_documents_are_whole()
+    ensures { (schema : Schema) (bytes : List ℕ) (tree : Tree) → NamesDiffer schema None schema.nodes
+        → document_of schema bytes ≡ Ok tree → IsDocument schema.nodes tree }
+{}
+
+/// A text with the value that is written for a document reads as that document.
+pub fn written_documents_read_back()
+    ensures { (schema : Schema) (tree : Tree) (bytes : List ℕ) → IsNumbered 0 schema.nodes → NamesDiffer schema None schema.nodes
+        → IsDocument schema.nodes tree → json_of bytes ≡ Some (written_value schema tree) → document_of schema bytes ≡ Ok tree }
+{}
