@@ -1,11 +1,13 @@
 -- Reading files and modules one after another.
 use Rattle.std.proofs.Common.{◌≡◌, ◌⊎◌, inl, inr, ℕ, ◌+◌, List, [], ◌∷◌, ◌++◌, map, Option, Some, None, refl, sym, subst, ap, ◌∙◌, append_assoc, arith}
+use Rattle.std.proofs.Common.{Vec, Global, length}
+use Rattle.std.specs.Borrow.{Bor}
 use Rattle.std.specs.Prelude.{Result, Ok, Err, IsErrAnd}
 use Rattle.std.proofs.lemmas.List.{append-nil, map-append}
 use Rattle.yspec.specs.Forest.{Forest, end, node, join}
 use Rattle.yspec.specs.Statement.{Statement, Slip, module_of}
 use Rattle.yspec.specs.Text.{Text}
-use Rattle.yspec.specs.Output.{Outcome, failed, outcome, slip_line, unread, validate, validation, with_files, with_module, with_modules}
+use Rattle.yspec.specs.Output.{Outcome, Request, failed, files_of, outcome, slip_line, unread, validate, validation, with_files, with_module, with_modules}
 use Rattle.ytext.specs.View.{view, modules_view}
 use Rattle.ytext.specs.declared.statement.Module.{Module}
 use Rattle.yapp.specs.Failing.{FailsWith, FromFile, LeadsTo, outcome_of, reported}
@@ -15,6 +17,17 @@ use Rattle.yapp.specs.declared.failure.Failure.TheVariants as failures
 use Rattle.yapp.specs.declared.files.FileFault.{FileFault}
 use Rattle.yapp.specs.declared.files.FileFault.TheVariants as faults
 use Rattle.yapp.specs.declared.report.Report.{Report}
+
+-- the names and the texts that the code holds
+abbrev pub names_in : List (Bor Text) → List Text
+names_in = map (λ n. n.now)
+
+abbrev pub texts_in : List (Vec ℕ Global) → List (List ℕ)
+texts_in = map (λ t. t.items)
+
+-- what stands in the place of a name that isn't there
+abbrev pub no_name : Bor Text
+no_name = record { ref_ptr = (0, 0); now = [] }
 
 -- ---- files
 
@@ -90,7 +103,7 @@ join_assoc : (f g h : Forest Statement) → join (join f g) h ≡ join f (join g
 join_assoc end g h = refl
 join_assoc (node s below after) g h = ap (node s below) (join_assoc after g h)
 
-modules_behind : (ms : List Module) (m : Module) → modules_view (ms ++ m ∷ []) ≡ join (modules_view ms) (node (view m.top).0 (view m.top).1 end)
+modules_behind : (ms : List Module) (m : Module) → modules_view (ms ++ m ∷ []) ≡ join (modules_view ms) (modules_view (m ∷ []))
 modules_behind [] m = refl
 modules_behind (x ∷ ms) m = ap (node (view x.top).0 (view x.top).1) (modules_behind ms m)
 
@@ -99,28 +112,35 @@ abbrev pub ParsedSoFar : List Text → List (List ℕ) → List Text → List (L
 ParsedSoFar names texts left_names left_texts modules = (next : Forest Statement → List (List ℕ) → Outcome)
     → with_modules names texts next ≡ with_modules left_names left_texts (λ rest files. next (join modules rest) files)
 
+pub parsed_same : (names left_names : List Text) (texts left_texts : List (List ℕ)) (modules : Forest Statement) (names' : List Text) (texts' : List (List ℕ))
+    → left_names ≡ names' → left_texts ≡ texts' → ParsedSoFar names texts left_names left_texts modules → ParsedSoFar names texts names' texts' modules
+parsed_same names left_names texts left_texts modules names' texts' same_names same_texts so_far =
+    subst (λ ns. ParsedSoFar names texts ns texts' modules) same_names (subst (λ ts. ParsedSoFar names texts left_names ts modules) same_texts so_far)
+
 pub none_parsed : (names : List Text) (texts : List (List ℕ)) → ParsedSoFar names texts names texts end
 none_parsed names texts next = refl
 
-pub one_parsed : (names left_names : List Text) (texts left_texts : List (List ℕ)) (name : Text) (text : List ℕ) (ms : List Module) (m : Module) (top : Forest Statement)
-    → ParsedSoFar names texts (name ∷ left_names) (text ∷ left_texts) (modules_view ms) → top ≡ node (view m.top).0 (view m.top).1 end
-    → ((next : Forest Statement → Outcome) → with_module name (module_of text) next ≡ next top)
+pub one_parsed : (names left_names : List Text) (texts left_texts : List (List ℕ)) (name : Text) (text : List ℕ) (ms : List Module) (m : Module)
+    → ParsedSoFar names texts (name ∷ left_names) (text ∷ left_texts) (modules_view ms)
+    → ((next : Forest Statement → Outcome) → with_module name (module_of text) next ≡ next (modules_view (m ∷ [])))
     → ParsedSoFar names texts left_names left_texts (modules_view (ms ++ m ∷ []))
-one_parsed names left_names texts left_texts name text ms m top so_far is read next = so_far next
+one_parsed names left_names texts left_texts name text ms m so_far read next = so_far next
     ∙ read (λ top. with_modules left_names left_texts (λ rest files. next (join (modules_view ms) (join top rest)) files))
-    ∙ with_modules_same left_names left_texts (λ rest files. next (join (modules_view ms) (join top rest)) files)
+    ∙ with_modules_same left_names left_texts (λ rest files. next (join (modules_view ms) (join (modules_view (m ∷ [])) rest)) files)
     (λ rest files. next (join (modules_view (ms ++ m ∷ [])) rest) files)
     (λ rest files. ap (λ (f : Forest Statement). next f files)
-    (ap (λ (f : Forest Statement). join (modules_view ms) (join f rest)) is ∙ sym (join_assoc (modules_view ms) (node (view m.top).0 (view m.top).1 end) rest)
+    (sym (join_assoc (modules_view ms) (modules_view (m ∷ [])) rest)
     ∙ ap (λ (f : Forest Statement). join f rest) (sym (modules_behind ms m))))
 
 pub all_parsed : (names : List Text) (texts left_texts : List (List ℕ)) (ms : List Module) → ParsedSoFar names texts [] left_texts (modules_view ms)
     → (next : Forest Statement → List (List ℕ) → Outcome) → with_modules names texts next ≡ next (modules_view ms) left_texts
 all_parsed names texts left_texts ms so_far next = so_far next ∙ ap (λ (f : Forest Statement). next f left_texts) (join_end (modules_view ms))
 
-pub texts_parsed : (names left_names : List Text) (texts : List (List ℕ)) (name : Text) (ms : List Module) → ParsedSoFar names texts (name ∷ left_names) [] (modules_view ms)
-    → (next : Forest Statement → List (List ℕ) → Outcome) → with_modules names texts next ≡ next (modules_view ms) []
-texts_parsed names left_names texts name ms so_far next = so_far next ∙ ap (λ (f : Forest Statement). next f []) (join_end (modules_view ms))
+pub texts_parsed : (names left_names : List Text) (texts left_texts : List (List ℕ)) (name : Text) (ms : List Module) → length left_texts ≡ 0
+    → ParsedSoFar names texts (name ∷ left_names) left_texts (modules_view ms)
+    → (next : Forest Statement → List (List ℕ) → Outcome) → with_modules names texts next ≡ next (modules_view ms) left_texts
+texts_parsed names left_names texts [] name ms none so_far next = so_far next ∙ ap (λ (f : Forest Statement). next f []) (join_end (modules_view ms))
+texts_parsed names left_names texts (text ∷ left_texts) name ms none so_far next = cc
 
 -- the module of which the text is refused
 pub parsing_fails : (names left_names : List Text) (texts left_texts : List (List ℕ)) (name : Text) (text : List ℕ) (ms : List Module) (f : Failure)
@@ -133,18 +153,18 @@ parsing_fails names left_names texts left_texts name text ms f so_far refused ne
 -- ---- what a call answers
 
 -- the file at hand couldn't be read, or there was no memory for it
-pub reading_fails : (contents : Contents) (names left : List Text) (texts : List (List ℕ)) (name : Text) (fault : FileFault) (f : Failure) (before now after : ℕ)
-    → ReadSoFar contents names (name ∷ left) texts → now ≡ before → after ≡ now + failed_reads {X = ℕ} (Err fault) → FromFile name fault f
+pub reading_fails : (X : Type 0) (contents : Contents) (names left : List Text) (texts : List (List ℕ)) (name : Text) (fault : FileFault) (f : Failure) (before now after : ℕ)
+    → ReadSoFar contents names (name ∷ left) texts → now ≡ before → after ≡ now + failed_reads {X = X} (Err fault) → FromFile name fault f
     → ((answers : Answers) × Answered contents names answers × (after ≡ before + unread_in answers)
     × ((next : List (List ℕ) → Outcome) → with_files names answers next ≡ outcome_of f))
     ⊎ ((after ≡ before) × (f ≡ failures.Memory))
-reading_fails contents names left texts name faults.Unread f before now after so_far same counted is = inl (
+reading_fails X contents names left texts name faults.Unread f before now after so_far same counted is = inl (
   map Some texts ++ None ∷ [],
   so_far.answered (None ∷ []) refl,
   counted ∙ ap (λ (n : ℕ). n + 1) same ∙ ap (λ (n : ℕ). before + n) (sym (unread_behind texts)),
   λ next. so_far.goes_on (None ∷ []) next ∙ sym is,
 )
-reading_fails contents names left texts name faults.Memory f before now after so_far same counted is =
+reading_fails X contents names left texts name faults.Memory f before now after so_far same counted is =
     inr (omega (arith, counted, same), is)
 
 pub memory_reads : {X : Type 0} (see : X → List (List ℕ)) (contents : Contents) (before after : ℕ) (names : List Text) (r : Result X Failure)
@@ -152,41 +172,40 @@ pub memory_reads : {X : Type 0} (see : X → List (List ℕ)) (contents : Conten
 memory_reads see contents before after names (Ok x) e same = absurd e
 memory_reads see contents before after names (Err f) e same = inr (same, e)
 
+-- what is returned is the outcome, or there was no memory
+came_of_answer : (contents : Contents) (before after : ℕ) (request : Request) (answers : Answers) (r : Result Report Failure)
+    → Answered contents (files_of request) answers → after ≡ before + unread_in answers → after ≡ before → LeadsTo (outcome request answers) reported r
+    → IsOutcome contents before after request (came_to r)
+came_of_answer contents before after request answers (Ok report) answered counted same is = inl (answers, answered, counted, sym is)
+came_of_answer contents before after request answers (Err (failures.Unread name)) answered counted same is = inl (answers, answered, counted, sym is)
+came_of_answer contents before after request answers (Err (failures.Text name code line)) answered counted same is = inl (answers, answered, counted, sym is)
+came_of_answer contents before after request answers (Err (failures.Compile name code line)) answered counted same is = inl (answers, answered, counted, sym is)
+came_of_answer contents before after request answers (Err (failures.Document name schema code place)) answered counted same is =
+    inl (answers, answered, counted, sym is)
+came_of_answer contents before after request answers (Err failures.Memory) answered counted same is = inr (same, refl)
+
 -- a validation after its files were read
-pub came_of_texts : (contents : Contents) (before after : ℕ) (document : Text) (names : List Text) (texts : List (List ℕ)) (r : Result Report Failure)
-    → Answered contents (names ++ document ∷ []) (map Some texts) → after ≡ before → LeadsTo (validation document names texts) reported r
+pub came_of_texts : (contents : Contents) (before after : ℕ) (document : Text) (names files : List Text) (texts : List (List ℕ)) (r : Result Report Failure)
+    → files ≡ names ++ document ∷ [] → Answered contents files (map Some texts) → after ≡ before → LeadsTo (validation document names texts) reported r
     → IsOutcome contents before after (validate document names) (came_to r)
 unfolding outcome
-came_of_texts contents before after document names texts (Ok report) answered same is = inl (
-  map Some texts,
-  answered,
-  same ∙ ap (λ (n : ℕ). before + n) (sym (none_unread texts)),
-  sym is ∙ sym (with_all_read contents (names ++ document ∷ []) texts (validation document names) answered),
-)
-came_of_texts contents before after document names texts (Err failures.Memory) answered same is = inr (same, refl)
-came_of_texts contents before after document names texts (Err (failures.Unread name)) answered same is = inl (
-  map Some texts, answered, same ∙ ap (λ (n : ℕ). before + n) (sym (none_unread texts)),
-  sym is ∙ sym (with_all_read contents (names ++ document ∷ []) texts (validation document names) answered),
-)
-came_of_texts contents before after document names texts (Err (failures.Text name code line)) answered same is = inl (
-  map Some texts, answered, same ∙ ap (λ (n : ℕ). before + n) (sym (none_unread texts)),
-  sym is ∙ sym (with_all_read contents (names ++ document ∷ []) texts (validation document names) answered),
-)
-came_of_texts contents before after document names texts (Err (failures.Compile name code line)) answered same is = inl (
-  map Some texts, answered, same ∙ ap (λ (n : ℕ). before + n) (sym (none_unread texts)),
-  sym is ∙ sym (with_all_read contents (names ++ document ∷ []) texts (validation document names) answered),
-)
-came_of_texts contents before after document names texts (Err (failures.Document name schema code place)) answered same is = inl (
-  map Some texts, answered, same ∙ ap (λ (n : ℕ). before + n) (sym (none_unread texts)),
-  sym is ∙ sym (with_all_read contents (names ++ document ∷ []) texts (validation document names) answered),
-)
+came_of_texts contents before after document names files texts r e answered same is =
+    let told : Answered contents (names ++ document ∷ []) (map Some texts) = subst (λ ns. Answered contents ns (map Some texts)) e answered in
+    let none : after ≡ before + unread_in (map Some texts) = omega (arith, same, none_unread texts) in
+    let read = with_all_read contents (names ++ document ∷ []) texts (validation document names) told in
+    came_of_answer contents before after (validate document names) (map Some texts) r told none same (subst (λ o. LeadsTo o reported r) (sym read) is)
 
 -- a validation whose files couldn't all be read
-pub came_of_reading : (contents : Contents) (before after : ℕ) (document : Text) (names : List Text) (f : Failure)
-    → ((answers : Answers) × Answered contents (names ++ document ∷ []) answers × (after ≡ before + unread_in answers)
-    × ((next : List (List ℕ) → Outcome) → with_files (names ++ document ∷ []) answers next ≡ outcome_of f))
+pub came_of_reading : (contents : Contents) (before after : ℕ) (document : Text) (names files : List Text) (f : Failure) → files ≡ names ++ document ∷ []
+    → ((answers : Answers) × Answered contents files answers × (after ≡ before + unread_in answers)
+    × ((next : List (List ℕ) → Outcome) → with_files files answers next ≡ outcome_of f))
     ⊎ ((after ≡ before) × (f ≡ failures.Memory))
     → IsOutcome contents before after (validate document names) (outcome_of f)
 unfolding outcome
-came_of_reading contents before after document names f (inl read) = inl (read.0, read.1, read.2, sym (read.3 (validation document names)))
-came_of_reading contents before after document names f (inr none) = inr (none.0, ap outcome_of none.1)
+came_of_reading contents before after document names files f e (inl read) = inl (
+  read.0,
+  subst (λ ns. Answered contents ns read.0) e read.1,
+  read.2,
+  sym (subst (λ ns. with_files ns read.0 (validation document names) ≡ outcome_of f) e (read.3 (validation document names))),
+)
+came_of_reading contents before after document names files f e (inr none) = inr (none.0, ap outcome_of none.1)

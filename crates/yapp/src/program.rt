@@ -1,6 +1,7 @@
 //! A run of the program.
 
 ghost use Rattle.std.specs.Prelude.{◌≡◌, ◌⊎◌, [], codes, is_ok, if◌then◌else◌, map, string_bytes};
+ghost use Rattle.yspec.specs.Output as spec;
 ghost use Rattle.yspec.specs.Output.{Outcome};
 ghost use Rattle.yapp.specs.Command.{refusals, request_of, view};
 ghost use Rattle.yapp.specs.Files.{IsOutcome};
@@ -60,10 +61,36 @@ fn perform<F: Files, O: Sink, E: Sink>(
         × Brings (side O.taken O.failures output.old) (side O.taken O.failures output.new)
         (side E.taken E.failures errors.old) (side E.taken E.failures errors.new) o result }
 {
-    let Request::Validate { document, modules } = request;
-    match validate(alloc, *document, modules, files) {
-        Ok(report) => status_after(report.write(output), report.status()),
-        Err(failure) => status_after(failure.write(errors), failure.status()),
+    match request {
+        Request::Validate { document, modules } => {
+            tell_faults(alloc, *document, modules, files, output, errors)
+        }
+    }
+}
+
+/// Tells the faults of a document under modules, or why they can't be told.
+fn tell_faults<F: Files, O: Sink, E: Sink>(
+    alloc: Global,
+    document: &str,
+    modules: &[&str],
+    files: &mut F,
+    output: &mut O,
+    errors: &mut E,
+) -> u8
+    ensures { (o : Outcome) × IsOutcome (F.contents files.old) (F.failures files.old) (F.failures files.new)
+        (spec.validate document.now (map (λ n. n.now) modules.now)) o
+        × Brings (side O.taken O.failures output.old) (side O.taken O.failures output.new)
+        (side E.taken E.failures errors.old) (side E.taken E.failures errors.new) o result }
+{
+    match validate(alloc, document, modules, files) {
+        Ok(report) => {
+            let status = report.status();
+            status_after(report.write(output), status)
+        }
+        Err(failure) => {
+            let status = failure.status();
+            status_after(failure.write(errors), status)
+        }
     }
 }
 

@@ -34,8 +34,9 @@ impl Report {
         ensures { Writes (side S.taken S.failures sink.old) (side S.taken S.failures sink.new)
             (reported self.now).output result }
     {
-        write_lines(&self.schema, &self.faults, sink)?;
-        write_count(self.faults.len(), sink)
+        let faults = self.faults.as_slice();
+        write_lines(&self.schema, faults, sink)?;
+        write_count(faults.len(), sink)
     }
 }
 

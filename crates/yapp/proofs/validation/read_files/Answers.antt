@@ -1,34 +1,62 @@
-use Rattle.std.proofs.Common.{rules, ◌≡◌, ℕ, List, IfOk, map, ◌+◌, ◌-◌, ◌*◌, ◌<◌, ◌≤◌, length, ◌/◌, ◌%◌, Bool, true, false, nat_eq, nat_lt, [], ◌∷◌, ◌++◌, slice_index_or, slice_set, bit_and, bit_or, Fits, w8, w32, w64, Bor, MutBor}
-use Rattle.yspec.specs.Forest.{Forest}
-use Rattle.yspec.specs.Breaks.{compiled}
-use Rattle.yspec.specs.Output as spec
-use Rattle.yspec.specs.Schema as schema_spec
-use Rattle.yspec.specs.Output.{Outcome, files_of, first_file, judged, validation, with_compiled, with_modules, with_tree}
-use Rattle.yspec.specs.Reading.{document_of}
-use Rattle.yspec.specs.Statement.{Statement, module_of}
-use Rattle.ytext.specs.Statements.{forest_of}
-use Rattle.ytext.specs.View.{modules_view}
-use Rattle.yschema.specs.View as schema_view
-use Rattle.yapp.specs.Failing.{LeadsTo, reported}
-use Rattle.yapp.specs.Files.{IsOutcome, Reads, came_to}
+use Rattle.std.proofs.Common.{ℕ, Global, List, Vec, [], ◌∷◌, ◌+◌, ◌++◌, ◌∙◌, ap, arith, drop, get_or, refl, subst, sym}
+use Rattle.std.proofs.lemmas.List.{at_drop_all, at_drop_more, map-append}
+use Rattle.yapp.specs.Files.{Tells}
+use Rattle.yapp.proofs.ValidationSteps.{ReadSoFar, all_read, memory_reads, names_in, no_name, none_read, one_read, reading_fails, texts_in}
 use Rattle.yapp.proofs.validation.read_files.Goals as goal
 
--- src/validation.rt:36:5
 pub loop-name-init : goal.loop-name-init
-loop-name-init g c = ?
+loop-name-init g c =
+    let contents = g.F.Files.contents c.args.files.now in
+    let names = names_in c.args.names.now in
+    record {
+      so_far = subst (λ xs. ReadSoFar contents names names (texts_in xs)) (sym c.new-contents.ensures.items) (none_read contents names);
+      kept = λ other. refl;
+      counted = refl;
+    }
 
--- src/validation.rt:38:26
-pub returns-in_err-push-in-Ok : goal.returns-in_err-push-in-Ok
-returns-in_err-push-in-Ok g c = ?
-
--- src/validation.rt:39:27
-pub returns-in-Err : goal.returns-in-Err
-returns-in-Err g c = ?
-
--- src/validation.rt:36:5
 pub loop-name-preserved : goal.loop-name-preserved
-loop-name-preserved g c = ?
+loop-name-preserved g c =
+    let contents = g.F.Files.contents c.args.files.now in
+    let names = names_in c.args.names.now in
+    let left = names_in (drop (c.loop-name.name-index + 1) c.args.names.now) in
+    let before = c.loop-name.invariant in
+    let read = c.in-Ok.ensures in
+    record {
+      so_far = subst (ReadSoFar contents names left)
+          (sym (ap texts_in c.in_ok-push-in-Ok.ensures.items ∙ map-append (λ t. t.items) c.loop-name.contents.items (c.in-Ok.bytes ∷ [])))
+          (one_read contents names left (texts_in c.loop-name.contents.items) (get_or c.args.names.now c.loop-name.name-index no_name).now c.in-Ok.bytes.items
+          (subst (λ told. Tells told c.in-Ok.bytes.items) (before.kept _) read.ok)
+          (subst (λ ns. ReadSoFar contents names ns (texts_in c.loop-name.contents.items))
+          (at_drop_more names_in c.args.names.now c.loop-name.name-index no_name c.loop-name-test.true) before.so_far));
+      kept = λ other. read.kept other ∙ before.kept other;
+      counted = omega (arith, read.counted, before.counted);
+    }
 
--- src/validation.rt:27:1
 pub returns : goal.returns
-returns g c = ?
+returns g c =
+    let contents = g.F.Files.contents c.args.files.now in
+    let names = names_in c.args.names.now in
+    let before = c.loop-name.invariant in
+    (
+      all_read contents names (texts_in c.loop-name.contents.items)
+      (subst (λ ns. ReadSoFar contents names ns (texts_in c.loop-name.contents.items))
+      (at_drop_all names_in c.args.names.now c.loop-name.name-index c.loop-name-test.false) before.so_far),
+      before.counted,
+    )
+
+pub returns-in-Err : goal.returns-in-Err
+returns-in-Err g c =
+    let contents = g.F.Files.contents c.args.files.now in
+    let names = names_in c.args.names.now in
+    let before = c.loop-name.invariant in
+    reading_fails (Vec ℕ Global) contents names (names_in (drop (c.loop-name.name-index + 1) c.args.names.now)) (texts_in c.loop-name.contents.items)
+    (get_or c.args.names.now c.loop-name.name-index no_name).now c.in-Err.fault
+    c.of_file.result _ _ _ (subst (λ ns. ReadSoFar contents names ns (texts_in c.loop-name.contents.items))
+    (at_drop_more names_in c.args.names.now c.loop-name.name-index no_name c.loop-name-test.true) before.so_far)
+    before.counted c.in-Err.ensures.counted c.of_file.ensures
+
+pub returns-in_err-push-in-Ok : goal.returns-in_err-push-in-Ok
+returns-in_err-push-in-Ok g c =
+    let before = c.loop-name.invariant in
+    let read = c.in-Ok.ensures in
+    memory_reads _ _ _ _ _ c.from_residual.result c.from_residual.ensures.1 (omega (arith, read.counted, before.counted))

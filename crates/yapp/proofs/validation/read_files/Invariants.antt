@@ -1,17 +1,11 @@
-use Rattle.std.proofs.Common.{◌≡◌, ℕ, List, IfOk, map, ◌+◌, ◌-◌, ◌*◌, ◌<◌, ◌≤◌, length}
-use Rattle.yspec.specs.Forest.{Forest}
-use Rattle.yspec.specs.Breaks.{compiled}
-use Rattle.yspec.specs.Output as spec
-use Rattle.yspec.specs.Schema as schema_spec
-use Rattle.yspec.specs.Output.{Outcome, files_of, first_file, judged, validation, with_compiled, with_modules, with_tree}
-use Rattle.yspec.specs.Reading.{document_of}
-use Rattle.yspec.specs.Statement.{Statement, module_of}
-use Rattle.ytext.specs.Statements.{forest_of}
-use Rattle.ytext.specs.View.{modules_view}
-use Rattle.yschema.specs.View as schema_view
-use Rattle.yapp.specs.Failing.{LeadsTo, reported}
-use Rattle.yapp.specs.Files.{IsOutcome, Reads, came_to}
+use Rattle.std.proofs.Common.{◌≡◌, drop}
+use Rattle.yspec.specs.Text.{Text}
+use Rattle.yapp.proofs.ValidationSteps.{ReadSoFar, names_in, texts_in}
 use Rattle.yapp.proofs.validation.read_files.Given as goal
 
 abbrev pub invariant-loop-name : goal.invariant-loop-name
-invariant-loop-name g l = ?
+invariant-loop-name g l = record {
+  so_far : ReadSoFar (g.F.Files.contents l.fn.files) (names_in l.names) (names_in (drop l.name-index l.names)) (texts_in l.contents.items);
+  kept : (other : Text) → g.F.Files.contents l.files other ≡ g.F.Files.contents l.fn.files other;
+  counted : g.F.Files.failures l.files ≡ g.F.Files.failures l.fn.files;
+}

@@ -1,4 +1,4 @@
-use Rattle.std.proofs.Common.{ℕ, List, ◌++◌, codes, decimal, length, ap, sym}
+use Rattle.std.proofs.Common.{ℕ, ◌++◌, codes, decimal, length, ap, ◌∙◌, sym}
 use Rattle.std.proofs.lemmas.List.{length-map}
 use Rattle.std.specs.List.{flat_map}
 use Rattle.yspec.specs.Faults.{line_of}
@@ -10,12 +10,13 @@ use Rattle.yapp.proofs.report.Report.write.Goals as goal
 pub returns-in_err-write_lines : goal.returns-in_err-write_lines
 returns-in_err-write_lines g c =
     left_failed _ _ _ _ _ _ c.from_residual.result c.from_residual.ensures.0 (left_all _ _)
-    (broke_same _ _ _ _ (ap (λ xs. flat_map (line_of (schema.view c.args.self.now.schema)) (views xs)) c.deref.ensures.value) c.in_err-write_lines.ensures)
+    (broke_same _ _ _ _ (ap (λ xs. flat_map (line_of (schema.view c.args.self.now.schema)) (views xs)) c.as_slice-faults.ensures.value) c.in_err-write_lines.ensures)
 
 pub returns : goal.returns
 returns g c =
     left_last _ _ _ _ _ c.write_count.result
-    (left_same _ _ _ _ _ (ap (λ (n : ℕ). decimal n ++ codes " faults\n") (length-map c.args.self.now.faults.items view))
+    (left_same _ _ _ _ _ (ap (λ (n : ℕ). decimal n ++ codes " faults\n")
+    (length-map c.args.self.now.faults.items view ∙ sym (ap length c.as_slice-faults.ensures.value)))
     (left_after _ _ _ _ _ _ (left_all _ _)
-    (wrote_same _ _ _ _ (ap (λ xs. flat_map (line_of (schema.view c.args.self.now.schema)) (views xs)) c.deref.ensures.value) c.in_ok-write_lines.ensures)))
+    (wrote_same _ _ _ _ (ap (λ xs. flat_map (line_of (schema.view c.args.self.now.schema)) (views xs)) c.as_slice-faults.ensures.value) c.in_ok-write_lines.ensures)))
     c.write_count.ensures

@@ -1,0 +1,21 @@
+use Rattle.std.proofs.Common.{ℕ, ap, ◌∙◌}
+use Rattle.std.specs.Prelude.{is_ok, if◌then◌else◌}
+use Rattle.yapp.specs.Failing.{outcome_of, reported}
+use Rattle.yapp.proofs.RunningSteps.{ends, on_failure, on_report}
+use Rattle.yapp.proofs.program.tell_faults.Goals as goal
+
+pub returns-in-Ok : goal.returns-in-Ok
+returns-in-Ok g c = (
+  reported c.in-Ok.report,
+  c.in-Ok.ensures,
+  on_report _ _ _ c.in-Ok.report _ (ends _ _ _ (reported c.in-Ok.report).status _ c.write.result c.write.ensures
+  (c.status_after.ensures ∙ ap (λ (s : ℕ). if is_ok c.write.result then s else 4) c.status-status.ensures)),
+)
+
+pub returns-in-Err : goal.returns-in-Err
+returns-in-Err g c = (
+  outcome_of c.in-Err.failure,
+  c.in-Err.ensures,
+  on_failure _ _ _ c.in-Err.failure _ (ends _ _ _ (outcome_of c.in-Err.failure).status _ c.write-in-Err.result c.write-in-Err.ensures
+  (c.status_after-in-Err.ensures ∙ ap (λ (s : ℕ). if is_ok c.write-in-Err.result then s else 4) c.status-status-in-Err.ensures)),
+)
