@@ -1,12 +1,13 @@
 -- What a scan of a text gives (RFC 7950, 6.1 to 6.1.3): its tokens, each with its place, up to the first character, quote,
 -- comment or escape that is wrong. Places count the bytes before them.
-use Rattle.std.specs.Prelude.{ℕ, zero, suc, ◌+◌, ◌-◌, ◌==◌, ◌&&◌, Bool, true, false, List, [], ◌∷◌, take, slice_range, min, Option, Some, None, option_map, Result, Ok, if◌then◌else◌, nat_lt}
+use Rattle.std.specs.Prelude.{ℕ, zero, suc, ◌+◌, ◌-◌, ◌==◌, ◌&&◌, Bool, true, false, List, [], ◌∷◌, ◌++◌, length, take, slice_range, min, Option, Some, None, option_map, Result, Ok, if◌then◌else◌, nat_lt}
 use Rattle.std.specs.Char.{len_utf8}
 use Rattle.std.specs.Option.{option_map_or}
 use Rattle.std.specs.Str.{chars}
 use Rattle.yspec.specs.Text.{Text, backslash, line_after, line_behind, is_allowed}
 use Rattle.yspec.specs.Token.{Lexeme, Token, word, single, double, semi, open_block, close_block, finish, unclosed_quote, unclosed_comment, stray_end, Front, gap, token, last, front, column_after, at, escape}
 use Rattle.yspec.specs.Statement.{Slip, slip}
+use Rattle.yspec.specs.Spelling.{Place, behind, IsGap, IsToken, IsBroken}
 
 -- ---- tokens with their places
 
@@ -119,3 +120,17 @@ given_of text forbidden (p ∷ ps) = given text forbidden p (given_of text forbi
 
 abbrev pub scan_of : Text → List (Result Scanned Slip)
 scan_of text = given_of text (forbidden_place 0 (chars text)) (pieces_of text)
+
+-- ---- what the pieces are, by cases
+
+-- How a text is cut from a place on, `start` bytes standing before it: only gaps stand between tokens, and each token
+-- stands where the last piece ended.
+pub data Scan : ℕ → Place → Text → List Piece → Type 0 where
+  at_end : {start : ℕ} {place : Place} → Scan start place [] (piece_at start start (at place.line finish) ∷ [])
+  broken : {start : ℕ} {place : Place} {text : Text} {lexeme : Lexeme} → IsBroken text lexeme
+      → Scan start place text (piece_at start start (at place.line lexeme) ∷ [])
+  after_gap : {start : ℕ} {place : Place} {bytes rest : Text} {ps : List Piece} → IsGap bytes rest
+      → Scan (start + length bytes) (behind place bytes) rest ps → Scan start place (bytes ++ rest) ps
+  after_token : {start : ℕ} {place : Place} {lexeme : Lexeme} {bytes rest : Text} {ps : List Piece}
+      → IsToken place.column lexeme bytes rest → Scan (start + length bytes) (behind place bytes) rest ps
+      → Scan start place (bytes ++ rest) (piece_at start (start + length bytes) (at place.line lexeme) ∷ ps)

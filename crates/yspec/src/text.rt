@@ -2,8 +2,9 @@
 
 ghost use Rattle.std.specs.Prelude.{◌≡◌, ◌++◌, map, [], ◌∷◌, codes, Some, None, Ok};
 ghost use Rattle.yspec.specs.Forest.{end, node};
+ghost use Rattle.yspec.specs.Spelling.{start};
 ghost use Rattle.yspec.specs.Statement.{module_of, slip};
-ghost use Rattle.yspec.specs.Scanning.{Piece, pieces_of, scan_of, unquoted, single_quoted, double_quoted, semicolon, opening, closing};
+ghost use Rattle.yspec.specs.Scanning.{Piece, Scan, pieces_of, scan_of, unquoted, single_quoted, double_quoted, semicolon, opening, closing};
 ghost use Rattle.yspec.specs.Text.{Text};
 ghost use Rattle.yspec.specs.Token.{tokens_of};
 ghost use Rattle.yspec.specs.TextSamples.{with_argument, token_of};
@@ -68,7 +69,8 @@ pub fn scanned_texts()
     ensures in_an_open_quote { scan_of (codes "a \"\r") ≡ token_of unquoted 0 1 (codes "a") ∷ slip 3 1 ∷ [] }
 {}
 
-/// The tokens that a scan meets are those of the text.
+/// The tokens that a scan meets are those of the text, in their places: gaps alone stand between them.
 pub fn scanned_tokens()
-    ensures { (text : Text) → map (λ (p : Piece). p.token) (pieces_of text) ≡ tokens_of text }
+    ensures tokens { (text : Text) → map (λ (p : Piece). p.token) (pieces_of text) ≡ tokens_of text }
+    ensures places { (text : Text) → Scan 0 start text (pieces_of text) }
 {}

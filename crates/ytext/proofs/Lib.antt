@@ -1,6 +1,7 @@
 pub mod ViewLemmas
 pub mod CursorSteps
 pub mod PieceSteps
+pub mod PlainSteps
 pub mod QuotedSteps
 pub mod ReaderSteps
 pub mod RowSteps

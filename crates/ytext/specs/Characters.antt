@@ -1,7 +1,11 @@
 -- What is still to be judged of a text's characters.
-use Rattle.std.specs.Prelude.{ℕ, ◌-◌, List, Bool, true, false, Option, Some, if◌then◌else◌}
-use Rattle.yspec.specs.Text.{begins, line_feed, forbidden_line}
+use Rattle.std.specs.Prelude.{ℕ, ◌-◌, List, Bool, true, false, Option, Some, if◌then◌else◌, nat_le, nat_lt, ◌==◌, ◌&&◌, ◌||◌}
+use Rattle.yspec.specs.Text.{begins, tab, line_feed, forbidden_line}
 use Rattle.yspec.specs.Scanning.{forbidden_place}
+
+-- a byte of no character that isn't allowed, and no carriage return
+abbrev pub is_plain : ℕ → Bool
+is_plain x = (x == tab || x == line_feed) || (nat_le 32 x && nat_lt x 239)
 
 -- the first line with a character that isn't allowed, from a line on, a carriage return standing just before or not
 abbrev pub pending : Bool → ℕ → List ℕ → Option ℕ

@@ -2,12 +2,13 @@
 ghost use Rattle.std.specs.Prelude.{◌≡◌, ℕ, ◌+◌, ◌<◌, ◌≤◌, ◌^◌, List, [], ◌∷◌, true, Some, IfSome, IfNone, IfOk, IfErr, length};
 ghost use Rattle.std.specs.Str.{chars};
 ghost use Rattle.std.specs.Char.{len_utf8};
+ghost use Rattle.std.specs.List.{list_all};
 ghost use Rattle.yspec.specs.Text.{line_behind, is_noncharacter, is_yang_char, forbidden_line};
 ghost use Rattle.yspec.specs.Statement.{module_of, top_statement};
 ghost use Rattle.ytext.specs.Gives.{Gives, Fails};
 ghost use Rattle.yspec.specs.Token.{tokens_of};
 ghost use Rattle.yspec.specs.Scanning.{forbidden_place, scan_of};
-ghost use Rattle.ytext.specs.Characters.{pending, pending_place};
+ghost use Rattle.ytext.specs.Characters.{is_plain, pending, pending_place};
 ghost use Rattle.ytext.specs.Scanned.{tokens_left};
 ghost use Rattle.ytext.specs.View.{modules_view};
 
@@ -50,6 +51,20 @@ fn is_yang_char(character: char) -> bool
     character == '\t' || character == '\n' || (0x20 <= code && !is_noncharacter(code))
 }
 
+// Whether a byte is part of no character that isn't allowed, and no carriage return.
+fn is_plain(byte: u8) -> bool
+    ensures { result ≡ is_plain byte }
+{
+    byte == b'\t' || byte == b'\n' || (0x20 <= byte && byte < 0xef)
+}
+
+// Whether all bytes are plain: most texts are told right so, without a look at their characters.
+fn are_plain(bytes: &[u8]) -> bool
+    ensures { result ≡ list_all is_plain bytes.now }
+{
+    bytes.iter().all(|byte| is_plain(*byte))
+}
+
 // The line and whether a carriage return stands just before, behind one more character. None where one of the two
 // characters isn't allowed.
 fn behind_character(character: char, line: u64, has_returned: bool) -> Option<(u64, bool)>
@@ -80,6 +95,9 @@ fn forbidden_line(text: &str) -> Option<u64>
     ensures line { result ≡ forbidden_line 1 (chars text.now) }
     ensures bound { IfSome result (λ line. line ≤ length text.now + 1) }
 {
+    if are_plain(text.as_bytes()) {
+        return None;
+    }
     let mut line = 1u64;
     let mut has_returned = false;
     for character in text.chars() {
@@ -124,6 +142,9 @@ pub(crate) fn forbidden_place(text: &str) -> Option<usize>
     ensures place { result ≡ forbidden_place 0 (chars text.now) }
     ensures within { IfSome result (λ place. place ≤ length text.now) }
 {
+    if are_plain(text.as_bytes()) {
+        return None;
+    }
     let mut place = 0usize;
     let mut has_returned = false;
     for character in text.chars() {

@@ -1,5 +1,10 @@
-use Rattle.yspec.proofs.ScanningLaws.{same_tokens}
+use Rattle.std.proofs.Common.{length, le_refl}
+use Rattle.yspec.specs.Spelling.{start}
+use Rattle.yspec.proofs.ScanningLaws.{same_tokens, scanned_so}
 use Rattle.yspec.proofs.text.scanned_tokens.Goals as goal
 
 pub returns : goal.returns
-returns c = λ text. same_tokens 0 0 1 1 text
+returns c = record {
+  tokens = λ text. same_tokens 0 0 1 1 text;
+  places = λ text. scanned_so (length text) 0 start text (le_refl (length text));
+}

@@ -2,7 +2,11 @@ use Rattle.std.proofs.Common.{◌≡◌, ◌≤◌, ℕ, List, Bool, ◌+◌, �
 use Rattle.std.proofs.lemmas.Iterator.{YieldsList-from_chars}
 use Rattle.std.proofs.lemmas.Iterator.Consumers.{YieldsList-turn, YieldsList-end}
 use Rattle.std.proofs.lemmas.List.{length_push}
+use Rattle.std.proofs.lemmas.Str.{encodes-chars}
 use Rattle.std.specs.Str.{chars}
+use Rattle.std.specs.List.{list_all}
+use Rattle.ytext.specs.Characters.{is_plain}
+use Rattle.ytext.proofs.PlainSteps.{plain_line}
 use Rattle.ytext.specs.Characters.{pending}
 use Rattle.ytext.proofs.TextSteps.{char_at, few_chars, none_left}
 use Rattle.ytext.proofs.text.forbidden_line.Goals as goal
@@ -45,3 +49,7 @@ returns-else-has_returned-clause-line c =
     let end = YieldsList-end (YieldsList-from_chars c.args.text.now c.utf8.text cc) c.loop-character.yielded _ c.loop-character.yielded_by _ _ c.in-None.is c.next.ensures.steps in
     sym (ap (λ (b : Bool). pending b c.loop-character.line []) c.if-has_returned.false)
     ∙ ap (pending c.loop-character.has_returned c.loop-character.line) (sym (none_left cs (length c.loop-character.yielded) end.1)) ∙ c.loop-character.invariant.rest
+
+pub returns-then-are_plain-clause-line : goal.returns-then-are_plain-clause-line
+returns-then-are_plain-clause-line c =
+    sym (plain_line (chars c.args.text.now) 1 (ap (list_all is_plain) (encodes-chars c.args.text.now c.utf8.text ∙ sym c.as_bytes.ensures.value) ∙ sym c.if-are_plain.ensures))

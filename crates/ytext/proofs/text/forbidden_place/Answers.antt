@@ -4,6 +4,9 @@ use Rattle.std.proofs.lemmas.Iterator.Consumers.{YieldsList-turn, YieldsList-end
 use Rattle.std.proofs.lemmas.List.{length_push}
 use Rattle.std.proofs.lemmas.Str.{encodes-chars, len_utf8_bounds}
 use Rattle.std.specs.Str.{chars}
+use Rattle.std.specs.List.{list_all}
+use Rattle.ytext.specs.Characters.{is_plain}
+use Rattle.ytext.proofs.PlainSteps.{plain_place}
 use lib.Utf8.{encodes}
 use Rattle.ytext.specs.Characters.{pending_place}
 use Rattle.ytext.proofs.TextSteps.{char_at, char_bytes, none_left, no_return}
@@ -51,3 +54,7 @@ returns-else-has_returned-clause-place c =
     let end = YieldsList-end (YieldsList-from_chars c.args.text.now c.utf8.text cc) c.loop-character.yielded _ c.loop-character.yielded_by _ _ c.in-None.is c.next.ensures.steps in
     sym (ap (λ (b : Bool). pending_place b c.loop-character.place []) c.if-has_returned.false)
     ∙ ap (pending_place c.loop-character.has_returned c.loop-character.place) (sym (none_left cs (length c.loop-character.yielded) end.1)) ∙ c.loop-character.invariant.rest
+
+pub returns-then-are_plain-clause-place : goal.returns-then-are_plain-clause-place
+returns-then-are_plain-clause-place c =
+    sym (plain_place (chars c.args.text.now) 0 (ap (list_all is_plain) (encodes-chars c.args.text.now c.utf8.text ∙ sym c.as_bytes.ensures.value) ∙ sym c.if-are_plain.ensures))
