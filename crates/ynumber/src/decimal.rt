@@ -68,7 +68,11 @@ fn push_magnitude(text: &mut String, digits: u32, magnitude: u128) -> Result<(),
 }
 
 /// A number in units of its last digit, so many digits standing after the point.
-pub fn decimal_text(alloc: Global, digits: FractionDigits, number: i128) -> Result<String, AllocError>
+pub fn decimal_text(
+    alloc: Global,
+    digits: FractionDigits,
+    number: i128,
+) -> Result<String, AllocError>
     ensures { IfOk result (λ text. string_bytes text ≡ decimal_text digits.digits number) }
 {
     let mut text = String::new(alloc);

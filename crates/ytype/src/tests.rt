@@ -1,6 +1,6 @@
 use crate::{
-    BadValue, Bound, FractionDigits, Naming, NarrowFault, Part, Range, Raw, Restriction, Span,
-    Val, YType,
+    BadValue, Bound, FractionDigits, Naming, NarrowFault, Part, Range, Raw, Restriction, Span, Val,
+    YType,
 };
 use std::alloc::{AllocError, Global};
 use std::test::Fail;
@@ -141,7 +141,11 @@ fn bounds_of_integers(rt: HostRuntime) -> Result<(), Fail> {
     ];
     for (name, number, wanted) in table {
         let of = built_in(rt.alloc(), name)?;
-        assert_eq!(rt; takes_number(rt.alloc(), &of, number), wanted, "{number} as {name}");
+        assert_eq!(rt;
+            takes_number(rt.alloc(), &of, number),
+            wanted,
+            "{number} as {name}"
+        );
     }
     Ok(())
 }
@@ -156,15 +160,27 @@ fn texts_of_documents(rt: HostRuntime) -> Result<(), Fail> {
         ("int64", "-", None),
         ("int64", "0x1F", None),
         ("int64", "-0", Some("0")),
-        ("int64", "-9223372036854775808", Some("-9223372036854775808")),
+        (
+            "int64",
+            "-9223372036854775808",
+            Some("-9223372036854775808"),
+        ),
         ("int64", "-9223372036854775809", None),
         ("int64", "9223372036854775807", Some("9223372036854775807")),
         ("int64", "9223372036854775808", None),
         ("uint64", "0", Some("0")),
         ("uint64", "-1", None),
-        ("uint64", "18446744073709551615", Some("18446744073709551615")),
+        (
+            "uint64",
+            "18446744073709551615",
+            Some("18446744073709551615"),
+        ),
         ("uint64", "18446744073709551616", None),
-        ("uint64", "99999999999999999999999999999999999999999999", None),
+        (
+            "uint64",
+            "99999999999999999999999999999999999999999999",
+            None,
+        ),
         ("int8", "5", None),
         ("boolean", "true", None),
         ("empty", "", None),
@@ -235,7 +251,11 @@ fn defaults(rt: HostRuntime) -> Result<(), Fail> {
         ("int8", "+0", Some("0")),
         ("int64", "-0x8000000000000000", Some("-9223372036854775808")),
         ("uint64", "0xFFFFFFFFFFFFFFFF", Some("18446744073709551615")),
-        ("uint64", "01777777777777777777777", Some("18446744073709551615")),
+        (
+            "uint64",
+            "01777777777777777777777",
+            Some("18446744073709551615"),
+        ),
         ("uint64", "02000000000000000000000", None),
         ("boolean", "true", Some("true")),
         ("boolean", "false", Some("false")),
@@ -313,7 +333,11 @@ fn app_tags(rt: HostRuntime) -> Result<(), Fail> {
     for (number, is_taken, wanted) in table {
         let found = app_tag(rt.alloc(), &port, number);
         assert_eq!(rt; found.as_deref(), wanted, "port {number}");
-        assert_eq!(rt; takes_number(rt.alloc(), &port, number), is_taken, "port {number}");
+        assert_eq!(rt;
+            takes_number(rt.alloc(), &port, number),
+            is_taken,
+            "port {number}"
+        );
     }
     Ok(())
 }
@@ -425,10 +449,7 @@ fn refused_names(rt: HostRuntime) {
 
 #[test]
 fn sets_of_bits(rt: HostRuntime) -> Result<(), Fail> {
-    let of = bits(
-        rt.alloc(),
-        &[("x", Some(3)), ("y", None), ("z", Some(0))],
-    )?;
+    let of = bits(rt.alloc(), &[("x", Some(3)), ("y", None), ("z", Some(0))])?;
     let table = [
         ("y  z", Some("z y")),
         (" x y z ", Some("z x y")),
@@ -480,7 +501,82 @@ fn leafrefs(rt: HostRuntime) -> Result<(), Fail> {
     assert_eq!(rt; loose.requires_instance(), Some(false));
     let strict = loose.narrow(rt.alloc(), &Restriction::RequireInstance(true))?;
     assert_eq!(rt; strict.requires_instance(), Some(true));
-    assert!(rt; byte.narrow(rt.alloc(), &Restriction::RequireInstance(true)).is_err());
+    assert!(rt;
+        byte.narrow(rt.alloc(), &Restriction::RequireInstance(true))
+            .is_err()
+    );
     assert!(rt; ranged(rt.alloc(), &of, &[(at(1), at(5))], "t").is_err());
     Ok(())
+}
+
+// A type with members of several kinds.
+fn leafref_of_all(alloc: Global) -> Result<YType, NarrowFault> {
+    let byte = ranged(alloc, &YType::uint8(alloc)?, &[(at(1), at(10))], "t1")?;
+    let set = bits(alloc, &[("x", Some(3)), ("y", None), ("z", Some(0))])?;
+    let word = enumeration(alloc, &[("first", None), ("second", None)])?;
+    let tenths = decimal(alloc, 1)?;
+    let short = of_length(alloc, 1, 3)?;
+    let types = Vec::from_array(alloc, [byte, set, word, tenths, short])?;
+    let all = YType::union(alloc, &types)?;
+    Ok(YType::leafref(alloc, &all)?.clone()?)
+}
+
+fn printed(alloc: Global, of: &YType, raw: &Raw) -> Result<String, BadValue> {
+    let val = of.check(alloc, &raw.clone()?)?;
+    Ok(val.canonical(alloc, of)?)
+}
+
+fn printed_text(alloc: Global, of: &YType, text: &str) -> Result<String, BadValue> {
+    printed(alloc, of, &Raw::Text(String::from_str(alloc, text)?))
+}
+
+fn printed_default(alloc: Global, of: &YType, text: &str) -> Result<String, BadValue> {
+    Ok(of.from_text(alloc, text)?.canonical(alloc, of)?)
+}
+
+fn refused_number(alloc: Global) -> Result<Option<String>, NarrowFault> {
+    let of = ranged(alloc, &YType::uint8(alloc)?, &[(at(1), at(10))], "t1")?;
+    match of.check(alloc, &Raw::Int(20)) {
+        Ok(_) => Ok(None),
+        Err(BadValue::Refused { app_tag }) => Ok(app_tag),
+        Err(BadValue::Memory) => Err(NarrowFault::Memory),
+    }
+}
+
+// Whether that is the text, or memory ran out.
+fn is_text_or_memory(found: &Result<String, BadValue>, wanted: &str) -> bool {
+    match found {
+        Ok(text) => text.as_str() == wanted,
+        Err(BadValue::Refused { .. }) => false,
+        Err(BadValue::Memory) => true,
+    }
+}
+
+// Each request for memory may be refused: the answer is that, or the one with ample memory.
+#[test]
+fn memory(rt: HostRuntime) {
+    let alloc = rt.alloc();
+    match leafref_of_all(alloc) {
+        Err(fault) => assert_eq!(rt; fault, NarrowFault::Memory),
+        Ok(of) => {
+            let table = [
+                ("y z", "z y"),
+                ("second", "second"),
+                ("+01.5", "1.5"),
+                ("abc", "abc"),
+            ];
+            for (text, wanted) in table {
+                let found = printed_text(alloc, &of, text);
+                assert!(rt; is_text_or_memory(&found, wanted), "{text:?}");
+            }
+            let found = printed(alloc, &of, &Raw::Int(7));
+            assert!(rt; is_text_or_memory(&found, "7"));
+            let found = printed_default(alloc, &of, "0x7");
+            assert!(rt; is_text_or_memory(&found, "7"));
+        }
+    }
+    match refused_number(alloc) {
+        Err(fault) => assert_eq!(rt; fault, NarrowFault::Memory),
+        Ok(app_tag) => assert_eq!(rt; app_tag.as_deref(), Some("t1")),
+    }
 }

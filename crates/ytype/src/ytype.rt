@@ -19,7 +19,7 @@ use crate::simple::SimpleType;
 use crate::val::Val;
 use std::alloc::{AllocError, Global};
 use std::marker::Model;
-use ynumber::{FractionDigits, NarrowFault, Naming, Restriction, bit_names, enum_names};
+use ynumber::{FractionDigits, Naming, NarrowFault, Restriction, bit_names, enum_names};
 
 #[derive(Debug, Drop)]
 enum Shape {
