@@ -73,7 +73,7 @@ pub fn decimal_text(
     digits: FractionDigits,
     number: i128,
 ) -> Result<String, AllocError>
-    ensures { IfOk result (λ text. string_bytes text ≡ decimal_text digits.digits number) }
+    ensures { IfOk result (λ text. string_bytes text ≡ decimal_text digits number) }
 {
     let mut text = String::new(alloc);
     if number < 0 {

@@ -188,7 +188,7 @@ fn decimal_magnitude(digits: u32, text: &[u8]) -> Option<u128>
 #[tactic(auto, using(crate::proofs::Numerals::caps))]
 pub fn decimal_in(numbers: &Part, digits: FractionDigits, text: &[u8]) -> Option<i128>
     requires { IsNarrow numbers.now }
-    ensures { result ≡ kept_in numbers.now (decimal_of digits.digits text.now) }
+    ensures { result ≡ kept_in numbers.now (decimal_of digits text.now) }
 {
     kept_in(
         numbers,

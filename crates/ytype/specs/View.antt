@@ -30,7 +30,7 @@ integer_of integer.Uint64 = types.uint64
 
 abbrev pub base_of : Base → types.Base
 base_of (base.Integer i) = types.integer_base (integer_of i)
-base_of (base.Decimal d) = types.decimal_base d.digits
+base_of (base.Decimal d) = types.decimal_base d
 base_of base.Text = types.string_base
 base_of base.Boolean = types.boolean_base
 base_of base.Empty = types.empty_base

@@ -175,7 +175,7 @@ fn bool_of(text: &str) -> Option<bool>
 }
 
 fn decimal_of(digits: FractionDigits, text: &str) -> Option<i128>
-    ensures { option_map number_value result ≡ decimal_taken digits.digits text.now }
+    ensures { option_map number_value result ≡ decimal_taken digits text.now }
 {
     decimal_in(&Integer::Int64.numbers(), digits, text.as_bytes())
 }

@@ -149,7 +149,7 @@ impl YType {
 
     /// Numbers with so many digits after the point, of 64 bits in units of the last one (9.3).
     pub fn decimal64(alloc: Global, digits: FractionDigits) -> Result<YType, NarrowFault>
-        ensures { result ≡ Ok (plain (decimal_base digits.digits)) }
+        ensures { result ≡ Ok (plain (decimal_base digits)) }
     {
         Ok(plain(alloc, Base::Decimal(digits)))
     }
