@@ -3,8 +3,8 @@
 ghost use Rattle.std.specs.Prelude.{◌≡◌, ◌++◌, ◌^◌, ◌-◌, [], ◌∷◌, pos, negsuc, true, false, codes, option_and_then, is_some};
 ghost use Rattle.yspec.specs.Names.{enum_names, bit_names};
 ghost use Rattle.yspec.specs.Ranges.{number};
-ghost use Rattle.yspec.specs.Types.{text, int, bool, empty, int8, int64, uint8, uint16, uint64, text_value, number_value, bits_value, integer_type, uint8_type, string_type, value, taken, app_tag_of};
-ghost use Rattle.yspec.specs.Order.{TellsValues};
+ghost use Rattle.yspec.specs.Types.{text, int, bool, empty, int8, int32, int64, uint8, uint16, uint64, text_value, number_value, bits_value, integer_type, uint8_type, string_type, value, taken, app_tag_of};
+ghost use Rattle.yspec.specs.Order.{same_value, TellsValues};
 ghost use Rattle.yspec.specs.Restriction.{length, require_instance, narrowed, union_type, leafref_type};
 ghost use Rattle.yspec.specs.Values.{value_of_text, canonical};
 ghost use Rattle.yspec.specs.TypeExamples.{decimal, shown, number_is, default_of, from_to, one, at, tagged, untagged, gaps, twice_narrowed, is_taken, named, numbered, five_enums, enumeration, bits, three_bits, taken_by, shown_by};
@@ -19,6 +19,8 @@ pub fn decimals()
     ensures no_digit_after { taken (decimal 2) (text (codes "1.")) ≡ None }
     ensures too_many_digits { taken (decimal 2) (text (codes "1.234")) ≡ None }
     ensures no_number { taken (decimal 2) (int (pos 7)) ≡ None }
+    ensures greatest_of_one_digit { shown (decimal 1) (codes "922337203685477580.7") ≡ Some (codes "922337203685477580.7") }
+    ensures past_greatest_of_one_digit { taken (decimal 1) (text (codes "922337203685477580.8")) ≡ None }
     ensures least { taken (decimal 18) (text (codes "-9.223372036854775808"))
         ≡ number_is (negsuc (2 ^ 63 - 1)) }
     ensures greatest { taken (decimal 18) (text (codes "9.223372036854775807")) ≡ number_is (pos (2 ^ 63 - 1)) }
@@ -47,6 +49,9 @@ pub fn defaults()
     ensures no_octal_digit { default_of uint8 (codes "08") ≡ None }
     ensures negative { default_of int8 (codes "-0x80") ≡ number_is (negsuc 127) }
     ensures minus_zero { default_of int8 (codes "-0") ≡ number_is (pos 0) }
+    ensures plus { default_of uint8 (codes "+0xff") ≡ number_is (pos 255) }
+    ensures negative_octal { default_of int8 (codes "-0200") ≡ number_is (negsuc 127) }
+    ensures no_hexadecimal_digit { default_of uint8 (codes "0x") ≡ None }
     ensures too_large { default_of uint8 (codes "256") ≡ None }
 {}
 
@@ -75,6 +80,9 @@ pub fn tags()
     ensures port { option_and_then (λ t. app_tag_of t (int (pos 1025)))
         (narrowed (integer_type uint16) (tagged (from_to (pos 1) (pos 1024) ∷ one (pos 8080) ∷ []) (codes "bad-port")))
         ≡ Some (codes "bad-port") }
+    ensures last_port { option_and_then (λ t. taken t (int (pos 1024)))
+        (narrowed (integer_type uint16) (tagged (from_to (pos 1) (pos 1024) ∷ one (pos 8080) ∷ []) (codes "bad-port")))
+        ≡ number_is (pos 1024) }
     ensures listed_port { option_and_then (λ t. taken t (int (pos 8080)))
         (narrowed (integer_type uint16) (tagged (from_to (pos 1) (pos 1024) ∷ one (pos 8080) ∷ []) (codes "bad-port")))
         ≡ number_is (pos 8080) }
@@ -88,6 +96,10 @@ pub fn restrictions()
     ensures same { is_some (twice_narrowed uint8_type (untagged (from_to (pos 1) (pos 10) ∷ [])) (untagged (from_to (pos 1) (pos 10) ∷ [])))
         ≡ true }
     ensures wider { twice_narrowed uint8_type (untagged (from_to (pos 1) (pos 10) ∷ [])) (untagged (from_to (pos 0) (pos 10) ∷ []))
+        ≡ None }
+    ensures same_of_int32 { is_some (twice_narrowed (integer_type int32) (untagged (from_to (pos 1) (pos 10) ∷ [])) (untagged (from_to (pos 1) (pos 10) ∷ [])))
+        ≡ true }
+    ensures wider_of_int32 { twice_narrowed (integer_type int32) (untagged (from_to (pos 1) (pos 10) ∷ [])) (untagged (from_to (pos 0) (pos 10) ∷ []))
         ≡ None }
     ensures across_parts { is_some (twice_narrowed uint8_type (untagged (from_to (pos 1) (pos 5) ∷ from_to (pos 6) (pos 10) ∷ [])) (untagged (from_to (pos 3) (pos 8) ∷ [])))
         ≡ true }
@@ -150,5 +162,7 @@ pub fn lengths()
 
 /// Two values are the same where the same member took them and their contents are the same.
 pub fn equal_values()
-    ensures { TellsValues }
+    ensures told_apart { TellsValues }
+    ensures of_two_members { same_value (value (Some 0) (number_value (pos 5))) (value (Some 1) (number_value (pos 5)))
+        ≡ false }
 {}

@@ -4,7 +4,7 @@ use Rattle.yspec.specs.Text.{Text}
 use Rattle.yspec.specs.Types.{Val}
 use Rattle.ytype.specs.declared.fault.BadValue.{BadValue}
 use Rattle.ytype.specs.declared.fault.BadValue.TheVariants as bad_value
-use Rattle.ytype.specs.View.{text_of}
+use Rattle.ynumber.specs.View.{text_of}
 
 -- the value exactly where one is taken, and where none is the error-app-tag; nothing is said where memory ran out
 abbrev pub Checks : Result Val BadValue → Option Val → Option Text → Type 0

@@ -4,7 +4,6 @@ use Rattle.yspec.specs.Types.{Content}
 use Rattle.ytype.specs.declared.base.Found.{Found}
 use Rattle.ytype.specs.declared.val.Content as made
 use Rattle.std.specs.Borrow.{Bor}
-use Rattle.yspec.specs.Ranges.{Limit}
 use Rattle.ytype.specs.View.{found_of, content_of}
 
 abbrev pub founds : Option Found → Option Content
@@ -13,5 +12,5 @@ founds found = option_map found_of found
 abbrev pub contents : Option made.Content → Option Content
 contents content = option_map content_of content
 
-abbrev pub limits_now : Option (Bor Limit) → Option Limit
-limits_now limit = option_map (λ l. l.now) limit
+abbrev pub now_of : {A : Type 0} → Option (Bor A) → Option A
+now_of found = option_map (λ x. x.now) found

@@ -1,12 +1,7 @@
 -- What the crate's types stand for.
-use Rattle.std.specs.Prelude.{Option, option_map}
 use Rattle.std.specs.String.{string_bytes}
-use Rattle.std.specs.declared.string.String.{String}
-use Rattle.yspec.specs.Text.{Text}
 use Rattle.ytype.specs.declared.raw.Raw.{Raw}
 use Rattle.ytype.specs.declared.raw.Raw.TheVariants as raw
-use Rattle.ytype.specs.declared.restriction.Bound.{Bound}
-use Rattle.ytype.specs.declared.restriction.Bound.TheVariants as bound
 use Rattle.ytype.specs.declared.base.Integer.{Integer}
 use Rattle.ytype.specs.declared.base.Integer.TheVariants as integer
 use Rattle.ytype.specs.declared.base.Base.{Base}
@@ -15,10 +10,6 @@ use Rattle.ytype.specs.declared.base.Found.{Found}
 use Rattle.ytype.specs.declared.base.Found.TheVariants as found
 use Rattle.ytype.specs.declared.val.Content.{Content}
 use Rattle.ytype.specs.declared.val.Content.TheVariants as content
-use Rattle.yspec.specs.Ranges as ranges
-use Rattle.ytype.specs.declared.restriction.Restriction.{Restriction}
-use Rattle.ytype.specs.declared.restriction.Restriction.TheVariants as restriction
-use Rattle.yspec.specs.Restriction as restrictions
 use Rattle.yspec.specs.Types as types
 
 abbrev pub raw_of : Raw → types.Raw
@@ -26,11 +17,6 @@ raw_of (raw.Text t) = types.text (string_bytes t)
 raw_of (raw.Int z) = types.int z
 raw_of (raw.Bool b) = types.bool b
 raw_of raw.Empty = types.empty
-
-abbrev pub bound_of : Bound → ranges.Bound
-bound_of bound.Min = ranges.least
-bound_of bound.Max = ranges.greatest
-bound_of (bound.Number units places) = ranges.number units places
 
 abbrev pub integer_of : Integer → types.Integer
 integer_of integer.Int8 = types.int8
@@ -44,7 +30,7 @@ integer_of integer.Uint64 = types.uint64
 
 abbrev pub base_of : Base → types.Base
 base_of (base.Integer i) = types.integer_base (integer_of i)
-base_of (base.Decimal d) = types.decimal_base d.digits
+base_of (base.Decimal d) = types.decimal_base d
 base_of base.Text = types.string_base
 base_of base.Boolean = types.boolean_base
 base_of base.Empty = types.empty_base
@@ -64,11 +50,3 @@ content_of (content.Number z) = types.number_value z
 content_of (content.Bool b) = types.bool_value b
 content_of content.Empty = types.empty_value
 content_of (content.Bits positions) = types.bits_value positions.items
-
-abbrev pub text_of : {Z : Type 0} → Option (String Z) → Option Text
-text_of text = option_map string_bytes text
-
-abbrev pub restriction_of : Restriction → restrictions.Restriction
-restriction_of (restriction.Range spans app_tag) = restrictions.range spans.items (text_of app_tag)
-restriction_of (restriction.Length spans app_tag) = restrictions.length spans.items (text_of app_tag)
-restriction_of (restriction.RequireInstance b) = restrictions.require_instance b

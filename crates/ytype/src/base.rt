@@ -6,16 +6,16 @@ ghost use Rattle.yspec.specs.Types.{numbers_of, is_written_as_text, is_string_ch
 ghost use Rattle.yspec.specs.Names.{words_of};
 ghost use Rattle.yspec.specs.Values.{base_read, bool_of};
 ghost use Rattle.ytype.specs.View.{raw_of, integer_of, base_of, found_of, content_of};
-ghost use Rattle.ytype.specs.Words.{IsNarrow};
+ghost use Rattle.ynumber.specs.Words.{IsNarrow};
 ghost use Rattle.ytype.specs.Founds.{founds};
 
-use crate::digits::FractionDigits;
-use crate::name::{Assigned, number_named, positions_in};
-use crate::numeral::{decimal_in, default_integer_in, integer_in};
-use crate::range::Part;
 use crate::raw::Raw;
 use crate::val::Content;
 use std::alloc::{AllocError, Global};
+use ynumber::{
+    Assigned, FractionDigits, Part, decimal_in, default_integer_in, integer_in, number_named,
+    positions_in,
+};
 
 /// The integer types.
 #[derive(Clone, Copy, Debug)]
@@ -175,9 +175,9 @@ fn bool_of(text: &str) -> Option<bool>
 }
 
 fn decimal_of(digits: FractionDigits, text: &str) -> Option<i128>
-    ensures { option_map number_value result ≡ decimal_taken digits.digits text.now }
+    ensures { option_map number_value result ≡ decimal_taken digits text.now }
 {
-    decimal_in(&Integer::Int64.numbers(), digits.digits(), text.as_bytes())
+    decimal_in(&Integer::Int64.numbers(), digits, text.as_bytes())
 }
 
 fn number_found<'a>(number: Option<i128>) -> Option<Found<'a>>

@@ -1,8 +1,7 @@
-//! Why a value or a restriction isn't taken.
+//! Why a value isn't taken.
 
 ghost use Rattle.std.specs.Prelude.{◌≡◌};
 ghost use Rattle.ytype.specs.declared.fault.BadValue.TheVariants as bad_value;
-ghost use Rattle.ytype.specs.declared.fault.NarrowFault.TheVariants as narrow_fault;
 
 use std::alloc::{AllocError, AllocFailed};
 
@@ -27,28 +26,5 @@ impl<T: Drop> From<AllocFailed<T>> for BadValue {
 
     fn from(_e: AllocFailed<T>) -> BadValue {
         BadValue::Memory
-    }
-}
-
-/// Why there is no such type.
-#[derive(Clone, Copy, Debug, PartialEq, Eq)]
-pub enum NarrowFault {
-    Refused,
-    Memory,
-}
-
-impl From<AllocError> for NarrowFault {
-    ghost from_gives = { λ _ e. e ≡ narrow_fault.Memory };
-
-    fn from(_e: AllocError) -> NarrowFault {
-        NarrowFault::Memory
-    }
-}
-
-impl<T: Drop> From<AllocFailed<T>> for NarrowFault {
-    ghost from_gives = { λ _ e. e ≡ narrow_fault.Memory };
-
-    fn from(_e: AllocFailed<T>) -> NarrowFault {
-        NarrowFault::Memory
     }
 }

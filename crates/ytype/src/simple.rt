@@ -7,19 +7,18 @@ ghost use Rattle.yspec.specs.Ranges.{holds};
 ghost use Rattle.yspec.specs.Types.{excluding, limited, simple_taken, simple_app_tag, base_taken};
 ghost use Rattle.yspec.specs.Values.{simple_read, content_text};
 ghost use Rattle.yspec.specs.Restriction.{left_by, left_after, limited_by, with_limit, range_base, length_base, lengths, narrowed_simple};
-ghost use Rattle.ytype.specs.View.{raw_of, base_of, content_of, text_of, restriction_of};
-ghost use Rattle.ytype.specs.Words.{Narrows, same};
-ghost use Rattle.ytype.specs.Founds.{founds, contents, limits_now};
+ghost use Rattle.ynumber.specs.View.{text_of, restriction_of};
+ghost use Rattle.ynumber.specs.Words.{Narrows, same};
+ghost use Rattle.ytype.specs.View.{raw_of, base_of, content_of};
+ghost use Rattle.ytype.specs.Founds.{founds, contents, now_of};
 
 use crate::base::{Base, Found, Integer};
 use crate::canonical::content_text;
-use crate::fault::NarrowFault;
-use crate::range::{Part, Range};
 use crate::raw::Raw;
-use crate::restriction::{Restriction, Span, restricted};
 use crate::val::Content;
 use std::alloc::{AllocError, Global};
 use std::marker::Model;
+use ynumber::{NarrowFault, Part, Range, Restriction, Span, restricted};
 
 fn copy_of(text: &Option<String>) -> Result<Option<String>, AllocError>
     ensures { IfOk result (λ copy. text_of copy ≡ text_of text.now) }
@@ -42,7 +41,7 @@ impl Model for Limit {
 
     ghost Value = { ranges.Limit };
 
-    ghost use Rattle.ytype.specs.View.{text_of};
+    ghost use Rattle.ynumber.specs.View.{text_of};
 
     ghost view = { λ l. record { parts = l.range; app_tag = text_of l.app_tag } };
 }
@@ -83,7 +82,7 @@ impl Limit {
 }
 
 fn excluding(limits: &[Limit], number: i128) -> Option<&Limit>
-    ensures { limits_now result ≡ excluding limits.now number }
+    ensures { now_of result ≡ excluding limits.now number }
 {
     'limits: for limit in limits {
         if !limit.holds(number) {

@@ -5,21 +5,21 @@ ghost use Rattle.yspec.specs.Types.{taken, app_tag_of, simple_taken, first_value
 ghost use Rattle.yspec.specs.Values.{value_of_text, simple_read, taker};
 ghost use Rattle.yspec.specs.Names as names;
 ghost use Rattle.yspec.specs.Restriction.{members_of, all_members, union_type, leafref_type, narrowed};
-ghost use Rattle.ytype.specs.View.{raw_of, base_of, integer_of, restriction_of};
-ghost use Rattle.ytype.specs.Words.{Narrows, same, now_of};
+ghost use Rattle.ynumber.specs.View.{restriction_of};
+ghost use Rattle.ynumber.specs.Words.{Narrows, same};
+ghost use Rattle.ytype.specs.View.{raw_of, base_of, integer_of};
+ghost use Rattle.ytype.specs.Founds.{now_of};
 ghost use Rattle.ytype.specs.Shapes.{shape_of};
 ghost use Rattle.ytype.specs.Checks.{Checks, Reads};
 
 use crate::base::{Base, Integer};
-use crate::digits::FractionDigits;
-use crate::fault::{BadValue, NarrowFault};
-use crate::name::{Naming, bit_names, enum_names};
+use crate::fault::BadValue;
 use crate::raw::Raw;
-use crate::restriction::Restriction;
 use crate::simple::SimpleType;
 use crate::val::Val;
 use std::alloc::{AllocError, Global};
 use std::marker::Model;
+use ynumber::{FractionDigits, Naming, NarrowFault, Restriction, bit_names, enum_names};
 
 #[derive(Debug, Drop)]
 enum Shape {
@@ -149,7 +149,7 @@ impl YType {
 
     /// Numbers with so many digits after the point, of 64 bits in units of the last one (9.3).
     pub fn decimal64(alloc: Global, digits: FractionDigits) -> Result<YType, NarrowFault>
-        ensures { result ≡ Ok (plain (decimal_base digits.digits)) }
+        ensures { result ≡ Ok (plain (decimal_base digits)) }
     {
         Ok(plain(alloc, Base::Decimal(digits)))
     }

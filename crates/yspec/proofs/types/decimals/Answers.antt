@@ -17,3 +17,7 @@ returns-clause-no_sign_of_zero c = refl
 pub returns-clause-inner_zero : goal.returns-clause-inner_zero
 unfolding yspec_on_literals
 returns-clause-inner_zero c = refl
+
+pub returns-clause-greatest_of_one_digit : goal.returns-clause-greatest_of_one_digit
+unfolding yspec_on_literals
+returns-clause-greatest_of_one_digit c = refl

@@ -1,5 +1,5 @@
 use Rattle.yspec.proofs.Order.{tells_values}
 use Rattle.yspec.proofs.types.equal_values.Goals as goal
 
-pub returns : goal.returns
-returns c = tells_values
+pub returns-clause-told_apart : goal.returns-clause-told_apart
+returns-clause-told_apart c = tells_values

@@ -1,7 +1,0 @@
-use Rattle.std.proofs.Common.{◌≡◌, drop}
-use Rattle.yspec.specs.Names.{has_twice}
-use Rattle.ytype.specs.Words.{words_in}
-use Rattle.ytype.proofs.name.has_twice.Given as goal
-
-abbrev pub invariant-words : goal.invariant-words
-invariant-words l = has_twice (words_in (drop l.place l.words)) ≡ has_twice (words_in l.words)
