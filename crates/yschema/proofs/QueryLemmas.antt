@@ -6,9 +6,10 @@ use Rattle.std.proofs.lemmas.Bool.{eq-eqb, ne_eqb, le-leb, leb-true}
 use Rattle.std.proofs.lemmas.List.{take-append-drop, take_min, length-map}
 use Rattle.std.proofs.lemmas.Option.{slice_get_past}
 use Rattle.yspec.specs.Forest.{Forest, node, end, size, find_label, first_of, find_below, joined_below}
-use Rattle.yspec.specs.Schema.{SchemaNode}
+use Rattle.yspec.specs.Schema.{SchemaNode, module_at}
 use Rattle.yschema.specs.declared.children.Row.{Row}
-use Rattle.yschema.specs.Layout.{node_view, places, laid, fits_within}
+use Rattle.yschema.specs.Layout.{node_view, places, laid, fits_within, schema_view, IsLaidOut}
+use Rattle.yschema.specs.declared.schema.SchemaModule.{SchemaModule}
 use Rattle.yschema.specs.View.{forest_within, forest_of}
 use Rattle.yschema.proofs.RowLemmas.{forest_of-cons, no_node}
 use Rattle.yschema.proofs.LayoutLemmas.{laid_parts}
@@ -71,7 +72,7 @@ is_short : List Row → Bool
 is_short [] = true
 is_short (r ∷ rows) = nat_le r.below (length rows) && is_short rows
 
-and_is : (a b : Bool) → (a && b) ≡ true → (a ≡ true) × (b ≡ true)
+pub and_is : (a b : Bool) → (a && b) ≡ true → (a ≡ true) × (b ≡ true)
 and_is true b e = (refl, e)
 and_is false b e = absurd cc
 
@@ -223,6 +224,15 @@ no_rows_below rows from id fits from_is empty =
     let none : length rows - min id (length rows) ≡ 0 = sym (length-drop (min id (length rows)) rows) ∙ (ap length (sym from_is) ∙ empty) in
     let past : length rows ≤ id = omega (arith, none) in
     sym (ap (option_map (λ r. forest_of (id + 1) (take r.below (drop (suc id) rows)))) (slice_get_past rows id past)) ∙ sym (below_at rows id fits)
+
+pub laid_out_fits : (rows : List Row) → IsLaidOut rows → fits_within (length rows) rows ≡ true
+laid_out_fits rows laid_out = fits_laid (forest_of 0 rows) None (length rows) 0 rows (omega arith) laid_out
+
+-- the module of a node
+pub module_of_row : (modules : List SchemaModule) (rows : List Row) (id : ℕ) → IsLaidOut rows
+    → module_at (schema_view modules rows) (Some id) ≡ option_map (λ r. r.node.«module») (slice_get rows id)
+module_of_row modules rows id laid_out =
+    ap (option_map (λ n. n.module_number)) (label_at rows id (laid_out_fits rows laid_out)) ∙ map_map (λ n. n.module_number) (λ r. node_view id r.node) (slice_get rows id)
 
 -- ---- the place of a module
 
