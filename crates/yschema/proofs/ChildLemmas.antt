@@ -10,6 +10,7 @@ use Rattle.yschema.specs.declared.schema.SchemaModule.{SchemaModule}
 use Rattle.yschema.specs.Layout.{Place, places, laid, forest_of, schema_view, IsLaidOut}
 use Rattle.yschema.specs.Lookup.{first_below}
 use Rattle.yschema.proofs.LayoutLemmas.{laid_parts, length-laid, length-places}
+use Rattle.yschema.proofs.QueryLemmas.{map_cond}
 use Rattle.yschema.proofs.FindLemmas.{same_number}
 
 -- numbered in preorder, from a number on
@@ -77,10 +78,6 @@ no_child p q test (node l below after) avoids other =
     at_node p q test l below after
     ∙ (ap (λ b. cond (b && test l) (Some l.number) (first_of (first_below p test (places (Some l.number) below)) (first_below p test (places q after)))) other
     ∙ ap₂ first_of (no_child p (Some l.number) test below avoids.1 avoids.0) (no_child p q test after avoids.2 other))
-
-map_cond : {X Y : Type 0} (f : X → Y) (b : Bool) (x y : Option X) → option_map f (cond b x y) ≡ cond b (option_map f x) (option_map f y)
-map_cond f true x y = refl
-map_cond f false x y = refl
 
 children_first : (p : Option ℕ) (test : SchemaNode → Bool) (f : Forest SchemaNode) → Avoids p f → first_below p test (places p f) ≡ first_in_row test f
 children_first p test end avoids = refl

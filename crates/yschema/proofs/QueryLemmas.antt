@@ -14,12 +14,12 @@ use Rattle.yschema.specs.View.{forest_within, forest_of}
 use Rattle.yschema.proofs.RowLemmas.{forest_of-cons, no_node}
 use Rattle.yschema.proofs.LayoutLemmas.{laid_parts}
 
-abbrev Found : Type 0
+abbrev pub Found : Type 0
 Found = SchemaNode × Forest SchemaNode
 
 -- ---- labels with what stands below them, in preorder
 
-all_below : Forest SchemaNode → List Found
+unfoldable pub all_below : Forest SchemaNode → List Found
 all_below end = []
 all_below (node l below after) = (l, below) ∷ (all_below below ++ all_below after)
 
@@ -39,11 +39,11 @@ below_of_first : (a b : Option Found) → option_map (λ p. p.1) (first_of a b) 
 below_of_first (Some x) b = refl
 below_of_first None b = refl
 
-map_cond : {X Y : Type 0} (f : X → Y) (b : Bool) (x y : Option X) → option_map f (cond b x y) ≡ cond b (option_map f x) (option_map f y)
+pub map_cond : {X Y : Type 0} (f : X → Y) (b : Bool) (x y : Option X) → option_map f (cond b x y) ≡ cond b (option_map f x) (option_map f y)
 map_cond f true x y = refl
 map_cond f false x y = refl
 
-find_label-is : (test : SchemaNode → Bool) (f : Forest SchemaNode) → find_label test f ≡ option_map (λ p. p.0) (find (λ p. test p.0) (all_below f))
+pub find_label-is : (test : SchemaNode → Bool) (f : Forest SchemaNode) → find_label test f ≡ option_map (λ p. p.0) (find (λ p. test p.0) (all_below f))
 unfolding all_below
 find_label-is test end = refl
 find_label-is test (node l below after) =
@@ -52,7 +52,7 @@ find_label-is test (node l below after) =
     ∙ ap (option_map (λ p. p.0)) (sym (find-append (λ p. test p.0) (all_below below) (all_below after)))))
     ∙ sym (map_cond (λ p. p.0) (test l) (Some (l, below)) (find (λ p. test p.0) (all_below below ++ all_below after)))
 
-find_below-is : (test : SchemaNode → Bool) (f : Forest SchemaNode) → find_below test f ≡ option_map (λ p. p.1) (find (λ p. test p.0) (all_below f))
+pub find_below-is : (test : SchemaNode → Bool) (f : Forest SchemaNode) → find_below test f ≡ option_map (λ p. p.1) (find (λ p. test p.0) (all_below f))
 unfolding all_below
 find_below-is test end = refl
 find_below-is test (node l below after) =
@@ -63,7 +63,7 @@ find_below-is test (node l below after) =
 
 -- ---- the same, row by row
 
-pairs : ℕ → List Row → List Found
+unfoldable pub pairs : ℕ → List Row → List Found
 pairs k [] = []
 pairs k (r ∷ rows) = (node_view k r.node, forest_of (k + 1) (take r.below rows)) ∷ pairs (k + 1) rows
 
@@ -118,7 +118,7 @@ pairs-append k (x ∷ xs) ys e =
     (take-append-within x.below xs ys (leb-true x.below (length xs) parts.0))
     (pairs-append (k + 1) xs ys parts.1 ∙ ap (λ n. pairs (k + 1) xs ++ pairs n ys) here)
 
-all_below-forest : (n k : ℕ) (rows : List Row) → length rows ≤ n → fits_within n rows ≡ true → all_below (forest_of k rows) ≡ pairs k rows
+pub all_below-forest : (n k : ℕ) (rows : List Row) → length rows ≤ n → fits_within n rows ≡ true → all_below (forest_of k rows) ≡ pairs k rows
 unfolding all_below pairs
 all_below-forest zero k [] h e = ap all_below (no_node k [] refl)
 all_below-forest zero k (r ∷ rows) h e = absurd (omega arith)

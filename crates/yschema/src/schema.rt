@@ -8,6 +8,8 @@ ghost use Rattle.yschema.specs.Lookup.{FindsNamed, FindsWritten};
 use crate::children::{Children, Row};
 use crate::index::Index;
 use crate::node::{SchemaId, SchemaNode};
+use crate::written::{other_name, written_name};
+use std::alloc::{AllocError, Global};
 
 /// A module of a schema.
 #[derive(Debug, Drop)]
@@ -29,8 +31,9 @@ pub struct Schema {
 }
 
 impl Schema {
-    ghost use Rattle.std.specs.Prelude.{◌≡◌, map, option_map, slice_get};
+    ghost use Rattle.std.specs.Prelude.{◌≡◌, option_map, slice_get, IfOk};
     ghost use Rattle.yspec.specs.Forest.{size};
+    ghost use Rattle.yspec.specs.Schema as spec;
     ghost use Rattle.yspec.specs.Schema.{node_at, children_of, child_named, child_written};
     ghost use Rattle.yschema.specs.Layout.{node_view, number_of};
     ghost use Rattle.yschema.specs.View.{view, row_view, forest_of, module_view};
@@ -100,6 +103,30 @@ impl Schema {
         ensures { number_of result ≡ child_written (view self.now) (number_of parent) name.now }
     {
         self.index.get(parent, None, name)
+    }
+
+    /// The name that a document writes for a node whose parent is of a module, or that stands at the top.
+    pub fn written_name(
+        &self,
+        alloc: Global,
+        parent_module: Option<usize>,
+        node: &SchemaNode,
+    ) -> Result<String, AllocError>
+        ensures { IfOk result (λ s. string_bytes s ≡ spec.written_name (view self.now) parent_module (node_view 0 node.now)) }
+    {
+        written_name(alloc, &self.modules, parent_module, node)
+    }
+
+    /// The form of its name that isn't due there.
+    pub fn other_name(
+        &self,
+        alloc: Global,
+        parent_module: Option<usize>,
+        node: &SchemaNode,
+    ) -> Result<String, AllocError>
+        ensures { IfOk result (λ s. string_bytes s ≡ spec.other_name (view self.now) parent_module (node_view 0 node.now)) }
+    {
+        other_name(alloc, &self.modules, parent_module, node)
     }
 
     /// How many modules the set has.
