@@ -2,3 +2,4 @@ pub mod ValueLemmas
 pub mod RowLemmas
 pub mod VisitLemmas
 pub mod ReadLemmas
+pub mod NameLemmas

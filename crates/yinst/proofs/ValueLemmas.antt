@@ -1,6 +1,6 @@
 -- Arrays that hold no leaf's value.
 use Rattle.std.proofs.Common.{◌≡◌, ◌≤◌, List, [], ◌∷◌, false, is_some, length, refl, arith, rules}
-use Rattle.serde_json.specs.Data.{Data, Members, no_members, null, boolean, number, string, array, object, Items, item}
+use Rattle.serde_json.specs.Data.{Data, no_members, null, boolean, number, string, array, object, Items, item}
 use Rattle.serde_json.specs.View.{view, items_view}
 use Rattle.serde_json.specs.declared.value.Value.{Value, Object, the_lemmas}
 use Rattle.yspec.specs.Reading.{raw_array, members_of}

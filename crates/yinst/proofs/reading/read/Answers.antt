@@ -1,4 +1,4 @@
-use Rattle.std.proofs.Common.{◌≡◌, [], None, Some, refl, ap, rules}
+use Rattle.std.proofs.Common.{[], refl, rules}
 use Rattle.serde_json.specs.Errors.{IsMemory}
 use Rattle.serde_json.specs.View as json
 use Rattle.yschema.specs.View as schema_view
