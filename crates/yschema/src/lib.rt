@@ -11,6 +11,8 @@ mod limits;
 mod names;
 mod node;
 mod schema;
+#[cfg(test)]
+mod tests;
 mod written;
 
 pub use building::compile;
