@@ -4,3 +4,4 @@ pub mod VisitLemmas
 pub mod ReadLemmas
 pub mod NumberedLemmas
 pub mod WriteLemmas
+pub mod NameLemmas

@@ -1,17 +1,19 @@
 -- The first refusal of visits, member by member and node by node.
-use Rattle.std.proofs.Common.{◌≡◌, ℕ, Bool, List, [], ◌∷◌, ◌++◌, Option, Some, None, Result, Ok, Err, OnOk, rules, refl, sym, ap, ◌∙◌, subst}
-use Rattle.serde_json.specs.Data.{Data, object, Members, no_members, member}
+use Rattle.std.proofs.Common.{◌≡◌, ℕ, Bool, List, [], ◌∷◌, ◌++◌, Option, Some, None, Result, Ok, Err, OnOk, rules, refl, sym, ap, ◌∙◌, subst, true, false, cond}
+use Rattle.serde_json.specs.Data.{Data, object, Members, no_members, member, null, boolean, number, string, array}
 use Rattle.serde_json.specs.Find.{as_object}
 use Rattle.serde_json.specs.View as json
 use Rattle.serde_json.specs.declared.value.Value.{Value, Object, the_lemmas}
-use Rattle.yspec.specs.Forest.{Forest}
+use Rattle.std.specs.Prelude.{◌==◌, option_map, option_and_then, unwrap_or}
+use Rattle.std.proofs.lemmas.Bool.Decides.{Decides-eqb}
+use Rattle.yspec.specs.Forest.{Forest, node, end, find_label, first_of}
 use Rattle.yspec.specs.Text.{Text}
 use Rattle.yspec.specs.Types.{YangType, Val}
-use Rattle.yspec.specs.Schema.{Schema, SchemaNode, container, leaf}
+use Rattle.yspec.specs.Schema.{Schema, SchemaNode, container, leaf, node_at, children_of}
 use Rattle.yspec.specs.Document.{Step}
-use Rattle.yspec.specs.Reading.{Refusal, Visit, right, wrong, named, at_named, below_place, value_visit, member_visits, node_visits, first_wrong}
+use Rattle.yspec.specs.Reading.{Refusal, Visit, right, wrong, named, at_named, below_place, value_visit, member_visits, node_visits, first_wrong, Named, child}
 use Rattle.yspec.proofs.VisitLaws.{passes, other_value}
-use Rattle.yinst.specs.Told.{Tells, Judges, code_number}
+use Rattle.yinst.specs.Told.{Tells, Judges, code_number, refused_at}
 use Rattle.yinst.specs.View.{place_view}
 use Rattle.yinst.specs.declared.fault.DocFault.{DocFault}
 use Rattle.yinst.specs.declared.fault.DocFault.TheVariants.{Refused, Memory}
@@ -101,3 +103,33 @@ other_visit s n below place v h = other_value s n below place (json.view v) (no_
 pub as_before : {X A : Type 0} (r : Result X DocFault) (x : A) → OnOk r (x ≡ x)
 as_before (Ok y) x = refl
 as_before (Err e) x = tt
+
+-- ---- a node by its number
+
+number_at : (f : Forest SchemaNode) (i : ℕ) (n : SchemaNode) → find_label (λ n. n.number == i) f ≡ Some n → n.number ≡ i
+number_at end i n e = absurd cc
+number_at (node l below after) i n e = by (l.number == i) refl (find_label (λ n. n.number == i) below) refl e (number_at below i n) (number_at after i n)
+  where
+    by : (b : Bool) → (l.number == i) ≡ b → (o : Option SchemaNode) → find_label (λ n. n.number == i) below ≡ o
+        → cond b (Some l) (first_of o (find_label (λ n. n.number == i) after)) ≡ Some n
+        → (find_label (λ n. n.number == i) below ≡ Some n → n.number ≡ i) → (find_label (λ n. n.number == i) after ≡ Some n → n.number ≡ i) → n.number ≡ i
+    by true here o is e inner rest = ap (λ (o : Option SchemaNode). (unwrap_or o n).number) (sym e) ∙ (Decides-eqb l.number i).0 here
+    by false here (Some m) is e inner rest = inner (is ∙ e)
+    by false here None is e inner rest = rest e
+
+-- what is refused at the child that a name means
+pub refused_child : (s : Schema) (i : ℕ) (place : List Step) (d : Data) (read : Named) → option_map (λ n. child n (children_of s i)) (node_at s i) ≡ Some read
+    → first_wrong (at_named read place (λ n below. node_visits s n below (below_place place n) d)) ≡ refused_at s i (place ++ record { schema_number = i; position = None } ∷ []) d
+refused_child s i place d read e = by (node_at s i) refl e
+  where
+    by : (o : Option SchemaNode) → node_at s i ≡ o → option_map (λ n. child n (children_of s i)) o ≡ Some read
+        → first_wrong (at_named read place (λ n below. node_visits s n below (below_place place n) d))
+        ≡ option_and_then (λ n. first_wrong (node_visits s n (children_of s i) (place ++ record { schema_number = i; position = None } ∷ []) d)) o
+    by None is e = absurd cc
+    by (Some n) is e =
+        ap (λ o. first_wrong (at_named (unwrap_or o read) place (λ n below. node_visits s n below (below_place place n) d))) (sym e)
+        ∙ ap (λ j. first_wrong (node_visits s n (children_of s i) (place ++ record { schema_number = j; position = None } ∷ []) d)) (number_at s.nodes i n is)
+
+pub refused_node : (s : Schema) (i : ℕ) (n : SchemaNode) (place : List Step) (d : Data) → node_at s i ≡ Some n
+    → refused_at s i place d ≡ first_wrong (node_visits s n (children_of s i) place d)
+refused_node s i n place d is = ap (option_and_then (λ n. first_wrong (node_visits s n (children_of s i) place d))) is

@@ -1,8 +1,10 @@
 -- Refusals as the specification's.
-use Rattle.std.specs.Prelude.{◌≡◌, ℕ, Option, Some, None, Result, Ok, Err}
+use Rattle.std.specs.Prelude.{◌≡◌, ℕ, List, Option, Some, None, option_and_then, Result, Ok, Err}
 use Rattle.std.specs.Option.{option_map_or}
 use Rattle.serde_json.specs.Data.{Data}
-use Rattle.yspec.specs.Reading.{Refusal, raw_of, refused_value}
+use Rattle.yspec.specs.Schema.{Schema, node_at, children_of}
+use Rattle.yspec.specs.Document.{Step}
+use Rattle.yspec.specs.Reading.{Refusal, raw_of, refused_value, node_visits, first_wrong}
 use Rattle.yinst.specs.View.{place_view}
 use Rattle.yinst.specs.declared.fault.DocCode.{DocCode}
 use Rattle.yinst.specs.declared.fault.DocCode.TheVariants.{J1, J2, J3, J4, J5, J6}
@@ -20,6 +22,10 @@ code_number J6 = 6
 -- the number of the refusal of a value at a leaf, where it is refused
 abbrev pub leaf_refusal : Data → Option ℕ
 leaf_refusal d = option_map_or (λ _. None) (raw_of d) (Some (refused_value d))
+
+-- what is refused at the node of a number, where a node has it
+abbrev pub refused_at : Schema → ℕ → List Step → Data → Option Refusal
+refused_at s number place d = option_and_then (λ n. first_wrong (node_visits s n (children_of s number) place d)) (node_at s number)
 
 -- A refusal is the one that is told. Where memory ran out nothing is said.
 abbrev pub Tells : DocFault → Option Refusal → Type 0

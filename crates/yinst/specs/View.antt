@@ -1,11 +1,11 @@
 -- Documents as the specification's.
-use Rattle.std.specs.Prelude.{List, [], ◌∷◌, map, option_map}
+use Rattle.std.specs.Prelude.{List, [], ◌∷◌, map, option_map, ◌≡◌, Some}
 use Rattle.yspec.specs.Forest.{end, node}
 use Rattle.yspec.specs.Document as spec
 use Rattle.yspec.specs.Document.{Tree}
 use Rattle.ytype.specs.View.{raw_of}
 use Rattle.yspec.specs.Reading as reading
-use Rattle.yschema.specs.View.{label_of, below_of}
+use Rattle.yspec.specs.Schema.{Schema, node_at, children_of}
 use Rattle.yinst.specs.declared.names.Named.{Named}
 use Rattle.yinst.specs.declared.names.Named.TheVariants as names
 use Rattle.yinst.specs.declared.tree.Stored.{Stored, fold-Stored}
@@ -40,8 +40,8 @@ step_view s = record { schema_number = s.id.0; position = s.position }
 abbrev pub place_view : List Step → List spec.Step
 place_view = map step_view
 
--- what a name means, as it is read
-abbrev pub named_view : Named → reading.Named
-named_view (names.Child c) = reading.child (label_of c) (below_of c)
-named_view names.OtherForm = reading.other_form
-named_view names.Unknown = reading.unknown
+-- a name means what is read
+abbrev pub Means : Schema → Named → reading.Named → Type 0
+Means s (names.Child id) read = option_map (λ n. reading.child n (children_of s id.0)) (node_at s id.0) ≡ Some read
+Means s names.OtherForm read = read ≡ reading.other_form
+Means s names.Unknown read = read ≡ reading.unknown

@@ -54,7 +54,7 @@ fn tree_of(alloc: Global, schema: &Schema, value: &Value) -> Result<Tree, DocFau
         return Err(at_root(alloc, DocCode::J2));
     };
     let mut place = Vec::new(alloc);
-    match visit_members(alloc, schema, None, schema.roots(), members, &mut place) {
+    match visit_members(alloc, schema, None, members, &mut place) {
         Ok(()) => Ok(Tree::new(rows_of(alloc, schema, None, schema.roots(), members)?)),
         Err(fault) => Err(fault),
     }

@@ -2,10 +2,12 @@
 
 ghost use Rattle.std.specs.Prelude.{◌≡◌, OnOk, Some};
 ghost use Rattle.serde_json.specs.View as json;
+ghost use Rattle.yspec.specs.Schema.{module_at, row_at};
 ghost use Rattle.yspec.specs.Reading.{named, at_named, below_place, leaf_visit, value_visit, member_visits, node_visits, first_wrong};
-ghost use Rattle.yschema.specs.View.{view, row_view, label_of, below_of, kind_view};
+ghost use Rattle.yschema.specs.Layout.{number_of};
+ghost use Rattle.yschema.specs.View.{view, kind_view};
 ghost use Rattle.yinst.specs.View.{place_view};
-ghost use Rattle.yinst.specs.Told.{Judges};
+ghost use Rattle.yinst.specs.Told.{Judges, refused_at};
 
 use crate::fault::{DocCode, DocFault, refused};
 use crate::names::{Named, meaning_of};
@@ -13,33 +15,24 @@ use crate::tree::Step;
 use crate::values::refusal_of;
 use serde_json::{Map, Value};
 use std::alloc::Global;
-use yschema::{Child, Children, Kind, Schema, SchemaNode};
+use yschema::{Kind, Schema, SchemaId, SchemaNode};
 
-/// Refuses the members of an object below a node of a module, or at the top, whose children and steps are given. The
-/// place is as before.
+/// Refuses the members of an object below a node, or at the top, whose steps are given. The place is as before.
 #[cycle(visits)]
 pub(crate) fn visit_members(
     alloc: Global,
     schema: &Schema,
-    parent_module: Option<usize>,
-    children: Children<'_>,
+    parent: Option<SchemaId>,
     members: &Map<String, Value>,
     place: &mut Vec<Step>,
 ) -> Result<(), DocFault>
-    ensures told { Judges result (first_wrong (member_visits (view schema.now) parent_module (row_view children.entry)
+    ensures told { let s = view schema.now in let p = number_of parent in
+        Judges result (first_wrong (member_visits s (module_at s p) (row_at s p)
         (place_view place.old.items) (json.members_view members.now.entries))) }
     ensures place { OnOk result (place.new.items ≡ place.old.items) }
 {
     for (name, value) in members.iter() {
-        match visit_member(
-            alloc,
-            schema,
-            parent_module,
-            children,
-            name.as_str(),
-            value,
-            place,
-        ) {
+        match visit_member(alloc, schema, parent, name.as_str(), value, place) {
             Ok(()) => {}
             Err(fault) => return Err(fault),
         }
@@ -51,24 +44,20 @@ pub(crate) fn visit_members(
 fn visit_member(
     alloc: Global,
     schema: &Schema,
-    parent_module: Option<usize>,
-    children: Children<'_>,
+    parent: Option<SchemaId>,
     name: &str,
     value: &Value,
     place: &mut Vec<Step>,
 ) -> Result<(), DocFault>
-    ensures told { let s = view schema.now in let steps = place_view place.old.items in
-        Judges result (first_wrong (at_named (named s parent_module name.now (row_view children.entry)) steps
+    ensures told { let s = view schema.now in let p = number_of parent in let steps = place_view place.old.items in
+        Judges result (first_wrong (at_named (named s (module_at s p) name.now (row_at s p)) steps
         (λ n below. node_visits s n below (below_place steps n) (json.view value.now)))) }
     ensures place { OnOk result (place.new.items ≡ place.old.items) }
 {
-    match meaning_of(alloc, schema, parent_module, children, name)? {
-        Named::Child(child) => {
-            place.push(Step {
-                id: child.id(),
-                position: None,
-            })?;
-            match visit_node(alloc, schema, child, value, place) {
+    match meaning_of(alloc, schema, parent, name)? {
+        Named::Child(id) => {
+            place.push(Step { id, position: None })?;
+            match visit_node(alloc, schema, id, value, place) {
                 Ok(()) => {
                     place.pop();
                     Ok(())
@@ -81,27 +70,27 @@ fn visit_member(
     }
 }
 
+/// Refuses what stands at a node; nothing where no node has that number.
 #[cycle(visits)]
 fn visit_node(
     alloc: Global,
     schema: &Schema,
-    child: Child<'_>,
+    id: SchemaId,
     value: &Value,
     place: &mut Vec<Step>,
 ) -> Result<(), DocFault>
-    ensures told { Judges result (first_wrong (node_visits (view schema.now) (label_of child.entry) (below_of child.entry)
-        (place_view place.old.items) (json.view value.now))) }
+    ensures told { Judges result (refused_at (view schema.now) id.0 (place_view place.old.items) (json.view value.now)) }
     ensures place { OnOk result (place.new.items ≡ place.old.items) }
 {
+    let Some(node) = schema.kind(id) else {
+        return Ok(());
+    };
     match value {
-        Value::Object(members) => match child.node().kind {
-            Kind::Container { .. } => {
-                let module = Some(child.node().module);
-                visit_members(alloc, schema, module, child.children(), members, place)
-            }
+        Value::Object(members) => match node.kind {
+            Kind::Container { .. } => visit_members(alloc, schema, Some(id), members, place),
             Kind::Leaf { .. } => Err(refused(alloc, DocCode::J5, place)),
         },
-        _ => visit_value(alloc, child.node(), value, place),
+        _ => visit_value(alloc, node, value, place),
     }
 }
 

@@ -10,7 +10,7 @@ use Rattle.yspec.specs.Statement.{Statement}
 use Rattle.yspec.specs.Schema.{SchemaNode, SchemaModule, is_data_definition, data_size, schema_node, nodes_from, all_nodes, schema_module, modules_of}
 use Rattle.yspec.specs.Breaks.{data_size_of_all}
 use Rattle.yschema.specs.declared.children.Row.{Row}
-use Rattle.yschema.specs.Layout.{node_view, Place, place_of, places, laid}
+use Rattle.yschema.specs.Layout.{node_view, Place, place_of, places, laid, IsLaidOut}
 use Rattle.yschema.specs.View.{forest_of}
 use Rattle.yschema.proofs.RowLemmas.{forest_of-cons, no_node}
 use Rattle.yschema.proofs.ModuleLemmas.{modules_view_at}
@@ -91,6 +91,9 @@ forest_of-laid (node l below after) p k (r ∷ rows) e =
     ∙ (ap (λ x. node x (forest_of (k + 1) (take r.below rows)) (forest_of (k + 1 + length (take r.below rows)) (drop r.below rows))) parts.3
     ∙ ap₂ (node l) (forest_of-laid below (Some l.number) (k + 1) (take r.below rows) parts.0)
     (forest_of-laid after p (k + 1 + length (take r.below rows)) (drop r.below rows) parts.1))
+
+pub laid_as : (f : Forest SchemaNode) (rows : List Row) → laid 0 rows ≡ places None f → IsLaidOut rows
+laid_as f rows e = e ∙ ap (places None) (sym (forest_of-laid f None 0 rows e))
 
 -- ---- one statement of a row, and the others
 

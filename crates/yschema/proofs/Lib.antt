@@ -6,3 +6,7 @@ pub mod QueryLemmas
 pub mod RowLemmas
 pub mod ToldLemmas
 pub mod KindLemmas
+pub mod ChildLemmas
+pub mod NodeLemmas
+pub mod IndexLemmas
+pub mod FindLemmas

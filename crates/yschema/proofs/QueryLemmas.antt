@@ -6,19 +6,20 @@ use Rattle.std.proofs.lemmas.Bool.{eq-eqb, ne_eqb, le-leb, leb-true}
 use Rattle.std.proofs.lemmas.List.{take-append-drop, take_min, length-map}
 use Rattle.std.proofs.lemmas.Option.{slice_get_past}
 use Rattle.yspec.specs.Forest.{Forest, node, end, size, find_label, first_of, find_below, joined_below}
-use Rattle.yspec.specs.Schema.{SchemaNode}
+use Rattle.yspec.specs.Schema.{SchemaNode, module_at}
 use Rattle.yschema.specs.declared.children.Row.{Row}
-use Rattle.yschema.specs.Layout.{node_view, places, laid, fits_within}
+use Rattle.yschema.specs.Layout.{node_view, places, laid, fits_within, schema_view, IsLaidOut}
+use Rattle.yschema.specs.declared.schema.SchemaModule.{SchemaModule}
 use Rattle.yschema.specs.View.{forest_within, forest_of}
 use Rattle.yschema.proofs.RowLemmas.{forest_of-cons, no_node}
 use Rattle.yschema.proofs.LayoutLemmas.{laid_parts}
 
-abbrev Found : Type 0
+abbrev pub Found : Type 0
 Found = SchemaNode × Forest SchemaNode
 
 -- ---- labels with what stands below them, in preorder
 
-all_below : Forest SchemaNode → List Found
+unfoldable pub all_below : Forest SchemaNode → List Found
 all_below end = []
 all_below (node l below after) = (l, below) ∷ (all_below below ++ all_below after)
 
@@ -38,11 +39,11 @@ below_of_first : (a b : Option Found) → option_map (λ p. p.1) (first_of a b) 
 below_of_first (Some x) b = refl
 below_of_first None b = refl
 
-map_cond : {X Y : Type 0} (f : X → Y) (b : Bool) (x y : Option X) → option_map f (cond b x y) ≡ cond b (option_map f x) (option_map f y)
+pub map_cond : {X Y : Type 0} (f : X → Y) (b : Bool) (x y : Option X) → option_map f (cond b x y) ≡ cond b (option_map f x) (option_map f y)
 map_cond f true x y = refl
 map_cond f false x y = refl
 
-find_label-is : (test : SchemaNode → Bool) (f : Forest SchemaNode) → find_label test f ≡ option_map (λ p. p.0) (find (λ p. test p.0) (all_below f))
+pub find_label-is : (test : SchemaNode → Bool) (f : Forest SchemaNode) → find_label test f ≡ option_map (λ p. p.0) (find (λ p. test p.0) (all_below f))
 unfolding all_below
 find_label-is test end = refl
 find_label-is test (node l below after) =
@@ -51,7 +52,7 @@ find_label-is test (node l below after) =
     ∙ ap (option_map (λ p. p.0)) (sym (find-append (λ p. test p.0) (all_below below) (all_below after)))))
     ∙ sym (map_cond (λ p. p.0) (test l) (Some (l, below)) (find (λ p. test p.0) (all_below below ++ all_below after)))
 
-find_below-is : (test : SchemaNode → Bool) (f : Forest SchemaNode) → find_below test f ≡ option_map (λ p. p.1) (find (λ p. test p.0) (all_below f))
+pub find_below-is : (test : SchemaNode → Bool) (f : Forest SchemaNode) → find_below test f ≡ option_map (λ p. p.1) (find (λ p. test p.0) (all_below f))
 unfolding all_below
 find_below-is test end = refl
 find_below-is test (node l below after) =
@@ -62,7 +63,7 @@ find_below-is test (node l below after) =
 
 -- ---- the same, row by row
 
-pairs : ℕ → List Row → List Found
+unfoldable pub pairs : ℕ → List Row → List Found
 pairs k [] = []
 pairs k (r ∷ rows) = (node_view k r.node, forest_of (k + 1) (take r.below rows)) ∷ pairs (k + 1) rows
 
@@ -71,7 +72,7 @@ is_short : List Row → Bool
 is_short [] = true
 is_short (r ∷ rows) = nat_le r.below (length rows) && is_short rows
 
-and_is : (a b : Bool) → (a && b) ≡ true → (a ≡ true) × (b ≡ true)
+pub and_is : (a b : Bool) → (a && b) ≡ true → (a ≡ true) × (b ≡ true)
 and_is true b e = (refl, e)
 and_is false b e = absurd cc
 
@@ -117,7 +118,7 @@ pairs-append k (x ∷ xs) ys e =
     (take-append-within x.below xs ys (leb-true x.below (length xs) parts.0))
     (pairs-append (k + 1) xs ys parts.1 ∙ ap (λ n. pairs (k + 1) xs ++ pairs n ys) here)
 
-all_below-forest : (n k : ℕ) (rows : List Row) → length rows ≤ n → fits_within n rows ≡ true → all_below (forest_of k rows) ≡ pairs k rows
+pub all_below-forest : (n k : ℕ) (rows : List Row) → length rows ≤ n → fits_within n rows ≡ true → all_below (forest_of k rows) ≡ pairs k rows
 unfolding all_below pairs
 all_below-forest zero k [] h e = ap all_below (no_node k [] refl)
 all_below-forest zero k (r ∷ rows) h e = absurd (omega arith)
@@ -223,6 +224,15 @@ no_rows_below rows from id fits from_is empty =
     let none : length rows - min id (length rows) ≡ 0 = sym (length-drop (min id (length rows)) rows) ∙ (ap length (sym from_is) ∙ empty) in
     let past : length rows ≤ id = omega (arith, none) in
     sym (ap (option_map (λ r. forest_of (id + 1) (take r.below (drop (suc id) rows)))) (slice_get_past rows id past)) ∙ sym (below_at rows id fits)
+
+pub laid_out_fits : (rows : List Row) → IsLaidOut rows → fits_within (length rows) rows ≡ true
+laid_out_fits rows laid_out = fits_laid (forest_of 0 rows) None (length rows) 0 rows (omega arith) laid_out
+
+-- the module of a node
+pub module_of_row : (modules : List SchemaModule) (rows : List Row) (id : ℕ) → IsLaidOut rows
+    → module_at (schema_view modules rows) (Some id) ≡ option_map (λ r. r.node.«module») (slice_get rows id)
+module_of_row modules rows id laid_out =
+    ap (option_map (λ n. n.module_number)) (label_at rows id (laid_out_fits rows laid_out)) ∙ map_map (λ n. n.module_number) (λ r. node_view id r.node) (slice_get rows id)
 
 -- ---- the place of a module
 

@@ -1,5 +1,5 @@
 -- How the nodes of a schema lie in rows: each before those below it, with how many these are.
-use Rattle.std.specs.Prelude.{ℕ, zero, suc, ◌+◌, Bool, true, ◌&&◌, nat_le, length, take, drop, List, [], ◌∷◌, ◌++◌, Option, Some, option_map, string_bytes}
+use Rattle.std.specs.Prelude.{ℕ, zero, suc, ◌+◌, Bool, true, ◌&&◌, nat_le, length, take, drop, map, List, [], ◌∷◌, ◌++◌, Option, Some, None, option_map, string_bytes, ◌≡◌}
 use Rattle.yspec.specs.Forest.{Forest, end, node, size}
 use Rattle.yspec.specs.Schema as spec
 use Rattle.yschema.specs.declared.node.SchemaId.{SchemaId}
@@ -9,6 +9,7 @@ use Rattle.yschema.specs.declared.node.Kind.TheVariants as kinds
 use Rattle.yschema.specs.declared.node.Status.{Status}
 use Rattle.yschema.specs.declared.node.Status.TheVariants as states
 use Rattle.yschema.specs.declared.children.Row.{Row}
+use Rattle.yschema.specs.declared.schema.SchemaModule.{SchemaModule}
 
 abbrev pub kind_view : Kind → spec.Kind
 kind_view (kinds.Container presence) = spec.container presence
@@ -60,3 +61,25 @@ fits_within zero rows = true
 fits_within (suc n) [] = true
 fits_within (suc n) (r ∷ rows) =
     nat_le r.below (length rows) && (fits_within n (take r.below rows) && fits_within n (drop r.below rows))
+
+-- The forest whose nodes lie there in preorder, each before those below it. The first has a number, and the others
+-- count on from it. There are at most so many rows.
+unfoldable pub forest_within : ℕ → ℕ → List Row → Forest spec.SchemaNode
+forest_within zero number rows = end
+forest_within (suc n) number [] = end
+forest_within (suc n) number (r ∷ rows) = node (node_view number r.node)
+    (forest_within n (number + 1) (take r.below rows)) (forest_within n (number + 1 + length (take r.below rows)) (drop r.below rows))
+
+abbrev pub forest_of : ℕ → List Row → Forest spec.SchemaNode
+forest_of number rows = forest_within (length rows) number rows
+
+abbrev pub module_view : SchemaModule → spec.SchemaModule
+module_view m = record { name = string_bytes m.name; prefix = string_bytes m.prefix }
+
+-- the schema of some modules whose nodes lie in rows
+abbrev pub schema_view : List SchemaModule → List Row → spec.Schema
+schema_view modules rows = record { modules = map module_view modules; nodes = forest_of 0 rows }
+
+-- the parent of each row is the node that it stands below
+abbrev pub IsLaidOut : List Row → Type 0
+IsLaidOut rows = laid 0 rows ≡ places None (forest_of 0 rows)

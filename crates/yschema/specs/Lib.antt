@@ -1,4 +1,6 @@
+pub mod Keys
 pub mod Layout
+pub mod Lookup
 pub mod Table
 pub mod Told
 pub mod View

@@ -14,10 +14,10 @@ ghost use Rattle.yschema.specs.View.{view, module_view};
 use crate::children::Row;
 use crate::fault::{Break, CompileCode, CompileFault};
 use crate::grammar::{broken, judge_modules};
+use crate::index::Index;
 use crate::limits::{count_nodes, has_too_many_levels, has_too_many_nodes, is_data_node};
 use crate::names::{name_of, repeated_name};
 use crate::node::{Kind, SchemaId, SchemaNode, Status};
-use crate::nodes::Nodes;
 use crate::schema::{Schema, SchemaModule};
 use std::alloc::{AllocError, Global};
 use ytext::{Module, Stmt};
@@ -66,12 +66,13 @@ fn build(alloc: Global, modules: &[Module]) -> Result<Schema, AllocError>
     ensures { IfOk result (λ schema. view schema ≡ schema_of (modules_view modules.now)) }
 {
     let mut set = Vec::new(alloc);
-    let mut nodes = Nodes::empty(alloc);
+    let mut rows = Vec::new(alloc);
     for (module, text) in modules.iter().enumerate() {
         set.push(module_of(alloc, &text.top)?)?;
-        add_nodes(alloc, &mut nodes, module, None, text.top.substatements())?;
+        add_nodes(alloc, &mut rows, module, None, text.top.substatements())?;
     }
-    Ok(Schema::new(set, nodes))
+    let index = Index::of(alloc, &set, &rows)?;
+    Ok(Schema::new(set, rows, index))
 }
 
 fn module_of(alloc: Global, top: &Stmt) -> Result<SchemaModule, AllocError>
@@ -99,18 +100,18 @@ fn argument_of<'a>(keyword: &str, statements: &'a [Stmt]) -> &'a str
 #[cycle(nodes)]
 fn add_nodes(
     alloc: Global,
-    nodes: &mut Nodes,
+    rows: &mut Vec<Row>,
     module: usize,
     parent: Option<SchemaId>,
     statements: &[Stmt],
 ) -> Result<(), AllocError>
-    requires room { length nodes.old.rows.items + data_size (row_view statements.now) ≤ 65535 }
-    ensures { OnOk result (laid 0 nodes.new.rows.items ≡ laid 0 nodes.old.rows.items
-        ++ places (number_of parent) (nodes_from «module» (length nodes.old.rows.items) (row_view statements.now))) }
+    requires room { length rows.old.items + data_size (row_view statements.now) ≤ 65535 }
+    ensures { OnOk result (laid 0 rows.new.items ≡ laid 0 rows.old.items
+        ++ places (number_of parent) (nodes_from «module» (length rows.old.items) (row_view statements.now))) }
 {
     for statement in statements {
         if is_data_node(statement) {
-            add_node(alloc, nodes, module, parent, statement)?;
+            add_node(alloc, rows, module, parent, statement)?;
         }
     }
     Ok(())
@@ -120,25 +121,25 @@ fn add_nodes(
 #[cycle(nodes)]
 fn add_node(
     alloc: Global,
-    nodes: &mut Nodes,
+    rows: &mut Vec<Row>,
     module: usize,
     parent: Option<SchemaId>,
     statement: &Stmt,
 ) -> Result<(), AllocError>
-    requires room { length nodes.old.rows.items + suc (data_size (text.view statement.now).1) ≤ 65535 }
-    ensures { let s = text.view statement.now in let number = length nodes.old.rows.items in
-        OnOk result (laid 0 nodes.new.rows.items ≡ laid 0 nodes.old.rows.items
+    requires room { length rows.old.items + suc (data_size (text.view statement.now).1) ≤ 65535 }
+    ensures { let s = text.view statement.now in let number = length rows.old.items in
+        OnOk result (laid 0 rows.new.items ≡ laid 0 rows.old.items
         ++ record { parent = number_of parent; label = schema_node «module» number s.0 s.1; below = data_size s.1 }
         ∷ places (Some number) (nodes_from «module» (number + 1) s.1)) }
 {
     let statements = statement.substatements();
-    let row = Row {
+    let id = SchemaId::new(rows.len() as u32);
+    rows.push(Row {
         parent,
         node: node_of(alloc, module, statement)?,
         below: count_nodes(statements, 0),
-    };
-    let id = nodes.add(alloc, row)?;
-    add_nodes(alloc, nodes, module, Some(id), statements)
+    })?;
+    add_nodes(alloc, rows, module, Some(id), statements)
 }
 
 fn node_of(alloc: Global, module: usize, statement: &Stmt) -> Result<SchemaNode, AllocError>

@@ -5,12 +5,15 @@ mod building;
 mod children;
 mod fault;
 mod grammar;
+mod index;
 mod least;
 mod limits;
 mod names;
 mod node;
-mod nodes;
 mod schema;
+#[cfg(test)]
+mod tests;
+mod written;
 
 pub use building::compile;
 pub use children::{Child, Children};

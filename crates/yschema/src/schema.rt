@@ -1,12 +1,15 @@
 //! The schema of a set of modules, and what can be asked of it.
 
-ghost use Rattle.std.specs.Prelude.{◌≡◌, ◌+◌, ◌<◌, ◌^◌, true, length, vec_len, position, string_bytes};
+ghost use Rattle.std.specs.Prelude.{◌≡◌, ◌+◌, ◌<◌, ◌^◌, length, vec_len, position, string_bytes};
 ghost use Rattle.yspec.specs.Text.{is_text};
-ghost use Rattle.yschema.specs.Layout.{fits_within};
+ghost use Rattle.yschema.specs.Layout.{laid, schema_view, IsLaidOut};
+ghost use Rattle.yschema.specs.Lookup.{FindsNamed, FindsWritten};
 
-use crate::children::Children;
+use crate::children::{Children, Row};
+use crate::index::Index;
 use crate::node::{SchemaId, SchemaNode};
-use crate::nodes::Nodes;
+use crate::written::{other_name, written_name};
+use std::alloc::{AllocError, Global};
 
 /// A module of a schema.
 #[derive(Debug, Drop)]
@@ -19,38 +22,48 @@ pub struct SchemaModule {
 #[derive(Drop)]
 pub struct Schema {
     modules: Vec<SchemaModule>,
-    nodes: Nodes,
-    ghost numbered: { vec_len nodes.rows < 2 ^ 32 },
-    ghost nested: { fits_within (length nodes.rows.items) nodes.rows.items ≡ true },
+    rows: Vec<Row>,
+    index: Index,
+    ghost numbered: { vec_len rows < 2 ^ 32 },
+    ghost laid_out: { IsLaidOut rows.items },
+    ghost named: { FindsNamed index (laid 0 rows.items) },
+    ghost written: { FindsWritten index (schema_view modules.items rows.items) (laid 0 rows.items) },
 }
 
 impl Schema {
-    ghost use Rattle.std.specs.Prelude.{◌≡◌, map, option_map, slice_get};
+    ghost use Rattle.std.specs.Prelude.{◌≡◌, option_map, slice_get, IfOk};
     ghost use Rattle.yspec.specs.Forest.{size};
-    ghost use Rattle.yspec.specs.Schema.{node_at, children_of};
-    ghost use Rattle.yschema.specs.Layout.{node_view};
+    ghost use Rattle.yspec.specs.Schema as spec;
+    ghost use Rattle.yspec.specs.Schema.{node_at, children_of, child_named, child_written};
+    ghost use Rattle.yschema.specs.Layout.{node_view, number_of};
     ghost use Rattle.yschema.specs.View.{view, row_view, forest_of, module_view};
 
-    pub(crate) fn new(modules: Vec<SchemaModule>, nodes: Nodes) -> Schema
-        requires numbered { vec_len nodes.rows < 2 ^ 32 }
-        requires nested { fits_within (length nodes.rows.items) nodes.rows.items ≡ true }
-        ensures { view result ≡ record { modules = map module_view modules.items; nodes = forest_of 0 nodes.rows.items } }
+    pub(crate) fn new(modules: Vec<SchemaModule>, rows: Vec<Row>, index: Index) -> Schema
+        requires numbered { vec_len rows < 2 ^ 32 }
+        requires laid_out { IsLaidOut rows.items }
+        requires named { FindsNamed index (laid 0 rows.items) }
+        requires written { FindsWritten index (schema_view modules.items rows.items) (laid 0 rows.items) }
+        ensures { view result ≡ schema_view modules.items rows.items }
     {
-        Schema { modules, nodes }
+        Schema {
+            modules,
+            rows,
+            index,
+        }
     }
 
     /// How many nodes it has.
     pub fn nodes(&self) -> usize
         ensures { result ≡ size (view self.now).nodes }
     {
-        self.nodes.rows.len()
+        self.rows.len()
     }
 
     /// All that it holds of a node; nothing of a number that no node has.
     pub fn kind(&self, id: SchemaId) -> Option<&SchemaNode>
         ensures { option_map (λ n. node_view id.0 n.now) result ≡ node_at (view self.now) id.0 }
     {
-        match self.nodes.rows.get(id.number()) {
+        match self.rows.get(id.number()) {
             Some(row) => Some(&row.node),
             None => None,
         }
@@ -60,14 +73,14 @@ impl Schema {
     pub fn roots(&self) -> Children<'_>
         ensures { row_view result ≡ (view self.now).nodes }
     {
-        Children::new(self.nodes.rows.as_slice(), 0)
+        Children::new(self.rows.as_slice(), 0)
     }
 
     /// The children of a node, in order of definition; none of a number that no node has.
     pub fn children(&self, id: SchemaId) -> Children<'_>
         ensures { row_view result ≡ children_of (view self.now) id.0 }
     {
-        let rows = self.nodes.rows.as_slice();
+        let rows = self.rows.as_slice();
         let (_, from) = rows.split_at(id.number().min(rows.len()));
         match from.split_first() {
             Some((first, rest)) => {
@@ -79,8 +92,41 @@ impl Schema {
     }
 
     /// The child of a node, or the top node, of a module and a name.
-    pub fn child(&self, parent: Option<SchemaId>, module: usize, name: &str) -> Option<SchemaId> {
-        self.nodes.child(parent, module, name)
+    pub fn child(&self, parent: Option<SchemaId>, module: usize, name: &str) -> Option<SchemaId>
+        ensures { number_of result ≡ child_named (view self.now) (number_of parent) «module» name.now }
+    {
+        self.index.get(parent, Some(module), name)
+    }
+
+    /// The child of a node, or the top node, whose name a document writes so.
+    pub fn child_written(&self, parent: Option<SchemaId>, name: &str) -> Option<SchemaId>
+        ensures { number_of result ≡ child_written (view self.now) (number_of parent) name.now }
+    {
+        self.index.get(parent, None, name)
+    }
+
+    /// The name that a document writes for a node whose parent is of a module, or that stands at the top.
+    pub fn written_name(
+        &self,
+        alloc: Global,
+        parent_module: Option<usize>,
+        node: &SchemaNode,
+    ) -> Result<String, AllocError>
+        ensures { IfOk result (λ s. string_bytes s ≡ spec.written_name (view self.now) parent_module (node_view 0 node.now)) }
+    {
+        written_name(alloc, &self.modules, parent_module, node)
+    }
+
+    /// The form of its name that isn't due there.
+    pub fn other_name(
+        &self,
+        alloc: Global,
+        parent_module: Option<usize>,
+        node: &SchemaNode,
+    ) -> Result<String, AllocError>
+        ensures { IfOk result (λ s. string_bytes s ≡ spec.other_name (view self.now) parent_module (node_view 0 node.now)) }
+    {
+        other_name(alloc, &self.modules, parent_module, node)
     }
 
     /// How many modules the set has.

@@ -1,5 +1,5 @@
 -- The schema tree of a set of modules (RFC 7950, 4.2.2 and 7).
-use Rattle.std.specs.Prelude.{ℕ, suc, ◌+◌, ◌==◌, Bool, true, false, List, [], ◌∷◌, codes, Option, Some, None, option_map, option_and_then, unwrap_or, if◌then◌else◌, find, slice_get, ◌||◌, ◌++◌, max}
+use Rattle.std.specs.Prelude.{ℕ, suc, ◌+◌, ◌==◌, Bool, true, false, List, [], ◌∷◌, codes, Option, Some, None, option_map, option_and_then, unwrap_or, if◌then◌else◌, find, slice_get, ◌&&◌, ◌||◌, ◌++◌, max}
 use Rattle.std.specs.Option.{option_map_or}
 use Rattle.yspec.specs.Forest.{Forest, end, node, row, join, find_label, find_below}
 use Rattle.yspec.specs.Text.{Text, is_text}
@@ -138,3 +138,33 @@ written_name schema parent n = if is_module n.module_number parent then n.name e
 -- the form that is not due there
 abbrev pub other_name : Schema → Option ℕ → SchemaNode → Text
 other_name schema parent n = if is_module n.module_number parent then qualified_name schema n else n.name
+
+-- ---- a child by its name
+
+-- the children of a node, or the top nodes
+abbrev pub row_at : Schema → Option ℕ → Forest SchemaNode
+row_at schema None = schema.nodes
+row_at schema (Some parent) = children_of schema parent
+
+-- the module of a node; none at the top
+abbrev pub module_at : Schema → Option ℕ → Option ℕ
+module_at schema None = None
+module_at schema (Some number) = option_map (λ n. n.module_number) (node_at schema number)
+
+abbrev pub is_called : ℕ → Text → SchemaNode → Bool
+is_called module_number name n = module_number == n.module_number && is_text name n.name
+
+abbrev pub is_written : Schema → Option ℕ → Text → SchemaNode → Bool
+is_written schema parent name n = is_text name (written_name schema (module_at schema parent) n)
+
+-- the number of the first node of a row that passes a test
+abbrev pub first_in_row : (SchemaNode → Bool) → Forest SchemaNode → Option ℕ
+first_in_row test nodes = option_map (λ n. n.number) (find test (row nodes))
+
+-- the child of a module and a name
+abbrev pub child_named : Schema → Option ℕ → ℕ → Text → Option ℕ
+child_named schema parent module_number name = first_in_row (is_called module_number name) (row_at schema parent)
+
+-- the child whose name a document writes so
+abbrev pub child_written : Schema → Option ℕ → Text → Option ℕ
+child_written schema parent name = first_in_row (is_written schema parent name) (row_at schema parent)

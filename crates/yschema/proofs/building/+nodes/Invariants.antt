@@ -6,9 +6,9 @@ use Rattle.yschema.proofs.building.+nodes.Given as goal
 
 abbrev pub invariant-add_nodes-loop-statement : goal.invariant-add_nodes-loop-statement
 invariant-add_nodes-loop-statement l = record {
-  room : length l.nodes.rows.items + data_size (row_view (drop l.statement-index l.statements)) ≤ 65535;
-  so_far : laid 0 l.nodes.rows.items
-      ++ places (number_of l.parent) (nodes_from l.«module» (length l.nodes.rows.items) (row_view (drop l.statement-index l.statements)))
-      ≡ laid 0 l.fn.nodes.rows.items
-      ++ places (number_of l.parent) (nodes_from l.«module» (length l.fn.nodes.rows.items) (row_view l.statements));
+  room : length l.rows.items + data_size (row_view (drop l.statement-index l.statements)) ≤ 65535;
+  so_far : laid 0 l.rows.items
+      ++ places (number_of l.parent) (nodes_from l.«module» (length l.rows.items) (row_view (drop l.statement-index l.statements)))
+      ≡ laid 0 l.fn.rows.items
+      ++ places (number_of l.parent) (nodes_from l.«module» (length l.fn.rows.items) (row_view l.statements));
 }

@@ -1,10 +1,10 @@
-use Rattle.std.proofs.Common.{◌+◌, ◌++◌, drop, ap, ap₂, None, length, ◌∙◌, map, arith}
+use Rattle.std.proofs.Common.{◌+◌, ◌++◌, drop, ap, ap₂, None, ◌∙◌, map, arith, subst, sym}
 use Rattle.std.proofs.lemmas.List.{map_push}
 use Rattle.yspec.specs.Schema.{data_size, modules_of, all_nodes}
 use Rattle.ytext.specs.View.{row_view, modules_view}
 use Rattle.yschema.specs.View.{module_view}
-use Rattle.yschema.proofs.LayoutLemmas.{laid_module, length_module, named_module, size_at_module, forest_of-laid, whole_laid, whole_set}
-use Rattle.yschema.proofs.QueryLemmas.{fits_laid}
+use Rattle.yschema.proofs.LayoutLemmas.{laid_module, length_module, named_module, size_at_module, forest_of-laid, laid_as, whole_laid, whole_set}
+use Rattle.yschema.specs.Layout.{IsLaidOut}
 use Rattle.yschema.proofs.building.build.Goals as goal
 
 pub loop-module-preserved : goal.loop-module-preserved
@@ -13,8 +13,8 @@ loop-module-preserved c =
     let i = c.loop-module.module in
     let m = c.index-modules-module.result in
     let f = row_view c.substatements.result.now in
-    let old = c.loop-module.nodes.rows.items in
-    let new = c.add_nodes.new.nodes.rows.items in
+    let old = c.loop-module.rows.items in
+    let new = c.add_nodes.new.rows.items in
     let sized = size_at_module ms i m (omega arith) c.index-modules-module.is in
     let under = ap data_size c.substatements.ensures.below in
     let count = length_module old new i f c.in_ok-add_nodes.ensures in
@@ -32,12 +32,18 @@ returns c =
     let ms = c.args.modules.now in
     c.new.ensures ∙ ap₂ (λ set nodes. record { modules = set; nodes = nodes })
     (whole_set ms c.loop-module.module (map module_view c.loop-module.set.items) (omega arith) c.loop-module.invariant.named)
-    (forest_of-laid (all_nodes 0 0 (modules_view ms)) None 0 c.loop-module.nodes.rows.items
-    (whole_laid ms c.loop-module.module c.loop-module.nodes.rows.items (omega arith) c.loop-module.invariant.so_far))
+    (forest_of-laid (all_nodes 0 0 (modules_view ms)) None 0 c.loop-module.rows.items
+    (whole_laid ms c.loop-module.module c.loop-module.rows.items (omega arith) c.loop-module.invariant.so_far))
 
-pub new-requires-clause-nested : goal.new-requires-clause-nested
-new-requires-clause-nested c =
+pub of-requires-clause-laid_out : goal.of-requires-clause-laid_out
+of-requires-clause-laid_out c =
     let ms = c.args.modules.now in
-    let rows = c.loop-module.nodes.rows.items in
-    fits_laid (all_nodes 0 0 (modules_view ms)) None (length rows) 0 rows (omega arith)
-    (whole_laid ms c.loop-module.module rows (omega arith) c.loop-module.invariant.so_far)
+    let rows = c.loop-module.rows.items in
+    subst IsLaidOut (sym c.deref-2.ensures.value)
+    (laid_as (all_nodes 0 0 (modules_view ms)) rows (whole_laid ms c.loop-module.module rows (omega arith) c.loop-module.invariant.so_far))
+
+pub new-requires-clause-laid_out : goal.new-requires-clause-laid_out
+new-requires-clause-laid_out c =
+    let ms = c.args.modules.now in
+    let rows = c.loop-module.rows.items in
+    laid_as (all_nodes 0 0 (modules_view ms)) rows (whole_laid ms c.loop-module.module rows (omega arith) c.loop-module.invariant.so_far)

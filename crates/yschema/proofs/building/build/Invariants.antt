@@ -8,9 +8,9 @@ use Rattle.yschema.proofs.building.build.Given as goal
 
 abbrev pub invariant-loop-module : goal.invariant-loop-module
 invariant-loop-module l = record {
-  room : length l.nodes.rows.items + data_size_of_all (modules_view (drop l.«module» l.modules)) ≤ 65535;
+  room : length l.rows.items + data_size_of_all (modules_view (drop l.«module» l.modules)) ≤ 65535;
   named : map module_view l.set.items ++ modules_of (modules_view (drop l.«module» l.modules)) ≡ modules_of (modules_view l.modules);
-  so_far : laid 0 l.nodes.rows.items
-      ++ places None (all_nodes l.«module» (length l.nodes.rows.items) (modules_view (drop l.«module» l.modules)))
+  so_far : laid 0 l.rows.items
+      ++ places None (all_nodes l.«module» (length l.rows.items) (modules_view (drop l.«module» l.modules)))
       ≡ places None (all_nodes 0 0 (modules_view l.modules));
 }

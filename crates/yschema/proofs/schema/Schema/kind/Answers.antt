@@ -2,20 +2,20 @@ use Rattle.std.proofs.Common.{◌≡◌, Some, None, length, refl, sym, ap, ap�
 use Rattle.std.specs.Prelude.{option_map, slice_get}
 use Rattle.std.proofs.lemmas.Option.{slice_get_read, slice_get_past}
 use Rattle.yschema.specs.Layout.{node_view}
-use Rattle.yschema.proofs.QueryLemmas.{label_at}
+use Rattle.yschema.proofs.QueryLemmas.{label_at, laid_out_fits}
 use Rattle.yschema.proofs.schema.Schema.kind.Goals as goal
 
 pub returns-in-Some : goal.returns-in-Some
 returns-in-Some c =
-    let rows = c.args.self.now.nodes.rows.items in
+    let rows = c.args.self.now.rows.items in
     let found = c.in-Some.ensures.lookup in
     let there : slice_get rows c.args.id.0 ≡ Some c.in-Some.row.now = ap₂ slice_get (sym c.deref.ensures.value) (sym c.number.ensures.value)
     ∙ slice_get_read c.deref.result.now (length c.deref.result.now) c.number.result c.in-Some.row.now refl found.3.0 found.1 in
-    sym (label_at rows c.args.id.0 c.args.self.now.nested ∙ ap (option_map (λ r. node_view c.args.id.0 r.node)) there)
+    sym (label_at rows c.args.id.0 (laid_out_fits rows c.args.self.now.laid_out) ∙ ap (option_map (λ r. node_view c.args.id.0 r.node)) there)
 
 pub returns-in-None : goal.returns-in-None
 returns-in-None c =
-    let rows = c.args.self.now.nodes.rows.items in
+    let rows = c.args.self.now.rows.items in
     let there : slice_get rows c.args.id.0 ≡ None = ap₂ slice_get (sym c.deref.ensures.value) (sym c.number.ensures.value)
     ∙ slice_get_past c.deref.result.now c.number.result c.in-None.ensures.lookup.3 in
-    sym (label_at rows c.args.id.0 c.args.self.now.nested ∙ ap (option_map (λ r. node_view c.args.id.0 r.node)) there)
+    sym (label_at rows c.args.id.0 (laid_out_fits rows c.args.self.now.laid_out) ∙ ap (option_map (λ r. node_view c.args.id.0 r.node)) there)

@@ -1,0 +1,127 @@
+-- A node of a row of a schema is the node of its number, and so is what stands below it.
+use Rattle.std.proofs.Common.{◌≡◌, ◌⊎◌, inl, inr, ℕ, ◌+◌, ◌≤◌, Bool, true, false, cond, List, [], ◌∷◌, ◌++◌, length, Option, Some, None, refl, sym, ap, ap₂, ◌∙◌, subst, arith}
+use Rattle.std.specs.Prelude.{◌==◌, option_map, unwrap_or, find}
+use Rattle.std.proofs.lemmas.Bool.{eq-eqb, ne_eqb}
+use Rattle.yspec.specs.Forest.{Forest, node, end, row, find_below}
+use Rattle.yspec.specs.Schema.{SchemaNode, row_at, node_at, children_of, first_in_row}
+use Rattle.yschema.specs.declared.children.Row.{Row}
+use Rattle.yschema.specs.declared.schema.Schema.{Schema}
+use Rattle.yschema.specs.Layout.{forest_of}
+use Rattle.yschema.specs.View.{view}
+use Rattle.yschema.proofs.QueryLemmas.{Found, all_below, find_label-is, find_below-is, all_below-forest, pairs, map_cond, laid_out_fits}
+
+-- the first node of a row that passes a test, with what stands below it
+abbrev pub first_found : (SchemaNode → Bool) → Forest SchemaNode → Option Found
+first_found test end = None
+first_found test (node l below after) = cond (test l) (Some (l, below)) (first_found test after)
+
+pub first_in_row-is : (test : SchemaNode → Bool) (f : Forest SchemaNode) → first_in_row test f ≡ option_map (λ x. x.0.number) (first_found test f)
+first_in_row-is test end = refl
+first_in_row-is test (node l below after) =
+    map_cond (λ n. n.number) (test l) (Some l) (find test (row after))
+    ∙ (ap (cond (test l) (Some l.number)) (first_in_row-is test after)
+    ∙ sym (map_cond (λ x. x.0.number) (test l) (Some (l, below)) (first_found test after)))
+
+-- ---- which are there
+
+abbrev Has : Found → List Found → Type 0
+Has x [] = ⊥
+Has x (y ∷ ys) = (x ≡ y) ⊎ Has x ys
+
+has_left : (x : Found) (xs ys : List Found) → Has x xs → Has x (xs ++ ys)
+has_left x [] ys h = absurd h
+has_left x (z ∷ zs) ys (inl is) = inl is
+has_left x (z ∷ zs) ys (inr h) = inr (has_left x zs ys h)
+
+has_right : (x : Found) (xs ys : List Found) → Has x ys → Has x (xs ++ ys)
+has_right x [] ys h = h
+has_right x (z ∷ zs) ys h = inr (has_right x zs ys h)
+
+has_either : (x : Found) (xs ys : List Found) → Has x (xs ++ ys) → Has x xs ⊎ Has x ys
+has_either x [] ys h = inr h
+has_either x (z ∷ zs) ys (inl is) = inl (inl is)
+has_either x (z ∷ zs) ys (inr h) = in_left (has_either x zs ys h)
+  where
+    in_left : Has x zs ⊎ Has x ys → Has x (z ∷ zs) ⊎ Has x ys
+    in_left (inl g) = inl (inr g)
+    in_left (inr g) = inr g
+
+found_there : (test : Found → Bool) (xs : List Found) (x : Found) → find test xs ≡ Some x → Has x xs
+found_there test [] x e = absurd cc
+found_there test (y ∷ ys) x e = by (test y) e (found_there test ys x)
+  where
+    by : (b : Bool) → cond b (Some y) (find test ys) ≡ Some x → (find test ys ≡ Some x → Has x ys) → Has x (y ∷ ys)
+    by true e h = inl (ap (λ o. unwrap_or o x) (sym e))
+    by false e h = inr (h e)
+
+in_row : (test : SchemaNode → Bool) (f : Forest SchemaNode) (x : Found) → first_found test f ≡ Some x → Has x (all_below f)
+unfolding all_below
+in_row test end x e = absurd cc
+in_row test (node l below after) x e = by (test l) e (in_row test after x)
+  where
+    by : (b : Bool) → cond b (Some (l, below)) (first_found test after) ≡ Some x → (first_found test after ≡ Some x → Has x (all_below after))
+        → Has x ((l, below) ∷ (all_below below ++ all_below after))
+    by true e h = inl (ap (λ o. unwrap_or o x) (sym e))
+    by false e h = inr (has_right x (all_below below) (all_below after) (h e))
+
+in_rows_below : (f : Forest SchemaNode) (x y : Found) → Has x (all_below f) → Has y (all_below x.1) → Has y (all_below f)
+unfolding all_below
+in_rows_below end x y h g = absurd h
+in_rows_below (node l below after) x y (inl is) g = inr (has_left y (all_below below) (all_below after) (subst (λ (z : Found). Has y (all_below z.1)) is g))
+in_rows_below (node l below after) x y (inr h) g = by (in_rows_below below x y) (in_rows_below after x y) (has_either x (all_below below) (all_below after) h)
+  where
+    by : (Has x (all_below below) → Has y (all_below x.1) → Has y (all_below below)) → (Has x (all_below after) → Has y (all_below x.1) → Has y (all_below after))
+        → Has x (all_below below) ⊎ Has x (all_below after) → Has y ((l, below) ∷ (all_below below ++ all_below after))
+    by inner rest (inl k) = inr (has_left y (all_below below) (all_below after) (inner k g))
+    by inner rest (inr k) = inr (has_right y (all_below below) (all_below after) (rest k g))
+
+-- ---- each has a number of its own
+
+abbrev Counts : ℕ → List Found → Type 0
+Counts k [] = Unit {0}
+Counts k (x ∷ xs) = (x.0.number ≡ k) × Counts (k + 1) xs
+
+pairs_count : (k : ℕ) (rows : List Row) → Counts k (pairs k rows)
+unfolding pairs
+pairs_count k [] = tt
+pairs_count k (r ∷ rows) = (refl, pairs_count (k + 1) rows)
+
+at_least : (k : ℕ) (xs : List Found) (x : Found) → Counts k xs → Has x xs → k ≤ x.0.number
+at_least k [] x counts h = absurd h
+at_least k (y ∷ ys) x counts (inl is) = let same = ap (λ (z : Found). z.0.number) is ∙ counts.0 in omega (arith, same)
+at_least k (y ∷ ys) x counts (inr h) = let rest = at_least (k + 1) ys x counts.1 h in omega (arith, rest)
+
+found_itself : (k : ℕ) (xs : List Found) (x : Found) → Counts k xs → Has x xs → find (λ p. p.0.number == x.0.number) xs ≡ Some x
+found_itself k [] x counts h = absurd h
+found_itself k (y ∷ ys) x counts (inl is) =
+    ap (λ b. cond b (Some y) (find (λ p. p.0.number == x.0.number) ys)) (eq-eqb y.0.number x.0.number (sym (ap (λ (z : Found). z.0.number) is))) ∙ ap Some (sym is)
+found_itself k (y ∷ ys) x counts (inr h) =
+    let past = at_least (k + 1) ys x counts.1 h in
+    ap (λ b. cond b (Some y) (find (λ p. p.0.number == x.0.number) ys)) (ne_eqb y.0.number x.0.number (omega (arith, past, counts.0)))
+    ∙ found_itself (k + 1) ys x counts.1 h
+
+-- ---- a node of a row
+
+in_schema : (f : Forest SchemaNode) (p : ℕ) (test : SchemaNode → Bool) (x : Found)
+    → first_found test (unwrap_or (find_below (λ n. n.number == p) f) end) ≡ Some x → Has x (all_below f)
+in_schema f p test x e = by (find (λ q. q.0.number == p) (all_below f)) refl
+    (sym (ap (λ o. first_found test (unwrap_or o end)) (find_below-is (λ n. n.number == p) f)) ∙ e)
+  where
+    by : (o : Option Found) → find (λ q. q.0.number == p) (all_below f) ≡ o → first_found test (unwrap_or (option_map (λ q. q.1) o) end) ≡ Some x → Has x (all_below f)
+    by None is e = absurd cc
+    by (Some y) is e = in_rows_below f y x (found_there (λ q. q.0.number == p) (all_below f) y is) (in_row test y.1 x e)
+
+pub row_node : (s : Schema) (p : Option ℕ) (test : SchemaNode → Bool) (x : Found) → first_found test (row_at (view s) p) ≡ Some x
+    → (node_at (view s) x.0.number ≡ Some x.0) × (children_of (view s) x.0.number ≡ x.1)
+row_node s p test x e =
+    let rows = s.rows.items in
+    let f = forest_of 0 rows in
+    let all = all_below-forest (length rows) 0 rows (omega arith) (laid_out_fits rows s.laid_out) in
+    let itself : find (λ q. q.0.number == x.0.number) (all_below f) ≡ Some x = found_itself 0 (all_below f) x (subst (Counts 0) (sym all) (pairs_count 0 rows)) (there p e) in (
+      find_label-is (λ n. n.number == x.0.number) f ∙ ap (option_map (λ q. q.0)) itself,
+      ap (λ o. unwrap_or o end) (find_below-is (λ n. n.number == x.0.number) f ∙ ap (option_map (λ q. q.1)) itself),
+    )
+  where
+    there : (p : Option ℕ) → first_found test (row_at (view s) p) ≡ Some x → Has x (all_below (forest_of 0 s.rows.items))
+    there None e = in_row test (forest_of 0 s.rows.items) x e
+    there (Some j) e = in_schema (forest_of 0 s.rows.items) j test x e
