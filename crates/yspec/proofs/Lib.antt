@@ -6,6 +6,7 @@ pub mod FittingRead
 pub mod VisitLaws
 pub mod WrittenRows
 pub mod ReadBack
+pub mod WrittenNames
 pub mod WrittenShape
 pub mod ReadWhole
 pub mod SpellingCut

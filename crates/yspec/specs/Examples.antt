@@ -1,6 +1,11 @@
 -- Worked examples: modules and documents whose faults and refusals are known from the standard's rules.
-use Rattle.std.specs.Prelude.{◌++◌, [], ◌∷◌, codes, Some}
+use Rattle.std.specs.Prelude.{◌++◌, [], ◌∷◌, codes, Option, Some, option_map, option_and_then}
+use Rattle.std.specs.Result.{result_ok}
 use Rattle.yspec.specs.Text.{Text}
+use Rattle.yspec.specs.Statement.{module_of}
+use Rattle.yspec.specs.Schema.{Schema, schema_of}
+use Rattle.yspec.specs.Reading.{document_of}
+use Rattle.yspec.specs.Writing.{written_text}
 use Rattle.yspec.specs.Output.{Outcome, validate, outcome, found}
 
 -- a module of a name, of which these lines stand from line 5 on
@@ -36,3 +41,11 @@ compiled_alone lines = shown (module_text (codes "p") lines) (codes "{}")
 
 abbrev pub without_faults : Outcome
 without_faults = found 0 (codes "0 faults\n")
+
+abbrev pub read_and_written : Schema → Text → Option Text
+read_and_written schema document = option_map (written_text schema) (result_ok (document_of schema document))
+
+-- the text that is written of a document that was read under a module
+abbrev pub rewritten : Text → Text → Option Text
+rewritten module_bytes document =
+    option_and_then (λ m. read_and_written (schema_of m) document) (result_ok (module_of module_bytes))

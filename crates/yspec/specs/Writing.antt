@@ -1,14 +1,15 @@
 -- The JSON text of a document (RFC 7951, 4 to 6).
-use Rattle.std.specs.Prelude.{◌≡◌, ◌≢◌, ℕ, ℤ, true, Option, Some, None, if◌then◌else◌}
+use Rattle.std.specs.Prelude.{◌<◌, ◌==◌, false, length, ◌≡◌, ◌≢◌, ℕ, ℤ, true, Option, Some, None, if◌then◌else◌}
+use Rattle.std.specs.List.{list_any}
 use Rattle.std.specs.Option.{option_map_or}
 use Rattle.serde_json.specs.Data.{Data, null, boolean, number, string, array, object, no_items, item, Members, no_members, put}
 use Rattle.serde_json.specs.Find.{of_integer}
 use Rattle.serde_json.specs.Written.{compact_text}
 use Rattle.yspec.specs.Forest.{Forest, end, node}
-use Rattle.yspec.specs.Text.{Text}
+use Rattle.yspec.specs.Text.{Text, colon}
 use Rattle.yspec.specs.Ranges.{lies_in}
 use Rattle.yspec.specs.Types.{Raw, text, int, bool, empty}
-use Rattle.yspec.specs.Schema.{Schema, SchemaNode, Kind, container, leaf, node_at, written_name}
+use Rattle.yspec.specs.Schema.{Schema, SchemaNode, Kind, container, leaf, node_at, module_name, written_name}
 use Rattle.yspec.specs.Document.{Tree}
 use Rattle.yspec.specs.Reading.{whole_numbers}
 use Rattle.yspec.specs.Fitting.{FitsBy}
@@ -83,3 +84,28 @@ HasForm (leaf type in_use mandatory) value below = HasText value × (below ≡ e
 -- a row of stored nodes that fits a row of schema nodes, in values too
 abbrev pub IsDocument : Forest SchemaNode → Tree → Type 0
 IsDocument = FitsBy (λ n value below. HasForm n.kind value below)
+
+-- ---- when no two siblings are written with one name
+
+-- no colon is in it
+abbrev pub IsPlain : Text → Type 0
+IsPlain t = list_any (λ c. c == colon) t ≡ false
+
+-- a node of one of a schema's modules, whose name has no colon
+abbrev pub IsNamed : Schema → SchemaNode → Type 0
+IsNamed schema n = IsPlain n.name × (n.module_number < length schema.modules)
+
+-- a node's siblings after it are of other modules or have other names
+abbrev pub HasItsName : SchemaNode → Forest SchemaNode → Type 0
+HasItsName n end = Unit {0}
+HasItsName n (node m below after) = (n.module_number ≡ m.module_number → n.name ≢ m.name) × HasItsName n after
+
+abbrev pub AreNamed : Schema → Forest SchemaNode → Type 0
+AreNamed schema end = Unit {0}
+AreNamed schema (node n below after) =
+    IsNamed schema n × HasItsName n after × AreNamed schema below × AreNamed schema after
+
+-- modules of different places have different names, without colons
+abbrev pub ModulesDiffer : Schema → Type 0
+ModulesDiffer schema = (i j : ℕ) → i < length schema.modules → j < length schema.modules
+    → IsPlain (module_name schema i) × (module_name schema i ≡ module_name schema j → i ≡ j)

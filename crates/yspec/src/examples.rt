@@ -2,7 +2,7 @@
 
 ghost use Rattle.std.specs.Prelude.{◌≡◌, ◌++◌, [], ◌∷◌, codes, Some, None};
 ghost use Rattle.yspec.specs.Output.{found, failed, validate, outcome};
-ghost use Rattle.yspec.specs.Examples.{shown, shown_by_p, compiled_alone, without_faults, module_p, nested_module, container_module};
+ghost use Rattle.yspec.specs.Examples.{shown, shown_by_p, compiled_alone, without_faults, module_p, nested_module, container_module, rewritten};
 
 /// A missing mandatory leaf, a number out of range, a good document, and a container that is in play though it isn't stored.
 pub fn documents_of_a_container()
@@ -45,6 +45,16 @@ pub fn refused_documents()
     ensures qualified { shown_by_p (codes "{\"p:c\":{\"p:id\":1}}") ≡ failed 2 (codes "d.json: J4 /p:c") }
     ensures wrong_kind { shown_by_p (codes "{\"p:c\":{\"id\":{}}}") ≡ failed 2 (codes "d.json: J5 /p:c/id") }
     ensures fraction { shown_by_p (codes "{\"p:c\":{\"id\":1.5}}") ≡ failed 2 (codes "d.json: J6 /p:c/id") }
+{}
+
+/// What is written of documents: the same values, compact, members in byte order of their names.
+pub fn written_documents()
+    ensures order { rewritten module_p (codes "{\"p:c\": {\"note\": \"x\", \"id\": 256}}")
+        ≡ Some (codes "{\"p:c\":{\"id\":256,\"note\":\"x\"}}") }
+    ensures values { rewritten nested_module (codes "{\"q:a\":{\"d\":[ null ],\"b\":{\"c\":-5}}}")
+        ≡ Some (codes "{\"q:a\":{\"b\":{\"c\":-5},\"d\":[null]}}") }
+    ensures nothing { rewritten module_p (codes " {} ") ≡ Some (codes "{}") }
+    ensures unread { rewritten module_p (codes "{\"c\":{}}") ≡ None }
 {}
 
 /// Refusals of a module, each with its line.

@@ -5,7 +5,7 @@ ghost use Rattle.yspec.specs.Schema.{Schema};
 ghost use Rattle.yspec.specs.Document.{Tree};
 ghost use Rattle.yspec.specs.Reading.{json_of, document_of};
 ghost use Rattle.yspec.specs.Fitting.{IsNumbered, Fits};
-ghost use Rattle.yspec.specs.Writing.{NamesDiffer, IsDocument, written_value};
+ghost use Rattle.yspec.specs.Writing.{ModulesDiffer, AreNamed, NamesDiffer, IsDocument, written_value};
 
 /// A document that is read fits its schema.
 pub fn read_documents_fit()
@@ -22,4 +22,9 @@ pub fn read_documents_are_whole()
 pub fn written_documents_read_back()
     ensures { (schema : Schema) (tree : Tree) (bytes : List ℕ) → IsNumbered 0 schema.nodes → NamesDiffer schema None schema.nodes
         → IsDocument schema.nodes tree → json_of bytes ≡ Some (written_value schema tree) → document_of schema bytes ≡ Ok tree }
+{}
+
+/// Where siblings differ in module or name and modules in name, no two siblings are written with one name.
+pub fn written_names_differ()
+    ensures { (schema : Schema) → ModulesDiffer schema → AreNamed schema schema.nodes → NamesDiffer schema None schema.nodes }
 {}

@@ -1,0 +1,6 @@
+use Rattle.std.proofs.Common.{None}
+use Rattle.yspec.proofs.WrittenNames.{names_differ}
+use Rattle.yspec.proofs.reading.written_names_differ.Goals as goal
+
+pub returns : goal.returns
+returns c = λ schema. names_differ schema None schema.nodes
