@@ -12,7 +12,6 @@ ghost use Rattle.yapp.specs.declared.failure.Failure.TheVariants.{Memory};
 
 use crate::files::FileFault;
 use crate::status::{FAILED, REFUSED};
-
 use itoa::Buffer;
 use std::alloc::{AllocError, AllocFailed};
 use ycheck::write_path;

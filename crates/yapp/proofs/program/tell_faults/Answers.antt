@@ -9,7 +9,7 @@ returns-in-Ok g c = (
   reported c.in-Ok.report,
   c.in-Ok.ensures,
   on_report _ _ _ c.in-Ok.report _ (ends _ _ _ (reported c.in-Ok.report).status _ c.write.result c.write.ensures
-  (c.status_after.ensures ∙ ap (λ (s : ℕ). if is_ok c.write.result then s else 4) c.status-status.ensures)),
+      (c.status_after.ensures ∙ ap (λ (s : ℕ). if is_ok c.write.result then s else 4) c.status-status.ensures)),
 )
 
 pub returns-in-Err : goal.returns-in-Err
@@ -17,5 +17,5 @@ returns-in-Err g c = (
   outcome_of c.in-Err.failure,
   c.in-Err.ensures,
   on_failure _ _ _ c.in-Err.failure _ (ends _ _ _ (outcome_of c.in-Err.failure).status _ c.write-in-Err.result c.write-in-Err.ensures
-  (c.status_after-in-Err.ensures ∙ ap (λ (s : ℕ). if is_ok c.write-in-Err.result then s else 4) c.status-status-in-Err.ensures)),
+      (c.status_after-in-Err.ensures ∙ ap (λ (s : ℕ). if is_ok c.write-in-Err.result then s else 4) c.status-status-in-Err.ensures)),
 )

@@ -36,11 +36,10 @@ pub returns : goal.returns
 returns g c =
     let contents = g.F.Files.contents c.args.files.now in
     let names = names_in c.args.names.now in
-    let before = c.loop-name.invariant in
-    (
+    let before = c.loop-name.invariant in (
       all_read contents names (texts_in c.loop-name.contents.items)
-      (subst (λ ns. ReadSoFar contents names ns (texts_in c.loop-name.contents.items))
-      (at_drop_all names_in c.args.names.now c.loop-name.name-index c.loop-name-test.false) before.so_far),
+          (subst (λ ns. ReadSoFar contents names ns (texts_in c.loop-name.contents.items))
+          (at_drop_all names_in c.args.names.now c.loop-name.name-index c.loop-name-test.false) before.so_far),
       before.counted,
     )
 
