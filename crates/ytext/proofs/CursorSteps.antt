@@ -1,12 +1,11 @@
 -- What a cursor's tokens are by what stands there.
 use Rattle.std.proofs.Common.{◌≡◌, ℕ, ◌+◌, ◌-◌, ◌<◌, List, [], ◌∷◌, Bool, true, false, cond, ◌≤◌, length, drop, get_or, map, refl, sym, ap, ◌∙◌, arith}
-use Rattle.std.specs.Str.{IsCharBoundary}
 use Rattle.yspec.specs.Text.{line_after}
 use Rattle.yspec.specs.Token.{Token, column_after, at, finish}
 use Rattle.yspec.specs.Token as token
 use Rattle.yspec.specs.Scanning.{Piece, piece_at, placed, pieces_from}
 use Rattle.ytext.specs.View.{front_of, lexeme_of, ends_text, GoesOn}
-use Rattle.ytext.specs.Left.{pieces_left, pieces_behind, left, column_of, stands, piece_of, with_piece, token_of, with_token}
+use Rattle.ytext.specs.Left.{pieces_left, pieces_behind, left, column_of, stands, piece_of, with_piece, with_token}
 use Rattle.ytext.specs.declared.cursor.Cursor.{Cursor}
 use Rattle.ytext.specs.declared.cursor.Found.{Found}
 use Rattle.ytext.specs.declared.cursor.Front.{Front}

@@ -2,7 +2,7 @@
 use Rattle.std.proofs.Common.{◌≡◌, ℕ, List, [], ◌∷◌, ◌++◌, Bool, true, false, cond, Option, Some, None, Result, Ok, Err, refl, sym, ap, subst, ◌∙◌, append_assoc}
 use Rattle.std.specs.Option.{option_map_or}
 use Rattle.yspec.specs.Text.{Text}
-use Rattle.yspec.specs.Token.{Token, Lexeme, double, double_text, bad_escape_line}
+use Rattle.yspec.specs.Token.{Token, double, double_text, bad_escape_line}
 use Rattle.yspec.specs.Statement.{Slip, slip, ◌>>=◌, piece, pieces, after_piece, appended, is_plus, begins_quoted}
 use Rattle.ytext.specs.Gives.{Fails, told_by, number_of}
 use Rattle.ytext.specs.Quoted.{said, reading}

@@ -1,5 +1,5 @@
 -- What a reader's tokens are by the token at hand.
-use Rattle.std.proofs.Common.{◌≡◌, ℕ, List, [], ◌∷◌, ◌++◌, Bor, cond, length, Result, Ok, Err, refl, sym, ap, subst, ◌∙◌, le_refl, ◌+◌}
+use Rattle.std.proofs.Common.{◌≡◌, ℕ, List, [], ◌∷◌, Bor, cond, length, Result, Ok, sym, ap, ◌∙◌, le_refl, ◌+◌}
 use Rattle.yspec.specs.Forest.{Forest, end}
 use Rattle.yspec.specs.Token.{Token, at, word}
 use Rattle.yspec.specs.Statement.{Statement, Slip, Row, ◌>>=◌, statement, statements, ending, top_statement, row_at}

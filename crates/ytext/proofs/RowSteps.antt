@@ -1,9 +1,9 @@
 -- The reading of rows doesn't rest on how much fuel it is given, if that is enough.
-use Rattle.std.proofs.Common.{◌≡◌, ℕ, zero, suc, ◌+◌, ◌<◌, ◌≤◌, List, [], ◌∷◌, Bool, true, false, cond, Option, Some, None, Result, Ok, Err, length, refl, sym, ap, ◌∙◌, arith, subst, ◌++◌, nat_lt, le_refl}
+use Rattle.std.proofs.Common.{◌≡◌, ℕ, zero, suc, ◌+◌, ◌≤◌, List, [], ◌∷◌, Bool, true, false, cond, Option, Some, None, Result, Ok, Err, length, refl, sym, ap, ◌∙◌, arith, ◌++◌, nat_lt, le_refl}
 use Rattle.yspec.specs.Forest.{Forest, end, node}
 use Rattle.yspec.specs.Text.{Text, is_name}
 use Rattle.yspec.specs.Token.{Token, Lexeme, word, single, double, semi, open_block, close_block, finish, unclosed_quote, unclosed_comment, stray_end}
-use Rattle.yspec.specs.Statement.{Slip, slip, ◌>>=◌, Statement, Row, piece, pieces, after_piece, appended, some_argument, argument, argument_at, is_plus, is_quoted, begins_quoted, body, body_at, closed, closed_at, statement, row_at, in_row, statements, block_limit}
+use Rattle.yspec.specs.Statement.{Slip, slip, ◌>>=◌, Statement, Row, piece, pieces, after_piece, appended, some_argument, argument, argument_at, is_plus, begins_quoted, body, body_at, closed, closed_at, statement, row_at, in_row, statements, block_limit}
 use Rattle.yspec.specs.Forest.{join}
 use Rattle.yspec.specs.Token.{at}
 use Rattle.ytext.specs.Gives.{Fails}

@@ -1,8 +1,8 @@
 -- How each length of the tokens grows by a byte, at a place of the whole text.
-use Rattle.std.proofs.Common.{◌≡◌, ℕ, suc, ◌+◌, ◌<◌, ◌≤◌, List, [], ◌∷◌, Bool, true, false, cond, Option, Some, None, option_map, length, drop, get_or, refl, sym, ap, ◌∙◌, arith, drop-cons, add-one, ◌==◌, ◌&&◌, not}
+use Rattle.std.proofs.Common.{◌≡◌, ℕ, suc, ◌+◌, ◌<◌, ◌≤◌, List, ◌∷◌, Bool, true, false, cond, Option, Some, None, option_map, length, drop, get_or, refl, ap, ◌∙◌, arith, drop-cons, ◌==◌, ◌&&◌, not}
 use Rattle.std.proofs.lemmas.List.{drop_all}
-use Rattle.yspec.specs.Text.{begins, line_feed, star, slash, single_quote, double_quote, backslash}
-use Rattle.yspec.specs.Token.{ends_word, word_length, line_comment_length, comment_rest_length, single_length, double_length}
+use Rattle.yspec.specs.Text.{begins, star, slash, double_quote, backslash}
+use Rattle.yspec.specs.Token.{ends_word, word_length, comment_rest_length, double_length}
 
 pub drop_at : (xs : List ℕ) (i : ℕ) → i < length xs → drop i xs ≡ get_or xs i 0 ∷ drop (i + 1) xs
 drop_at xs i h = let next : suc i ≡ i + 1 = omega arith in drop-cons xs i 0 h ∙ ap (λ (j : ℕ). get_or xs i 0 ∷ drop j xs) next

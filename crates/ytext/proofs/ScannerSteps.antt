@@ -1,5 +1,5 @@
 -- What is left of a scan by the piece that is found.
-use Rattle.std.proofs.Common.{◌≡◌, ℕ, suc, ◌+◌, ◌-◌, ◌<◌, List, [], ◌∷◌, Bool, true, false, cond, Option, Some, None, Result, Ok, length, refl, sym, ap, ◌∙◌, arith}
+use Rattle.std.proofs.Common.{◌≡◌, ℕ, ◌-◌, List, [], ◌∷◌, Bool, false, cond, Option, Some, None, Result, Ok, length, sym, ap, ◌∙◌, arith}
 use Rattle.std.specs.Iterator.{MakesProgress, item_count}
 use Rattle.std.specs.Option.{option_map_or}
 use Rattle.yspec.specs.Statement.{Slip}

@@ -1,5 +1,5 @@
 -- The judgement of a whole text, character by character and step by step.
-use Rattle.std.proofs.Common.{◌≡◌, ℕ, suc, get_or, drop-cons, ◌+◌, ◌<◌, ◌≤◌, List, [], ◌∷◌, Bool, true, false, ◌&&◌, ◌||◌, ◌==◌, cond, Option, Some, None, Result, length, take, drop, nat_lt, refl, sym, ap, ◌∙◌, arith, lt-ltb, le-ltb}
+use Rattle.std.proofs.Common.{◌≡◌, ℕ, suc, get_or, drop-cons, ◌+◌, ◌<◌, ◌≤◌, List, [], ◌∷◌, Bool, true, false, ◌&&◌, ◌||◌, ◌==◌, cond, Option, Some, length, take, drop, nat_lt, refl, sym, ap, ◌∙◌, arith, lt-ltb, le-ltb}
 use Rattle.std.specs.Option.{option_map_or}
 use Rattle.std.specs.Char.{len_utf8}
 use lib.Utf8.{encodes, encode}
@@ -8,10 +8,9 @@ use Rattle.std.specs.Str.Lossy.{utf8_valid_len}
 use Rattle.std.proofs.lemmas.Bool.{ne_eqb}
 use Rattle.std.proofs.lemmas.Str.{is_utf8-from_IsUtf8, IsUtf8-from_is_utf8, length-le-encodes, encodes-chars, length-encode}
 use Rattle.std.proofs.lemmas.List.{drop_all, length-append}
-use Rattle.yspec.specs.Forest.{Forest}
 use Rattle.yspec.specs.Text.{begins, is_yang_char, line_after, line_behind, forbidden_line, line_feed, carriage_return}
 use Rattle.yspec.specs.Token.{tokens_of}
-use Rattle.yspec.specs.Statement.{Statement, Slip, slip, module_of, allowed_text, top_statement}
+use Rattle.yspec.specs.Statement.{slip, module_of, allowed_text, top_statement}
 use Rattle.ytext.specs.Characters.{pending}
 
 pub at_feed : (r : Bool) (line : ℕ) (cs : List ℕ) → pending r line (10 ∷ cs) ≡ pending false (line + 1) cs

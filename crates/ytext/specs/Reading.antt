@@ -1,6 +1,5 @@
 -- The tokens ahead of a reader, and what is read of them.
-use Rattle.std.specs.Prelude.{ℕ, ◌+◌, ◌-◌, List, [], ◌∷◌, ◌++◌, length, Option, Some, None, Result, Ok, if◌then◌else◌}
-use Rattle.yspec.specs.Forest.{Forest}
+use Rattle.std.specs.Prelude.{ℕ, ◌+◌, ◌-◌, List, [], ◌∷◌, ◌++◌, length, Result, Ok, if◌then◌else◌}
 use Rattle.yspec.specs.Text.{Text}
 use Rattle.yspec.specs.Token.{Token}
 use Rattle.yspec.specs.Statement.{Slip, ◌>>=◌, piece, Row, statements, closed}

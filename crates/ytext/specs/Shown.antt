@@ -1,5 +1,5 @@
 -- What a scan gives, as a value of the definitions.
-use Rattle.std.specs.Prelude.{ℕ, Result, Ok, Err}
+use Rattle.std.specs.Prelude.{Result, Ok, Err}
 use Rattle.yspec.specs.Scanning as scanning
 use Rattle.yspec.specs.Scanning.{Cause, Kind, Scanned}
 use Rattle.yspec.specs.Statement.{Slip, slip}

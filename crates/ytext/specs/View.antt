@@ -1,5 +1,5 @@
 -- What the code's tokens and statements are as values of the definitions.
-use Rattle.std.specs.Prelude.{ℕ, ◌+◌, ◌-◌, ◌<◌, ◌≤◌, length, ◌≡◌, Bool, true, false, List, [], ◌∷◌, map, Option, option_map, String, string_bytes}
+use Rattle.std.specs.Prelude.{ℕ, ◌+◌, ◌-◌, ◌<◌, ◌≤◌, length, ◌≡◌, Bool, true, false, List, [], ◌∷◌, map, option_map, string_bytes}
 use Rattle.std.specs.Str.{IsCharBoundary}
 use Rattle.yspec.specs.Token as token
 use Rattle.ytext.specs.declared.cursor.Lexeme.{Lexeme}

@@ -1,4 +1,4 @@
-use Rattle.std.proofs.Common.{◌≡◌, ◌≤◌, true, List, ℕ, ◌+◌, drop, sym, ap, ◌∙◌, arith}
+use Rattle.std.proofs.Common.{List, ℕ, drop, sym, ap, ◌∙◌, arith}
 use Rattle.ytext.specs.Quoted.{is_plain}
 use Rattle.ytext.proofs.QuotedSteps.{plain_first, plain_next}
 use Rattle.ytext.proofs.quoted.plain_end.Goals as goal

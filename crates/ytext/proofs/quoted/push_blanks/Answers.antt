@@ -1,4 +1,4 @@
-use Rattle.std.proofs.Common.{◌≡◌, ◌<◌, ◌≤◌, true, List, ℕ, ◌+◌, ◌-◌, ◌++◌, get_or, replicate, length, sym, ap, ◌∙◌, arith, string_bytes, ◌⊎◌, inl, inr}
+use Rattle.std.proofs.Common.{◌≡◌, ◌≤◌, List, ℕ, ◌+◌, ◌-◌, ◌++◌, get_or, replicate, sym, ap, ◌∙◌, arith, string_bytes, ◌⊎◌, inl, inr}
 use Rattle.std.specs.Prelude.{slice_range}
 use Rattle.yspec.specs.Text.{space}
 use Rattle.yspec.specs.Token.{stripped_starts}

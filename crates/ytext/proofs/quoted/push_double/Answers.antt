@@ -1,4 +1,4 @@
-use Rattle.std.proofs.Common.{◌≡◌, ◌≤◌, ℕ, List, refl, sym, ap, ◌∙◌, arith, string_bytes, length}
+use Rattle.std.proofs.Common.{ℕ, refl, sym, ap, ◌∙◌, arith, string_bytes}
 use Rattle.std.proofs.lemmas.Str.{IsCharBoundary-start}
 use Rattle.ytext.specs.Quoted.{reading}
 use Rattle.ytext.proofs.QuotedSteps.{reading_done}

@@ -1,4 +1,4 @@
-use Rattle.std.proofs.Common.{◌≡◌, ◌<◌, List, ℕ, ◌∷◌, [], ◌++◌, length, drop, get_or, sym, ap, subst, ◌∙◌, arith, string_bytes, Some, None}
+use Rattle.std.proofs.Common.{List, ℕ, ◌++◌, drop, get_or, sym, ap, subst, ◌∙◌, arith, string_bytes}
 use Rattle.yspec.specs.Token.{escape}
 use Rattle.ytext.specs.Gives.{Fails}
 use Rattle.ytext.specs.declared.fault.TextFault.{TextFault}

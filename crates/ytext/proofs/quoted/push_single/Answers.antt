@@ -1,4 +1,4 @@
-use Rattle.std.proofs.Common.{◌≡◌, ◌<◌, ℕ, List, Ok, ◌++◌, drop, length, refl, sym, ap, ◌∙◌, arith, string_bytes}
+use Rattle.std.proofs.Common.{◌<◌, ℕ, List, Ok, ◌++◌, drop, length, refl, ap, ◌∙◌, arith, string_bytes}
 use Rattle.std.proofs.lemmas.Str.{IsCharBoundary-start}
 use Rattle.yspec.specs.Token.{joined_breaks}
 use Rattle.ytext.proofs.QuotedSteps.{single_done, single_more}

@@ -1,4 +1,4 @@
-use Rattle.std.proofs.Common.{◌≡◌, ◌≤◌, ℕ, List, Bool, ◌&&◌, ◌==◌, drop, get_or, ◌+◌, sym, ap, ◌∙◌, arith}
+use Rattle.std.proofs.Common.{ℕ, List, ◌&&◌, ◌==◌, drop, get_or, ◌+◌, sym, ap, ◌∙◌, arith}
 use Rattle.yspec.specs.Text.{begins}
 use Rattle.ytext.proofs.QuotedSteps.{kept_stretch}
 use Rattle.ytext.proofs.quoted.return_place.Goals as goal

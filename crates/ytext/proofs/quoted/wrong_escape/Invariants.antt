@@ -1,4 +1,4 @@
-use Rattle.std.proofs.Common.{◌≡◌, ◌+◌, ◌≤◌, ◌<◌, true, false, drop}
+use Rattle.std.proofs.Common.{◌≡◌, ◌+◌, ◌<◌, true, false, drop}
 use Rattle.yspec.specs.Scanning.{wrong_escape}
 use Rattle.ytext.proofs.quoted.wrong_escape.Given as goal
 

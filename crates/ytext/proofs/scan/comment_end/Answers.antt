@@ -1,4 +1,4 @@
-use Rattle.std.proofs.Common.{◌≡◌, ◌≤◌, sym, ◌∙◌, arith}
+use Rattle.std.proofs.Common.{sym, ◌∙◌, arith}
 use Rattle.ytext.proofs.ScanSteps.{comment_more}
 use Rattle.ytext.proofs.scan.comment_end.Goals as goal
 

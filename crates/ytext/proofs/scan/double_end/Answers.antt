@@ -1,4 +1,4 @@
-use Rattle.std.proofs.Common.{◌≡◌, ◌≤◌, sym, ap, ◌∙◌, arith, option_map, Bool, drop, ◌+◌}
+use Rattle.std.proofs.Common.{sym, ap, ◌∙◌, arith, option_map, Bool, drop, ◌+◌}
 use Rattle.yspec.specs.Token.{double_length}
 use Rattle.ytext.proofs.ScanSteps.{double_more}
 use Rattle.ytext.proofs.scan.double_end.Goals as goal

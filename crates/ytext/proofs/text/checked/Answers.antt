@@ -1,6 +1,5 @@
-use Rattle.std.proofs.Common.{◌≡◌, ◌≤◌, ◌<◌, ℕ, List, Some, None, length, sym, ap, subst, ◌∙◌, arith}
-use Rattle.yspec.specs.Statement.{module_of, slip, Slip, Statement}
-use Rattle.yspec.specs.Forest.{Forest}
+use Rattle.std.proofs.Common.{ℕ, Some, None, sym, ap, subst, ◌∙◌, arith}
+use Rattle.yspec.specs.Statement.{module_of, slip}
 use Rattle.ytext.specs.Gives.{Fails}
 use Rattle.ytext.specs.declared.fault.TextFault.{TextFault}
 use Rattle.ytext.proofs.TextSteps.{too_long, judged, no_text}

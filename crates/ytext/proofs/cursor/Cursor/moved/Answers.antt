@@ -1,4 +1,4 @@
-use Rattle.std.proofs.Common.{◌≡◌, ℕ, List, ◌≤◌, ◌<◌, ◌+◌, ◌-◌, length, drop, get_or, sym, ap, ◌∙◌, arith}
+use Rattle.std.proofs.Common.{ℕ, List, ◌<◌, ◌+◌, ◌-◌, length, drop, get_or, sym, ap, ◌∙◌, arith}
 use Rattle.yspec.specs.Scanning.{pieces_from}
 use Rattle.ytext.specs.Left.{column_at}
 use Rattle.ytext.proofs.TokenSteps.{break_passed, other_passed}

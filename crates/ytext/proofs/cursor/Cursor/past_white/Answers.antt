@@ -1,4 +1,4 @@
-use Rattle.std.proofs.Common.{◌≡◌, ℕ, List, ◌≤◌, ◌<◌, ◌+◌, Bool, true, length, drop, get_or, sym, ap, ◌∙◌, arith}
+use Rattle.std.proofs.Common.{ℕ, List, ◌<◌, ◌+◌, length, drop, get_or, sym, ap, ◌∙◌, arith}
 use Rattle.yspec.specs.Text.{is_white}
 use Rattle.yspec.specs.Scanning.{pieces_from}
 use Rattle.ytext.specs.Left.{column_at}

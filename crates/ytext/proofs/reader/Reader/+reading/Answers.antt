@@ -1,6 +1,5 @@
-use Rattle.std.proofs.Common.{◌≡◌, ◌≤◌, List, Result, ◌++◌, [], ◌∷◌, sym, ap, subst, ◌∙◌, arith}
+use Rattle.std.proofs.Common.{List, sym, ap, subst, ◌∙◌, arith}
 use Rattle.yspec.specs.Token.{Token}
-use Rattle.yspec.specs.Statement.{Slip, Row}
 use Rattle.ytext.specs.Gives.{Fails}
 use Rattle.ytext.specs.Left.{left}
 use Rattle.ytext.specs.Reading.{tokens_ahead, rows}

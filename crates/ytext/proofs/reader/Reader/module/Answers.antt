@@ -1,6 +1,5 @@
-use Rattle.std.proofs.Common.{◌≡◌, List, Result, sym, ap, subst, ◌∙◌}
-use Rattle.yspec.specs.Statement.{Slip, Statement, Row, ◌>>=◌, ending}
-use Rattle.yspec.specs.Forest.{Forest}
+use Rattle.std.proofs.Common.{Result, sym, ap, subst, ◌∙◌}
+use Rattle.yspec.specs.Statement.{Slip, Row, ◌>>=◌, ending}
 use Rattle.ytext.specs.Gives.{Fails}
 use Rattle.ytext.proofs.ReaderSteps.{top_of, top_fails}
 use Rattle.ytext.proofs.reader.Reader.module.Goals as goal

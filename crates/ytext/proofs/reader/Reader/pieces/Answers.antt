@@ -1,6 +1,5 @@
-use Rattle.std.proofs.Common.{◌≡◌, ◌<◌, List, sym, ap, subst, ◌∙◌, arith, string_bytes}
+use Rattle.std.proofs.Common.{sym, ap, subst, ◌∙◌, arith, string_bytes}
 use Rattle.yspec.specs.Text.{Text}
-use Rattle.yspec.specs.Token.{Token}
 use Rattle.ytext.specs.Gives.{Fails}
 use Rattle.ytext.specs.Reading.{first_of, rest_of, tokens_ahead, piece_behind}
 use Rattle.ytext.proofs.PieceSteps.{going, first_fails, first_taken, fails_taken, piece_taken, plus_quoted}

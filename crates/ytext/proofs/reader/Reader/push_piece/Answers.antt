@@ -1,4 +1,4 @@
-use Rattle.std.proofs.Common.{◌≡◌, Result, sym, ap, subst, ◌∙◌, string_bytes}
+use Rattle.std.proofs.Common.{Result, sym, ap, subst, ◌∙◌, string_bytes}
 use Rattle.yspec.specs.Text.{Text}
 use Rattle.yspec.specs.Token.{column_behind}
 use Rattle.yspec.specs.Statement.{Slip, piece}
@@ -7,7 +7,6 @@ use Rattle.ytext.specs.Reading.{added}
 use Rattle.ytext.specs.View.{lexeme_of}
 use Rattle.ytext.specs.declared.cursor.Lexeme.{Lexeme}
 use Rattle.ytext.proofs.PieceSteps.{reading_piece}
-use Rattle.ytext.proofs.RowSteps.{rows_by}
 use Rattle.ytext.proofs.reader.Reader.push_piece.Goals as goal
 
 pub returns-in-Double-clause-piece : goal.returns-in-Double-clause-piece

@@ -1,4 +1,4 @@
-use Rattle.std.proofs.Common.{◌≡◌, ◌-◌, List, [], ◌∷◌, Result, Ok, cond, ap, sym, ◌∙◌, refl}
+use Rattle.std.proofs.Common.{◌-◌, List, [], ◌∷◌, Result, Ok, cond, ap, sym, ◌∙◌, refl}
 use Rattle.yspec.specs.Statement.{Slip}
 use Rattle.yspec.specs.Scanning.{Scanned, given_of}
 use Rattle.ytext.specs.Left.{piece_of, pieces_behind}
