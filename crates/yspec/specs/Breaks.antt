@@ -2,7 +2,7 @@
 use Rattle.std.specs.Prelude.{ℕ, ◌+◌, ◌==◌, ◌&&◌, ◌||◌, Bool, false, not, List, [], ◌∷◌, ◌++◌, codes, Option, Some, None, is_some, Result, Ok, Err, if◌then◌else◌, nat_lt, max, count_by}
 use Rattle.std.specs.List.{list_any}
 use Rattle.std.specs.Option.{option_map_or}
-use Rattle.yspec.specs.Forest.{Forest, end, node, row, levels}
+use Rattle.yspec.specs.Forest.{Forest, end, node, row}
 use Rattle.yspec.specs.Text.{Text, is_text}
 use Rattle.yspec.specs.Statement.{Statement}
 use Rattle.yspec.specs.Grammar.{Form, Count, exactly_one, at_most_one, any_number, Allowed, Rule, fits, rule_of}
