@@ -1,5 +1,5 @@
 -- Worked examples: modules and documents whose faults and refusals are known from the standard's rules.
-use Rattle.std.specs.Prelude.{◌++◌, [], ◌∷◌, codes, Option, Some, option_map, option_and_then}
+use Rattle.std.specs.Prelude.{ℕ, List, ◌++◌, [], ◌∷◌, codes, Option, Some, None, option_map, option_and_then}
 use Rattle.std.specs.Result.{result_ok}
 use Rattle.yspec.specs.Text.{Text}
 use Rattle.yspec.specs.Statement.{module_of}
@@ -7,6 +7,9 @@ use Rattle.yspec.specs.Schema.{Schema, schema_of}
 use Rattle.yspec.specs.Reading.{document_of}
 use Rattle.yspec.specs.Writing.{written_text}
 use Rattle.yspec.specs.Output.{Outcome, validate, outcome, found}
+use Rattle.yspec.specs.Document.{Tree}
+use Rattle.yspec.specs.EditText.{Edit, edit_of}
+use Rattle.yspec.specs.Editing.{Decision, after, decisions}
 
 -- a module of a name, of which these lines stand from line 5 on
 abbrev pub module_text : Text → Text → Text
@@ -49,3 +52,34 @@ read_and_written schema document = option_map (written_text schema) (result_ok (
 abbrev pub rewritten : Text → Text → Option Text
 rewritten module_bytes document =
     option_and_then (λ m. read_and_written (schema_of m) document) (result_ok (module_of module_bytes))
+
+-- ---- edits
+
+-- a document under module p, and the edits that lines spell
+abbrev pub Edited : Type 0
+Edited = Option (List Decision × Text)
+
+abbrev pub edits_of : List Text → Option (List Edit)
+edits_of [] = Some []
+edits_of (line ∷ lines) = option_and_then (λ e. option_map (λ es. e ∷ es) (edits_of lines)) (edit_of line)
+
+abbrev pub edited_tree : Schema → List Text → Tree → Edited
+edited_tree schema lines tree =
+    option_map (λ edits. (decisions schema tree edits, written_text schema (after schema tree edits))) (edits_of lines)
+
+abbrev pub edited_under : Text → Text → List Text → Edited
+edited_under module_bytes document lines = option_and_then (λ m. option_and_then (edited_tree (schema_of m) lines)
+    (result_ok (document_of (schema_of m) document))) (result_ok (module_of module_bytes))
+
+-- what comes of each of some edits, and the document behind them
+abbrev pub edited : Text → List Text → Edited
+edited document lines = edited_under module_p document lines
+
+abbrev pub accepted : Text → Edited
+accepted document = Some (None ∷ [], document)
+
+abbrev pub refused_as : ℕ → Text → Edited
+refused_as code document = Some (Some (record { code = code; document_code = None }) ∷ [], document)
+
+abbrev pub value_refused_as : ℕ → Text → Edited
+value_refused_as code document = Some (Some (record { code = 10; document_code = Some code }) ∷ [], document)

@@ -29,3 +29,5 @@ pub mod Writing
 pub mod Edit
 pub mod Output
 pub mod Examples
+pub mod EditText
+pub mod Editing

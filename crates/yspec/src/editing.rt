@@ -1,0 +1,74 @@
+//! Worked examples of edits, from their lines to what comes of a document.
+
+ghost use Rattle.std.specs.Prelude.{◌≡◌, [], ◌∷◌, codes, Some, None};
+ghost use Rattle.yspec.specs.EditText.{unsaid, at_position, with_keys, path_of, edit_of, create, replace, remove};
+ghost use Rattle.yspec.specs.Examples.{edited, accepted, refused_as, value_refused_as};
+
+/// What texts of paths spell: names, positions and keys; and texts that spell none.
+pub fn texts_of_paths()
+    ensures names { path_of (codes "/p:c/id")
+        ≡ Some (record { name = codes "p:c"; predicate = unsaid } ∷ record { name = codes "id"; predicate = unsaid } ∷ []) }
+    ensures position { path_of (codes "/p:l[12]/x")
+        ≡ Some (record { name = codes "p:l"; predicate = at_position 12 } ∷ record { name = codes "x"; predicate = unsaid } ∷ []) }
+    ensures far_position { path_of (codes "/p:l[99999999999]")
+        ≡ Some (record { name = codes "p:l"; predicate = at_position 4294967295 } ∷ []) }
+    ensures keys { path_of (codes "/p:l[a='x/]y'][b=\"'\"]")
+        ≡ Some (record {
+          name = codes "p:l";
+          predicate = with_keys (record { name = codes "a"; text = codes "x/]y" } ∷ record { name = codes "b"; text = codes "'" } ∷ []);
+        } ∷ []) }
+    ensures position_zero { path_of (codes "/p:l[0]") ≡ None }
+    ensures leading_zero { path_of (codes "/p:l[01]") ≡ None }
+    ensures two_positions { path_of (codes "/p:l[1][2]") ≡ None }
+    ensures prefixed_key { path_of (codes "/p:l[p:a='x']") ≡ None }
+    ensures open_quote { path_of (codes "/p:l[a='x]") ≡ None }
+    ensures blank { path_of (codes "/p:l[ 1]") ≡ None }
+    ensures no_step { path_of (codes "/") ≡ None }
+    ensures no_slash { path_of (codes "p:c") ≡ None }
+{}
+
+/// What lines of edits spell, and lines that spell none.
+pub fn texts_of_edits()
+    ensures value { edit_of (codes "create  /p:c  {} ") ≡ Some (create (record { name = codes "p:c"; predicate = unsaid } ∷ []) (codes "{} ")) }
+    ensures spaces_behind { edit_of (codes "remove /p:c  ") ≡ Some (remove (record { name = codes "p:c"; predicate = unsaid } ∷ [])) }
+    ensures space_in_a_key { edit_of (codes "replace /p:l[a='x y'] 1")
+        ≡ Some (replace (record { name = codes "p:l"; predicate = with_keys (record { name = codes "a"; text = codes "x y" } ∷ []) } ∷ []) (codes "1")) }
+    ensures no_value { edit_of (codes "replace /p:c/id") ≡ None }
+    ensures spaces_for_a_value { edit_of (codes "create /p:c   ") ≡ None }
+    ensures a_value_too_many { edit_of (codes "remove /p:c {}") ≡ None }
+    ensures indented { edit_of (codes " remove /p:c") ≡ None }
+    ensures tab { edit_of (codes "remove\t/p:c") ≡ None }
+    ensures other_verb { edit_of (codes "move /p:c 1") ≡ None }
+{}
+
+/// A leaf and a container replaced, and why they can't be.
+pub fn replacements()
+    ensures leaf { edited (codes "{\"p:c\":{\"id\":256,\"note\":\"x\"}}") (codes "replace /p:c/id 7" ∷ [])
+        ≡ accepted (codes "{\"p:c\":{\"id\":7,\"note\":\"x\"}}") }
+    ensures container { edited (codes "{\"p:c\":{\"id\":300}}") (codes "replace /p:c {\"note\":\"y\"}" ∷ [])
+        ≡ accepted (codes "{\"p:c\":{\"note\":\"y\"}}") }
+    ensures wrong_kind { edited (codes "{\"p:c\":{\"note\":\"x\"}}") (codes "replace /p:c/note {}" ∷ [])
+        ≡ value_refused_as 5 (codes "{\"p:c\":{\"note\":\"x\"}}") }
+    ensures fraction { edited (codes "{\"p:c\":{\"id\":1}}") (codes "replace /p:c/id 1.5" ∷ [])
+        ≡ value_refused_as 6 (codes "{\"p:c\":{\"id\":1}}") }
+    ensures unknown_member { edited (codes "{\"p:c\":{}}") (codes "replace /p:c {\"zz\":1}" ∷ []) ≡ value_refused_as 3 (codes "{\"p:c\":{}}") }
+    ensures no_json { edited (codes "{\"p:c\":{\"id\":1}}") (codes "replace /p:c/id x" ∷ []) ≡ refused_as 9 (codes "{\"p:c\":{\"id\":1}}") }
+    ensures unknown { edited (codes "{\"p:c\":{\"id\":1}}") (codes "replace /p:c/zz 1" ∷ []) ≡ refused_as 2 (codes "{\"p:c\":{\"id\":1}}") }
+    ensures unqualified { edited (codes "{\"p:c\":{\"id\":1}}") (codes "replace /c/id 1" ∷ []) ≡ refused_as 2 (codes "{\"p:c\":{\"id\":1}}") }
+    ensures position { edited (codes "{\"p:c\":{\"id\":1}}") (codes "replace /p:c[1]/id 1" ∷ []) ≡ refused_as 3 (codes "{\"p:c\":{\"id\":1}}") }
+    ensures name_before_position { edited (codes "{}") (codes "replace /p:c[1]/zz 1" ∷ []) ≡ refused_as 2 (codes "{}") }
+    ensures nothing_there { edited (codes "{\"p:c\":{\"note\":\"y\"}}") (codes "replace /p:c/id 1" ∷ []) ≡ refused_as 7 (codes "{\"p:c\":{\"note\":\"y\"}}") }
+    ensures nothing_above { edited (codes "{}") (codes "replace /p:c/id 1" ∷ []) ≡ refused_as 4 (codes "{}") }
+{}
+
+/// Nodes created and removed: a container stays stored when what is in it goes.
+pub fn creations_and_removals()
+    ensures in_its_place { edited (codes "{\"p:c\":{\"note\":\"x\"}}") (codes "create /p:c/id 1" ∷ [])
+        ≡ accepted (codes "{\"p:c\":{\"id\":1,\"note\":\"x\"}}") }
+    ensures there_already { edited (codes "{\"p:c\":{}}") (codes "create /p:c {\"id\":1}" ∷ []) ≡ refused_as 8 (codes "{\"p:c\":{}}") }
+    ensures created_above_nothing { edited (codes "{}") (codes "create /p:c/id 1" ∷ []) ≡ refused_as 4 (codes "{}") }
+    ensures removed { edited (codes "{\"p:c\":{\"id\":1}}") (codes "remove /p:c/id" ∷ []) ≡ accepted (codes "{\"p:c\":{}}") }
+    ensures removed_already { edited (codes "{\"p:c\":{}}") (codes "remove /p:c/id" ∷ []) ≡ refused_as 7 (codes "{\"p:c\":{}}") }
+    ensures one_after_the_other { edited (codes "{}") (codes "create /p:c {}" ∷ codes "create /p:c/id 7" ∷ codes "remove /p:c" ∷ [])
+        ≡ Some (None ∷ None ∷ None ∷ [], codes "{}") }
+{}
