@@ -3,7 +3,7 @@
 use Rattle.std.specs.Prelude.{ℕ, suc, ◌+◌, ◌-◌, ◌*◌, ◌==◌, ◌&&◌, ◌||◌, Bool, true, false, not, List, [], ◌∷◌, ◌++◌, codes, length, take, drop, position, min, Option, Some, None, is_some, option_map, option_and_then, Result, Ok, Err, ⊤, if◌then◌else◌}
 use Rattle.std.specs.Option.{option_map_or}
 use Rattle.std.specs.List.{list_all}
-use Rattle.yspec.specs.Text.{Text, is_text, is_digit, is_identifier, space, line_feed, slash, colon, single_quote, double_quote}
+use Rattle.yspec.specs.Text.{Text, is_text, is_digit, is_identifier, is_name, space, line_feed, slash, single_quote, double_quote}
 
 -- ---- what a text may spell
 
@@ -38,14 +38,14 @@ abbrev pub quote_behind : ℕ → Option ℕ → Option ℕ
 quote_behind x None = if x == single_quote || x == double_quote then Some x else None
 quote_behind x (Some quote) = if x == quote then None else Some quote
 
-abbrev pub longer : ℕ → Text × Option Text → Text × Option Text
-longer x (first, rest) = (x ∷ first, rest)
+abbrev pub longer : ℕ → Text × Text → Text × Text
+longer x (before, behind) = (x ∷ before, behind)
 
--- a text up to the first of these bytes outside quotes, and what stands behind that
-unfoldable pub cut_at : ℕ → Option ℕ → Text → Text × Option Text
-cut_at stop quote [] = ([], None)
-cut_at stop quote (x ∷ xs) = if x == stop && not (is_some quote) then ([], Some xs)
-    else longer x (cut_at stop (quote_behind x quote) xs)
+-- what stands before and behind the first of these bytes outside quotes
+unfoldable pub cut_at : ℕ → Option ℕ → Text → Option (Text × Text)
+cut_at stop quote [] = None
+cut_at stop quote (x ∷ xs) = if x == stop && not (is_some quote) then Some ([], xs)
+    else option_map (longer x) (cut_at stop (quote_behind x quote) xs)
 
 abbrev pub first_longer : ℕ → List Text → List Text
 first_longer x [] = (x ∷ []) ∷ []
@@ -64,6 +64,11 @@ after_spaces (x ∷ xs) = if x == space then after_spaces xs else x ∷ xs
 abbrev pub all_or_none : {A B : Type 0} → (A → Option B) → List A → Option (List B)
 all_or_none f [] = Some []
 all_or_none f (x ∷ xs) = option_and_then (λ y. option_map (λ ys. y ∷ ys) (all_or_none f xs)) (f x)
+
+-- what stands behind this byte, where a text begins with it
+abbrev pub behind : ℕ → Text → Option Text
+behind c [] = None
+behind c (x ∷ xs) = if x == c then Some xs else None
 
 -- ---- predicates
 
@@ -100,45 +105,41 @@ abbrev pub quoted_text : Text → Option Text
 quoted_text [] = None
 quoted_text (x ∷ xs) = if x == single_quote || x == double_quote then up_to_last x xs else None
 
+abbrev pub key_with : Text × Text → Option Key
+key_with (name, quoted) = if is_identifier name then option_map (λ text. record { name = name; text = text }) (quoted_text quoted) else None
+
 -- `name='text'` or `name="text"`
 abbrev pub key_of : Text → Option Key
-key_of t = option_and_then (λ n. if is_identifier (take n t)
-    then option_map (λ text. record { name = take n t; text = text }) (quoted_text (drop (n + 1) t)) else None)
-    (position (λ x. x == equals_sign) t)
+key_of t = option_and_then key_with (cut_at equals_sign None t)
 
--- what stands in a pair of brackets, without the closing one
-abbrev pub bracketed : Text → Option Text
-bracketed [] = None
-bracketed (x ∷ xs) = if x == open_bracket then Some xs else None
+abbrev pub no_keys : Text → Option (List Key)
+no_keys [] = Some []
+no_keys (x ∷ xs) = None
 
-abbrev pub keys_of : List Text → Option Predicate
-keys_of inner = option_map with_keys (all_or_none key_of inner)
+-- the keys in brackets, from the parts before closing ones; nothing stands behind the last
+abbrev pub keys_of : List Text → Option (List Key)
+keys_of [] = None
+keys_of (last ∷ []) = no_keys last
+keys_of (part ∷ next ∷ parts) = option_and_then (λ key. option_map (λ keys. key ∷ keys) (keys_of (next ∷ parts)))
+    (option_and_then key_of (behind open_bracket part))
 
-abbrev pub one_or_keys : List Text → Option Predicate
-one_or_keys [] = None
-one_or_keys (inner ∷ []) = option_map_or (λ n. Some (at_position n)) (position_of inner) (keys_of (inner ∷ []))
-one_or_keys (first ∷ second ∷ inner) = keys_of (first ∷ second ∷ inner)
+abbrev pub position_before : Text × Text → Option ℕ
+position_before (digits, []) = position_of digits
+position_before (digits, x ∷ xs) = None
 
--- the parts before closing brackets, behind the last of which nothing stands
-abbrev pub closed_parts : List Text → Option (List Text)
-closed_parts [] = None
-closed_parts ([] ∷ []) = Some []
-closed_parts ((x ∷ xs) ∷ []) = None
-closed_parts (part ∷ next ∷ parts) = option_map (λ rest. part ∷ rest) (closed_parts (next ∷ parts))
+-- a position in brackets
+abbrev pub position_in : Text → Option ℕ
+position_in t = option_and_then (λ inner. option_and_then position_before (cut_at close_bracket None inner)) (behind open_bracket t)
 
 abbrev pub predicate_of : Text → Option Predicate
 predicate_of [] = Some unsaid
-predicate_of (x ∷ xs) = option_and_then (λ parts. option_and_then one_or_keys (all_or_none bracketed parts))
-    (closed_parts (parts_at close_bracket None (x ∷ xs)))
+predicate_of (x ∷ xs) = option_map_or (λ n. Some (at_position n)) (position_in (x ∷ xs))
+    (option_map with_keys (keys_of (parts_at close_bracket None (x ∷ xs))))
 
 -- ---- paths
 
-abbrev pub is_step_name : Text → Bool
-is_step_name t = option_map_or (λ n. is_identifier (take n t) && is_identifier (drop (n + 1) t))
-    (position (λ x. x == colon) t) (is_identifier t)
-
 abbrev pub with_predicate : Text → Option Predicate → Option NamedStep
-with_predicate name predicate = if is_step_name name then option_map (λ p. record { name = name; predicate = p }) predicate else None
+with_predicate name predicate = if is_name name then option_map (λ p. record { name = name; predicate = p }) predicate else None
 
 -- a name, or two with a colon between them, and perhaps predicates
 abbrev pub step_of : Text → Option NamedStep
@@ -147,8 +148,7 @@ step_of t = option_map_or (λ n. with_predicate (take n t) (predicate_of (drop n
 
 -- one step or more, each behind a `/`
 unfoldable pub path_of : Text → Option Path
-path_of [] = None
-path_of (x ∷ xs) = if x == slash then all_or_none step_of (parts_at slash None xs) else None
+path_of t = option_and_then (λ steps. all_or_none step_of (parts_at slash None steps)) (behind slash t)
 
 -- ---- edits
 
@@ -156,27 +156,21 @@ abbrev pub has_line_feed : Text → Bool
 has_line_feed t = is_some (position (λ x. x == line_feed) t)
 
 -- what follows the verb: a path, and behind spaces a value, where there is one
-abbrev pub operands : Text → Option (Path × Text)
-operands t = let parts = cut_at space None (after_spaces t) in
-    option_map (λ path. (path, option_map_or after_spaces parts.1 [])) (path_of parts.0)
+abbrev pub operands : Text → Text × Text
+operands t = option_map_or (λ o. (o.0, after_spaces o.1)) (cut_at space None (after_spaces t)) (after_spaces t, [])
 
-abbrev pub with_value : (Path → Text → Edit) → Path × Text → Option Edit
-with_value verb (path, []) = None
-with_value verb (path, x ∷ xs) = Some (verb path (x ∷ xs))
+-- what a verb does at a path, with a value or without
+abbrev pub done_by : Text → Text → Path → Option Edit
+done_by verb [] path = if is_text verb (codes "remove") then Some (remove path) else None
+done_by verb (x ∷ xs) path = if is_text verb (codes "create") then Some (create path (x ∷ xs))
+    else (if is_text verb (codes "replace") then Some (replace path (x ∷ xs)) else None)
 
-abbrev pub without_value : Path × Text → Option Edit
-without_value (path, []) = Some (remove path)
-without_value (path, x ∷ xs) = None
-
-abbrev pub done_by : Text → Text → Option Edit
-done_by verb rest = if is_text verb (codes "create") then option_and_then (with_value create) (operands rest)
-    else (if is_text verb (codes "replace") then option_and_then (with_value replace) (operands rest)
-    else (if is_text verb (codes "remove") then option_and_then without_value (operands rest) else None))
+abbrev pub edit_with : Text × Text → Option Edit
+edit_with (verb, rest) = let o = operands rest in option_and_then (done_by verb o.1) (path_of o.0)
 
 -- the edit that a line spells
 unfoldable pub edit_of : Text → Option Edit
-edit_of t = if has_line_feed t then None
-    else (let parts = cut_at space None t in option_and_then (λ rest. done_by parts.0 rest) parts.1)
+edit_of t = if has_line_feed t then None else option_and_then edit_with (cut_at space None t)
 
 -- an empty line, and one that begins with `#`, is passed over
 abbrev pub is_passed_over : Text → Bool
