@@ -102,8 +102,7 @@ abbrev pub up_to_last : ℕ → Text → Option Text
 up_to_last quote t = option_and_then (λ n. if n + 1 == length t then Some (take n t) else None) (position (λ x. x == quote) t)
 
 abbrev pub quoted_text : Text → Option Text
-quoted_text [] = None
-quoted_text (x ∷ xs) = if x == single_quote || x == double_quote then up_to_last x xs else None
+quoted_text t = option_map_or (up_to_last single_quote) (behind single_quote t) (option_and_then (up_to_last double_quote) (behind double_quote t))
 
 abbrev pub key_with : Text × Text → Option Key
 key_with (name, quoted) = if is_identifier name then option_map (λ text. record { name = name; text = text }) (quoted_text quoted) else None
@@ -111,6 +110,9 @@ key_with (name, quoted) = if is_identifier name then option_map (λ text. record
 -- `name='text'` or `name="text"`
 abbrev pub key_of : Text → Option Key
 key_of t = option_and_then key_with (cut_at equals_sign None t)
+
+abbrev pub key_in : Text → Option Key
+key_in t = option_and_then key_of (behind open_bracket t)
 
 abbrev pub no_keys : Text → Option (List Key)
 no_keys [] = Some []
@@ -121,7 +123,7 @@ abbrev pub keys_of : List Text → Option (List Key)
 keys_of [] = None
 keys_of (last ∷ []) = no_keys last
 keys_of (part ∷ next ∷ parts) = option_and_then (λ key. option_map (λ keys. key ∷ keys) (keys_of (next ∷ parts)))
-    (option_and_then key_of (behind open_bracket part))
+    (key_in part)
 
 abbrev pub position_before : Text × Text → Option ℕ
 position_before (digits, []) = position_of digits
@@ -141,10 +143,12 @@ predicate_of (x ∷ xs) = option_map_or (λ n. Some (at_position n)) (position_i
 abbrev pub with_predicate : Text → Option Predicate → Option NamedStep
 with_predicate name predicate = if is_name name then option_map (λ p. record { name = name; predicate = p }) predicate else None
 
+abbrev pub name_and_predicate : Text → Text × Text
+name_and_predicate t = option_map_or (λ n. (take n t, drop n t)) (position (λ x. x == open_bracket) t) (t, [])
+
 -- a name, or two with a colon between them, and perhaps predicates
 abbrev pub step_of : Text → Option NamedStep
-step_of t = option_map_or (λ n. with_predicate (take n t) (predicate_of (drop n t))) (position (λ x. x == open_bracket) t)
-    (with_predicate t (Some unsaid))
+step_of t = let parts = name_and_predicate t in with_predicate parts.0 (predicate_of parts.1)
 
 -- one step or more, each behind a `/`
 unfoldable pub path_of : Text → Option Path
