@@ -1,4 +1,3 @@
-use Rattle.std.proofs.Common.{arith}
 use Rattle.std.proofs.lemmas.Str.Pattern.{strip_prefix_char}
 use Rattle.yinst.proofs.CutLemmas.{behind_from}
 use Rattle.yinst.proofs.cut.behind.Goals as goal

@@ -1,5 +1,4 @@
 use Rattle.std.proofs.Common.{arith}
-use Rattle.yspec.specs.EditText.{digits_value, last_position}
 use Rattle.yinst.proofs.PathLemmas.{digits_step, digits_end}
 use Rattle.yinst.proofs.paths.digits_value.Goals as goal
 

@@ -1,6 +1,5 @@
-use Rattle.std.proofs.Common.{◌≡◌, Some, None, option_map, sym, ap, ◌∙◌, arith, rules}
+use Rattle.std.proofs.Common.{option_map, sym, ap, ◌∙◌, rules}
 use Rattle.std.proofs.lemmas.List.{map_push}
-use Rattle.yspec.specs.EditText.{cut_at, close_bracket}
 use Rattle.yinst.specs.EditView.{key_view, keys_view}
 use Rattle.yinst.proofs.PathLemmas.{with_more, some_first, no_first, keys_cut, keys_end, keys_left}
 use Rattle.yinst.proofs.paths.keys_of.Goals as goal

@@ -1,4 +1,4 @@
-use Rattle.std.proofs.Common.{◌≡◌, Some, None, [], option_map, sym, ap, ◌∙◌, arith, rules}
+use Rattle.std.proofs.Common.{Some, [], option_map, sym, ap, ◌∙◌, rules}
 use Rattle.std.proofs.lemmas.List.{map_push}
 use Rattle.yspec.specs.Text.{slash}
 use Rattle.yspec.specs.EditText.{step_of}
