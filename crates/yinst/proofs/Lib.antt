@@ -5,3 +5,5 @@ pub mod ReadLemmas
 pub mod NumberedLemmas
 pub mod WriteLemmas
 pub mod NameLemmas
+pub mod CutLemmas
+pub mod PathLemmas

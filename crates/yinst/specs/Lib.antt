@@ -1,2 +1,3 @@
+pub mod EditView
 pub mod Told
 pub mod View
