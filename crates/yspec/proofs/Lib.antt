@@ -9,6 +9,8 @@ pub mod ReadBack
 pub mod WrittenNames
 pub mod WrittenShape
 pub mod ReadWhole
+pub mod FittingEdits
+pub mod CompiledShape
 pub mod SpellingCut
 pub mod SpellingTokens
 pub mod ScanningLaws

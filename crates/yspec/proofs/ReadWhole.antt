@@ -137,6 +137,15 @@ rows_held s parent children (node n below after) place ms meant differ these =
     (λ d is. rows_held s (Some n.module_number) below below steps (members_of d) (meant_all s (Some n.module_number) below differ.1) differ.1 (held d is).1)
     (rows_held s parent children after place ms meant.1 differ.2 these)
 
+-- what a value with no refusal stores for a node, and below it
+pub value_held : (s : Schema) (n : SchemaNode) (below : Forest SchemaNode) (place : List Step) (d : Data) → NamesDiffer s (Some n.module_number) below
+    → first_wrong (node_visits s n below place d) ≡ None
+    → HasForm n.kind (value_of n.kind d) (stored_rows s (Some n.module_number) below (members_of d))
+    × IsDocument below (stored_rows s (Some n.module_number) below (members_of d))
+value_held s n below place d differ is =
+    let held = node_held s n below place d is in
+    (held.0, rows_held s (Some n.module_number) below below place (members_of d) (meant_all s (Some n.module_number) below differ) differ held.1)
+
 -- the members of the top, which is an object
 top_right : (s : Schema) (d : Data) → verdict s d ≡ None → AreRight s None s.nodes [] (members_of d)
 top_right s null is = let no : ⊥ = cc in absurd no

@@ -4,9 +4,9 @@ use Rattle.std.specs.Option.{option_map_or}
 use Rattle.serde_json.specs.Data.{Data}
 use Rattle.yspec.specs.Forest.{Forest, end, node, size}
 use Rattle.yspec.specs.Text.{Text}
-use Rattle.yspec.specs.Schema.{Schema, SchemaNode}
+use Rattle.yspec.specs.Schema.{Schema, SchemaNode, node_at, children_of, child_written}
 use Rattle.yspec.specs.Document.{Stored, Tree, Step}
-use Rattle.yspec.specs.Reading.{Named, child, other_form, unknown, named, node_visits, first_wrong, json_of, stored_node, stored_rows, members_of}
+use Rattle.yspec.specs.Reading.{node_visits, first_wrong, json_of, stored_node, stored_rows, members_of}
 use Rattle.yspec.specs.Edit.{edit_at}
 use Rattle.yspec.specs.EditText.{Predicate, unsaid, NamedStep, Path, Edit, create, replace, remove}
 
@@ -28,70 +28,65 @@ abbrev pub ◌>>=◌ : {A B : Type 0} → Result A EditRefusal → (A → Result
 
 -- ---- what the steps of a path mean
 
--- a schema node with its children, and which of its instances is meant
-pub record Bound : Type 0 where
-  pub schema_node : SchemaNode
-  pub below : Forest SchemaNode
-  pub predicate : Predicate
+-- the schema nodes above one, from the top, and that node
+pub record Way : Type 0 where
+  pub above : List ℕ
+  pub last : ℕ
 
-abbrev pub at_child : Named → (SchemaNode → Forest SchemaNode → Result (List Bound) EditRefusal) → Result (List Bound) EditRefusal
-at_child (child n below) next = next n below
-at_child other_form next = refused 2
-at_child unknown next = refused 2
+-- the way on from a node, by the names of its steps; E2: a name isn't there, or in the form that isn't due
+abbrev pub way_on : Schema → List ℕ → ℕ → Path → Result Way EditRefusal
+way_on schema above last [] = Ok (record { above = above; last = last })
+way_on schema above last (s ∷ steps) =
+    option_map_or (λ n. way_on schema (above ++ last ∷ []) n steps) (child_written schema (Some last) s.name) (refused 2)
 
-abbrev pub bound_first : NamedStep → SchemaNode → Forest SchemaNode → List Bound → Result (List Bound) EditRefusal
-bound_first s n below rest = Ok (record { schema_node = n; below = below; predicate = s.predicate } ∷ rest)
-
--- each step below a parent of a module; E2: a name isn't there, or in the form that isn't due
-abbrev pub bound_from : Schema → Option ℕ → Forest SchemaNode → Path → Result (List Bound) EditRefusal
-bound_from schema parent children [] = Ok []
-bound_from schema parent children (s ∷ steps) = at_child (named schema parent s.name children)
-    (λ n below. bound_from schema (Some n.module_number) below steps >>= bound_first s n below)
+-- a path has a step
+abbrev pub way : Schema → Path → Result Way EditRefusal
+way schema [] = refused 1
+way schema (s ∷ steps) = option_map_or (λ n. way_on schema [] n steps) (child_written schema None s.name) (refused 2)
 
 abbrev pub says_nothing : Predicate → Bool
 says_nothing unsaid = true
 says_nothing _ = false
 
-abbrev pub said_nowhere : List Bound → Bool
-said_nowhere [] = true
-said_nowhere (b ∷ bs) = if says_nothing b.predicate then said_nowhere bs else false
+abbrev pub says_which : Path → Bool
+says_which [] = false
+says_which (s ∷ steps) = if says_nothing s.predicate then says_which steps else true
 
 -- E3: a container and a leaf have one instance, so no step of today says which
-abbrev pub bound : Schema → Path → Result (List Bound) EditRefusal
-bound schema path = bound_from schema None schema.nodes path >>= (λ steps. if said_nowhere steps then Ok steps else refused 3)
+abbrev pub meant : Schema → Path → Result Way EditRefusal
+meant schema path = way schema path >>= (λ w. if says_which path then refused 3 else Ok w)
 
 -- ---- where an edit stands
 
--- what is stored of a schema node in a row: perhaps its value, and what stands below it
+-- what stands below the stored node of a schema node in a row, where it is stored
 abbrev pub stored_in : Tree → ℕ → Option Tree
 stored_in end number = None
 stored_in (node s below after) number = if s.schema_number == number then Some below else stored_in after number
 
--- the last node that is meant, the steps to its parent, and the row in which it stands or would stand
+-- the row below the last of some nodes, each of which is stored below the one before it
+abbrev pub row_under : Tree → List ℕ → Option Tree
+row_under tree [] = Some tree
+row_under tree (n ∷ ns) = option_and_then (λ below. row_under below ns) (stored_in tree n)
+
+-- the nodes above one, that node, and whether it is stored
 pub record Target : Type 0 where
-  pub place : List Step
-  pub bound : Bound
-  pub row : Tree
+  pub above : List ℕ
+  pub schema_number : ℕ
+  pub is_stored : Bool
 
-abbrev pub step_to : Bound → Step
-step_to b = record { schema_number = b.schema_node.number; position = None }
-
-abbrev pub target_below : Bound → Target → Target
-target_below b t = record t { place = step_to b ∷ t.place }
+abbrev pub target_in : Way → Tree → Target
+target_in w row = record { above = w.above; schema_number = w.last; is_stored = is_some (stored_in row w.last) }
 
 -- E4: a container before the last step isn't stored
-abbrev pub target_in : Tree → Bound → List Bound → Result Target EditRefusal
-target_in row b [] = Ok (record { place = []; bound = b; row = row })
-target_in row b (next ∷ rest) = option_map_or
-    (λ below. target_in below next rest >>= (λ t. Ok (target_below b t))) (stored_in row b.schema_node.number) (refused 4)
+abbrev pub target : Tree → Way → Result Target EditRefusal
+target tree w = option_map_or (λ row. Ok (target_in w row)) (row_under tree w.above) (refused 4)
 
--- a path has a step
-abbrev pub target : Tree → List Bound → Result Target EditRefusal
-target tree [] = refused 1
-target tree (b ∷ rest) = target_in tree b rest
+abbrev pub step_to : ℕ → Step
+step_to number = record { schema_number = number; position = None }
 
-abbrev pub is_stored : Target → Bool
-is_stored t = is_some (stored_in t.row t.bound.schema_node.number)
+-- the tree, with the row in which the target stands, or would stand, changed
+abbrev pub with_row : Target → (Tree → Tree) → Tree → Tree
+with_row t change tree = edit_at (map step_to t.above) change tree
 
 -- ---- the value
 
@@ -100,16 +95,24 @@ pub record Part : Type 0 where
   pub label : Stored
   pub below : Tree
 
-abbrev pub part : Schema → SchemaNode → Forest SchemaNode → Data → Part
-part schema n below d = record {
+abbrev pub part : Schema → SchemaNode → Data → Part
+part schema n d = record {
   label = stored_node n d;
-  below = stored_rows schema (Some n.module_number) below (members_of d);
+  below = stored_rows schema (Some n.module_number) (children_of schema n.number) (members_of d);
 }
 
--- E9: the text is no JSON; E10: its value doesn't fit the node, with the first refusal of a document
-abbrev pub part_of : Schema → Bound → Text → Result Part EditRefusal
-part_of schema b text = option_map_or (λ d. option_map_or (λ r. value_refused r.code)
-    (first_wrong (node_visits schema b.schema_node b.below [] d)) (Ok (part schema b.schema_node b.below d))) (json_of text) (refused 9)
+-- E10: a value doesn't fit its node, with the first refusal of a document
+abbrev pub fitting_part : Schema → SchemaNode → Data → Result Part EditRefusal
+fitting_part schema n d = option_map_or (λ r. value_refused r.code)
+    (first_wrong (node_visits schema n (children_of schema n.number) [] d)) (Ok (part schema n d))
+
+-- a number that the schema gave has its node
+abbrev pub part_at : Schema → ℕ → Data → Result Part EditRefusal
+part_at schema number d = option_map_or (λ n. fitting_part schema n d) (node_at schema number) (refused 2)
+
+-- E9: the text is no JSON
+abbrev pub part_of : Schema → ℕ → Text → Result Part EditRefusal
+part_of schema number text = option_map_or (part_at schema number) (json_of text) (refused 9)
 
 -- ---- changes of a row
 
@@ -134,26 +137,29 @@ node_limit = 1000000
 abbrev pub within_limit : Tree → Result Tree EditRefusal
 within_limit tree = if nat_lt node_limit (size tree) then refused 11 else Ok tree
 
-abbrev pub with_value : Schema → Tree → Target → Text → Result Tree EditRefusal
-with_value schema tree t text = part_of schema t.bound text >>= (λ p. within_limit (edit_at t.place (with_part p) tree))
+abbrev pub with_value : Schema → Tree → Text → Target → Result Tree EditRefusal
+with_value schema tree text t = part_of schema t.schema_number text >>= (λ p. within_limit (with_row t (with_part p) tree))
 
 -- E8: what is created is there
 abbrev pub created : Schema → Tree → Text → Target → Result Tree EditRefusal
-created schema tree text t = if is_stored t then refused 8 else with_value schema tree t text
+created schema tree text t = if t.is_stored then refused 8 else with_value schema tree text t
 
 -- E7: what is replaced or removed isn't there
 abbrev pub replaced : Schema → Tree → Text → Target → Result Tree EditRefusal
-replaced schema tree text t = if is_stored t then with_value schema tree t text else refused 7
+replaced schema tree text t = if t.is_stored then with_value schema tree text t else refused 7
 
 abbrev pub removed : Tree → Target → Result Tree EditRefusal
-removed tree t = if is_stored t then Ok (edit_at t.place (without t.bound.schema_node.number) tree) else refused 7
+removed tree t = if t.is_stored then Ok (with_row t (without t.schema_number) tree) else refused 7
+
+abbrev pub target_of : Schema → Tree → Path → Result Target EditRefusal
+target_of schema tree path = meant schema path >>= target tree
 
 -- the tree after an edit, or its refusal: the text's first, then the path's names and predicates, then where it stands,
 -- then its value
 unfoldable pub applied : Schema → Tree → Edit → Result Tree EditRefusal
-applied schema tree (create path text) = bound schema path >>= target tree >>= created schema tree text
-applied schema tree (replace path text) = bound schema path >>= target tree >>= replaced schema tree text
-applied schema tree (remove path) = bound schema path >>= target tree >>= removed tree
+applied schema tree (create path text) = target_of schema tree path >>= created schema tree text
+applied schema tree (replace path text) = target_of schema tree path >>= replaced schema tree text
+applied schema tree (remove path) = target_of schema tree path >>= removed tree
 
 -- ---- lists of edits
 

@@ -1,5 +1,5 @@
 -- Worked examples: modules and documents whose faults and refusals are known from the standard's rules.
-use Rattle.std.specs.Prelude.{ℕ, List, ◌++◌, [], ◌∷◌, codes, Option, Some, None, option_map, option_and_then}
+use Rattle.std.specs.Prelude.{ℕ, List, ◌++◌, [], ◌∷◌, codes, Option, Some, None, option_map, option_and_then, Result, Ok, Err}
 use Rattle.std.specs.Result.{result_ok}
 use Rattle.yspec.specs.Text.{Text}
 use Rattle.yspec.specs.Statement.{module_of}
@@ -9,7 +9,9 @@ use Rattle.yspec.specs.Writing.{written_text}
 use Rattle.yspec.specs.Output.{Outcome, validate, outcome, found}
 use Rattle.yspec.specs.Document.{Tree}
 use Rattle.yspec.specs.EditText.{Edit, edit_of}
-use Rattle.yspec.specs.Editing.{Decision, after, decisions}
+use Rattle.yspec.specs.Editing.{Decision, after, decisions, step_to}
+use Rattle.yspec.specs.Faults.{Fault, fault}
+use Rattle.yspec.specs.Live.{Checked, CheckRefusal, checked}
 
 -- a module of a name, of which these lines stand from line 5 on
 abbrev pub module_text : Text → Text → Text
@@ -83,3 +85,15 @@ refused_as code document = Some (Some (record { code = code; document_code = Non
 
 abbrev pub value_refused_as : ℕ → Text → Edited
 value_refused_as code document = Some (Some (record { code = 10; document_code = Some code }) ∷ [], document)
+
+-- what comes of the edits of a document that lines spell, and its faults after them, from the module's text on
+abbrev pub checked_lines : Text → Text → List Text → Option (Result Checked CheckRefusal)
+checked_lines module_bytes document lines = option_and_then (λ m. option_map (checked m document) (edits_of lines))
+    (result_ok (module_of module_bytes))
+
+abbrev pub checked_as : List Decision → List Fault → Option (Result Checked CheckRefusal)
+checked_as decisions faults = Some (Ok (record { decisions = decisions; faults = faults }))
+
+-- a fault of module p's number
+abbrev pub at_id : ℕ → Fault
+at_id code = fault code None (step_to 0 ∷ step_to 1 ∷ [])

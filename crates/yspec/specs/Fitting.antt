@@ -2,7 +2,7 @@
 use Rattle.std.specs.Prelude.{◌≡◌, ℕ, ◌+◌, Option}
 use Rattle.yspec.specs.Forest.{Forest, end, node, size}
 use Rattle.yspec.specs.Types.{Raw}
-use Rattle.yspec.specs.Schema.{SchemaNode}
+use Rattle.yspec.specs.Schema.{SchemaNode, Kind, container, leaf}
 use Rattle.yspec.specs.Document.{Stored, Tree}
 
 -- the numbers count up in preorder, from the first
@@ -10,6 +10,15 @@ abbrev pub IsNumbered : ℕ → Forest SchemaNode → Type 0
 IsNumbered next end = Unit {0}
 IsNumbered next (node n below after) =
     (n.number ≡ next) × IsNumbered (next + 1) below × IsNumbered (next + 1 + size below) after
+
+-- a leaf has no children (RFC 7950, 7.6)
+abbrev pub IsBare : Kind → Forest SchemaNode → Type 0
+IsBare (container presence) below = Unit {0}
+IsBare (leaf type in_use mandatory) below = below ≡ end
+
+abbrev pub LeafsAreBare : Forest SchemaNode → Type 0
+LeafsAreBare end = Unit {0}
+LeafsAreBare (node n below after) = IsBare n.kind below × LeafsAreBare below × LeafsAreBare after
 
 -- A row of stored nodes fits a row of schema nodes: in their order each is stored once or not at all, what is stored
 -- below it fits its children, and `Held` says which values it may have with what below it.

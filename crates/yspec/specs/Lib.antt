@@ -31,3 +31,4 @@ pub mod Output
 pub mod Examples
 pub mod EditText
 pub mod Editing
+pub mod Live

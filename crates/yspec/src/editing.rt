@@ -1,8 +1,9 @@
 //! Worked examples of edits, from their lines to what comes of a document.
 
-ghost use Rattle.std.specs.Prelude.{◌≡◌, [], ◌∷◌, codes, Some, None};
+ghost use Rattle.std.specs.Prelude.{◌≡◌, [], ◌∷◌, codes, Some, None, Err};
 ghost use Rattle.yspec.specs.EditText.{unsaid, at_position, with_keys, path_of, edit_of, create, replace, remove};
-ghost use Rattle.yspec.specs.Examples.{edited, accepted, refused_as, value_refused_as};
+ghost use Rattle.yspec.specs.Examples.{accepted, at_id, checked_as, checked_lines, edited, module_p, module_text, refused_as, value_refused_as};
+ghost use Rattle.yspec.specs.Live.{of_document, of_modules};
 
 /// What texts of paths spell: names, positions and keys; and texts that spell none.
 pub fn texts_of_paths()
@@ -71,4 +72,17 @@ pub fn creations_and_removals()
     ensures removed_already { edited (codes "{\"p:c\":{}}") (codes "remove /p:c/id" ∷ []) ≡ refused_as 7 (codes "{\"p:c\":{}}") }
     ensures one_after_the_other { edited (codes "{}") (codes "create /p:c {}" ∷ codes "create /p:c/id 7" ∷ codes "remove /p:c" ∷ [])
         ≡ Some (None ∷ None ∷ None ∷ [], codes "{}") }
+{}
+
+/// What comes of edits of a document, and its faults after them; and a document and a module that are refused.
+pub fn edits_checked()
+    ensures mended { checked_lines module_p (codes "{\"p:c\":{\"id\":256}}") (codes "replace /p:c/id 7" ∷ []) ≡ checked_as (None ∷ []) [] }
+    ensures spoiled { checked_lines module_p (codes "{\"p:c\":{\"id\":7}}") (codes "replace /p:c/id 300" ∷ codes "replace /p:c {}" ∷ codes "replace /p:c/id {}" ∷ [])
+        ≡ checked_as (None ∷ None ∷ Some (record { code = 7; document_code = None }) ∷ []) (at_id 3 ∷ []) }
+    ensures refused_value { checked_lines module_p (codes "{\"p:c\":{\"id\":256}}") (codes "replace /p:c/id {}" ∷ [])
+        ≡ checked_as (Some (record { code = 10; document_code = Some 5 }) ∷ []) (at_id 1 ∷ []) }
+    ensures no_edits { checked_lines module_p (codes "{}") [] ≡ checked_as [] (at_id 3 ∷ []) }
+    ensures refused_document { checked_lines module_p (codes "[]") [] ≡ Some (Err (of_document (record { code = 2; place = [] }))) }
+    ensures refused_module { checked_lines (module_text (codes "p") (codes "  leaf x;\n")) (codes "[]") []
+        ≡ Some (Err (of_modules (record { code = 2; module_number = 0; line = 5 }))) }
 {}
