@@ -7,3 +7,5 @@ pub mod WriteLemmas
 pub mod NameLemmas
 pub mod CutLemmas
 pub mod PathLemmas
+pub mod RowChanges
+pub mod EditLemmas

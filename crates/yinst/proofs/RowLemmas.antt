@@ -8,6 +8,8 @@ use Rattle.yspec.specs.Types.{Raw}
 use Rattle.yspec.specs.Document as spec
 use Rattle.yspec.specs.Document.{Tree}
 use Rattle.yspec.specs.Reading.{stored_rows, stored_node, value_of, members_of, placed}
+use Rattle.yschema.specs.View as schema_view
+use Rattle.yschema.specs.declared.node.SchemaNode as code
 use Rattle.yinst.specs.View.{view, row_view}
 use Rattle.yinst.specs.declared.tree.Stored.{Stored}
 
@@ -82,3 +84,14 @@ held_node s n d below seen i v label nothing number held none =
     let pair : spec.Stored → Tree → spec.Stored × Tree = λ l t. (l, t) in
     ap₂ pair (label ∙ ap₂ labelled number held)
     (nothing ∙ sym (ap (stored_rows s (Some n.module_number) below) none ∙ rows_of_none s (Some n.module_number) below))
+
+-- a node that is stored, by its number, its label and the row of its children
+pub seen_as : (s : Schema) (i : ℕ) (held : code.SchemaNode) (n : SchemaNode) (f g : Forest SchemaNode) (d : Data) (seen : Stored)
+    → i ≡ n.number → schema_view.node_view n.number held ≡ n → f ≡ g
+    → view seen ≡ (stored_node (schema_view.node_view i held) d, stored_rows s (Some held.«module») f (members_of d))
+    → view seen ≡ (stored_node n d, stored_rows s (Some n.module_number) g (members_of d))
+seen_as s i held n f g d seen number label row is =
+    let label' = ap (λ j. schema_view.node_view j held) number ∙ label in
+    let node_of : SchemaNode → Forest SchemaNode → spec.Stored × Tree =
+        λ m h. (stored_node m d, stored_rows s (Some m.module_number) h (members_of d)) in
+    is ∙ ap₂ node_of label' row

@@ -42,14 +42,30 @@ pub enum Edit {
     Remove { path: Path },
 }
 
-/// Why an edit isn't done.
+/// Why an edit isn't done, the first cause in this order.
 #[derive(Clone, Copy, Debug, PartialEq, Eq)]
 pub enum EditCode {
     /// The text is no edit's, or no path's.
     E1 = 1,
+    /// A step's name isn't there, or has its module's name in front where none is due, or lacks it where it is.
+    E2 = 2,
+    /// A step says which of several instances it means, and its node has but one.
+    E3 = 3,
+    /// A container before the last step isn't stored.
+    E4 = 4,
+    /// What is to be replaced or removed isn't stored.
+    E7 = 7,
+    /// What is to be created is stored.
+    E8 = 8,
+    /// The value is no JSON.
+    E9 = 9,
+    /// The value doesn't fit the node.
+    E10 = 10,
+    /// The document would have over 1,000,000 nodes.
+    E11 = 11,
 }
 
-/// Why an edit isn't done, and of a refused value why it isn't read.
+/// Why an edit isn't done, and with E10 why the value doesn't fit: J3 to J6.
 #[derive(Clone, Copy, Debug, PartialEq, Eq)]
 pub enum EditFault {
     Refused {

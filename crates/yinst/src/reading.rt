@@ -17,7 +17,7 @@ use crate::values::raw_of;
 use crate::visits::visit_members;
 use serde_json::{Map, Value};
 use std::alloc::{AllocError, Global};
-use yschema::{Child, Children, Kind, Schema, SchemaNode};
+use yschema::{Children, Kind, Schema, SchemaId, SchemaNode};
 use ytype::Raw;
 
 /// The document that JSON bytes denote under a schema, or the first refusal: J1 and J2, then J3 to J6 depth first, members
@@ -76,35 +76,36 @@ fn rows_of(
     for child in children {
         let name = written_name(alloc, schema, parent_module, child.node())?;
         if let Some(value) = members.get(name.as_str()) {
-            nodes.push(stored(alloc, schema, child, value)?)?;
+            let (id, node, below) = (child.id(), child.node(), child.children());
+            nodes.push(stored(alloc, schema, id, node, below, value)?)?;
         }
     }
     Ok(nodes)
 }
 
-/// The node that a value denotes at a child.
+/// What a value denotes at a node whose children are given.
 #[cycle(rows)]
-fn stored(
+pub(crate) fn stored(
     alloc: Global,
     schema: &Schema,
-    child: Child<'_>,
+    id: SchemaId,
+    node: &SchemaNode,
+    children: Children<'_>,
     value: &Value,
 ) -> Result<Stored, AllocError>
-    ensures { let n = schema_view.label_of child.entry in let d = json.view value.now in
+    ensures { let n = schema_view.node_view id.0 node.now in let d = json.view value.now in
         IfOk result (λ s. view s ≡ (
           stored_node n d,
-          stored_rows (schema_view.view schema.now)
-              (Some n.module_number) (schema_view.below_of child.entry) (members_of d),
+          stored_rows (schema_view.view schema.now) (Some n.module_number) (schema_view.row_view children.entry) (members_of d),
         )) }
 {
-    let held = held_of(alloc, child.node(), value)?;
+    let held = held_of(alloc, node, value)?;
     match value {
         Value::Object(members) => {
-            let module = Some(child.node().module);
-            let below = rows_of(alloc, schema, module, child.children(), members)?;
-            Ok(Stored::new(child.id(), held, below))
+            let below = rows_of(alloc, schema, Some(node.module), children, members)?;
+            Ok(Stored::new(id, held, below))
         }
-        _ => Ok(Stored::new(child.id(), held, Vec::new(alloc))),
+        _ => Ok(Stored::new(id, held, Vec::new(alloc))),
     }
 }
 

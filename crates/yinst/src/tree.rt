@@ -1,5 +1,6 @@
 //! What a document stores.
 
+use std::alloc::Global;
 use yschema::SchemaId;
 use ytype::Raw;
 
@@ -57,6 +58,11 @@ impl Stored {
     {
         self.below.as_slice()
     }
+
+    /// Where its nodes lie.
+    pub(crate) fn alloc(&self) -> Global {
+        *self.below.allocator()
+    }
 }
 
 /// A document under a schema.
@@ -69,6 +75,7 @@ impl Tree {
     ghost use Rattle.std.specs.Prelude.{◌≡◌};
     ghost use Rattle.yinst.specs.View.{row_view, tree_view};
 
+    /// The document with these top nodes.
     pub(crate) fn new(nodes: Vec<Stored>) -> Tree
         ensures { tree_view result ≡ row_view nodes.items }
     {
@@ -80,5 +87,10 @@ impl Tree {
         ensures { row_view result.now ≡ tree_view self.now }
     {
         self.nodes.as_slice()
+    }
+
+    /// Where its nodes lie.
+    pub(crate) fn alloc(&self) -> Global {
+        *self.nodes.allocator()
     }
 }

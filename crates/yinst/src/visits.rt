@@ -72,7 +72,7 @@ fn visit_member(
 
 /// Refuses what stands at a node; nothing where no node has that number.
 #[cycle(visits)]
-fn visit_node(
+pub(crate) fn visit_node(
     alloc: Global,
     schema: &Schema,
     id: SchemaId,

@@ -1,4 +1,4 @@
-use Rattle.std.proofs.Common.{◌≡◌, Option, option_map, ap, ◌∙◌}
+use Rattle.std.proofs.Common.{◌≡◌, Option, option_map, refl, ap, ◌∙◌}
 use Rattle.serde_json.specs.Data.{Data, no_members}
 use Rattle.serde_json.specs.Find.{get_member}
 use Rattle.serde_json.specs.View as json
@@ -9,7 +9,7 @@ use Rattle.ytype.specs.View.{raw_of}
 use Rattle.yschema.specs.View as schema_view
 use Rattle.yinst.specs.View.{row_view}
 use Rattle.yinst.proofs.ValueLemmas.{not_object}
-use Rattle.yinst.proofs.RowLemmas.{goes_on_with, goes_on_without, all_rows, held_node}
+use Rattle.yinst.proofs.RowLemmas.{goes_on_with, goes_on_without, all_rows, held_node, seen_as}
 use Rattle.yinst.proofs.reading.+rows.Goals as goal
 use Rattle.yinst.proofs.reading.+rows.Goals.{rows_of-in-Some-get+in_ok-stored+in_ok-push, rows_of-in_default}
 
@@ -28,7 +28,7 @@ rows_of-loop-child-preserved t c =
     ∙ ap (λ k. get_member k ms) (c.as_str.ensures.value ∙ (c.in_ok-name.ensures ∙ named)))) in
     elim c.match-get.branch [
       | rows_of-in-Some-get+in_ok-stored+in_ok-push w ↦ goes_on_with s c.args.parent_module n before below after ms found (json.view w.in-Some-get.value.now) c.loop-child.nodes.items c.match-get.nodes.items w.in_ok-stored.field-0 _ c.in-Some.ensures.steps here
-          (ap (option_map (λ x. json.view x.now)) w.in-Some-get.is) (ap (λ v. v.items) w.nodes-is ∙ w.in_ok-push.ensures.items) w.in_ok-stored.ensures c.loop-child.invariant
+          (ap (option_map (λ x. json.view x.now)) w.in-Some-get.is) (ap (λ v. v.items) w.nodes-is ∙ w.in_ok-push.ensures.items) (seen_as s w.id-id.result.0 w.node-node.result.now n (schema_view.row_view w.children-below.result) below (json.view w.in-Some-get.value.now) w.in_ok-stored.field-0 w.id-id.ensures w.node-node.ensures w.children-below.ensures w.in_ok-stored.ensures) c.loop-child.invariant
       | rows_of-in_default w ↦ goes_on_without s c.args.parent_module n before below after ms found c.loop-child.nodes.items c.match-get.nodes.items _ c.in-Some.ensures.steps here (ap (option_map (λ x. json.view x.now)) w.in_default.is) (ap (λ v. v.items) w.nodes-is) c.loop-child.invariant
     ]
 
@@ -39,9 +39,7 @@ rows_of-returns t c =
 
 pub stored-returns-in_default : goal.stored-returns-in_default
 stored-returns-in_default t c =
-    let n = schema_view.label_of c.args.child in
     let d = json.view c.args.value.now in
-    let kind = ap (λ (x : SchemaNode). value_of x.kind d) c.node.ensures in
-    let none : members_of d ≡ no_members = not_object c.args.value.now c.in_default.not-Object in
-    held_node (schema_view.view c.args.schema.now) n d (schema_view.below_of c.args.child) c.new-in_default-2.result c.id-in_default.result.0 (option_map raw_of c.in_ok-held.held)
-    c.new-in_default-2.ensures.node (c.new-in_default-2.ensures.below ∙ ap row_view c.new-in_default.ensures.items) c.id-in_default.ensures (c.in_ok-held.ensures ∙ kind) none
+    held_node (schema_view.view c.args.schema.now) (schema_view.node_view c.args.id.0 c.args.node.now) d (schema_view.row_view c.args.children) c.new-in_default-2.result
+    c.args.id.0 (option_map raw_of c.in_ok-held.held) c.new-in_default-2.ensures.node (c.new-in_default-2.ensures.below ∙ ap row_view c.new-in_default.ensures.items)
+    refl c.in_ok-held.ensures (not_object c.args.value.now c.in_default.not-Object)

@@ -1,0 +1,14 @@
+use Rattle.yschema.specs.View.{view}
+use Rattle.yinst.specs.View.{tree_view}
+use Rattle.yinst.specs.EditView.{edit_view}
+use Rattle.yinst.proofs.NumberedLemmas.{numbered}
+use Rattle.yinst.proofs.EditLemmas.{fits_if_applied, whole_if_applied}
+use Rattle.yinst.proofs.applying.apply.Goals as goal
+
+pub returns-clause-fitting : goal.returns-clause-fitting
+returns-clause-fitting c = fits_if_applied c.edited.result (view c.args.schema.now) (tree_view c.args.tree.now) (edit_view c.args.edit.now)
+    (numbered 0 c.args.schema.now.rows.items) c.edited.ensures
+
+pub returns-clause-whole : goal.returns-clause-whole
+returns-clause-whole c = whole_if_applied c.edited.result (view c.args.schema.now) (tree_view c.args.tree.now) (edit_view c.args.edit.now)
+    (numbered 0 c.args.schema.now.rows.items) c.edited.ensures

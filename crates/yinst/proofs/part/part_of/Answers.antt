@@ -1,0 +1,13 @@
+use Rattle.serde_json.specs.View as json
+use Rattle.yschema.specs.View as schema_view
+use Rattle.yinst.specs.Rows.{part_view}
+use Rattle.yinst.proofs.ReadLemmas.{json_found}
+use Rattle.yinst.proofs.EditLemmas.{answers_same, part_of_value}
+use Rattle.yinst.proofs.part.part_of.Goals as goal
+
+pub returns-in-Ok : goal.returns-in-Ok
+returns-in-Ok c =
+    let bytes = c.as_bytes.result.now in
+    answers_same part_view c.part_at.result _ _
+    (part_of_value (schema_view.view c.args.schema.now) c.args.id.0 bytes c.args.text.now (json.view c.in-Ok.value) c.as_bytes.ensures.value
+    (json_found bytes (json.view c.in-Ok.value) c.in-Ok.ensures.ok.0 c.in-Ok.ensures.ok.1)) c.part_at.ensures

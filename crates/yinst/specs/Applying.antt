@@ -1,0 +1,38 @@
+-- Refusals of edits as the specification's.
+use Rattle.std.specs.Prelude.{◌≡◌, ℕ, List, map, Option, option_map, Result, Ok, Err}
+use Rattle.yspec.specs.Editing.{EditRefusal}
+use Rattle.yschema.specs.declared.node.SchemaId.{SchemaId}
+use Rattle.yinst.specs.Told.{code_number}
+use Rattle.yinst.specs.declared.fault.DocCode.{DocCode}
+use Rattle.yinst.specs.declared.edit.EditCode.{EditCode}
+use Rattle.yinst.specs.declared.edit.EditCode.TheVariants.{E1, E2, E3, E4, E7, E8, E9, E10, E11}
+use Rattle.yinst.specs.declared.edit.EditFault.{EditFault}
+use Rattle.yinst.specs.declared.edit.EditFault.TheVariants.{Refused, Memory}
+
+abbrev pub edit_number : EditCode → ℕ
+edit_number E1 = 1
+edit_number E2 = 2
+edit_number E3 = 3
+edit_number E4 = 4
+edit_number E7 = 7
+edit_number E8 = 8
+edit_number E9 = 9
+edit_number E10 = 10
+edit_number E11 = 11
+
+abbrev pub refusal_view : EditCode → Option DocCode → EditRefusal
+refusal_view code doc = record { code = edit_number code; document_code = option_map code_number doc }
+
+-- the answer is this refusal; where memory ran out nothing is said
+abbrev pub IsRefused : {Y : Type 0} → EditFault → Result Y EditRefusal → Type 0
+IsRefused (Refused code doc) answer = answer ≡ Err (refusal_view code doc)
+IsRefused Memory answer = Unit {0}
+
+-- what was returned, as it is seen, is the answer, unless memory ran out
+abbrev pub Answers : {X Y : Type 0} → (X → Y) → Result X EditFault → Result Y EditRefusal → Type 0
+Answers see (Ok x) answer = answer ≡ Ok (see x)
+Answers see (Err fault) answer = IsRefused fault answer
+
+-- the numbers of schema nodes
+abbrev pub numbers : List SchemaId → List ℕ
+numbers = map (λ id. id.0)

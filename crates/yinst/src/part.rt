@@ -1,0 +1,54 @@
+//! The value of an edit.
+
+ghost use Rattle.std.specs.Prelude.{◌≡◌, IfOk};
+ghost use Rattle.serde_json.specs.View as json;
+ghost use Rattle.yspec.specs.Editing as spec;
+ghost use Rattle.yschema.specs.View as schema_view;
+ghost use Rattle.yinst.specs.Applying.{Answers};
+ghost use Rattle.yinst.specs.Rows.{part_view};
+
+use crate::edit::{EditCode, EditFault};
+use crate::fault::DocFault;
+use crate::reading::stored;
+use crate::tree::Stored;
+use crate::visits::visit_node;
+use crate::way::refused;
+use serde_json::Value;
+use std::alloc::Global;
+use yschema::{Schema, SchemaId, SchemaNode};
+
+/// The node that a JSON text denotes at a schema node: E9, E10 with the first refusal of a document.
+pub(crate) fn part_of(
+    alloc: Global,
+    schema: &Schema,
+    id: SchemaId,
+    text: &str,
+) -> Result<Stored, EditFault>
+    ensures { Answers part_view result (spec.part_of (schema_view.view schema.now) id.0 text.now) }
+{
+    match Value::from_slice(alloc, text.as_bytes()) {
+        Ok(value) => part_at(alloc, schema, id, &value),
+        Err(error) if error.is_memory() => Err(EditFault::Memory),
+        Err(_) => Err(refused(EditCode::E9)),
+    }
+}
+
+/// The node that a value denotes at a schema node.
+fn part_at(
+    alloc: Global,
+    schema: &Schema,
+    id: SchemaId,
+    value: &Value,
+) -> Result<Stored, EditFault>
+    ensures { Answers part_view result (spec.part_at (schema_view.view schema.now) id.0 (json.view value.now)) }
+{
+    let Some(node) = schema.kind(id) else {
+        return Err(refused(EditCode::E2));
+    };
+    let mut place = Vec::new(alloc);
+    match visit_node(alloc, schema, id, value, &mut place) {
+        Ok(()) => Ok(stored(alloc, schema, id, node, schema.children(id), value)?),
+        Err(DocFault::Refused { code, .. }) => Err(EditFault::Refused { code: EditCode::E10, doc: Some(code) }),
+        Err(DocFault::Memory) => Err(EditFault::Memory),
+    }
+}
