@@ -1,0 +1,2 @@
+pub mod FittingTest
+pub mod RunSteps

@@ -1,0 +1,4 @@
+pub mod Kept
+pub mod View
+pub mod Answers
+pub mod Checking

@@ -1,0 +1,57 @@
+//! What comes of edits of a live document, and why a call on one gives nothing.
+
+use yinst::{DocCode, EditCode, EditFault};
+
+/// How many faults the document had before an edit, and how many it has after it.
+#[derive(Clone, Copy, Debug, PartialEq, Eq)]
+pub struct Applied {
+    pub before: usize,
+    pub after: usize,
+}
+
+/// Why an edit isn't done.
+#[derive(Clone, Copy, Debug, PartialEq, Eq)]
+pub enum Refused {
+    /// The edit is refused, and the document stays as it was. It is never `EditFault::Memory`.
+    Edit(EditFault),
+    /// E12: memory ran out, so the document is stale from now on.
+    Memory,
+    /// E13: the document is stale, and stays as it was.
+    Stale,
+}
+
+/// What comes of an edit of a list.
+#[derive(Clone, Copy, Debug, PartialEq, Eq)]
+pub enum Outcome {
+    Accepted,
+    /// Why it is refused, and with E10 why the value doesn't fit: J3 to J6.
+    Refused {
+        code: EditCode,
+        doc: Option<DocCode>,
+    },
+}
+
+/// Which want ends a list of edits.
+#[derive(Clone, Copy, Debug, PartialEq, Eq)]
+pub enum StopCode {
+    /// Memory ran out, so the document is stale from now on.
+    E12 = 12,
+    /// The document is stale.
+    E13 = 13,
+}
+
+/// Why a list of edits ended early, and how many of its edits were decided.
+#[derive(Clone, Copy, Debug, PartialEq, Eq)]
+pub struct Stopped {
+    pub code: StopCode,
+    pub done: usize,
+}
+
+/// Why there is no list of faults.
+#[derive(Clone, Copy, Debug, PartialEq, Eq)]
+pub enum ListFault {
+    /// The document is stale.
+    Stale,
+    /// Memory ran out; the document stays as it was.
+    Memory,
+}

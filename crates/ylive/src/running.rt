@@ -1,0 +1,66 @@
+//! Lists of edits.
+
+ghost use Rattle.std.specs.Prelude.{◌≡◌};
+
+use crate::live::Live;
+use crate::outcome::{Outcome, Refused, StopCode, Stopped};
+use std::alloc::AllocError;
+use yinst::{Edit, EditFault};
+
+impl Live {
+    ghost use Rattle.std.specs.Prelude.{◌≡◌, false};
+    ghost use Rattle.yinst.specs.EditView.{edit_view};
+    ghost use Rattle.ylive.specs.View.{view, edits_view};
+    ghost use Rattle.ylive.specs.Answers.{Decides, Runs};
+
+    /// Applies edits in order, each to what the ones before it left, and tells what comes of each. A refused edit changes
+    /// nothing and doesn't end the list. Where memory runs out what was accepted stands, and the document is stale.
+    pub fn run(&mut self, edits: &[Edit]) -> Result<Vec<Outcome>, Stopped>
+        ensures { Runs (view self.old) (edits_view edits.now) result (view self.new) }
+    {
+        if self.is_stale() {
+            return Err(Stopped {
+                code: StopCode::E13,
+                done: 0,
+            });
+        }
+        let mut outcomes = match Vec::with_capacity(self.alloc(), edits.len()) {
+            Ok(outcomes) => outcomes,
+            Err(_) => {
+                self.forget_faults();
+                return Err(out_of_memory(0));
+            }
+        };
+        for edit in edits {
+            match self.decide(edit) {
+                Ok(outcome) => outcomes.push(outcome).unwrap(),
+                Err(_) => return Err(out_of_memory(outcomes.len())),
+            }
+        }
+        Ok(outcomes)
+    }
+
+    /// What comes of an edit of a document that isn't stale.
+    fn decide(&mut self, edit: &Edit) -> Result<Outcome, AllocError>
+        requires { (view self.old).is_stale ≡ false }
+        ensures { Decides (view self.old) (edit_view edit.now) result (view self.new) }
+    {
+        match self.edit(edit) {
+            Ok(_) => Ok(Outcome::Accepted),
+            Err(Refused::Edit(EditFault::Refused { code, doc })) => {
+                Ok(Outcome::Refused { code, doc })
+            }
+            Err(_) => Err(AllocError),
+        }
+    }
+}
+
+fn out_of_memory(done: usize) -> Stopped
+    ensures code { result.code ≡ StopCode.E12 }
+    ensures done { result.done ≡ done }
+{
+    Stopped {
+        code: StopCode::E12,
+        done,
+    }
+}
