@@ -11,6 +11,8 @@ mod part;
 mod paths;
 mod reading;
 mod rows;
+#[cfg(test)]
+mod tests;
 mod tree;
 mod values;
 mod visits;

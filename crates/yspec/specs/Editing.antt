@@ -1,14 +1,14 @@
 -- What an edit does to a document, or why it is refused.
-use Rattle.std.specs.Prelude.{ℕ, ◌==◌, ◌++◌, Bool, true, false, List, [], ◌∷◌, map, Option, Some, None, is_some, option_map, option_and_then, Result, Ok, Err, if◌then◌else◌, nat_lt}
+use Rattle.std.specs.Prelude.{ℕ, ◌==◌, ◌++◌, Bool, true, false, List, [], ◌∷◌, map, Option, Some, None, is_some, option_and_then, Result, Ok, Err, if◌then◌else◌, nat_lt}
 use Rattle.std.specs.Option.{option_map_or}
 use Rattle.serde_json.specs.Data.{Data}
-use Rattle.yspec.specs.Forest.{Forest, end, node, size}
+use Rattle.yspec.specs.Forest.{end, node, size}
 use Rattle.yspec.specs.Text.{Text}
 use Rattle.yspec.specs.Schema.{Schema, SchemaNode, node_at, children_of, child_written}
 use Rattle.yspec.specs.Document.{Stored, Tree, Step}
 use Rattle.yspec.specs.Reading.{node_visits, first_wrong, json_of, stored_node, stored_rows, members_of}
 use Rattle.yspec.specs.Edit.{edit_at}
-use Rattle.yspec.specs.EditText.{Predicate, unsaid, NamedStep, Path, Edit, create, replace, remove}
+use Rattle.yspec.specs.EditText.{Predicate, unsaid, Path, Edit, create, replace, remove}
 
 -- why an edit is refused: the number behind the `E`, and of a value that doesn't fit the one behind the `J`
 pub record EditRefusal : Type 0 where

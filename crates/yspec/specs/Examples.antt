@@ -1,5 +1,5 @@
 -- Worked examples: modules and documents whose faults and refusals are known from the standard's rules.
-use Rattle.std.specs.Prelude.{ℕ, List, ◌++◌, [], ◌∷◌, codes, Option, Some, None, option_map, option_and_then, Result, Ok, Err}
+use Rattle.std.specs.Prelude.{ℕ, List, ◌++◌, [], ◌∷◌, codes, Option, Some, None, option_map, option_and_then, Result, Ok}
 use Rattle.std.specs.Result.{result_ok}
 use Rattle.yspec.specs.Text.{Text}
 use Rattle.yspec.specs.Statement.{module_of}

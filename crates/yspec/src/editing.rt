@@ -1,9 +1,35 @@
-//! Worked examples of edits, from their lines to what comes of a document.
+//! Laws and worked examples of edits, from their lines to what comes of a document.
 
-ghost use Rattle.std.specs.Prelude.{◌≡◌, [], ◌∷◌, codes, Some, None, Err};
-ghost use Rattle.yspec.specs.EditText.{unsaid, at_position, with_keys, path_of, edit_of, create, replace, remove};
+ghost use Rattle.std.specs.Prelude.{◌≡◌, List, [], ◌∷◌, codes, Some, None, Err};
+ghost use Rattle.yspec.specs.Forest.{Forest};
+ghost use Rattle.yspec.specs.Statement.{Statement};
+ghost use Rattle.yspec.specs.Schema.{Schema};
+ghost use Rattle.yspec.specs.Breaks.{compiled};
+ghost use Rattle.yspec.specs.Document.{Tree};
+ghost use Rattle.yspec.specs.Fitting.{IsNumbered, LeafsAreBare, Fits};
+ghost use Rattle.yspec.specs.Writing.{NamesDiffer, IsDocument};
+ghost use Rattle.yspec.specs.Editing.{after};
+ghost use Rattle.yspec.specs.EditText.{Edit, unsaid, at_position, with_keys, path_of, edit_of, create, replace, remove};
 ghost use Rattle.yspec.specs.Examples.{accepted, at_id, checked_as, checked_lines, edited, module_p, module_text, refused_as, value_refused_as};
 ghost use Rattle.yspec.specs.Live.{of_document, of_modules};
+
+/// A document that fits its schema fits it after any edits.
+pub fn edited_documents_fit()
+    ensures { (schema : Schema) (tree : Tree) (edits : List Edit) → IsNumbered 0 schema.nodes → Fits schema.nodes tree
+        → Fits schema.nodes (after schema tree edits) }
+{}
+
+/// It does so in its values too, where no leaf has children and no two siblings are written with one name.
+pub fn edited_documents_are_whole()
+    ensures { (schema : Schema) (tree : Tree) (edits : List Edit) → IsNumbered 0 schema.nodes → LeafsAreBare schema.nodes
+        → NamesDiffer schema None schema.nodes → IsDocument schema.nodes tree → IsDocument schema.nodes (after schema tree edits) }
+{}
+
+/// The nodes of a schema that compiles are numbered in preorder, and its leafs have no children.
+pub fn compiled_schemas()
+    ensures numbered { (modules : Forest Statement) (schema : Schema) → compiled modules ≡ Ok schema → IsNumbered 0 schema.nodes }
+    ensures bare { (modules : Forest Statement) (schema : Schema) → compiled modules ≡ Ok schema → LeafsAreBare schema.nodes }
+{}
 
 /// What texts of paths spell: names, positions and keys; and texts that spell none.
 pub fn texts_of_paths()

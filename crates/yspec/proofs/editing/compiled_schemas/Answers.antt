@@ -1,0 +1,5 @@
+use Rattle.yspec.proofs.CompiledShape.{compiled_numbered, compiled_bare}
+use Rattle.yspec.proofs.editing.compiled_schemas.Goals as goal
+
+pub returns : goal.returns
+returns c = record { numbered = compiled_numbered; bare = compiled_bare }
