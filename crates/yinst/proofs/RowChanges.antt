@@ -1,9 +1,9 @@
 -- A change of a row is made behind the nodes before its place.
-use Rattle.std.proofs.Common.{◌≡◌, ℕ, suc, ◌+◌, ◌==◌, ◌≤◌, ◌<◌, Bool, true, false, not, ◌||◌, cond, List, [], ◌∷◌, ◌++◌, length, take, drop, slice_index_or, Option, Some, None, Result, Ok, Err, IfOk, refl, sym, ap, ap₂, ◌∙◌, arith}
+use Rattle.std.proofs.Common.{◌≡◌, ℕ, suc, ◌+◌, ◌==◌, ◌≤◌, ◌<◌, Bool, true, false, not, ◌||◌, cond, List, [], ◌∷◌, ◌++◌, length, take, drop, slice_index_or, Some, None, Result, Ok, Err, IfOk, refl, sym, ap, ap₂, ◌∙◌, arith}
 use Rattle.std.specs.Prelude.{nat_le, nat_lt, position, unwrap_or}
 use Rattle.std.specs.List.{position_or_len}
 use Rattle.std.proofs.lemmas.List.{at_drop_more}
-use Rattle.yspec.specs.Forest.{end, node, join, size}
+use Rattle.yspec.specs.Forest.{node, join, size}
 use Rattle.yspec.specs.Document.{Tree}
 use Rattle.yspec.specs.Edit.{change_below}
 use Rattle.yspec.specs.Editing.{Part, stored_in, with_part, without}
@@ -200,7 +200,7 @@ pub part_put : (p : Stored) (row before from nodes after : List Stored) (i j : �
     → join (row_view nodes) (node (view p).0 (view p).1 (row_view after)) ≡ with_part (part_view p) (row_view row)
 part_put p row before from nodes after i j i_is j_is before_is from_is nodes_are after_is =
     ap₂ (λ t u. join t (node (view p).0 (view p).1 u)) (nodes_are ∙ ap row_view (before_is ∙ ap (λ n. before_first (is_not_before n) row) i_is))
-        (after_is ∙ ap₂ (λ n f. without_first n (row_view f)) j_is (from_is ∙ ap (λ n. from_first (is_not_before n) row) i_is))
+    (after_is ∙ ap₂ (λ n f. without_first n (row_view f)) j_is (from_is ∙ ap (λ n. from_first (is_not_before n) row) i_is))
     ∙ sym (part_there (part_view p) row)
 
 pub node_taken : (n : ℕ) (row before from nodes after : List Stored) → before ≡ before_first (has_number n) row → from ≡ from_first (has_number n) row

@@ -93,5 +93,5 @@ pub seen_as : (s : Schema) (i : ℕ) (held : code.SchemaNode) (n : SchemaNode) (
 seen_as s i held n f g d seen number label row is =
     let label' = ap (λ j. schema_view.node_view j held) number ∙ label in
     let node_of : SchemaNode → Forest SchemaNode → spec.Stored × Tree =
-        λ m h. (stored_node m d, stored_rows s (Some m.module_number) h (members_of d)) in
+    λ m h. (stored_node m d, stored_rows s (Some m.module_number) h (members_of d)) in
     is ∙ ap₂ node_of label' row

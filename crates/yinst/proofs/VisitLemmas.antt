@@ -1,6 +1,6 @@
 -- The first refusal of visits, member by member and node by node.
 use Rattle.std.proofs.Common.{◌≡◌, ℕ, Bool, List, [], ◌∷◌, ◌++◌, Option, Some, None, Result, Ok, Err, OnOk, rules, refl, sym, ap, ◌∙◌, subst, true, false, cond}
-use Rattle.serde_json.specs.Data.{Data, object, Members, no_members, member, null, boolean, number, string, array}
+use Rattle.serde_json.specs.Data.{Data, object, Members, no_members, member}
 use Rattle.serde_json.specs.Find.{as_object}
 use Rattle.serde_json.specs.View as json
 use Rattle.serde_json.specs.declared.value.Value.{Value, Object, the_lemmas}

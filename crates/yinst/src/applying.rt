@@ -24,12 +24,7 @@ const NODE_LIMIT: usize = 1_000_000;
 
 /// The document after an edit, or the first refusal: of the path's steps E1, of its names E2 and its predicates E3, of
 /// where it stands E4, E7 and E8, of its value E9 and E10, and E11. The document that is given stays as it is.
-pub fn apply(
-    alloc: Global,
-    schema: &Schema,
-    tree: &Tree,
-    edit: &Edit,
-) -> Result<Tree, EditFault>
+pub fn apply(alloc: Global, schema: &Schema, tree: &Tree, edit: &Edit) -> Result<Tree, EditFault>
     ensures answer { Answers tree_view result (spec.applied (schema_view.view schema.now) (tree_view tree.now) (edit_view edit.now)) }
     // of a document that fits its schema, as one that is read under it does
     ensures fitting { let s = schema_view.view schema.now in Fits s.nodes (tree_view tree.now) → IfOk result (λ t. Fits s.nodes (tree_view t)) }
@@ -42,12 +37,7 @@ pub fn apply(
 
 /// The document after an edit.
 #[tactic(auto, unfolding(yspec::specs::Editing::applied))]
-fn edited(
-    alloc: Global,
-    schema: &Schema,
-    tree: &Tree,
-    edit: &Edit,
-) -> Result<Tree, EditFault>
+fn edited(alloc: Global, schema: &Schema, tree: &Tree, edit: &Edit) -> Result<Tree, EditFault>
     ensures { Answers tree_view result (spec.applied (schema_view.view schema.now) (tree_view tree.now) (edit_view edit.now)) }
 {
     match edit {
@@ -126,12 +116,7 @@ fn with_value(
 }
 
 /// A copy of a document with a change in the target's row.
-fn with_row(
-    alloc: Global,
-    tree: &Tree,
-    target: &Target,
-    change: Change,
-) -> Result<Tree, AllocError>
+fn with_row(alloc: Global, tree: &Tree, target: &Target, change: Change) -> Result<Tree, AllocError>
     ensures { IfOk result (λ t. tree_view t ≡ spec.with_row (target_view target.now) (change_view change) (tree_view tree.now)) }
 {
     Ok(Tree::new(changed(alloc, tree.nodes(), &target.above, change)?))

@@ -34,12 +34,7 @@ pub(crate) fn part_of(
 }
 
 /// The node that a value denotes at a schema node.
-fn part_at(
-    alloc: Global,
-    schema: &Schema,
-    id: SchemaId,
-    value: &Value,
-) -> Result<Stored, EditFault>
+fn part_at(alloc: Global, schema: &Schema, id: SchemaId, value: &Value) -> Result<Stored, EditFault>
     ensures { Answers part_view result (spec.part_at (schema_view.view schema.now) id.0 (json.view value.now)) }
 {
     let Some(node) = schema.kind(id) else {
@@ -48,7 +43,10 @@ fn part_at(
     let mut place = Vec::new(alloc);
     match visit_node(alloc, schema, id, value, &mut place) {
         Ok(()) => Ok(stored(alloc, schema, id, node, schema.children(id), value)?),
-        Err(DocFault::Refused { code, .. }) => Err(EditFault::Refused { code: EditCode::E10, doc: Some(code) }),
+        Err(DocFault::Refused { code, .. }) => Err(EditFault::Refused {
+            code: EditCode::E10,
+            doc: Some(code),
+        }),
         Err(DocFault::Memory) => Err(EditFault::Memory),
     }
 }

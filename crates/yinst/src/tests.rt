@@ -107,8 +107,22 @@ fn paths(rt: HostRuntime) -> Result<(), Fail> {
 #[test]
 fn no_paths(rt: HostRuntime) -> Result<(), Fail> {
     let table = [
-        "", "/", "p:c", "/p:c/", "/p:l[0]", "/p:l[01]", "/p:l[1][2]", "/p:l[1][a='x']", "/p:l[ 1]",
-        "/p:l[p:a='x']", "/p:l[a='x]", "/p:l[a=x]", "/p:l[a='x'", "/p:c[]", "/1c", "/p:q:c",
+        "",
+        "/",
+        "p:c",
+        "/p:c/",
+        "/p:l[0]",
+        "/p:l[01]",
+        "/p:l[1][2]",
+        "/p:l[1][a='x']",
+        "/p:l[ 1]",
+        "/p:l[p:a='x']",
+        "/p:l[a='x]",
+        "/p:l[a=x]",
+        "/p:l[a='x'",
+        "/p:c[]",
+        "/1c",
+        "/p:q:c",
     ];
     for text in table {
         assert!(rt; spells_no_path(rt.alloc(), text), "{text}");
@@ -133,8 +147,15 @@ fn edits(rt: HostRuntime) -> Result<(), Fail> {
 #[test]
 fn no_edits(rt: HostRuntime) -> Result<(), Fail> {
     let table = [
-        "replace /p:c/id", "create /p:c   ", "remove /p:c {}", " remove /p:c", "remove\t/p:c", "remove",
-        "move /p:c 1", "Remove /p:c", "remove /p:c\n",
+        "replace /p:c/id",
+        "create /p:c   ",
+        "remove /p:c {}",
+        " remove /p:c",
+        "remove\t/p:c",
+        "remove",
+        "move /p:c 1",
+        "Remove /p:c",
+        "remove /p:c\n",
     ];
     for text in table {
         assert!(rt; spells_no_edit(rt.alloc(), text), "{text}");

@@ -51,7 +51,11 @@ fn located(tree: &Tree, way: Way) -> Result<Target, EditFault>
 {
     let Way { above, last } = way;
     match row_under(tree.nodes(), &above) {
-        Some(row) => Ok(Target { above, id: last, is_stored: is_stored_in(row, last) }),
+        Some(row) => Ok(Target {
+            above,
+            id: last,
+            is_stored: is_stored_in(row, last),
+        }),
         None => Err(refused(EditCode::E4)),
     }
 }
@@ -81,7 +85,14 @@ fn way_of(alloc: Global, schema: &Schema, steps: &[NamedStep]) -> Result<Way, Ed
         return Err(refused(EditCode::E1));
     };
     match schema.child_written(None, first.name.as_str()) {
-        Some(last) => way_on(schema, Way { above: Vec::new(alloc), last }, steps),
+        Some(last) => way_on(
+            schema,
+            Way {
+                above: Vec::new(alloc),
+                last,
+            },
+            steps,
+        ),
         None => Err(refused(EditCode::E2)),
     }
 }
@@ -91,7 +102,10 @@ fn way_on(schema: &Schema, way: Way, steps: &[NamedStep]) -> Result<Way, EditFau
     ensures { Answers way_view result
         (spec.way_on (schema_view.view schema.now) (numbers way.above.items) way.last.0 (steps_view steps.now)) }
 {
-    let Way { mut above, mut last } = way;
+    let Way {
+        mut above,
+        mut last,
+    } = way;
     for step in steps {
         above.push(last)?;
         match schema.child_written(Some(last), step.name.as_str()) {

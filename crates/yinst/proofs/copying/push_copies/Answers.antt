@@ -1,4 +1,4 @@
-use Rattle.std.proofs.Common.{◌+◌, drop, slice_index_or, ap, sym, ◌∙◌, rules}
+use Rattle.std.proofs.Common.{◌+◌, drop, slice_index_or, ap, sym, ◌∙◌}
 use Rattle.std.proofs.lemmas.List.{at_drop_more, at_drop_all}
 use Rattle.yspec.specs.Forest.{join}
 use Rattle.yinst.specs.View.{view, row_view}

@@ -1,10 +1,9 @@
 use Rattle.std.proofs.Common.{◌≡◌, Option, option_map, refl, ap, ◌∙◌}
-use Rattle.serde_json.specs.Data.{Data, no_members}
+use Rattle.serde_json.specs.Data.{Data}
 use Rattle.serde_json.specs.Find.{get_member}
 use Rattle.serde_json.specs.View as json
 use Rattle.serde_json.proofs.Views.{view_of_ref, view-lookup}
-use Rattle.yspec.specs.Schema.{SchemaNode, written_name}
-use Rattle.yspec.specs.Reading.{members_of, value_of}
+use Rattle.yspec.specs.Schema.{written_name}
 use Rattle.ytype.specs.View.{raw_of}
 use Rattle.yschema.specs.View as schema_view
 use Rattle.yinst.specs.View.{row_view}

@@ -1,4 +1,4 @@
-use Rattle.std.proofs.Common.{[], ◌∷◌, Some, ap, sym, ◌∙◌, rules}
+use Rattle.std.proofs.Common.{Some, ap, sym, ◌∙◌}
 use Rattle.yinst.proofs.RowChanges.{found_below, found_none, nothing_left}
 use Rattle.yinst.proofs.rows.below_in.Goals as goal
 
