@@ -4,7 +4,7 @@ ghost use Rattle.std.specs.Prelude.{None};
 
 use crate::files::{FileFault, Files};
 use std::alloc::Global;
-use std::io::{ErrorKind, Write};
+use std::io::{BufWriter, ErrorKind, Write};
 use std::{fs, rt};
 use ytext::{FailureCount, Sink, SinkFault};
 
@@ -46,6 +46,7 @@ impl<R: rt::Files + AllocGlobal> Files for FileSystem<'_, R> {
 #[derive(Drop)]
 pub struct Stream<W> {
     stream: W,
+    has_failed: bool,
     count: FailureCount,
 }
 
@@ -53,8 +54,24 @@ impl<W> Stream<W> {
     pub fn new(stream: W) -> Stream<W> {
         Stream {
             stream,
+            has_failed: false,
             count: FailureCount::new(),
         }
+    }
+}
+
+impl<W: Write + Drop> Stream<BufWriter<W>> {
+    /// Ends the stream: writes out what it holds back, but nothing where a write has failed.
+    pub fn finish(self) -> Result<(), SinkFault> {
+        let Stream {
+            mut stream,
+            has_failed,
+            count: _,
+        } = self;
+        let is_written = !has_failed && stream.flush().is_ok();
+        // What a failed write left in the buffer would be tried again where a `BufWriter` is dropped whole.
+        let (_, _) = stream.into_parts();
+        if is_written { Ok(()) } else { Err(SinkFault) }
     }
 }
 
@@ -67,6 +84,7 @@ impl<W: Write> Sink for Stream<W> {
         match self.stream.write_all(part) {
             Ok(()) => Ok(part.len()),
             Err(_) => {
+                self.has_failed = true;
                 self.count.rise();
                 Err(SinkFault)
             }
