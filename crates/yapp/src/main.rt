@@ -28,11 +28,7 @@ fn words_of(rt: &HostRuntime) -> io::Result<Vec<String>> {
 }
 
 /// Does what the words of the command line ask for, and answers the exit status. The output is written out at the end.
-fn answer<W: Write + Drop, E: Sink>(
-    rt: &HostRuntime,
-    stdout: BufWriter<W>,
-    errors: &mut E,
-) -> u8 {
+fn answer<W: Write + Drop, E: Sink>(rt: &HostRuntime, stdout: BufWriter<W>, errors: &mut E) -> u8 {
     let mut files = FileSystem::new(rt);
     let mut output = Stream::new(stdout);
     let status = match words_of(rt) {

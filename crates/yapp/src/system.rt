@@ -51,6 +51,7 @@ pub struct Stream<W> {
 }
 
 impl<W> Stream<W> {
+    /// The stream to a writer.
     pub fn new(stream: W) -> Stream<W> {
         Stream {
             stream,
