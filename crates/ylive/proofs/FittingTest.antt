@@ -4,7 +4,7 @@ use Rattle.std.specs.Prelude.{◌==◌, ◌&&◌, ◌||◌}
 use Rattle.std.proofs.lemmas.Bool.{eqb-true, and_from, and_parts}
 use Rattle.yspec.specs.Forest.{Forest, end, node}
 use Rattle.yspec.specs.Schema.{SchemaNode}
-use Rattle.yspec.specs.Document.{Stored, Tree}
+use Rattle.yspec.specs.Document.{Tree}
 use Rattle.yspec.specs.Fitting.{Fits, at_end, not_stored, is_stored}
 use Rattle.ylive.specs.Kept.{fits}
 

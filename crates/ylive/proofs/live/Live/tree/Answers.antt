@@ -2,7 +2,6 @@ use Rattle.std.proofs.Common.{subst, sym}
 use Rattle.std.proofs.lemmas.Result.{MatchResult-weaker}
 use Rattle.yspec.specs.Fitting.{Fits}
 use Rattle.yschema.specs.View as schema_view
-use Rattle.yinst.specs.View.{tree_view}
 use Rattle.ylive.proofs.FittingTest.{fits_is}
 use Rattle.ylive.proofs.live.Live.tree.Goals as goal
 
