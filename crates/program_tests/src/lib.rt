@@ -1,0 +1,9 @@
+//! Tests of the program, over files and sides in memory.
+#![tactic(auto)]
+
+#[cfg(test)]
+mod failing;
+#[cfg(test)]
+mod running;
+#[cfg(test)]
+mod telling;

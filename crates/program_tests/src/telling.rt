@@ -1,0 +1,200 @@
+//! What the program prints. The rows of a table are parted by lines `==`, so that a row can hold lines.
+
+use crate::running::{BOTH_LINES, MODULE, Shown, TWO_FAULTS, WHOLLY, pair, shown_by, validated};
+use std::alloc::Global;
+use ytext::Cut;
+
+/// The module of the tests with a type that the program doesn't take yet.
+const OTHER_TYPE: &str = "module p {
+  yang-version 1.1;
+  namespace \"urn:p\";
+  prefix p;
+  container c {
+    leaf id { type int32; mandatory true; }
+    leaf note { type string; }
+  }
+}
+";
+
+/// Whether a side took these lines and nothing else.
+fn has_lines(side: &Cut, lines: &str) -> bool {
+    match side.bytes().split_last() {
+        Some((last, bytes)) => *last == b'\n' && bytes == lines.as_bytes(),
+        None => false,
+    }
+}
+
+/// Whether a document prints so under the module: its row is the document, the status and the output.
+fn is_told(alloc: Global, row: &str) -> Option<bool> {
+    let (document, rest) = row.split_once('\n')?;
+    let (status, output) = rest.split_once('\n')?;
+    let status = status.parse::<u8>().ok()?;
+    let shown = validated(alloc, MODULE.as_bytes(), document.as_bytes()).ok()?;
+    let is_silent = shown.errors.bytes().is_empty();
+    Some(is_silent && shown.status == status && has_lines(&shown.output, output))
+}
+
+#[test]
+fn documents(rt: HostRuntime) {
+    let rows = "{\"p:c\":{\"note\":\"x\"}}
+1
+V3 data-missing - /p:c/id -
+1 faults
+==
+{\"p:c\":{\"id\":256}}
+1
+V1 invalid-value - /p:c/id -
+1 faults
+==
+{\"p:c\":{\"id\":255}}
+0
+0 faults
+==
+{}
+1
+V3 data-missing - /p:c/id -
+1 faults
+==
+{\"p:c\":{\"id\":256,\"note\":5}}
+1
+V1 invalid-value - /p:c/id -
+V1 invalid-value - /p:c/note -
+2 faults
+==
+{\"p:c\":{\"id\":1,\"note\":\"\"}}
+0
+0 faults";
+    for row in rows.split("\n==\n") {
+        assert!(rt; is_told(rt.alloc(), row) == Some(true), "{row}");
+    }
+}
+
+/// Whether a run was refused with a line, and printed nothing.
+fn is_refusal(shown: &Shown, line: &str) -> bool {
+    shown.output.bytes().is_empty() && shown.status == 2 && has_lines(&shown.errors, line)
+}
+
+fn is_refused_pair(alloc: Global, module: &[u8], document: &str, line: &str) -> Option<bool> {
+    let shown = validated(alloc, module, document.as_bytes()).ok()?;
+    Some(is_refusal(&shown, line))
+}
+
+/// Whether a document or its module is refused so: the row is the module (`p`, `other`, or its text), the document, and
+/// the line.
+fn is_refused(alloc: Global, row: &str) -> Option<bool> {
+    let (module, rest) = row.split_once('|')?;
+    let (document, line) = rest.split_once('|')?;
+    let module = match module {
+        "p" => MODULE,
+        "other" => OTHER_TYPE,
+        text => text,
+    };
+    is_refused_pair(alloc, module.as_bytes(), document, line)
+}
+
+#[test]
+fn refused_files(rt: HostRuntime) {
+    let rows = "p|{\"c\":{}}|d.json: J4 /
+p|{\"p:c\":{\"p:id\":1}}|d.json: J4 /p:c
+p|{\"p:c\":{\"id\":{}}}|d.json: J5 /p:c/id
+p|{\"p:c\":{\"id\":1.5}}|d.json: J6 /p:c/id
+p|{\"p:d\":1}|d.json: J3 /
+p|[]|d.json: J2 /
+p||d.json: J1 /
+other|{}|p.yang:6: C1
+|{}|p.yang:1: L6
+module a { prefix \"x|{}|p.yang:1: L3
+module a {|[]|p.yang:1: L6";
+    for row in rows.lines() {
+        assert!(rt; is_refused(rt.alloc(), row) == Some(true), "{row}");
+    }
+    let found = is_refused_pair(rt.alloc(), b"module a {\n\xFF", "{}", "p.yang:2: L1");
+    assert!(rt; found == Some(true), "a byte that is no text");
+}
+
+/// Whether a side took whole lines with this part.
+fn has_part(side: &Cut, part: &str) -> bool {
+    side.bytes().ends_with(b"\n")
+        && str::from_utf8(side.bytes()).is_ok_and(|text| text.contains(part))
+}
+
+/// Whether words are answered so without a file being read: the row is the words, the side with the status, and a part
+/// of what is said.
+fn is_answered(alloc: Global, row: &str) -> Option<bool> {
+    let (line, rest) = row.split_once('\n')?;
+    let (place, part) = rest.split_once('\n')?;
+    let (side, status) = place.split_once(' ')?;
+    let status = status.parse::<u8>().ok()?;
+    let files = pair(MODULE.as_bytes(), b"{}", None);
+    let shown = shown_by(alloc, line, files, WHOLLY, WHOLLY).ok()?;
+    let is_said = match side {
+        "output" => has_part(&shown.output, part) && shown.errors.bytes().is_empty(),
+        "errors" => has_part(&shown.errors, part) && shown.output.bytes().is_empty(),
+        _ => false,
+    };
+    Some(is_said && shown.status == status && shown.reads == 0)
+}
+
+#[test]
+fn command_lines(rt: HostRuntime) {
+    let rows = "yanglive validate
+errors 3
+<DATA>
+  <MODULE>
+
+==
+yanglive validate d.json
+errors 3
+<MODULE>
+
+==
+yanglive validate d.json p.yang q.yang
+errors 3
+'q.yang'
+==
+yanglive
+errors 3
+requires a subcommand
+==
+yanglive check d.json p.yang
+errors 3
+'check'
+==
+yanglive help
+errors 3
+'help'
+==
+yanglive validate --dump d.json p.yang
+errors 3
+'--dump'
+==
+yanglive --help
+output 0
+  validate  
+==
+yanglive validate -h
+output 0
+<DATA>";
+    for row in rows.split("\n==\n") {
+        assert!(rt; is_answered(rt.alloc(), row) == Some(true), "{row}");
+    }
+}
+
+/// Whether both lines are told, or `memory` behind a beginning of them.
+fn is_answer_or_memory(alloc: Global) -> Option<bool> {
+    let shown = validated(alloc, MODULE.as_bytes(), TWO_FAULTS.as_bytes()).ok()?;
+    let output = shown.output.bytes();
+    let is_whole = output == BOTH_LINES.as_bytes() && shown.errors.bytes().is_empty();
+    let is_beginning = BOTH_LINES.as_bytes().starts_with(output);
+    Some(match shown.status {
+        1 => is_whole,
+        4 => is_beginning && shown.errors.bytes() == "memory\n".as_bytes(),
+        _ => false,
+    })
+}
+
+// Each request for memory may be refused: `memory` is told in place of the answer, or behind a beginning of it.
+#[test]
+fn answer_or_memory(rt: HostRuntime) {
+    assert!(rt; is_answer_or_memory(rt.alloc()) != Some(false));
+}

@@ -1,0 +1,94 @@
+//! The files and the standard streams of the system that the program runs on.
+
+ghost use Rattle.std.specs.Prelude.{None};
+
+use std::alloc::Global;
+use std::io::{BufWriter, ErrorKind, Write};
+use std::{fs, rt};
+use yapp::{FileFault, Files};
+use ytext::{FailureCount, Sink, SinkFault};
+
+/// The system's files.
+#[derive(Drop)]
+pub struct FileSystem<'a, R> {
+    runtime: &'a R,
+    count: FailureCount,
+}
+
+impl<'a, R> FileSystem<'a, R> {
+    /// The files that a runtime reaches.
+    pub fn new(runtime: &'a R) -> FileSystem<'a, R> {
+        FileSystem {
+            runtime,
+            count: FailureCount::new(),
+        }
+    }
+}
+
+impl<R: rt::Files + AllocGlobal> Files for FileSystem<'_, R> {
+    ghost contents = { λ _ _. None };
+
+    ghost failures = { λ s. s.count.failures };
+
+    fn read(&mut self, _alloc: Global, name: &str) -> Result<Vec<u8>, FileFault> {
+        match fs::read(self.runtime, name) {
+            Ok(bytes) => Ok(bytes),
+            Err(error) if error.kind() == ErrorKind::OutOfMemory => Err(FileFault::Memory),
+            Err(_) => {
+                self.count.rise();
+                Err(FileFault::Unread)
+            }
+        }
+    }
+}
+
+/// A standard stream. A write that was interrupted goes on.
+#[derive(Drop)]
+pub struct Stream<W> {
+    stream: W,
+    has_failed: bool,
+    count: FailureCount,
+}
+
+impl<W> Stream<W> {
+    /// The stream to a writer.
+    pub fn new(stream: W) -> Stream<W> {
+        Stream {
+            stream,
+            has_failed: false,
+            count: FailureCount::new(),
+        }
+    }
+}
+
+impl<W: Write + Drop> Stream<BufWriter<W>> {
+    /// Ends the stream: writes out what it holds back, but nothing where a write has failed.
+    pub fn finish(self) -> Result<(), SinkFault> {
+        let Stream {
+            mut stream,
+            has_failed,
+            count: _,
+        } = self;
+        let is_written = !has_failed && stream.flush().is_ok();
+        // What a failed write left in the buffer would be tried again where a `BufWriter` is dropped whole.
+        let (_, _) = stream.into_parts();
+        if is_written { Ok(()) } else { Err(SinkFault) }
+    }
+}
+
+impl<W: Write> Sink for Stream<W> {
+    ghost taken = { λ _. None };
+
+    ghost failures = { λ s. s.count.failures };
+
+    fn write(&mut self, part: &[u8]) -> Result<usize, SinkFault> {
+        match self.stream.write_all(part) {
+            Ok(()) => Ok(part.len()),
+            Err(_) => {
+                self.has_failed = true;
+                self.count.rise();
+                Err(SinkFault)
+            }
+        }
+    }
+}
