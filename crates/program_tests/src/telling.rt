@@ -1,4 +1,4 @@
-//! What the program prints. The rows of a table are parted by lines `==`, so that a row can hold lines.
+//! What the program prints. Where a row has lines of its own, the rows are parted by lines `==`.
 
 use crate::running::{BOTH_LINES, MODULE, Shown, TWO_FAULTS, WHOLLY, pair, shown_by, validated};
 use std::alloc::Global;
@@ -16,14 +16,6 @@ const OTHER_TYPE: &str = "module p {
 }
 ";
 
-/// Whether a side took these lines and nothing else.
-fn has_lines(side: &Cut, lines: &str) -> bool {
-    match side.bytes().split_last() {
-        Some((last, bytes)) => *last == b'\n' && bytes == lines.as_bytes(),
-        None => false,
-    }
-}
-
 /// Whether a document prints so under the module: its row is the document, the status and the output.
 fn is_told(alloc: Global, row: &str) -> Option<bool> {
     let (document, rest) = row.split_once('\n')?;
@@ -31,7 +23,7 @@ fn is_told(alloc: Global, row: &str) -> Option<bool> {
     let status = status.parse::<u8>().ok()?;
     let shown = validated(alloc, MODULE.as_bytes(), document.as_bytes()).ok()?;
     let is_silent = shown.errors.bytes().is_empty();
-    Some(is_silent && shown.status == status && has_lines(&shown.output, output))
+    Some(is_silent && shown.status == status && shown.output.bytes() == output.as_bytes())
 }
 
 #[test]
@@ -63,59 +55,70 @@ V1 invalid-value - /p:c/note -
 ==
 {\"p:c\":{\"id\":1,\"note\":\"\"}}
 0
-0 faults";
-    for row in rows.split("\n==\n") {
+0 faults
+";
+    for row in rows.split("==\n") {
         assert!(rt; is_told(rt.alloc(), row) == Some(true), "{row}");
     }
 }
 
-/// Whether a run was refused with a line, and printed nothing.
-fn is_refusal(shown: &Shown, line: &str) -> bool {
-    shown.output.bytes().is_empty() && shown.status == 2 && has_lines(&shown.errors, line)
-}
-
-fn is_refused_pair(alloc: Global, module: &[u8], document: &str, line: &str) -> Option<bool> {
+/// Whether a document or its module is refused with these lines, and nothing is printed.
+fn is_refused_pair(alloc: Global, module: &[u8], document: &str, lines: &str) -> Option<bool> {
     let shown = validated(alloc, module, document.as_bytes()).ok()?;
-    Some(is_refusal(&shown, line))
+    let is_said = shown.errors.bytes() == lines.as_bytes();
+    Some(is_said && shown.output.bytes().is_empty() && shown.status == 2)
 }
 
 /// Whether a document or its module is refused so: the row is the module (`p`, `other`, or its text), the document, and
-/// the line.
+/// what is said.
 fn is_refused(alloc: Global, row: &str) -> Option<bool> {
     let (module, rest) = row.split_once('|')?;
-    let (document, line) = rest.split_once('|')?;
+    let (document, lines) = rest.split_once('|')?;
     let module = match module {
         "p" => MODULE,
         "other" => OTHER_TYPE,
         text => text,
     };
-    is_refused_pair(alloc, module.as_bytes(), document, line)
+    is_refused_pair(alloc, module.as_bytes(), document, lines)
 }
 
 #[test]
 fn refused_files(rt: HostRuntime) {
     let rows = "p|{\"c\":{}}|d.json: J4 /
+==
 p|{\"p:c\":{\"p:id\":1}}|d.json: J4 /p:c
+==
 p|{\"p:c\":{\"id\":{}}}|d.json: J5 /p:c/id
+==
 p|{\"p:c\":{\"id\":1.5}}|d.json: J6 /p:c/id
+==
 p|{\"p:d\":1}|d.json: J3 /
+==
 p|[]|d.json: J2 /
+==
 p||d.json: J1 /
+==
 other|{}|p.yang:6: C1
+==
 |{}|p.yang:1: L6
+==
 module a { prefix \"x|{}|p.yang:1: L3
-module a {|[]|p.yang:1: L6";
-    for row in rows.lines() {
+==
+module a {|[]|p.yang:1: L6
+";
+    for row in rows.split("==\n") {
         assert!(rt; is_refused(rt.alloc(), row) == Some(true), "{row}");
     }
-    let found = is_refused_pair(rt.alloc(), b"module a {\n\xFF", "{}", "p.yang:2: L1");
+    let found = is_refused_pair(rt.alloc(), b"module a {\n\xFF", "{}", "p.yang:2: L1\n");
     assert!(rt; found == Some(true), "a byte that is no text");
 }
 
 /// Whether a side took whole lines with this part.
 fn has_part(side: &Cut, part: &str) -> bool {
-    side.bytes().ends_with(b"\n")
-        && str::from_utf8(side.bytes()).is_ok_and(|text| text.contains(part))
+    match str::from_utf8(side.bytes()) {
+        Ok(text) => text.ends_with('\n') && text.contains(part),
+        Err(_) => false,
+    }
 }
 
 /// Whether words are answered so without a file being read: the row is the words, the side with the status, and a part
