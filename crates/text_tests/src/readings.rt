@@ -2,23 +2,23 @@
 
 use crate::spelled::{is_fault, unmarked};
 use std::alloc::{AllocError, Global};
-use ytext::{Module, TextFault, is_identifier, is_name, parse};
+use ytext::{Stmt, TextFault, is_identifier, is_name, parse};
 
-// The argument of the first substatement, where there is one, and else that of the top statement.
-fn first_argument(module: &Module) -> Option<&str> {
-    match module.top.subs.first() {
-        Some(statement) => statement.argument(),
-        None => module.top.argument(),
+// Whether a statement has this argument: `'a` for `a`, `-` for none.
+fn has_argument(statement: &Stmt, wanted: &str) -> bool {
+    match statement.argument() {
+        Some(argument) => wanted.strip_prefix('\'') == Some(argument),
+        None => wanted == "-",
     }
 }
 
-// Whether a text is read so: `'a` for the argument `a`, `-` for none, or the fault, as `L5 1`. None where memory ran
-// out.
+// Whether a text is read so: the argument of the first substatement, where there is one, and else of the top
+// statement, or the fault, as `L5 1`. None where memory ran out.
 fn is_read(alloc: Global, text: &[u8], wanted: &str) -> Option<bool> {
     match parse(alloc, text) {
-        Ok(module) => match first_argument(&module) {
-            Some(argument) => Some(wanted.strip_prefix('\'') == Some(argument)),
-            None => Some(wanted == "-"),
+        Ok(module) => match module.top.subs.first() {
+            Some(statement) => Some(has_argument(statement, wanted)),
+            None => Some(has_argument(&module.top, wanted)),
         },
         Err(fault) => is_fault(fault, wanted),
     }

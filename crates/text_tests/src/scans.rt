@@ -4,14 +4,15 @@ use crate::spelled::{is_fault, unmarked};
 use std::alloc::Global;
 use ytext::{Token, TokenKind, tokens};
 
-fn kind_word(kind: TokenKind) -> &'static str {
-    match kind {
-        TokenKind::Word => "word",
-        TokenKind::Single => "single",
-        TokenKind::Double => "double",
-        TokenKind::Semi => "semi",
-        TokenKind::Open => "open",
-        TokenKind::Close => "close",
+fn kind_of(word: &str) -> Option<TokenKind> {
+    match word {
+        "word" => Some(TokenKind::Word),
+        "single" => Some(TokenKind::Single),
+        "double" => Some(TokenKind::Double),
+        "semi" => Some(TokenKind::Semi),
+        "open" => Some(TokenKind::Open),
+        "close" => Some(TokenKind::Close),
+        _ => None,
     }
 }
 
@@ -22,7 +23,7 @@ fn is_token(token: &Token<'_>, row: &str) -> Option<bool> {
     let (end, text) = rest.split_once(' ')?;
     let is_placed = token.start == start.parse::<usize>().ok()?
         && token.end == end.parse::<usize>().ok()?;
-    Some(is_placed && kind_word(token.kind) == kind && token.text == text)
+    Some(is_placed && token.kind == kind_of(kind)? && token.text == text)
 }
 
 // Whether a text has the tokens of these rows, and no more. None where it has fewer.

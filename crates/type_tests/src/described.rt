@@ -47,10 +47,16 @@ fn bound(text: &str) -> Option<Bound> {
     })
 }
 
+fn span_between(first: &str, last: &str) -> Option<Span> {
+    Some(Span::new(bound(first)?, bound(last)?))
+}
+
 // `1..5`, or `7` for a part of one number.
 fn span(text: &str) -> Option<Span> {
-    let (first, last) = text.split_once("..").unwrap_or((text, text));
-    Some(Span::new(bound(first)?, bound(last)?))
+    match text.split_once("..") {
+        None => span_between(text, text),
+        Some((first, last)) => span_between(first, last),
+    }
 }
 
 // The parts of `min..5|7|9..max`.

@@ -1,7 +1,7 @@
 //! Which types there are, and what they require.
 
 use crate::described::{described, narrowed};
-use std::alloc::{AllocError, Global};
+use std::alloc::Global;
 use ytype::{NarrowFault, Part, Range};
 
 // Whether a row holds: a type, and whether it is made or refused in its last step.
@@ -53,10 +53,11 @@ bits:a,b=0/refused";
 // Whether a type requires an instance: `true`, `false`, or `none` for one that is no leafref.
 fn is_required(alloc: Global, row: &str) -> Option<bool> {
     let (steps, wanted) = row.split_once('/')?;
-    match described(alloc, steps)?.requires_instance() {
-        None => Some(wanted == "none"),
-        Some(required) => Some(wanted.parse::<bool>().ok()? == required),
-    }
+    let wanted = match wanted {
+        "none" => None,
+        _ => Some(wanted.parse::<bool>().ok()?),
+    };
+    Some(described(alloc, steps)?.requires_instance() == wanted)
 }
 
 #[test]
@@ -69,17 +70,16 @@ uint8/none";
     }
 }
 
-fn range_with_gaps(alloc: Global) -> Result<Range, AllocError> {
+fn range_with_gaps(alloc: Global) -> Option<Range> {
     let mut parts = Vec::new(alloc);
-    parts.push(Part::new(0, 5))?;
-    parts.push(Part::new(7, 7))?;
-    parts.push(Part::new(9, 255))?;
-    Ok(Range::new(parts))
+    parts.push(Part::new(0, 5)).ok()?;
+    parts.push(Part::new(7, 7)).ok()?;
+    parts.push(Part::new(9, 255)).ok()?;
+    Some(Range::new(parts))
 }
 
-// Whether the range holds a number, or none does of these.
 fn range_holds(alloc: Global, number: i128) -> Option<bool> {
-    Some(range_with_gaps(alloc).ok()?.holds(number))
+    Some(range_with_gaps(alloc)?.holds(number))
 }
 
 #[test]

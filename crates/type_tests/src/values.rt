@@ -3,19 +3,21 @@
 use crate::described::described;
 use std::alloc::Global;
 use std::cmp::Ordering;
-use ytype::{BadValue, Raw, Val, YType};
+use ytype::{BadValue, Raw, YType};
 
-// What a document has: `'5` for a text, `5`, `true`, `false` or `null`.
+fn unquoted(text: &str) -> Option<Raw> {
+    match text {
+        "null" => Some(Raw::Empty),
+        "true" => Some(Raw::Bool(true)),
+        _ => Some(Raw::Int(text.parse::<i128>().ok()?)),
+    }
+}
+
+// What a document has: `'5` for a text, `5`, `true` or `null`.
 fn raw(alloc: Global, text: &str) -> Option<Raw> {
-    if let Some(text) = text.strip_prefix('\'') {
-        return Some(Raw::Text(String::from_str(alloc, text).ok()?));
-    }
-    if text == "null" {
-        return Some(Raw::Empty);
-    }
-    match text.parse::<bool>() {
-        Ok(flag) => Some(Raw::Bool(flag)),
-        Err(_) => Some(Raw::Int(text.parse::<i128>().ok()?)),
+    match text.strip_prefix('\'') {
+        None => unquoted(text),
+        Some(text) => Some(Raw::Text(String::from_str(alloc, text).ok()?)),
     }
 }
 
@@ -48,10 +50,10 @@ fn outcome(alloc: Global, way: Way, of: &YType, text: &str) -> Option<Result<Str
 }
 
 // Whether a refusal bears the tag that is wanted, or none where that is empty.
-fn is_tagged(app_tag: Option<String>, wanted: &str) -> bool {
+fn is_tagged(app_tag: Option<&str>, wanted: &str) -> bool {
     match app_tag {
         None => wanted.is_empty(),
-        Some(tag) => !wanted.is_empty() && tag.as_str() == wanted,
+        Some(tag) => !wanted.is_empty() && tag == wanted,
     }
 }
 
@@ -60,7 +62,7 @@ fn is_tagged(app_tag: Option<String>, wanted: &str) -> bool {
 fn is_outcome(found: Result<String, BadValue>, wanted: &str) -> Option<bool> {
     match (found, wanted.strip_prefix('!')) {
         (Err(BadValue::Memory), _) => None,
-        (Err(BadValue::Refused { app_tag }), Some(tag)) => Some(is_tagged(app_tag, tag)),
+        (Err(BadValue::Refused { app_tag }), Some(tag)) => Some(is_tagged(app_tag.as_deref(), tag)),
         (Ok(text), None) => Some(text.as_str() == wanted),
         _ => Some(false),
     }
@@ -224,18 +226,23 @@ empty//!";
     }
 }
 
-fn value(alloc: Global, of: &YType, text: &str) -> Option<Val> {
-    of.check(alloc, &raw(alloc, text)?).ok()
+// Whether one value is below another and not equal to it.
+fn are_ascending(alloc: Global, of: &YType, first: &Raw, second: &Raw) -> Result<bool, BadValue> {
+    let first = of.check(alloc, first)?;
+    let second = of.check(alloc, second)?;
+    Ok(first.cmp(&second) == Ordering::Less && first != second)
 }
 
-// Whether a row holds: a type, and two values of it, the first below the second and not equal to it.
+// Whether a row holds: a type, and two values of it, the first below the second. None also where one isn't taken.
 fn is_below(alloc: Global, row: &str) -> Option<bool> {
     let (steps, values) = row.split_once('/')?;
     let (first, second) = values.split_once('<')?;
     let of = described(alloc, steps)?;
-    let first = value(alloc, &of, first)?;
-    let second = value(alloc, &of, second)?;
-    Some(first.cmp(&second) == Ordering::Less && first != second)
+    match are_ascending(alloc, &of, &raw(alloc, first)?, &raw(alloc, second)?) {
+        Ok(is_below) => Some(is_below),
+        Err(BadValue::Refused { app_tag: _ }) => None,
+        Err(BadValue::Memory) => None,
+    }
 }
 
 #[test]
