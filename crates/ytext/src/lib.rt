@@ -12,8 +12,6 @@ mod scan;
 mod scanner;
 mod sink;
 mod statement;
-#[cfg(test)]
-mod tests;
 mod text;
 mod token;
 

@@ -14,6 +14,3 @@ pub use raw::Raw;
 pub use val::Val;
 pub use ynumber::{Bound, FractionDigits, Naming, NarrowFault, Part, Range, Restriction, Span};
 pub use ytype::YType;
-
-#[cfg(test)]
-mod tests;

@@ -1,0 +1,163 @@
+//! Types as the rows of tables describe them: step by step, as `uint8 > range:1..10:tag`. The steps work on a row of
+//! types: a built-in type is put behind it, a restriction and `leafref` take its last, and `union` its last two, as in
+//! `uint8 > string > union`. Each function answers none where a row is malformed or memory ran out.
+
+use std::alloc::Global;
+use ytype::{Bound, FractionDigits, Naming, NarrowFault, Restriction, Span, YType};
+
+/// A type, or why there is none.
+pub(crate) type Narrowed = Result<YType, NarrowFault>;
+
+fn naming(alloc: Global, name: &str, number: Option<i64>) -> Option<Naming> {
+    Some(Naming::new(String::from_str(alloc, name).ok()?, number))
+}
+
+// A name, perhaps with its number, as `a=5`.
+fn naming_of(alloc: Global, text: &str) -> Option<Naming> {
+    match text.split_once('=') {
+        None => naming(alloc, text, None),
+        Some((name, number)) => naming(alloc, name, Some(number.parse::<i64>().ok()?)),
+    }
+}
+
+// The names of `a=5,b`.
+fn namings(alloc: Global, text: &str) -> Option<Vec<Naming>> {
+    let mut namings = Vec::new(alloc);
+    for name in text.split(',') {
+        namings.push(naming_of(alloc, name)?).ok()?;
+    }
+    Some(namings)
+}
+
+// `min`, `max`, `5`, or `10e-1` for 1.0.
+fn bound(text: &str) -> Option<Bound> {
+    if text == "min" {
+        return Some(Bound::Min);
+    }
+    if text == "max" {
+        return Some(Bound::Max);
+    }
+    let (digits, places) = match text.strip_suffix("e-1") {
+        None => (text, 0),
+        Some(digits) => (digits, 1),
+    };
+    Some(Bound::Number {
+        units: digits.parse::<i128>().ok()?,
+        places,
+    })
+}
+
+fn span_between(first: &str, last: &str) -> Option<Span> {
+    Some(Span::new(bound(first)?, bound(last)?))
+}
+
+// `1..5`, or `7` for a part of one number.
+fn span(text: &str) -> Option<Span> {
+    match text.split_once("..") {
+        None => span_between(text, text),
+        Some((first, last)) => span_between(first, last),
+    }
+}
+
+// The parts of `min..5|7|9..max`.
+fn spans(alloc: Global, text: &str) -> Option<Vec<Span>> {
+    let mut spans = Vec::new(alloc);
+    for part in text.split('|') {
+        spans.push(span(part)?).ok()?;
+    }
+    Some(spans)
+}
+
+// A range with its app-tag, as `1..5:tag`.
+fn range(alloc: Global, text: &str) -> Option<Restriction> {
+    let (parts, app_tag) = text.split_once(':')?;
+    Some(Restriction::Range {
+        spans: spans(alloc, parts)?,
+        app_tag: Some(String::from_str(alloc, app_tag).ok()?),
+    })
+}
+
+fn length(alloc: Global, text: &str) -> Option<Restriction> {
+    Some(Restriction::Length {
+        spans: spans(alloc, text)?,
+        app_tag: None,
+    })
+}
+
+fn decimal(alloc: Global, digits: &str) -> Option<Narrowed> {
+    match FractionDigits::new(digits.parse::<u32>().ok()?) {
+        None => Some(Err(NarrowFault::Refused)),
+        Some(digits) => Some(YType::decimal64(alloc, digits)),
+    }
+}
+
+fn integer(alloc: Global, name: &str) -> Option<Narrowed> {
+    match name {
+        "int8" => Some(YType::int8(alloc)),
+        "int16" => Some(YType::int16(alloc)),
+        "int32" => Some(YType::int32(alloc)),
+        "int64" => Some(YType::int64(alloc)),
+        "uint8" => Some(YType::uint8(alloc)),
+        "uint16" => Some(YType::uint16(alloc)),
+        "uint32" => Some(YType::uint32(alloc)),
+        "uint64" => Some(YType::uint64(alloc)),
+        _ => None,
+    }
+}
+
+// A built-in type.
+fn built_in(alloc: Global, kind: &str, rest: &str) -> Option<Narrowed> {
+    match kind {
+        "boolean" => Some(YType::boolean(alloc)),
+        "string" => Some(YType::string(alloc)),
+        "empty" => Some(YType::empty(alloc)),
+        "decimal64" => decimal(alloc, rest),
+        "enumeration" => Some(YType::enumeration(alloc, &namings(alloc, rest)?)),
+        "bits" => Some(YType::bits(alloc, &namings(alloc, rest)?)),
+        _ => integer(alloc, kind),
+    }
+}
+
+fn union_of(alloc: Global, first: YType, second: YType) -> Option<Narrowed> {
+    let mut types = Vec::new(alloc);
+    types.push(first).ok()?;
+    types.push(second).ok()?;
+    Some(YType::union(alloc, &types))
+}
+
+// What a step makes of the types before it.
+fn next(alloc: Global, types: &mut Vec<YType>, step: &str) -> Option<Narrowed> {
+    let (kind, rest) = step.split_once(':').unwrap_or((step, ""));
+    match kind {
+        "range" => Some(types.pop()?.narrow(alloc, &range(alloc, rest)?)),
+        "length" => Some(types.pop()?.narrow(alloc, &length(alloc, rest)?)),
+        "instance" => {
+            let instance = Restriction::RequireInstance(rest.parse::<bool>().ok()?);
+            Some(types.pop()?.narrow(alloc, &instance))
+        }
+        "leafref" => Some(YType::leafref(alloc, &types.pop()?)),
+        "union" => {
+            let second = types.pop()?;
+            union_of(alloc, types.pop()?, second)
+        }
+        _ => built_in(alloc, kind, rest),
+    }
+}
+
+/// What the last of these steps makes. None also where an earlier one is refused, or types are left over.
+pub(crate) fn narrowed(alloc: Global, steps: &str) -> Option<Narrowed> {
+    let mut types = Vec::new(alloc);
+    let mut latest: Option<Narrowed> = None;
+    for step in steps.split(" > ") {
+        if let Some(made) = latest {
+            types.push(made.ok()?).ok()?;
+        }
+        latest = Some(next(alloc, &mut types, step)?);
+    }
+    if types.is_empty() { latest } else { None }
+}
+
+/// The type that these steps make. None also where it is refused.
+pub(crate) fn described(alloc: Global, steps: &str) -> Option<YType> {
+    narrowed(alloc, steps)?.ok()
+}

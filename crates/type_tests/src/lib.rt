@@ -1,0 +1,9 @@
+//! Tests of types and values.
+#![tactic(auto)]
+
+#[cfg(test)]
+mod described;
+#[cfg(test)]
+mod refusals;
+#[cfg(test)]
+mod values;

@@ -1,0 +1,296 @@
+//! What types make of what they are given, and how values are printed and ordered.
+
+use crate::described::described;
+use std::alloc::Global;
+use std::cmp::Ordering;
+use ytype::{BadValue, Raw, YType};
+
+fn unquoted(text: &str) -> Option<Raw> {
+    match text {
+        "null" => Some(Raw::Empty),
+        "true" => Some(Raw::Bool(true)),
+        _ => Some(Raw::Int(text.parse::<i128>().ok()?)),
+    }
+}
+
+// What a document has: `'5` for a text, `5`, `true` or `null`.
+fn raw(alloc: Global, text: &str) -> Option<Raw> {
+    match text.strip_prefix('\'') {
+        None => unquoted(text),
+        Some(text) => Some(Raw::Text(String::from_str(alloc, text).ok()?)),
+    }
+}
+
+// How a value is given: by a document, by a document and a type that are copied, or as a default.
+#[derive(Clone, Copy)]
+enum Way {
+    Document,
+    Copy,
+    Default,
+}
+
+fn printed(alloc: Global, of: &YType, raw: &Raw) -> Result<String, BadValue> {
+    Ok(of.check(alloc, raw)?.canonical(alloc, of)?)
+}
+
+fn printed_default(alloc: Global, of: &YType, text: &str) -> Result<String, BadValue> {
+    Ok(of.from_text(alloc, text)?.canonical(alloc, of)?)
+}
+
+// What a value prints as, or why it isn't taken.
+fn outcome(alloc: Global, way: Way, of: &YType, text: &str) -> Option<Result<String, BadValue>> {
+    match way {
+        Way::Document => Some(printed(alloc, of, &raw(alloc, text)?)),
+        Way::Copy => {
+            let copied = raw(alloc, text)?.clone().ok()?;
+            Some(printed(alloc, &of.clone().ok()?, &copied))
+        }
+        Way::Default => Some(printed_default(alloc, of, text)),
+    }
+}
+
+// Whether a refusal bears the tag that is wanted, or none where that is empty.
+fn is_tagged(app_tag: Option<&str>, wanted: &str) -> bool {
+    match app_tag {
+        None => wanted.is_empty(),
+        Some(tag) => !wanted.is_empty() && tag == wanted,
+    }
+}
+
+// Whether that is the outcome: a text, `!tag` for a refusal with an app-tag, or `!` for one without. None where memory
+// ran out.
+fn is_outcome(found: Result<String, BadValue>, wanted: &str) -> Option<bool> {
+    match (found, wanted.strip_prefix('!')) {
+        (Err(BadValue::Memory), _) => None,
+        (Err(BadValue::Refused { app_tag }), Some(tag)) => Some(is_tagged(app_tag.as_deref(), tag)),
+        (Ok(text), None) => Some(text.as_str() == wanted),
+        _ => Some(false),
+    }
+}
+
+// Whether a row holds for a type: what it is given, and the outcome. None where the row is malformed or memory ran out.
+fn holds_of(alloc: Global, way: Way, steps: &str, row: &str) -> Option<bool> {
+    let (text, wanted) = row.split_once('/')?;
+    let of = described(alloc, steps)?;
+    is_outcome(outcome(alloc, way, &of, text)?, wanted)
+}
+
+// The same of a row that begins with the type.
+fn holds(alloc: Global, way: Way, row: &str) -> Option<bool> {
+    let (steps, rest) = row.split_once('/')?;
+    holds_of(alloc, way, steps, rest)
+}
+
+#[test]
+fn documents(rt: HostRuntime) {
+    let rows = "int8/-128/-128
+int8/127/127
+int8/-129/!
+int8/128/!
+int16/-32768/-32768
+int16/32767/32767
+int16/-32769/!
+int16/32768/!
+int32/-2147483648/-2147483648
+int32/2147483647/2147483647
+int32/-2147483649/!
+int32/2147483648/!
+uint8/0/0
+uint8/255/255
+uint8/-1/!
+uint8/256/!
+uint16/0/0
+uint16/65535/65535
+uint16/-1/!
+uint16/65536/!
+uint32/0/0
+uint32/4294967295/4294967295
+uint32/-1/!
+uint32/4294967296/!
+int64/5/!
+uint64/5/!
+boolean/5/!
+string/5/!
+empty/5/!
+boolean/true/true
+boolean/null/!
+empty/null/
+empty/true/!
+int64/'+5/5
+int64/'007/7
+int64/' 5/!
+int64/'-/!
+int64/'0x1F/!
+int64/'-0/0
+int64/'-9223372036854775808/-9223372036854775808
+int64/'-9223372036854775809/!
+int64/'9223372036854775807/9223372036854775807
+int64/'9223372036854775808/!
+uint64/'0/0
+uint64/'-1/!
+uint64/'18446744073709551615/18446744073709551615
+uint64/'18446744073709551616/!
+int8/'5/!
+boolean/'true/!
+string/'\u{FFFF}/!
+decimal64:2/'+007.5/7.5
+decimal64:2/'7/7.0
+decimal64:2/'-0/0.0
+decimal64:2/'-0.05/-0.05
+decimal64:2/'.5/!
+decimal64:2/'1./!
+decimal64:2/'1.234/!
+decimal64:1/'922337203685477580.7/922337203685477580.7
+decimal64:1/'922337203685477580.8/!
+decimal64:1/'-922337203685477580.8/-922337203685477580.8
+decimal64:1/'-922337203685477580.9/!
+decimal64:18/'9.223372036854775807/9.223372036854775807
+decimal64:18/'9.223372036854775808/!
+decimal64:18/'-9.223372036854775808/-9.223372036854775808
+decimal64:18/'-9.223372036854775809/!
+uint8 > range:min..5|7|9..max:gap/5/5
+uint8 > range:min..5|7|9..max:gap/6/!gap
+uint8 > range:min..5|7|9..max:gap/7/7
+uint8 > range:min..5|7|9..max:gap/8/!gap
+uint8 > range:min..5|7|9..max:gap/9/9
+uint8 > range:min..5|7|9..max:gap/255/255
+uint8 > range:min..5|7|9..max:gap/256/!
+uint8 > range:1..10:t1 > range:2..5:t2/5/5
+uint8 > range:1..10:t1 > range:2..5:t2/7/!t2
+uint8 > range:1..10:t1 > range:2..5:t2/20/!t1
+uint8 > range:1..10:t1 > range:2..5:t2/300/!
+uint16 > range:1..1024|8080:bad-port/1024/1024
+uint16 > range:1..1024|8080:bad-port/1025/!bad-port
+uint16 > range:1..1024|8080:bad-port/8080/8080
+uint16 > range:1..1024|8080:bad-port/70000/!
+string > length:1..3/'/!
+string > length:1..3/'a/a
+string > length:1..3/'\u{1F600}\u{1F600}\u{1F600}/\u{1F600}\u{1F600}\u{1F600}
+string > length:1..3/'\u{1F600}\u{1F600}\u{1F600}\u{1F600}/!
+string > length:1..3/'abcd/!
+enumeration:a,b=5,c,d=2,e/'a/a
+enumeration:a,b=5,c,d=2,e/'b/b
+enumeration:a,b=5,c,d=2,e/'c/c
+enumeration:a,b=5,c,d=2,e/'d/d
+enumeration:a,b=5,c,d=2,e/'e/e
+enumeration:a,b=5,c,d=2,e/'f/!
+bits:x=3,y,z=0/'y  z/z y
+bits:x=3,y,z=0/' x y z /z x y
+bits:x=3,y,z=0/'/
+bits:x=3,y,z=0/'y y/!
+bits:x=3,y,z=0/'w/!
+bits:x=3,y,z=0/'x\ty/!
+boolean > uint8 > string > union > union/5/5
+boolean > uint8 > string > union > union/true/true
+boolean > uint8 > string > union > union/256/!
+boolean > uint8 > string > union > union/null/!
+boolean > uint8 > string > union > union/'5/5
+uint8 > string > union/256/!
+uint8 > leafref > instance:true/255/255
+uint8 > leafref > instance:true/256/!";
+    for row in rows.lines() {
+        assert!(rt;
+            holds(rt.alloc(), Way::Document, row) == Some(true),
+            "{row:?}"
+        );
+    }
+    let row = "string/'a\tb\r\n/a\tb\r\n";
+    assert!(rt; holds(rt.alloc(), Way::Document, row) == Some(true));
+}
+
+#[test]
+fn defaults(rt: HostRuntime) {
+    let rows = "uint8/0x1F/31
+uint8/+0xfF/255
+uint8/0x100/!
+uint8/0x/!
+uint8/017/15
+uint8/00/0
+uint8/08/!
+uint8/256/!
+int8/-0x80/-128
+int8/-0x81/!
+int8/-0200/-128
+int8/-0201/!
+int8/-0/0
+int8/+0/0
+uint64/0xFFFFFFFFFFFFFFFF/18446744073709551615
+boolean/false/false
+boolean/True/!
+empty//!";
+    for row in rows.lines() {
+        assert!(rt;
+            holds(rt.alloc(), Way::Default, row) == Some(true),
+            "{row:?}"
+        );
+    }
+}
+
+// Whether one value is below another and not equal to it.
+fn are_ascending(alloc: Global, of: &YType, first: &Raw, second: &Raw) -> Result<bool, BadValue> {
+    let first = of.check(alloc, first)?;
+    let second = of.check(alloc, second)?;
+    Ok(first.cmp(&second) == Ordering::Less && first != second)
+}
+
+// Whether a row holds: a type, and two values of it, the first below the second. None also where one isn't taken.
+fn is_below(alloc: Global, row: &str) -> Option<bool> {
+    let (steps, values) = row.split_once('/')?;
+    let (first, second) = values.split_once('<')?;
+    let of = described(alloc, steps)?;
+    match are_ascending(alloc, &of, &raw(alloc, first)?, &raw(alloc, second)?) {
+        Ok(is_below) => Some(is_below),
+        Err(BadValue::Refused { app_tag: _ }) => None,
+        Err(BadValue::Memory) => None,
+    }
+}
+
+#[test]
+fn orders(rt: HostRuntime) {
+    // A number and its text are two values of a union.
+    let rows = "enumeration:a,b=5,c,d=2,e/'a<'d
+enumeration:a,b=5,c,d=2,e/'d<'b
+enumeration:a,b=5,c,d=2,e/'b<'c
+enumeration:a,b=5,c,d=2,e/'c<'e
+uint8 > string > union/5<'5
+boolean > uint8 > string > union > union/5<'5";
+    for row in rows.lines() {
+        assert!(rt; is_below(rt.alloc(), row) == Some(true), "{row:?}");
+    }
+}
+
+// A leafref whose target has members of several kinds.
+const OF_ALL_KINDS: &str = "uint8 > range:1..10:t1 > range:2..5:t2 > decimal64:1 > union > \
+    bits:x=3,y,z=0 > enumeration:a,b=5,c,d=2,e > union > string > length:3..4 > union > union > leafref";
+
+// What it is given, and the outcome.
+const OF_MEMBERS: &str = "'y z/z y
+'e/e
+'+01.5/1.5
+'wxyz/wxyz";
+
+#[test]
+fn copies(rt: HostRuntime) {
+    for row in OF_MEMBERS.lines() {
+        assert!(rt;
+            holds_of(rt.alloc(), Way::Copy, OF_ALL_KINDS, row) == Some(true),
+            "{row:?}"
+        );
+    }
+    assert!(rt; holds_of(rt.alloc(), Way::Default, OF_ALL_KINDS, "0x5/5") == Some(true));
+}
+
+// Each request for memory may be refused: the answer is that, or the one with ample memory. The rows are those of the
+// tests above, where they hold.
+#[test]
+fn memory(rt: HostRuntime) {
+    for row in OF_MEMBERS.lines() {
+        assert!(rt;
+            holds_of(rt.alloc(), Way::Copy, OF_ALL_KINDS, row) != Some(false),
+            "{row:?}"
+        );
+    }
+    assert!(rt; holds_of(rt.alloc(), Way::Default, OF_ALL_KINDS, "0x5/5") != Some(false));
+    let tagged = "uint8 > range:1..10:t1 > range:2..5:t2/20/!t1";
+    assert!(rt; holds(rt.alloc(), Way::Document, tagged) != Some(false));
+}
