@@ -1,6 +1,6 @@
 //! The names of enumerations and bits, with their numbers (RFC 7950, 9.6.4 and 9.7.4).
 
-ghost use Rattle.std.specs.Prelude.{◌≡◌, ◌≤◌, ◌||◌, ◌++◌, ◌∷◌, [], length, option_map, ℕ, List, option_and_then, find, map, filter, IfOk, IfSome};
+ghost use Rattle.std.specs.Prelude.{◌≡◌, ◌≤◌, ◌||◌, ◌+ℤ◌, pos, ◌++◌, ◌∷◌, [], length, option_map, ℕ, List, option_and_then, find, map, filter, IfOk, IfSome};
 ghost use Rattle.std.specs.List.{list_any, list_all, insert, slice_split};
 ghost use Rattle.std.specs.Ordering.{int_eq};
 ghost use Rattle.std.specs.String.{string_bytes};
@@ -97,12 +97,18 @@ impl Assigned {
     }
 }
 
+fn number_behind(name: &Assigned) -> i128
+    ensures { result ≡ name.now.number +ℤ pos 1 }
+{
+    i128::from(name.number()) + 1
+}
+
 fn next_number(names: &[Assigned]) -> i128
     ensures { result ≡ next_number names.now }
 {
     let mut next = 0i128;
     'names: for name in names {
-        next = i128::from(name.number()) + 1;
+        next = number_behind(name);
     }
     next
 }

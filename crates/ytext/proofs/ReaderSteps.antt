@@ -1,13 +1,16 @@
 -- What a reader's tokens are by the token at hand.
-use Rattle.std.proofs.Common.{◌≡◌, ℕ, List, [], ◌∷◌, Bor, cond, length, Result, Ok, sym, ap, ◌∙◌, le_refl, ◌+◌}
+use Rattle.std.proofs.Common.{◌≡◌, refl, ℕ, Bool, true, false, List, [], ◌∷◌, Bor, cond, length, Result, Ok, sym, ap, subst, ◌∙◌, le_refl, ◌+◌, ◌-◌, ◌<◌, ◌≤◌, arith}
+use Rattle.std.specs.Str.{IsCharBoundary}
 use Rattle.yspec.specs.Forest.{Forest, end}
 use Rattle.yspec.specs.Token.{Token, at, word}
 use Rattle.yspec.specs.Statement.{Statement, Slip, Row, ◌>>=◌, statement, statements, ending, top_statement, row_at}
 use Rattle.ytext.specs.Gives.{Fails}
 use Rattle.ytext.specs.Left.{left}
-use Rattle.ytext.specs.Reading.{tokens_ahead, first_of, rest_of, rows}
+use Rattle.ytext.specs.Reading.{ahead, tokens_ahead, first_of, rest_of, rows}
 use Rattle.ytext.specs.View.{row_view}
 use Rattle.ytext.specs.View.{lexeme_of, ends_text}
+use Rattle.ytext.specs.declared.cursor.Cursor.{Cursor}
+use Rattle.ytext.specs.declared.cursor.Lexed.{Lexed}
 use Rattle.ytext.specs.declared.cursor.Lexeme.{Lexeme}
 use Rattle.ytext.specs.declared.cursor.Lexeme.TheVariants.{Word}
 use Rattle.ytext.specs.declared.fault.TextFault.{TextFault}
@@ -41,3 +44,22 @@ pub row_breaks : (level : ℕ) (r : Reader) (ss : List Stmt) (read : Result Row 
 row_breaks level r ss read Memory rest h = tt
 row_breaks level r ss read (Refused code line) rest h =
     sym rest ∙ ap (with_front (row_view ss)) (rows_by level (first_of r) (rest_of r) ∙ h) ∙ front_err (row_view ss) _
+
+-- one step: the token at hand is gone, and fewer bytes are ahead
+pub token_gone : (r : Reader) → ends_text r.token.lexeme ≡ false → tokens_ahead r ≡ first_of r ∷ left r.cursor
+token_gone r goes_on = ap (λ (b : Bool). first_of r ∷ cond b [] (left r.cursor)) goes_on
+
+fewer : (n place later : ℕ) (ended ends : Bool) → ended ≡ false → later ≤ n → place ≤ later → (ends ≡ false → place < later)
+    → (n - later) + cond ends 0 1 < (n - place) + cond ended 0 1
+fewer n place later true ends goes_on within forward moved = cc
+fewer n place later false true goes_on within forward moved = omega arith
+fewer n place later false false goes_on within forward moved =
+    let h : place < later = moved refl in
+    omega arith
+
+pub fewer_ahead : (t : Lexed) (c : Cursor) (r : Reader) → ends_text r.token.lexeme ≡ false → c.text.now ≡ r.cursor.text.now → IsCharBoundary c.text.now c.at
+    → r.cursor.at ≤ c.at → (ends_text t.lexeme ≡ false → r.cursor.at < c.at)
+    → (length c.text.now - c.at) + cond (ends_text t.lexeme) 0 1 < ahead r
+fewer_ahead t c r goes_on same place forward moved =
+    subst (λ (n : ℕ). (length c.text.now - c.at) + cond (ends_text t.lexeme) 0 1 < (n - r.cursor.at) + cond (ends_text r.token.lexeme) 0 1) (ap length same)
+    (fewer (length c.text.now) r.cursor.at c.at (ends_text r.token.lexeme) (ends_text t.lexeme) goes_on place.0 forward moved)

@@ -46,14 +46,11 @@ fn escape(byte: u8) -> Option<char>
     ensures ascii { IsSome result → byte < 128 }
     ensures ascii_too { IfSome result (λ x. x < 128) }
 {
-    if byte == b'n' {
-        Some('\n')
-    } else if byte == b't' {
-        Some('\t')
-    } else if byte == b'"' || byte == b'\\' {
-        Some(byte as char)
-    } else {
-        None
+    match byte {
+        b'n' => Some('\n'),
+        b't' => Some('\t'),
+        b'"' | b'\\' => Some(byte as char),
+        _ => None,
     }
 }
 

@@ -91,9 +91,7 @@ impl<'a> Reader<'a> {
         ensures tokens { tokens_ahead self.old ≡ token_of self.old.token ∷ tokens_ahead self.new }
         ensures behind { left self.old.cursor ≡ tokens_ahead self.new }
     {
-        let (token, cursor) = self.cursor.next();
-        self.token = token;
-        self.cursor = cursor;
+        (self.token, self.cursor) = self.cursor.next();
     }
 
     // Adds what the quoted string at hand says.

@@ -1,9 +1,10 @@
 //! Canonical texts of values (RFC 7950, 9.1).
 
-ghost use Rattle.std.specs.Prelude.{◌≡◌, ◌++◌, true, IfOk, find};
+ghost use Rattle.std.specs.Prelude.{◌≡◌, ◌++◌, ◌∷◌, if◌then◌else◌, true, IfOk, OnOk, find};
 ghost use Rattle.std.specs.List.{list_any};
 ghost use Rattle.std.specs.Ordering.{int_eq};
 ghost use Rattle.std.specs.String.{string_bytes};
+ghost use Rattle.yspec.specs.Text.{space};
 ghost use Rattle.yspec.specs.Values.{name_of_number, spaced_from, is_position, names_at, bool_text, number_text, bits_text, content_text};
 ghost use Rattle.ytype.specs.View.{base_of, content_of};
 
@@ -29,6 +30,17 @@ fn is_position(positions: &[i64], number: i64) -> bool
     positions.iter().any(|position| *position == number)
 }
 
+// Adds a name, and a space before it where another one stands before.
+fn push_name(text: &mut String, name: &str, first: bool) -> Result<(), AllocError>
+    ensures { OnOk result (string_bytes text.new ≡ string_bytes text.old ++ (if first then name.now else (space ∷ name.now))) }
+{
+    if !first {
+        text.push_str(" ")?;
+    }
+    text.push_str(name)?;
+    Ok(())
+}
+
 fn bits_text(alloc: Global, names: &[Assigned], positions: &[i64]) -> Result<String, AllocError>
     ensures { IfOk result (λ text. string_bytes text ≡ spaced_from true (names_at positions.now names.now)) }
 {
@@ -36,10 +48,7 @@ fn bits_text(alloc: Global, names: &[Assigned], positions: &[i64]) -> Result<Str
     let mut first = true;
     'names: for name in names {
         if is_position(positions, name.number()) {
-            if !first {
-                text.push_str(" ")?;
-            }
-            text.push_str(name.name())?;
+            push_name(&mut text, name.name(), first)?;
             first = false;
         }
     }

@@ -1,0 +1,2 @@
+pub mod MemberSteps
+pub mod NameSteps

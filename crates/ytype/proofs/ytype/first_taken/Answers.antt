@@ -1,0 +1,23 @@
+use Rattle.std.proofs.Common.{sym, ap, ◌∙◌, Some}
+use Rattle.yspec.specs.Types.{SimpleType, Val}
+use Rattle.yspec.specs.Types.{simple_taken}
+use Rattle.ytype.specs.View.{raw_of}
+use Rattle.ytype.specs.View.{content_of}
+use Rattle.ytype.specs.Founds.{contents}
+use Rattle.ytype.proofs.MemberSteps.{not_first, is_first}
+use Rattle.ytype.proofs.ytype.first_taken.Goals as goal
+
+pub members-preserved : goal.members-preserved
+members-preserved c =
+    let given = λ (s : SimpleType). simple_taken s (raw_of c.args.raw.now) in
+    not_first given c.args.members.now c.members.number c.index-members-number.result c.members-test.true
+    (sym (ap contents c.in-None.is) ∙ c.in_ok-taken.ensures ∙ ap given c.index-members-number.is)
+    ∙ c.members.invariant
+
+pub returns-in-Some : goal.returns-in-Some
+returns-in-Some c =
+    let given = λ (s : SimpleType). simple_taken s (raw_of c.args.raw.now) in
+    ap (λ (v : Val). Some v) c.new.ensures
+    ∙ is_first given c.args.members.now c.members.number c.index-members-number.result (content_of c.in-Some.content) c.members-test.true
+    (sym (ap contents c.in-Some.is) ∙ c.in_ok-taken.ensures ∙ ap given c.index-members-number.is)
+    ∙ c.members.invariant
