@@ -4,8 +4,6 @@
 mod command;
 mod failure;
 mod files;
-#[cfg(test)]
-mod layer_tests;
 mod program;
 mod report;
 mod status;

@@ -1,0 +1,242 @@
+//! Schemas: what is asked of one, and which modules have none.
+
+use crate::building::{FIRST, SECOND, module_text, modules_of, schema_of, with_line_feeds};
+use crate::telling::is_refusal_of_modules;
+use std::alloc::{AllocError, Global};
+use yschema::{Child, Children, Kind, Schema, SchemaId, compile};
+
+/// A node by its number, none for `-`. Nothing where the number is mistyped.
+fn id_of(text: &str) -> Option<Option<SchemaId>> {
+    if text == "-" {
+        return Some(None);
+    }
+    Some(Some(SchemaId(text.parse::<u32>().ok()?)))
+}
+
+fn place_of(text: &str) -> Option<Option<usize>> {
+    if text == "-" {
+        return Some(None);
+    }
+    Some(Some(text.parse::<usize>().ok()?))
+}
+
+fn text_of(text: &str) -> Option<&str> {
+    if text == "-" { None } else { Some(text) }
+}
+
+// `parent/module/name/number`
+fn is_child(schema: &Schema, row: &str) -> Option<bool> {
+    let (parent, row) = row.split_once('/')?;
+    let (module, row) = row.split_once('/')?;
+    let (name, wanted) = row.split_once('/')?;
+    let found = schema.child(id_of(parent)?, module.parse::<usize>().ok()?, name);
+    Some(found == id_of(wanted)?)
+}
+
+// `parent/name/number`
+fn is_written(schema: &Schema, row: &str) -> Option<bool> {
+    let (parent, row) = row.split_once('/')?;
+    let (name, wanted) = row.split_once('/')?;
+    Some(schema.child_written(id_of(parent)?, name) == id_of(wanted)?)
+}
+
+fn row_below(schema: &Schema, parent: Option<SchemaId>) -> Children<'_> {
+    match parent {
+        Some(id) => schema.children(id),
+        None => schema.roots(),
+    }
+}
+
+// `number name children`
+fn is_described(child: Child<'_>, wanted: &str) -> Option<bool> {
+    let (number, rest) = wanted.split_once(' ')?;
+    let (name, children) = rest.split_once(' ')?;
+    let is_id = Some(child.id()) == id_of(number)?;
+    let is_counted = Some(child.children().count()) == place_of(children)?;
+    Some(is_id && is_counted && child.node().name.as_str() == name)
+}
+
+// `parent/count/child/child..`
+fn is_row(schema: &Schema, row: &str) -> Option<bool> {
+    let (parent, row) = row.split_once('/')?;
+    let (count, mut rest) = row.split_once('/')?;
+    let parent = id_of(parent)?;
+    if Some(row_below(schema, parent).count()) != place_of(count)? {
+        return Some(false);
+    }
+    for child in row_below(schema, parent) {
+        let (wanted, more) = rest.split_once('/')?;
+        if !is_described(child, wanted)? {
+            return Some(false);
+        }
+        rest = more;
+    }
+    Some(rest.is_empty())
+}
+
+fn kind_of(schema: &Schema, id: SchemaId) -> &'static str {
+    match schema.kind(id) {
+        None => "none",
+        Some(node) => match node.kind {
+            Kind::Container { .. } => "container",
+            Kind::Leaf {
+                mandatory: true,
+                ..
+            } => "mandatory",
+            Kind::Leaf { .. } => "optional",
+        },
+    }
+}
+
+// `number/kind`
+fn is_kind(schema: &Schema, row: &str) -> Option<bool> {
+    let (number, wanted) = row.split_once('/')?;
+    Some(kind_of(schema, id_of(number)??) == wanted)
+}
+
+// `number/module of the parent/written/other`
+fn is_named(alloc: Global, schema: &Schema, row: &str) -> Option<bool> {
+    let (number, row) = row.split_once('/')?;
+    let (parent, row) = row.split_once('/')?;
+    let (written, other) = row.split_once('/')?;
+    let parent = place_of(parent)?;
+    let node = schema.kind(id_of(number)??)?;
+    let is_written = schema.written_name(alloc, parent, node).ok()?.as_str() == written;
+    let is_other = schema.other_name(alloc, parent, node).ok()?.as_str() == other;
+    Some(is_written && is_other)
+}
+
+// `place/name/prefix`
+fn is_module(schema: &Schema, row: &str) -> Option<bool> {
+    let (place, row) = row.split_once('/')?;
+    let (name, prefix) = row.split_once('/')?;
+    let place = place_of(place)??;
+    let is_name = schema.module_name(place) == text_of(name);
+    Some(is_name && schema.module_prefix(place) == text_of(prefix))
+}
+
+// `name/place`
+fn is_place(schema: &Schema, row: &str) -> Option<bool> {
+    let (name, wanted) = row.split_once('/')?;
+    Some(schema.module(name) == place_of(wanted)?)
+}
+
+// `nodes/modules`
+fn is_size(schema: &Schema, row: &str) -> Option<bool> {
+    let (nodes, modules) = row.split_once('/')?;
+    Some(Some(schema.nodes()) == place_of(nodes)? && Some(schema.modules()) == place_of(modules)?)
+}
+
+fn holds(alloc: Global, row: &str) -> Option<bool> {
+    let schema = schema_of(alloc, &[FIRST, SECOND]).ok()?;
+    let (query, row) = row.split_once('/')?;
+    match query {
+        "size" => is_size(&schema, row),
+        "row" => is_row(&schema, row),
+        "kind" => is_kind(&schema, row),
+        "child" => is_child(&schema, row),
+        "written" => is_written(&schema, row),
+        "names" => is_named(alloc, &schema, row),
+        "module" => is_module(&schema, row),
+        "place" => is_place(&schema, row),
+        _ => None,
+    }
+}
+
+#[test]
+fn queries(rt: HostRuntime) {
+    let rows = "size/7/2
+row/-/3/0 c 2/4 y 0/5 c 1/
+row/0/2/1 x 0/2 d 1/
+row/7/0/
+kind/0/container
+kind/1/mandatory
+kind/3/optional
+kind/7/none
+child/-/0/c/0
+child/-/1/c/5
+child/-/0/x/-
+child/0/0/x/1
+child/2/0/x/3
+child/5/1/x/6
+child/5/0/x/-
+child/7/0/x/-
+written/-/a:c/0
+written/-/b:c/5
+written/-/c/-
+written/0/x/1
+written/0/a:x/-
+written/5/x/6
+names/1/0/x/a:x
+place/b/1
+place/pb/-
+module/1/b/pb
+module/2/-/-";
+    for row in rows.lines() {
+        assert!(rt; holds(rt.alloc(), row) == Some(true), "{row:?}");
+    }
+}
+
+// Whether a module of these statements is compiled, for `none`, or refused so.
+fn is_compiled(alloc: Global, statements: &str, told: &str) -> Option<bool> {
+    let text = module_text(alloc, statements).ok()?;
+    let modules = modules_of(alloc, &[text.as_str()]).ok()?;
+    match compile(alloc, &modules) {
+        Ok(_) => Some(told == "none"),
+        Err(fault) => is_refusal_of_modules(fault, told),
+    }
+}
+
+// `CODE:LINE/statements`
+fn is_told(alloc: Global, row: &str) -> Option<bool> {
+    let (told, statements) = row.split_once('/')?;
+    is_compiled(
+        alloc,
+        with_line_feeds(alloc, statements).ok()?.as_str(),
+        told,
+    )
+}
+
+#[test]
+fn refusals(rt: HostRuntime) {
+    let rows = "C1:4/ yang-version 1.1;| list l;
+C1:4/ yang-version 1.1;| leaf l { type word; }
+C2:4/ yang-version 1.1;| leaf l;
+C2:1/ yang-version 1.1; prefix q;
+C3:4/ yang-version 1.1;| container 1;
+C3:4/ yang-version 1.1;| container;
+C4:1/
+C4:1/ yang-version 1;
+C13:5/ yang-version 1.1;| container c;| container c;
+C1:5/ yang-version 1.1;| container c;| list l;
+none/ yang-version 1.1;| container c;";
+    for row in rows.lines() {
+        assert!(rt; is_told(rt.alloc(), row) == Some(true), "{row:?}");
+    }
+}
+
+// So many containers, each in the one before.
+fn nested(alloc: Global, levels: u32) -> Result<String, AllocError> {
+    let mut text = String::from_str(alloc, " yang-version 1.1;\n")?;
+    for _ in 0..levels {
+        text.push_str("container c {")?;
+    }
+    for _ in 0..levels {
+        text.push_str("}")?;
+    }
+    Ok(text)
+}
+
+// `CODE:LINE/levels`
+fn may_nest(alloc: Global, row: &str) -> Option<bool> {
+    let (told, levels) = row.split_once('/')?;
+    let statements = nested(alloc, levels.parse::<u32>().ok()?).ok()?;
+    is_compiled(alloc, statements.as_str(), told)
+}
+
+#[test]
+fn levels(rt: HostRuntime) {
+    for row in "none/60,C18:1/61".split(',') {
+        assert!(rt; may_nest(rt.alloc(), row) == Some(true), "{row}");
+    }
+}
