@@ -36,7 +36,7 @@ pub(crate) const MODULE: &str = "module p {
 ";
 
 /// Why something isn't built.
-#[derive(Clone, Copy, Debug, PartialEq, Eq)]
+#[derive(Clone, Copy)]
 pub(crate) enum Unbuilt {
     Memory,
     Refused,
@@ -99,10 +99,15 @@ impl From<ListFault> for Unbuilt {
     }
 }
 
+fn push_module(alloc: Global, modules: &mut Vec<Module>, text: &str) -> Result<(), Unbuilt> {
+    modules.push(parse(alloc, text.as_bytes())?)?;
+    Ok(())
+}
+
 pub(crate) fn modules_of(alloc: Global, texts: &[&str]) -> Result<Vec<Module>, Unbuilt> {
     let mut modules = Vec::new(alloc);
     for text in texts {
-        modules.push(parse(alloc, text.as_bytes())?)?;
+        push_module(alloc, &mut modules, text)?;
     }
     Ok(modules)
 }

@@ -1,16 +1,16 @@
 //! Documents: the text that is written for each, and the lines of its faults.
 
 use crate::building::{MODULE, Unbuilt, schema_of};
-use crate::telling::have_lines;
+use crate::telling::{have_lines, is_text};
 use std::alloc::Global;
 use ycheck::faults;
 use yinst::{read, write};
 
-/// The text of a document that is read and written.
-pub(crate) fn rewritten(alloc: Global, document: &str) -> Result<String, Unbuilt> {
+/// Whether a document that is read is written as this text.
+pub(crate) fn is_rewritten(alloc: Global, document: &str, text: &str) -> Result<bool, Unbuilt> {
     let schema = schema_of(alloc, &[MODULE])?;
     let tree = read(alloc, &schema, document.as_bytes())?;
-    Ok(write(alloc, &schema, &tree)?)
+    is_text(write(alloc, &schema, &tree), text)
 }
 
 /// Whether the faults of a document have these lines.
@@ -24,8 +24,7 @@ pub(crate) fn is_faulty(alloc: Global, document: &str, lines: &str) -> Result<bo
 // `document => text`, and the text is written as it is.
 fn is_written(alloc: Global, row: &str) -> Option<bool> {
     let (document, text) = row.split_once(" => ")?;
-    let is_text = rewritten(alloc, document).ok()?.as_str() == text;
-    Some(is_text && rewritten(alloc, text).ok()?.as_str() == text)
+    Some(is_rewritten(alloc, document, text).ok()? && is_rewritten(alloc, text, text).ok()?)
 }
 
 #[test]

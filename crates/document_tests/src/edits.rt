@@ -1,33 +1,39 @@
 //! Paths and edits as their texts spell them.
 
-use crate::telling::is_refusal;
+use crate::telling::{is_refusal, is_text};
 use std::alloc::{AllocError, Global};
-use yinst::{Edit, NamedStep, Path, Predicate};
+use yinst::{Edit, Key, NamedStep, Path, Predicate};
 
-// The text of a path once more, with its predicates in one form.
-fn push_path(text: &mut String, path: &Path) -> Result<(), AllocError> {
-    for step in &path.steps {
-        push_step(text, step)?;
+fn push_all(text: &mut String, parts: &[&str]) -> Result<(), AllocError> {
+    for part in parts {
+        text.push_str(part)?;
+    }
+    Ok(())
+}
+
+fn push_keys(text: &mut String, keys: &[Key]) -> Result<(), AllocError> {
+    for key in keys {
+        push_all(text, &["<", key.name.as_str(), "|", key.text.as_str(), ">"])?;
     }
     Ok(())
 }
 
 fn push_step(text: &mut String, step: &NamedStep) -> Result<(), AllocError> {
-    text.push_str("/")?;
-    text.push_str(step.name.as_str())?;
+    push_all(text, &["/", step.name.as_str()])?;
     match &step.predicate {
-        Predicate::Unsaid => {}
-        Predicate::Position(1) => text.push_str("[first]")?,
-        Predicate::Position(12) => text.push_str("[twelfth]")?,
-        Predicate::Position(u32::MAX) => text.push_str("[far]")?,
-        Predicate::Position(_) => text.push_str("[other]")?,
-        Predicate::Keys(keys) => {
-            for key in keys {
-                for part in ["<", key.name.as_str(), "|", key.text.as_str(), ">"] {
-                    text.push_str(part)?;
-                }
-            }
-        }
+        Predicate::Unsaid => Ok(()),
+        Predicate::Position(1) => text.push_str("[first]"),
+        Predicate::Position(12) => text.push_str("[twelfth]"),
+        Predicate::Position(u32::MAX) => text.push_str("[far]"),
+        Predicate::Position(_) => text.push_str("[other]"),
+        Predicate::Keys(keys) => push_keys(text, keys),
+    }
+}
+
+// The text of a path once more, with its predicates in one form.
+fn push_path(text: &mut String, path: &Path) -> Result<(), AllocError> {
+    for step in &path.steps {
+        push_step(text, step)?;
     }
     Ok(())
 }
@@ -46,9 +52,7 @@ fn edit_text(alloc: Global, edit: &Edit) -> Result<String, AllocError> {
     };
     let mut text = String::from_str(alloc, verb)?;
     push_path(&mut text, path)?;
-    for part in [" (", value, ")"] {
-        text.push_str(part)?;
-    }
+    push_all(&mut text, &[" (", value, ")"])?;
     Ok(text)
 }
 
@@ -56,7 +60,7 @@ fn edit_text(alloc: Global, edit: &Edit) -> Result<String, AllocError> {
 fn is_path(alloc: Global, row: &str) -> Option<bool> {
     let (text, told) = row.split_once(" => ")?;
     match Path::parse(alloc, text) {
-        Ok(path) => Some(path_text(alloc, &path).ok()?.as_str() == told),
+        Ok(path) => is_text(path_text(alloc, &path), told).ok(),
         Err(fault) => is_refusal(fault, told),
     }
 }
@@ -94,7 +98,7 @@ p:c => E1
 fn is_edit(alloc: Global, row: &str) -> Option<bool> {
     let (text, told) = row.split_once(" => ")?;
     match Edit::parse(alloc, text) {
-        Ok(Some(edit)) => Some(edit_text(alloc, &edit).ok()?.as_str() == told),
+        Ok(Some(edit)) => is_text(edit_text(alloc, &edit), told).ok(),
         Ok(None) => Some(told == "passed over"),
         Err(fault) => is_refusal(fault, told),
     }

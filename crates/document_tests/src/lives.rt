@@ -1,7 +1,7 @@
 //! Live documents: edits one after the other, lists of edits, and what is refused before any edit.
 
 use crate::building::{MODULE, Unbuilt, live_of, module_text, modules_of};
-use crate::telling::{have_lines, is_code, is_refusal, is_refusal_of_modules};
+use crate::telling::{have_lines, is_code, is_refusal, is_refusal_of_modules, is_text, number_of};
 use std::alloc::Global;
 use yinst::{DocCode, DocFault, Edit, write};
 use ylive::{Applied, CheckFault, Checked, Live, Outcome, Refused, StopCode, check_edits};
@@ -18,21 +18,31 @@ replace /p:c/zz 1 => E2
 replace /p:c/note {} => E10:J5
 remove /p:c/note => accepted";
 
+fn is_stored(alloc: Global, live: &Live, text: &str) -> Result<bool, Unbuilt> {
+    let tree = live.tree()?;
+    is_text(write(alloc, live.schema(), &tree), text)
+}
+
+fn is_listed(alloc: Global, live: &Live, lines: &str) -> Result<bool, Unbuilt> {
+    let faults = live.list()?;
+    have_lines(alloc, live.schema(), &faults, lines)
+}
+
+fn is_counted(live: &Live) -> Result<bool, Unbuilt> {
+    let faults = live.list()?;
+    Ok(live.fault_count() == Some(faults.len()))
+}
+
 /// Whether a document has this text and these lines of faults.
 pub(crate) fn stands(alloc: Global, live: &Live, text: &str, lines: &str) -> Result<bool, Unbuilt> {
-    let tree = live.tree()?;
-    let written = write(alloc, live.schema(), &tree)?;
-    let faults = live.list()?;
-    let is_counted = live.fault_count() == Some(faults.len());
-    let is_told = have_lines(alloc, live.schema(), &faults, lines)?;
-    Ok(is_counted && is_told && written.as_str() == text)
+    Ok(is_counted(live)? && is_listed(alloc, live, lines)? && is_stored(alloc, live, text)?)
 }
 
 // Whether the counts of faults before and after are those of `1 to 0`.
 fn are_counts(applied: Applied, told: &str) -> Option<bool> {
     let (before, after) = told.split_once(" to ")?;
-    let is_before = before.parse::<usize>().ok()? == applied.before;
-    Some(is_before && after.parse::<usize>().ok()? == applied.after)
+    let is_before = number_of(before)? as usize == applied.before;
+    Some(is_before && number_of(after)? as usize == applied.after)
 }
 
 // Whether this comes of an edit: its counts, or the codes of its refusal.
@@ -142,24 +152,35 @@ fn are_outcomes(outcomes: &[Outcome], rows: &str) -> bool {
     rest.next().is_none()
 }
 
-/// Whether a list of edits has its outcomes, and the document is as the later ones leave it.
-pub(crate) fn runs(alloc: Global) -> Result<bool, Unbuilt> {
-    let edits = edits_of(alloc, EDITS)?;
-    let mut live = live_of(alloc, FAULTY)?;
-    match live.run(&edits) {
-        Ok(outcomes) => Ok(
-            are_outcomes(&outcomes, EDITS) && stands(alloc, &live, r#"{"p:c":{"id":7}}"#, "none")?,
-        ),
+fn has_run(alloc: Global, live: &Live, outcomes: &[Outcome]) -> Result<bool, Unbuilt> {
+    let is_left = stands(alloc, live, r#"{"p:c":{"id":7}}"#, "none")?;
+    Ok(is_left && are_outcomes(outcomes, EDITS))
+}
+
+fn runs_in(alloc: Global, live: &mut Live, edits: &[Edit]) -> Result<bool, Unbuilt> {
+    match live.run(edits) {
+        Ok(outcomes) => has_run(alloc, live, &outcomes),
         Err(stopped) if stopped.code == StopCode::E12 && live.is_stale() => Err(Unbuilt::Memory),
         Err(_) => Ok(false),
     }
 }
 
+/// Whether a list of edits has its outcomes, and the document is as the later ones leave it.
+pub(crate) fn runs(alloc: Global) -> Result<bool, Unbuilt> {
+    let edits = edits_of(alloc, EDITS)?;
+    let mut live = live_of(alloc, FAULTY)?;
+    runs_in(alloc, &mut live, &edits)
+}
+
+fn rebuilds(alloc: Global, live: &mut Live) -> Result<bool, Unbuilt> {
+    let is_done = live.rebuild().is_ok();
+    Ok(is_done && !live.is_stale() && stands(alloc, live, FAULTY, INVALID)?)
+}
+
 /// Whether a document that isn't stale is rebuilt as it was.
 pub(crate) fn is_rebuilt(alloc: Global) -> Result<bool, Unbuilt> {
     let mut live = live_of(alloc, FAULTY)?;
-    let is_done = live.rebuild().is_ok();
-    Ok(is_done && !live.is_stale() && stands(alloc, &live, FAULTY, INVALID)?)
+    rebuilds(alloc, &mut live)
 }
 
 fn checked(
@@ -206,9 +227,9 @@ pub(crate) fn are_modules_refused(alloc: Global) -> Result<bool, Unbuilt> {
 
 #[test]
 fn lists_of_edits(rt: HostRuntime) {
-    assert_eq!(rt; runs(rt.alloc()), Ok(true));
-    assert_eq!(rt; is_rebuilt(rt.alloc()), Ok(true));
-    assert_eq!(rt; are_checked(rt.alloc()), Ok(true));
-    assert_eq!(rt; is_document_refused(rt.alloc()), Ok(true));
-    assert_eq!(rt; are_modules_refused(rt.alloc()), Ok(true));
+    assert!(rt; matches!(runs(rt.alloc()), Ok(true)));
+    assert!(rt; matches!(is_rebuilt(rt.alloc()), Ok(true)));
+    assert!(rt; matches!(are_checked(rt.alloc()), Ok(true)));
+    assert!(rt; matches!(is_document_refused(rt.alloc()), Ok(true)));
+    assert!(rt; matches!(are_modules_refused(rt.alloc()), Ok(true)));
 }

@@ -1,27 +1,41 @@
 //! Schemas: what is asked of one, and which modules have none.
 
 use crate::building::{FIRST, SECOND, module_text, modules_of, schema_of, with_line_feeds};
-use crate::telling::is_refusal_of_modules;
+use crate::telling::{is_refusal_of_modules, is_text, number_of};
 use std::alloc::{AllocError, Global};
 use yschema::{Child, Children, Kind, Schema, SchemaId, compile};
 
 /// A node by its number, none for `-`. Nothing where the number is mistyped.
 fn id_of(text: &str) -> Option<Option<SchemaId>> {
-    if text == "-" {
-        return Some(None);
+    match text {
+        "-" => Some(None),
+        _ => Some(Some(SchemaId(number_of(text)?))),
     }
-    Some(Some(SchemaId(text.parse::<u32>().ok()?)))
 }
 
-fn place_of(text: &str) -> Option<Option<usize>> {
-    if text == "-" {
-        return Some(None);
+fn is_node(found: Option<SchemaId>, wanted: &str) -> Option<bool> {
+    match found {
+        Some(id) => Some(id.0 == number_of(wanted)?),
+        None => Some(wanted == "-"),
     }
-    Some(Some(text.parse::<usize>().ok()?))
 }
 
-fn text_of(text: &str) -> Option<&str> {
-    if text == "-" { None } else { Some(text) }
+fn is_place(found: Option<usize>, wanted: &str) -> Option<bool> {
+    match found {
+        Some(place) => Some(place == place_of(wanted)?),
+        None => Some(wanted == "-"),
+    }
+}
+
+fn is_name(found: Option<&str>, wanted: &str) -> bool {
+    match found {
+        Some(name) => name == wanted,
+        None => wanted == "-",
+    }
+}
+
+fn place_of(digits: &str) -> Option<usize> {
+    Some(number_of(digits)? as usize)
 }
 
 // `parent/module/name/number`
@@ -29,15 +43,17 @@ fn is_child(schema: &Schema, row: &str) -> Option<bool> {
     let (parent, row) = row.split_once('/')?;
     let (module, row) = row.split_once('/')?;
     let (name, wanted) = row.split_once('/')?;
-    let found = schema.child(id_of(parent)?, module.parse::<usize>().ok()?, name);
-    Some(found == id_of(wanted)?)
+    is_node(
+        schema.child(id_of(parent)?, place_of(module)?, name),
+        wanted,
+    )
 }
 
 // `parent/name/number`
 fn is_written(schema: &Schema, row: &str) -> Option<bool> {
     let (parent, row) = row.split_once('/')?;
     let (name, wanted) = row.split_once('/')?;
-    Some(schema.child_written(id_of(parent)?, name) == id_of(wanted)?)
+    is_node(schema.child_written(id_of(parent)?, name), wanted)
 }
 
 fn row_below(schema: &Schema, parent: Option<SchemaId>) -> Children<'_> {
@@ -51,27 +67,21 @@ fn row_below(schema: &Schema, parent: Option<SchemaId>) -> Children<'_> {
 fn is_described(child: Child<'_>, wanted: &str) -> Option<bool> {
     let (number, rest) = wanted.split_once(' ')?;
     let (name, children) = rest.split_once(' ')?;
-    let is_id = Some(child.id()) == id_of(number)?;
-    let is_counted = Some(child.children().count()) == place_of(children)?;
+    let is_id = child.id().0 == number_of(number)?;
+    let is_counted = child.children().count() == place_of(children)?;
     Some(is_id && is_counted && child.node().name.as_str() == name)
 }
 
-// `parent/count/child/child..`
+// `parent/child/child../end`
 fn is_row(schema: &Schema, row: &str) -> Option<bool> {
-    let (parent, row) = row.split_once('/')?;
-    let (count, mut rest) = row.split_once('/')?;
-    let parent = id_of(parent)?;
-    if Some(row_below(schema, parent).count()) != place_of(count)? {
-        return Some(false);
-    }
-    for child in row_below(schema, parent) {
-        let (wanted, more) = rest.split_once('/')?;
-        if !is_described(child, wanted)? {
+    let (parent, children) = row.split_once('/')?;
+    let mut wanted = children.split('/');
+    for child in row_below(schema, id_of(parent)?) {
+        if !is_described(child, wanted.next()?)? {
             return Some(false);
         }
-        rest = more;
     }
-    Some(rest.is_empty())
+    Some(wanted.next() == Some("end"))
 }
 
 fn kind_of(schema: &Schema, id: SchemaId) -> &'static str {
@@ -91,7 +101,7 @@ fn kind_of(schema: &Schema, id: SchemaId) -> &'static str {
 // `number/kind`
 fn is_kind(schema: &Schema, row: &str) -> Option<bool> {
     let (number, wanted) = row.split_once('/')?;
-    Some(kind_of(schema, id_of(number)??) == wanted)
+    Some(kind_of(schema, SchemaId(number_of(number)?)) == wanted)
 }
 
 // `number/module of the parent/written/other`
@@ -99,32 +109,30 @@ fn is_named(alloc: Global, schema: &Schema, row: &str) -> Option<bool> {
     let (number, row) = row.split_once('/')?;
     let (parent, row) = row.split_once('/')?;
     let (written, other) = row.split_once('/')?;
-    let parent = place_of(parent)?;
-    let node = schema.kind(id_of(number)??)?;
-    let is_written = schema.written_name(alloc, parent, node).ok()?.as_str() == written;
-    let is_other = schema.other_name(alloc, parent, node).ok()?.as_str() == other;
-    Some(is_written && is_other)
+    let parent = Some(place_of(parent)?);
+    let node = schema.kind(SchemaId(number_of(number)?))?;
+    let is_written = is_text(schema.written_name(alloc, parent, node), written).ok()?;
+    Some(is_written && is_text(schema.other_name(alloc, parent, node), other).ok()?)
 }
 
 // `place/name/prefix`
 fn is_module(schema: &Schema, row: &str) -> Option<bool> {
     let (place, row) = row.split_once('/')?;
     let (name, prefix) = row.split_once('/')?;
-    let place = place_of(place)??;
-    let is_name = schema.module_name(place) == text_of(name);
-    Some(is_name && schema.module_prefix(place) == text_of(prefix))
+    let place = place_of(place)?;
+    Some(is_name(schema.module_name(place), name) && is_name(schema.module_prefix(place), prefix))
 }
 
 // `name/place`
-fn is_place(schema: &Schema, row: &str) -> Option<bool> {
+fn is_module_place(schema: &Schema, row: &str) -> Option<bool> {
     let (name, wanted) = row.split_once('/')?;
-    Some(schema.module(name) == place_of(wanted)?)
+    is_place(schema.module(name), wanted)
 }
 
 // `nodes/modules`
 fn is_size(schema: &Schema, row: &str) -> Option<bool> {
     let (nodes, modules) = row.split_once('/')?;
-    Some(Some(schema.nodes()) == place_of(nodes)? && Some(schema.modules()) == place_of(modules)?)
+    Some(schema.nodes() == place_of(nodes)? && schema.modules() == place_of(modules)?)
 }
 
 fn holds(alloc: Global, row: &str) -> Option<bool> {
@@ -138,7 +146,7 @@ fn holds(alloc: Global, row: &str) -> Option<bool> {
         "written" => is_written(&schema, row),
         "names" => is_named(alloc, &schema, row),
         "module" => is_module(&schema, row),
-        "place" => is_place(&schema, row),
+        "place" => is_module_place(&schema, row),
         _ => None,
     }
 }
@@ -146,9 +154,9 @@ fn holds(alloc: Global, row: &str) -> Option<bool> {
 #[test]
 fn queries(rt: HostRuntime) {
     let rows = "size/7/2
-row/-/3/0 c 2/4 y 0/5 c 1/
-row/0/2/1 x 0/2 d 1/
-row/7/0/
+row/-/0 c 2/4 y 0/5 c 1/end
+row/0/1 x 0/2 d 1/end
+row/7/end
 kind/0/container
 kind/1/mandatory
 kind/3/optional
@@ -230,7 +238,7 @@ fn nested(alloc: Global, levels: u32) -> Result<String, AllocError> {
 // `CODE:LINE/levels`
 fn may_nest(alloc: Global, row: &str) -> Option<bool> {
     let (told, levels) = row.split_once('/')?;
-    let statements = nested(alloc, levels.parse::<u32>().ok()?).ok()?;
+    let statements = nested(alloc, number_of(levels)?).ok()?;
     is_compiled(alloc, statements.as_str(), told)
 }
 

@@ -1,16 +1,28 @@
 //! Codes, counts and lines of faults, as the rows of the tables spell them.
 
-use crate::building::{Unbuilt, with_line_feeds};
-use std::alloc::Global;
-use ycheck::{Fault, write_line};
+use crate::building::Unbuilt;
+use std::alloc::{AllocError, Global};
+use ycheck::{Fault, LineFault, write_line};
 use yinst::{DocCode, EditCode, EditFault};
 use yschema::{CompileFault, Schema};
 use ytext::Cut;
 
+pub(crate) fn number_of(digits: &str) -> Option<u32> {
+    digits.parse::<u32>().ok()
+}
+
+/// Whether a text that is made is this one.
+pub(crate) fn is_text(made: Result<String, AllocError>, wanted: &str) -> Result<bool, Unbuilt> {
+    match made {
+        Ok(text) => Ok(text.as_str() == wanted),
+        Err(_) => Err(Unbuilt::Memory),
+    }
+}
+
 /// Whether a text is a letter and this number.
 fn is_numbered(text: &str, letter: char, number: u32) -> bool {
     match text.strip_prefix(letter) {
-        Some(digits) => digits.parse::<u32>().ok() == Some(number),
+        Some(digits) => number_of(digits) == Some(number),
         None => false,
     }
 }
@@ -21,7 +33,7 @@ pub(crate) fn is_refusal_of_modules(fault: CompileFault, told: &str) -> Option<b
         CompileFault::Memory => None,
         CompileFault::Refused { code, module, line } => {
             let (rule, at) = told.split_once(':')?;
-            let is_line = at.parse::<u32>().ok()? == line;
+            let is_line = number_of(at)? == line;
             Some(module == 0 && is_line && is_numbered(rule, 'C', code as u32))
         }
     }
@@ -46,6 +58,25 @@ pub(crate) fn is_refusal(fault: EditFault, told: &str) -> Option<bool> {
     }
 }
 
+fn write_lines(schema: &Schema, faults: &[Fault], told: &mut Cut) -> Result<(), LineFault> {
+    for fault in faults {
+        write_line(schema, fault, told)?;
+    }
+    Ok(())
+}
+
+fn are_lines(told: &[u8], lines: &str) -> bool {
+    let mut rest = lines.bytes();
+    for byte in told {
+        match rest.next() {
+            Some(b'|') if *byte == b'\n' => {}
+            Some(wanted) if *byte == wanted => {}
+            _ => return false,
+        }
+    }
+    rest.next().is_none()
+}
+
 /// Whether faults have these lines, each with a `|` at its end; `none` for no line.
 pub(crate) fn have_lines(
     alloc: Global,
@@ -53,14 +84,12 @@ pub(crate) fn have_lines(
     faults: &[Fault],
     lines: &str,
 ) -> Result<bool, Unbuilt> {
-    let mut told = Cut::new(alloc, 4096, 4096, None)?;
-    for fault in faults {
-        if write_line(schema, fault, &mut told).is_err() {
-            return Err(Unbuilt::Refused);
-        }
-    }
     if lines == "none" {
-        return Ok(told.bytes().is_empty());
+        return Ok(faults.is_empty());
     }
-    Ok(told.bytes() == with_line_feeds(alloc, lines)?.as_bytes())
+    let mut told = Cut::new(alloc, 4096, 4096, None)?;
+    match write_lines(schema, faults, &mut told) {
+        Ok(()) => Ok(are_lines(told.bytes(), lines)),
+        Err(LineFault::Device) => Err(Unbuilt::Refused),
+    }
 }
