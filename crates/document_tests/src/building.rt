@@ -1,10 +1,11 @@
-//! Modules from their texts, their schema, and a live document under it.
+//! Modules from their texts, their schema, and a live document under it; nothing where memory runs out or one of them
+//! is refused.
 
-use std::alloc::{AllocError, AllocFailed, Global};
-use yinst::{DocFault, EditFault, read};
-use ylive::{ListFault, Live};
-use yschema::{CompileFault, Schema, compile};
-use ytext::{Module, TextFault, parse};
+use std::alloc::{AllocError, Global};
+use yinst::{Tree, read};
+use ylive::Live;
+use yschema::{Schema, compile};
+use ytext::{Module, parse};
 
 /// A module whose container has the name of one of the other module, and the name of its leaf twice.
 pub(crate) const FIRST: &str = "module a {
@@ -35,95 +36,29 @@ pub(crate) const MODULE: &str = "module p {
 }
 ";
 
-/// Why something isn't built.
-#[derive(Clone, Copy)]
-pub(crate) enum Unbuilt {
-    Memory,
-    Refused,
-}
-
-impl From<AllocError> for Unbuilt {
-    fn from(_e: AllocError) -> Unbuilt {
-        Unbuilt::Memory
-    }
-}
-
-impl<T: Drop> From<AllocFailed<T>> for Unbuilt {
-    fn from(_e: AllocFailed<T>) -> Unbuilt {
-        Unbuilt::Memory
-    }
-}
-
-impl From<TextFault> for Unbuilt {
-    fn from(fault: TextFault) -> Unbuilt {
-        match fault {
-            TextFault::Memory => Unbuilt::Memory,
-            TextFault::Refused { .. } => Unbuilt::Refused,
-        }
-    }
-}
-
-impl From<CompileFault> for Unbuilt {
-    fn from(fault: CompileFault) -> Unbuilt {
-        match fault {
-            CompileFault::Memory => Unbuilt::Memory,
-            CompileFault::Refused { .. } => Unbuilt::Refused,
-        }
-    }
-}
-
-impl From<DocFault> for Unbuilt {
-    fn from(fault: DocFault) -> Unbuilt {
-        match fault {
-            DocFault::Memory => Unbuilt::Memory,
-            DocFault::Refused { .. } => Unbuilt::Refused,
-        }
-    }
-}
-
-impl From<EditFault> for Unbuilt {
-    fn from(fault: EditFault) -> Unbuilt {
-        match fault {
-            EditFault::Memory => Unbuilt::Memory,
-            EditFault::Refused { .. } => Unbuilt::Refused,
-        }
-    }
-}
-
-impl From<ListFault> for Unbuilt {
-    fn from(fault: ListFault) -> Unbuilt {
-        match fault {
-            ListFault::Memory => Unbuilt::Memory,
-            ListFault::Stale => Unbuilt::Refused,
-        }
-    }
-}
-
-fn push_module(alloc: Global, modules: &mut Vec<Module>, text: &str) -> Result<(), Unbuilt> {
-    modules.push(parse(alloc, text.as_bytes())?)?;
-    Ok(())
-}
-
-pub(crate) fn modules_of(alloc: Global, texts: &[&str]) -> Result<Vec<Module>, Unbuilt> {
+pub(crate) fn modules_of(alloc: Global, texts: &[&str]) -> Option<Vec<Module>> {
     let mut modules = Vec::new(alloc);
     for text in texts {
-        push_module(alloc, &mut modules, text)?;
+        let module = parse(alloc, text.as_bytes()).ok()?;
+        modules.push(module).ok()?;
     }
-    Ok(modules)
+    Some(modules)
 }
 
-pub(crate) fn schema_of(alloc: Global, texts: &[&str]) -> Result<Schema, Unbuilt> {
-    Ok(compile(alloc, &modules_of(alloc, texts)?)?)
+pub(crate) fn schema_of(alloc: Global, texts: &[&str]) -> Option<Schema> {
+    let modules = modules_of(alloc, texts)?;
+    compile(alloc, &modules).ok()
+}
+
+pub(crate) fn tree_of(alloc: Global, schema: &Schema, document: &str) -> Option<Tree> {
+    read(alloc, schema, document.as_bytes()).ok()
 }
 
 /// A live document under the schema of the documents' module.
-pub(crate) fn live_of(alloc: Global, document: &str) -> Result<Live, Unbuilt> {
+pub(crate) fn live_of(alloc: Global, document: &str) -> Option<Live> {
     let schema = schema_of(alloc, &[MODULE])?;
-    let tree = read(alloc, &schema, document.as_bytes())?;
-    match Live::open(alloc, schema, tree) {
-        Ok(live) => Ok(live),
-        Err(_) => Err(Unbuilt::Memory),
-    }
+    let tree = tree_of(alloc, &schema, document)?;
+    Live::open(alloc, schema, tree).ok()
 }
 
 /// A text of a row: `|` stands for a line feed.

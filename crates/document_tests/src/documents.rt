@@ -1,30 +1,30 @@
 //! Documents: the text that is written for each, and the lines of its faults.
 
-use crate::building::{MODULE, Unbuilt, schema_of};
+use crate::building::{MODULE, schema_of, tree_of};
 use crate::telling::{have_lines, is_text};
 use std::alloc::Global;
 use ycheck::faults;
-use yinst::{read, write};
+use yinst::write;
 
 /// Whether a document that is read is written as this text.
-pub(crate) fn is_rewritten(alloc: Global, document: &str, text: &str) -> Result<bool, Unbuilt> {
+pub(crate) fn is_rewritten(alloc: Global, document: &str, text: &str) -> Option<bool> {
     let schema = schema_of(alloc, &[MODULE])?;
-    let tree = read(alloc, &schema, document.as_bytes())?;
+    let tree = tree_of(alloc, &schema, document)?;
     is_text(write(alloc, &schema, &tree), text)
 }
 
 /// Whether the faults of a document have these lines.
-pub(crate) fn is_faulty(alloc: Global, document: &str, lines: &str) -> Result<bool, Unbuilt> {
+pub(crate) fn is_faulty(alloc: Global, document: &str, lines: &str) -> Option<bool> {
     let schema = schema_of(alloc, &[MODULE])?;
-    let tree = read(alloc, &schema, document.as_bytes())?;
-    let found = faults(alloc, &schema, &tree)?;
+    let tree = tree_of(alloc, &schema, document)?;
+    let found = faults(alloc, &schema, &tree).ok()?;
     have_lines(alloc, &schema, &found, lines)
 }
 
 // `document => text`, and the text is written as it is.
 fn is_written(alloc: Global, row: &str) -> Option<bool> {
     let (document, text) = row.split_once(" => ")?;
-    Some(is_rewritten(alloc, document, text).ok()? && is_rewritten(alloc, text, text).ok()?)
+    Some(is_rewritten(alloc, document, text)? && is_rewritten(alloc, text, text)?)
 }
 
 #[test]
@@ -42,7 +42,7 @@ fn written_documents(rt: HostRuntime) {
 // `document => lines`
 fn has_lines(alloc: Global, row: &str) -> Option<bool> {
     let (document, lines) = row.split_once(" => ")?;
-    is_faulty(alloc, document, lines).ok()
+    is_faulty(alloc, document, lines)
 }
 
 #[test]

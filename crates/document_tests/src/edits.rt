@@ -60,7 +60,7 @@ fn edit_text(alloc: Global, edit: &Edit) -> Result<String, AllocError> {
 fn is_path(alloc: Global, row: &str) -> Option<bool> {
     let (text, told) = row.split_once(" => ")?;
     match Path::parse(alloc, text) {
-        Ok(path) => is_text(path_text(alloc, &path), told).ok(),
+        Ok(path) => is_text(path_text(alloc, &path), told),
         Err(fault) => is_refusal(fault, told),
     }
 }
@@ -98,7 +98,7 @@ p:c => E1
 fn is_edit(alloc: Global, row: &str) -> Option<bool> {
     let (text, told) = row.split_once(" => ")?;
     match Edit::parse(alloc, text) {
-        Ok(Some(edit)) => is_text(edit_text(alloc, &edit), told).ok(),
+        Ok(Some(edit)) => is_text(edit_text(alloc, &edit), told),
         Ok(None) => Some(told == "passed over"),
         Err(fault) => is_refusal(fault, told),
     }

@@ -1,10 +1,10 @@
 //! Live documents: edits one after the other, lists of edits, and what is refused before any edit.
 
-use crate::building::{MODULE, Unbuilt, live_of, module_text, modules_of};
+use crate::building::{MODULE, live_of, module_text, modules_of};
 use crate::telling::{have_lines, is_code, is_refusal, is_refusal_of_modules, is_text, number_of};
 use std::alloc::Global;
 use yinst::{DocCode, DocFault, Edit, write};
-use ylive::{Applied, CheckFault, Checked, Live, Outcome, Refused, StopCode, check_edits};
+use ylive::{Applied, CheckFault, Live, Outcome, Refused, check_edits};
 
 /// A document with one fault.
 pub(crate) const FAULTY: &str = r#"{"p:c":{"id":256,"note":"x"}}"#;
@@ -18,24 +18,20 @@ replace /p:c/zz 1 => E2
 replace /p:c/note {} => E10:J5
 remove /p:c/note => accepted";
 
-fn is_stored(alloc: Global, live: &Live, text: &str) -> Result<bool, Unbuilt> {
-    let tree = live.tree()?;
+fn is_stored(alloc: Global, live: &Live, text: &str) -> Option<bool> {
+    let tree = live.tree().ok()?;
     is_text(write(alloc, live.schema(), &tree), text)
 }
 
-fn is_listed(alloc: Global, live: &Live, lines: &str) -> Result<bool, Unbuilt> {
-    let faults = live.list()?;
-    have_lines(alloc, live.schema(), &faults, lines)
-}
-
-fn is_counted(live: &Live) -> Result<bool, Unbuilt> {
-    let faults = live.list()?;
-    Ok(live.fault_count() == Some(faults.len()))
+fn is_listed(alloc: Global, live: &Live, lines: &str) -> Option<bool> {
+    let faults = live.list().ok()?;
+    let is_counted = live.fault_count() == Some(faults.len());
+    Some(is_counted && have_lines(alloc, live.schema(), &faults, lines)?)
 }
 
 /// Whether a document has this text and these lines of faults.
-pub(crate) fn stands(alloc: Global, live: &Live, text: &str, lines: &str) -> Result<bool, Unbuilt> {
-    Ok(is_counted(live)? && is_listed(alloc, live, lines)? && is_stored(alloc, live, text)?)
+pub(crate) fn stands(alloc: Global, live: &Live, text: &str, lines: &str) -> Option<bool> {
+    Some(is_listed(alloc, live, lines)? && is_stored(alloc, live, text)?)
 }
 
 // Whether the counts of faults before and after are those of `1 to 0`.
@@ -67,14 +63,14 @@ fn goes(alloc: Global, live: &mut Live, row: &str) -> Option<bool> {
     let (line, row) = row.split_once(" => ")?;
     let (told, row) = row.split_once(" => ")?;
     let (text, lines) = row.split_once(" => ")?;
-    Some(comes_of_line(alloc, live, line, told)? && stands(alloc, live, text, lines).ok()?)
+    Some(comes_of_line(alloc, live, line, told)? && stands(alloc, live, text, lines)?)
 }
 
 // The first row that doesn't go as it says, each after the ones before it; the document where it isn't opened.
 fn first_wrong<'a>(alloc: Global, document: &'a str, rows: &'a str) -> Option<&'a str> {
     match live_of(alloc, document) {
-        Err(_) => Some(document),
-        Ok(mut live) => {
+        None => Some(document),
+        Some(mut live) => {
             for row in rows.lines() {
                 if goes(alloc, &mut live, row) != Some(true) {
                     return Some(row);
@@ -120,16 +116,14 @@ remove /p:c => 1 to 1 => {} => V3 data-missing - /p:c/id -|"#;
 }
 
 // The edits of rows `line => what comes of it`.
-fn edits_of(alloc: Global, rows: &str) -> Result<Vec<Edit>, Unbuilt> {
+fn edits_of(alloc: Global, rows: &str) -> Option<Vec<Edit>> {
     let mut edits = Vec::new(alloc);
     for row in rows.lines() {
-        let (line, _) = row.split_once(" => ").unwrap_or((row, ""));
-        match Edit::parse(alloc, line)? {
-            Some(edit) => edits.push(edit)?,
-            None => return Err(Unbuilt::Refused),
-        }
+        let (line, _) = row.split_once(" => ")?;
+        let edit = Edit::parse(alloc, line).ok()??;
+        edits.push(edit).ok()?;
     }
-    Ok(edits)
+    Some(edits)
 }
 
 fn is_outcome(outcome: &Outcome, row: &str) -> bool {
@@ -152,84 +146,71 @@ fn are_outcomes(outcomes: &[Outcome], rows: &str) -> bool {
     rest.next().is_none()
 }
 
-fn has_run(alloc: Global, live: &Live, outcomes: &[Outcome]) -> Result<bool, Unbuilt> {
+fn runs_in(alloc: Global, live: &mut Live, edits: &[Edit]) -> Option<bool> {
+    let outcomes = live.run(edits).ok()?;
     let is_left = stands(alloc, live, r#"{"p:c":{"id":7}}"#, "none")?;
-    Ok(is_left && are_outcomes(outcomes, EDITS))
-}
-
-fn runs_in(alloc: Global, live: &mut Live, edits: &[Edit]) -> Result<bool, Unbuilt> {
-    match live.run(edits) {
-        Ok(outcomes) => has_run(alloc, live, &outcomes),
-        Err(stopped) if stopped.code == StopCode::E12 && live.is_stale() => Err(Unbuilt::Memory),
-        Err(_) => Ok(false),
-    }
+    Some(is_left && are_outcomes(&outcomes, EDITS))
 }
 
 /// Whether a list of edits has its outcomes, and the document is as the later ones leave it.
-pub(crate) fn runs(alloc: Global) -> Result<bool, Unbuilt> {
+pub(crate) fn runs(alloc: Global) -> Option<bool> {
     let edits = edits_of(alloc, EDITS)?;
     let mut live = live_of(alloc, FAULTY)?;
     runs_in(alloc, &mut live, &edits)
 }
 
-fn rebuilds(alloc: Global, live: &mut Live) -> Result<bool, Unbuilt> {
-    let is_done = live.rebuild().is_ok();
-    Ok(is_done && !live.is_stale() && stands(alloc, live, FAULTY, INVALID)?)
+fn rebuilds(alloc: Global, live: &mut Live) -> Option<bool> {
+    live.rebuild().ok()?;
+    Some(!live.is_stale() && stands(alloc, live, FAULTY, INVALID)?)
 }
 
 /// Whether a document that isn't stale is rebuilt as it was.
-pub(crate) fn is_rebuilt(alloc: Global) -> Result<bool, Unbuilt> {
+pub(crate) fn is_rebuilt(alloc: Global) -> Option<bool> {
     let mut live = live_of(alloc, FAULTY)?;
     rebuilds(alloc, &mut live)
 }
 
-fn checked(
-    alloc: Global,
-    module: &str,
-    document: &str,
-    edits: &[Edit],
-) -> Result<Result<Checked, CheckFault>, Unbuilt> {
-    let modules = modules_of(alloc, &[module])?;
-    match check_edits(alloc, &modules, document.as_bytes(), edits) {
-        Err(CheckFault::Memory) => Err(Unbuilt::Memory),
-        found => Ok(found),
+/// Whether edits are checked from a module and a document on.
+pub(crate) fn are_checked(alloc: Global) -> Option<bool> {
+    let modules = modules_of(alloc, &[MODULE])?;
+    let edits = edits_of(alloc, EDITS)?;
+    match check_edits(alloc, &modules, FAULTY.as_bytes(), &edits) {
+        Ok(checked) => { Some(checked.faults.is_empty() && are_outcomes(&checked.outcomes, EDITS)) }
+        Err(CheckFault::Memory) => None,
+        Err(_) => Some(false),
     }
 }
 
-/// Whether edits are checked from a module and a document on.
-pub(crate) fn are_checked(alloc: Global) -> Result<bool, Unbuilt> {
-    match checked(alloc, MODULE, FAULTY, &edits_of(alloc, EDITS)?)? {
-        Ok(checked) => Ok(checked.faults.is_empty() && are_outcomes(&checked.outcomes, EDITS)),
-        Err(_) => Ok(false),
+// Whether edits of this document under a module are refused before the first, with `J2` for the document, or with the
+// code and line of the module.
+fn is_refused(alloc: Global, module: &str, told: &str) -> Option<bool> {
+    let modules = modules_of(alloc, &[module])?;
+    match check_edits(alloc, &modules, b"[]", &[]) {
+        Err(CheckFault::Modules(fault)) => is_refusal_of_modules(fault, told),
+        Err(CheckFault::Document(DocFault::Refused { code, place })) => {
+            Some(told == "J2" && code == DocCode::J2 && place.is_empty())
+        }
+        Err(_) => None,
+        Ok(_) => Some(false),
     }
 }
 
 /// Whether a document is refused before its edits.
-pub(crate) fn is_document_refused(alloc: Global) -> Result<bool, Unbuilt> {
-    match checked(alloc, MODULE, "[]", &[])? {
-        Err(CheckFault::Document(DocFault::Refused { code, place })) => {
-            Ok(code == DocCode::J2 && place.is_empty())
-        }
-        _ => Ok(false),
-    }
+pub(crate) fn is_document_refused(alloc: Global) -> Option<bool> {
+    is_refused(alloc, MODULE, "J2")
 }
 
 /// Whether modules are refused before their document.
-pub(crate) fn are_modules_refused(alloc: Global) -> Result<bool, Unbuilt> {
-    let module = module_text(alloc, " yang-version 1.1;\n list l;")?;
-    match checked(alloc, module.as_str(), "[]", &[])? {
-        Err(CheckFault::Modules(fault)) => {
-            Ok(is_refusal_of_modules(fault, "C1:4") == Some(true))
-        }
-        _ => Ok(false),
-    }
+pub(crate) fn are_modules_refused(alloc: Global) -> Option<bool> {
+    let module = module_text(alloc, " yang-version 1.1;\n list l;").ok()?;
+    is_refused(alloc, module.as_str(), "C1:4")
 }
 
 #[test]
 fn lists_of_edits(rt: HostRuntime) {
-    assert!(rt; matches!(runs(rt.alloc()), Ok(true)));
-    assert!(rt; matches!(is_rebuilt(rt.alloc()), Ok(true)));
-    assert!(rt; matches!(are_checked(rt.alloc()), Ok(true)));
-    assert!(rt; matches!(is_document_refused(rt.alloc()), Ok(true)));
-    assert!(rt; matches!(are_modules_refused(rt.alloc()), Ok(true)));
+    assert!(rt; runs(rt.alloc()) == Some(true));
+    assert!(rt; is_rebuilt(rt.alloc()) == Some(true));
+    assert!(rt; are_checked(rt.alloc()) == Some(true));
+    assert!(rt; is_document_refused(rt.alloc()) == Some(true));
+    assert!(rt; are_modules_refused(rt.alloc()) == Some(true));
 }

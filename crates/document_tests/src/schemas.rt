@@ -1,9 +1,9 @@
 //! Schemas: what is asked of one, and which modules have none.
 
 use crate::building::{FIRST, SECOND, module_text, modules_of, schema_of, with_line_feeds};
-use crate::telling::{is_refusal_of_modules, is_text, number_of};
+use crate::telling::{is_refusal_of_modules, number_of};
 use std::alloc::{AllocError, Global};
-use yschema::{Child, Children, Kind, Schema, SchemaId, compile};
+use yschema::{Children, Kind, Schema, SchemaId, compile};
 
 /// A node by its number, none for `-`. Nothing where the number is mistyped.
 fn id_of(text: &str) -> Option<Option<SchemaId>> {
@@ -14,154 +14,32 @@ fn id_of(text: &str) -> Option<Option<SchemaId>> {
 }
 
 fn is_node(found: Option<SchemaId>, wanted: &str) -> Option<bool> {
-    match found {
-        Some(id) => Some(id.0 == number_of(wanted)?),
-        None => Some(wanted == "-"),
-    }
+    Some(found == id_of(wanted)?)
 }
 
-fn is_place(found: Option<usize>, wanted: &str) -> Option<bool> {
-    match found {
-        Some(place) => Some(place == place_of(wanted)?),
-        None => Some(wanted == "-"),
-    }
-}
-
-fn is_name(found: Option<&str>, wanted: &str) -> bool {
-    match found {
-        Some(name) => name == wanted,
-        None => wanted == "-",
-    }
-}
-
-fn place_of(digits: &str) -> Option<usize> {
-    Some(number_of(digits)? as usize)
-}
-
-// `parent/module/name/number`
-fn is_child(schema: &Schema, row: &str) -> Option<bool> {
-    let (parent, row) = row.split_once('/')?;
-    let (module, row) = row.split_once('/')?;
-    let (name, wanted) = row.split_once('/')?;
-    is_node(
-        schema.child(id_of(parent)?, place_of(module)?, name),
-        wanted,
-    )
-}
-
-// `parent/name/number`
-fn is_written(schema: &Schema, row: &str) -> Option<bool> {
-    let (parent, row) = row.split_once('/')?;
-    let (name, wanted) = row.split_once('/')?;
-    is_node(schema.child_written(id_of(parent)?, name), wanted)
-}
-
-fn row_below(schema: &Schema, parent: Option<SchemaId>) -> Children<'_> {
-    match parent {
-        Some(id) => schema.children(id),
-        None => schema.roots(),
-    }
-}
-
-// `number name children`
-fn is_described(child: Child<'_>, wanted: &str) -> Option<bool> {
-    let (number, rest) = wanted.split_once(' ')?;
-    let (name, children) = rest.split_once(' ')?;
-    let is_id = child.id().0 == number_of(number)?;
-    let is_counted = child.children().count() == place_of(children)?;
-    Some(is_id && is_counted && child.node().name.as_str() == name)
-}
-
-// `parent/child/child../end`
-fn is_row(schema: &Schema, row: &str) -> Option<bool> {
-    let (parent, children) = row.split_once('/')?;
-    let mut wanted = children.split('/');
-    for child in row_below(schema, id_of(parent)?) {
-        if !is_described(child, wanted.next()?)? {
-            return Some(false);
+// `child/parent/module/name/number` and `written/parent/name/number`
+fn is_found(schema: &Schema, row: &str) -> Option<bool> {
+    let (row, wanted) = row.rsplit_once('/')?;
+    let (row, name) = row.rsplit_once('/')?;
+    match row.split_once('/')? {
+        ("written", parent) => is_node(schema.child_written(id_of(parent)?, name), wanted),
+        ("child", row) => {
+            let (parent, module) = row.split_once('/')?;
+            let module = number_of(module)? as usize;
+            is_node(schema.child(id_of(parent)?, module, name), wanted)
         }
-    }
-    Some(wanted.next() == Some("end"))
-}
-
-fn kind_of(schema: &Schema, id: SchemaId) -> &'static str {
-    match schema.kind(id) {
-        None => "none",
-        Some(node) => match node.kind {
-            Kind::Container { .. } => "container",
-            Kind::Leaf {
-                mandatory: true,
-                ..
-            } => "mandatory",
-            Kind::Leaf { .. } => "optional",
-        },
-    }
-}
-
-// `number/kind`
-fn is_kind(schema: &Schema, row: &str) -> Option<bool> {
-    let (number, wanted) = row.split_once('/')?;
-    Some(kind_of(schema, SchemaId(number_of(number)?)) == wanted)
-}
-
-// `number/module of the parent/written/other`
-fn is_named(alloc: Global, schema: &Schema, row: &str) -> Option<bool> {
-    let (number, row) = row.split_once('/')?;
-    let (parent, row) = row.split_once('/')?;
-    let (written, other) = row.split_once('/')?;
-    let parent = Some(place_of(parent)?);
-    let node = schema.kind(SchemaId(number_of(number)?))?;
-    let is_written = is_text(schema.written_name(alloc, parent, node), written).ok()?;
-    Some(is_written && is_text(schema.other_name(alloc, parent, node), other).ok()?)
-}
-
-// `place/name/prefix`
-fn is_module(schema: &Schema, row: &str) -> Option<bool> {
-    let (place, row) = row.split_once('/')?;
-    let (name, prefix) = row.split_once('/')?;
-    let place = place_of(place)?;
-    Some(is_name(schema.module_name(place), name) && is_name(schema.module_prefix(place), prefix))
-}
-
-// `name/place`
-fn is_module_place(schema: &Schema, row: &str) -> Option<bool> {
-    let (name, wanted) = row.split_once('/')?;
-    is_place(schema.module(name), wanted)
-}
-
-// `nodes/modules`
-fn is_size(schema: &Schema, row: &str) -> Option<bool> {
-    let (nodes, modules) = row.split_once('/')?;
-    Some(schema.nodes() == place_of(nodes)? && schema.modules() == place_of(modules)?)
-}
-
-fn holds(alloc: Global, row: &str) -> Option<bool> {
-    let schema = schema_of(alloc, &[FIRST, SECOND]).ok()?;
-    let (query, row) = row.split_once('/')?;
-    match query {
-        "size" => is_size(&schema, row),
-        "row" => is_row(&schema, row),
-        "kind" => is_kind(&schema, row),
-        "child" => is_child(&schema, row),
-        "written" => is_written(&schema, row),
-        "names" => is_named(alloc, &schema, row),
-        "module" => is_module(&schema, row),
-        "place" => is_module_place(&schema, row),
         _ => None,
     }
 }
 
+fn holds(alloc: Global, row: &str) -> Option<bool> {
+    let schema = schema_of(alloc, &[FIRST, SECOND])?;
+    is_found(&schema, row)
+}
+
 #[test]
-fn queries(rt: HostRuntime) {
-    let rows = "size/7/2
-row/-/0 c 2/4 y 0/5 c 1/end
-row/0/1 x 0/2 d 1/end
-row/7/end
-kind/0/container
-kind/1/mandatory
-kind/3/optional
-kind/7/none
-child/-/0/c/0
+fn children_by_name(rt: HostRuntime) {
+    let rows = "child/-/0/c/0
 child/-/1/c/5
 child/-/0/x/-
 child/0/0/x/1
@@ -174,21 +52,99 @@ written/-/b:c/5
 written/-/c/-
 written/0/x/1
 written/0/a:x/-
-written/5/x/6
-names/1/0/x/a:x
-place/b/1
-place/pb/-
-module/1/b/pb
-module/2/-/-";
+written/5/x/6";
     for row in rows.lines() {
         assert!(rt; holds(rt.alloc(), row) == Some(true), "{row:?}");
     }
 }
 
+fn kind_name(kind: &Kind) -> &'static str {
+    match kind {
+        Kind::Container { .. } => "container",
+        Kind::Leaf {
+            mandatory: true,
+            ..
+        } => "mandatory",
+        Kind::Leaf { .. } => "optional",
+    }
+}
+
+// What a node is, and its name as it is written below a node of the first module, and as it isn't.
+fn description(alloc: Global, schema: &Schema, id: SchemaId) -> Option<String> {
+    match schema.kind(id) {
+        None => String::from_str(alloc, "none").ok(),
+        Some(node) => {
+            let written = schema.written_name(alloc, Some(0), node).ok()?;
+            let other = schema.other_name(alloc, Some(0), node).ok()?;
+            format!(in alloc; "{} {written} {other}", kind_name(&node.kind)).ok()
+        }
+    }
+}
+
+// The number and the name of each child, and how many children it has.
+fn row(alloc: Global, children: Children<'_>) -> Option<String> {
+    let mut text = String::new(alloc);
+    for child in children {
+        let (number, name) = (child.id().0, child.node().name.as_str());
+        let count = child.children().count();
+        text.push_str(
+            format!(in alloc; " {number} {name} {count},")
+                .ok()?
+                .as_str(),
+        )
+        .ok()?;
+    }
+    Some(text)
+}
+
+// `number/what the node is/its children`, the number `-` for the row of the roots
+fn is_node_of(alloc: Global, schema: &Schema, line: &str) -> Option<bool> {
+    let (number, line) = line.split_once('/')?;
+    let (wanted, children) = line.split_once('/')?;
+    match id_of(number)? {
+        None => Some(row(alloc, schema.roots())?.as_str() == children && wanted == "roots"),
+        Some(id) => {
+            let is_described = description(alloc, schema, id)?.as_str() == wanted;
+            Some(is_described && row(alloc, schema.children(id))?.as_str() == children)
+        }
+    }
+}
+
+fn are_modules(schema: &Schema) -> bool {
+    let are_placed = schema.module("b") == Some(1) && schema.module("pb") == None;
+    let is_second = schema.module_name(1) == Some("b") && schema.module_prefix(1) == Some("pb");
+    schema.modules() == 2 && are_placed && is_second && schema.module_prefix(2) == None
+}
+
+/// Whether the schema of both modules has these nodes.
+pub(crate) fn is_outlined(alloc: Global) -> Option<bool> {
+    let schema = schema_of(alloc, &[FIRST, SECOND])?;
+    let lines = "-/roots/ 0 c 2, 4 y 0, 5 c 1,
+0/container c a:c/ 1 x 0, 2 d 1,
+1/mandatory x a:x/
+2/container d a:d/ 3 x 0,
+3/optional x a:x/
+4/optional y a:y/
+5/container b:c c/ 6 x 0,
+6/optional b:x x/
+7/none/";
+    for line in lines.lines() {
+        if !is_node_of(alloc, &schema, line)? {
+            return Some(false);
+        }
+    }
+    Some(schema.nodes() == 7 && are_modules(&schema))
+}
+
+#[test]
+fn outline(rt: HostRuntime) {
+    assert!(rt; is_outlined(rt.alloc()) == Some(true));
+}
+
 // Whether a module of these statements is compiled, for `none`, or refused so.
 fn is_compiled(alloc: Global, statements: &str, told: &str) -> Option<bool> {
     let text = module_text(alloc, statements).ok()?;
-    let modules = modules_of(alloc, &[text.as_str()]).ok()?;
+    let modules = modules_of(alloc, &[text.as_str()])?;
     match compile(alloc, &modules) {
         Ok(_) => Some(told == "none"),
         Err(fault) => is_refusal_of_modules(fault, told),

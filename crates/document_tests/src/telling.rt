@@ -1,6 +1,5 @@
 //! Codes, counts and lines of faults, as the rows of the tables spell them.
 
-use crate::building::Unbuilt;
 use std::alloc::{AllocError, Global};
 use ycheck::{Fault, LineFault, write_line};
 use yinst::{DocCode, EditCode, EditFault};
@@ -12,11 +11,8 @@ pub(crate) fn number_of(digits: &str) -> Option<u32> {
 }
 
 /// Whether a text that is made is this one.
-pub(crate) fn is_text(made: Result<String, AllocError>, wanted: &str) -> Result<bool, Unbuilt> {
-    match made {
-        Ok(text) => Ok(text.as_str() == wanted),
-        Err(_) => Err(Unbuilt::Memory),
-    }
+pub(crate) fn is_text(made: Result<String, AllocError>, wanted: &str) -> Option<bool> {
+    Some(made.ok()?.as_str() == wanted)
 }
 
 /// Whether a text is a letter and this number.
@@ -83,13 +79,11 @@ pub(crate) fn have_lines(
     schema: &Schema,
     faults: &[Fault],
     lines: &str,
-) -> Result<bool, Unbuilt> {
+) -> Option<bool> {
     if lines == "none" {
-        return Ok(faults.is_empty());
+        return Some(faults.is_empty());
     }
-    let mut told = Cut::new(alloc, 4096, 4096, None)?;
-    match write_lines(schema, faults, &mut told) {
-        Ok(()) => Ok(are_lines(told.bytes(), lines)),
-        Err(LineFault::Device) => Err(Unbuilt::Refused),
-    }
+    let mut told = Cut::new(alloc, 4096, 4096, None).ok()?;
+    write_lines(schema, faults, &mut told).ok()?;
+    Some(are_lines(told.bytes(), lines))
 }
