@@ -57,8 +57,10 @@ pub(crate) fn tree_of(alloc: Global, schema: &Schema, document: &str) -> Option<
 /// A live document under the schema of the documents' module.
 pub(crate) fn live_of(alloc: Global, document: &str) -> Option<Live> {
     let schema = schema_of(alloc, &[MODULE])?;
-    let tree = tree_of(alloc, &schema, document)?;
-    Live::open(alloc, schema, tree).ok()
+    match read(alloc, &schema, document.as_bytes()) {
+        Ok(tree) => Live::open(alloc, schema, tree).ok(),
+        Err(_) => None,
+    }
 }
 
 /// A text of a row: `|` stands for a line feed.
