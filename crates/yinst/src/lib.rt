@@ -11,8 +11,6 @@ mod part;
 mod paths;
 mod reading;
 mod rows;
-#[cfg(test)]
-mod tests;
 mod tree;
 mod values;
 mod visits;

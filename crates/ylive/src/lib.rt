@@ -5,8 +5,6 @@ mod checking;
 mod live;
 mod outcome;
 mod running;
-#[cfg(test)]
-mod tests;
 
 pub use checking::{CheckFault, Checked, check_edits};
 pub use live::Live;

@@ -11,8 +11,6 @@ mod limits;
 mod names;
 mod node;
 mod schema;
-#[cfg(test)]
-mod tests;
 mod written;
 
 pub use building::compile;

@@ -1,0 +1,81 @@
+//! Modules from their texts, their schema, and a live document under it; nothing where memory runs out or one of them
+//! is refused.
+
+use std::alloc::{AllocError, Global};
+use yinst::{Tree, read};
+use ylive::Live;
+use yschema::{Schema, compile};
+use ytext::{Module, parse};
+
+/// A module whose container has the name of one of the other module, and the name of its leaf twice.
+pub(crate) const FIRST: &str = "module a {
+  yang-version 1.1; namespace \"urn:a\"; prefix pa;
+  container c {
+    leaf x { type uint8; mandatory true; }
+    container d { leaf x { type string; } }
+  }
+  leaf y { type string; }
+}
+";
+
+pub(crate) const SECOND: &str = "module b {
+  yang-version 1.1; namespace \"urn:b\"; prefix pb;
+  container c { leaf x { type string; } }
+}
+";
+
+/// The module of the documents.
+pub(crate) const MODULE: &str = "module p {
+  yang-version 1.1;
+  namespace \"urn:p\";
+  prefix p;
+  container c {
+    leaf id { type uint8; mandatory true; }
+    leaf note { type string; }
+  }
+}
+";
+
+pub(crate) fn modules_of(alloc: Global, texts: &[&str]) -> Option<Vec<Module>> {
+    let mut modules = Vec::new(alloc);
+    for text in texts {
+        let module = parse(alloc, text.as_bytes()).ok()?;
+        modules.push(module).ok()?;
+    }
+    Some(modules)
+}
+
+pub(crate) fn schema_of(alloc: Global, texts: &[&str]) -> Option<Schema> {
+    let modules = modules_of(alloc, texts)?;
+    compile(alloc, &modules).ok()
+}
+
+pub(crate) fn tree_of(alloc: Global, schema: &Schema, document: &str) -> Option<Tree> {
+    read(alloc, schema, document.as_bytes()).ok()
+}
+
+/// A live document under the schema of the documents' module.
+pub(crate) fn live_of(alloc: Global, document: &str) -> Option<Live> {
+    let schema = schema_of(alloc, &[MODULE])?;
+    match read(alloc, &schema, document.as_bytes()) {
+        Ok(tree) => Live::open(alloc, schema, tree).ok(),
+        Err(_) => None,
+    }
+}
+
+/// A text of a row: `|` stands for a line feed.
+pub(crate) fn with_line_feeds(alloc: Global, text: &str) -> Result<String, AllocError> {
+    let mut whole = String::new(alloc);
+    for letter in text.chars() {
+        whole.push(if letter == '|' { '\n' } else { letter })?;
+    }
+    Ok(whole)
+}
+
+/// A module of these statements, the first of which stands in line 3.
+pub(crate) fn module_text(alloc: Global, statements: &str) -> Result<String, AllocError> {
+    let mut text = String::from_str(alloc, "module m {\n namespace 'u';\n prefix p;")?;
+    text.push_str(statements)?;
+    text.push_str("}")?;
+    Ok(text)
+}

@@ -1,0 +1,17 @@
+//! Tests of schemas, documents and edits of documents.
+#![tactic(auto)]
+
+#[cfg(test)]
+mod building;
+#[cfg(test)]
+mod documents;
+#[cfg(test)]
+mod edits;
+#[cfg(test)]
+mod lives;
+#[cfg(test)]
+mod memory;
+#[cfg(test)]
+mod schemas;
+#[cfg(test)]
+mod telling;

@@ -1,0 +1,216 @@
+//! Live documents: edits one after the other, lists of edits, and what is refused before any edit.
+
+use crate::building::{MODULE, live_of, module_text, modules_of};
+use crate::telling::{have_lines, is_code, is_refusal, is_refusal_of_modules, is_text, number_of};
+use std::alloc::Global;
+use yinst::{DocCode, DocFault, Edit, write};
+use ylive::{Applied, CheckFault, Live, Outcome, Refused, check_edits};
+
+/// A document with one fault.
+pub(crate) const FAULTY: &str = r#"{"p:c":{"id":256,"note":"x"}}"#;
+
+/// The line of its fault.
+pub(crate) const INVALID: &str = "V1 invalid-value - /p:c/id -|";
+
+/// Edits of it, and what comes of each.
+pub(crate) const EDITS: &str = "replace /p:c/id 7 => accepted
+replace /p:c/zz 1 => E2
+replace /p:c/note {} => E10:J5
+remove /p:c/note => accepted";
+
+fn is_stored(alloc: Global, live: &Live, text: &str) -> Option<bool> {
+    let tree = live.tree().ok()?;
+    is_text(write(alloc, live.schema(), &tree), text)
+}
+
+fn is_listed(alloc: Global, live: &Live, lines: &str) -> Option<bool> {
+    let faults = live.list().ok()?;
+    let is_counted = live.fault_count() == Some(faults.len());
+    Some(is_counted && have_lines(alloc, live.schema(), &faults, lines)?)
+}
+
+/// Whether a document has this text and these lines of faults.
+pub(crate) fn stands(alloc: Global, live: &Live, text: &str, lines: &str) -> Option<bool> {
+    Some(is_listed(alloc, live, lines)? && is_stored(alloc, live, text)?)
+}
+
+// Whether the counts of faults before and after are those of `1 to 0`.
+fn are_counts(applied: Applied, told: &str) -> Option<bool> {
+    let (before, after) = told.split_once(" to ")?;
+    let is_before = number_of(before)? as usize == applied.before;
+    Some(is_before && number_of(after)? as usize == applied.after)
+}
+
+// Whether this comes of an edit: its counts, or the codes of its refusal.
+fn comes_of(live: &mut Live, edit: &Edit, told: &str) -> Option<bool> {
+    match live.edit(edit) {
+        Ok(applied) => are_counts(applied, told),
+        Err(Refused::Edit(fault)) => is_refusal(fault, told),
+        Err(_) => None,
+    }
+}
+
+fn comes_of_line(alloc: Global, live: &mut Live, line: &str, told: &str) -> Option<bool> {
+    match Edit::parse(alloc, line) {
+        Ok(Some(edit)) => comes_of(live, &edit, told),
+        Ok(None) => Some(told == "passed over"),
+        Err(fault) => is_refusal(fault, told),
+    }
+}
+
+// `line => what comes of it => the document's text => the lines of its faults`
+fn goes(alloc: Global, live: &mut Live, row: &str) -> Option<bool> {
+    let (line, row) = row.split_once(" => ")?;
+    let (told, row) = row.split_once(" => ")?;
+    let (text, lines) = row.split_once(" => ")?;
+    Some(comes_of_line(alloc, live, line, told)? && stands(alloc, live, text, lines)?)
+}
+
+// The first row that doesn't go as it says, each after the ones before it; the document where it isn't opened.
+fn first_wrong<'a>(alloc: Global, document: &'a str, rows: &'a str) -> Option<&'a str> {
+    match live_of(alloc, document) {
+        None => Some(document),
+        Some(mut live) => {
+            for row in rows.lines() {
+                if goes(alloc, &mut live, row) != Some(true) {
+                    return Some(row);
+                }
+            }
+            None
+        }
+    }
+}
+
+#[test]
+fn replacements(rt: HostRuntime) {
+    let rows =
+        r#"# opened => passed over => {"p:c":{"id":256,"note":"x"}} => V1 invalid-value - /p:c/id -|
+replace /p:c/id 7 => 1 to 0 => {"p:c":{"id":7,"note":"x"}} => none
+replace /p:c/id 300 => 0 to 1 => {"p:c":{"id":300,"note":"x"}} => V1 invalid-value - /p:c/id -|
+replace /p:c/note {} => E10:J5 => {"p:c":{"id":300,"note":"x"}} => V1 invalid-value - /p:c/id -|
+replace /p:c/id 1.5 => E10:J6 => {"p:c":{"id":300,"note":"x"}} => V1 invalid-value - /p:c/id -|
+replace /p:c/id x => E9 => {"p:c":{"id":300,"note":"x"}} => V1 invalid-value - /p:c/id -|
+replace /p:c/id => E1 => {"p:c":{"id":300,"note":"x"}} => V1 invalid-value - /p:c/id -|
+replace /p:c/zz 1 => E2 => {"p:c":{"id":300,"note":"x"}} => V1 invalid-value - /p:c/id -|
+replace /c/id 1 => E2 => {"p:c":{"id":300,"note":"x"}} => V1 invalid-value - /p:c/id -|
+replace /p:c[1]/id 1 => E3 => {"p:c":{"id":300,"note":"x"}} => V1 invalid-value - /p:c/id -|
+replace /p:c {"note":"y"} => 1 to 1 => {"p:c":{"note":"y"}} => V3 data-missing - /p:c/id -|
+replace /p:c/id 1 => E7 => {"p:c":{"note":"y"}} => V3 data-missing - /p:c/id -|
+remove /p:c/id => E7 => {"p:c":{"note":"y"}} => V3 data-missing - /p:c/id -|"#;
+    assert_eq!(rt; first_wrong(rt.alloc(), FAULTY, rows), None);
+}
+
+#[test]
+fn creations(rt: HostRuntime) {
+    let rows = r#"# opened => passed over => {} => V3 data-missing - /p:c/id -|
+replace /p:c/id 1 => E4 => {} => V3 data-missing - /p:c/id -|
+create /p:c/id 1 => E4 => {} => V3 data-missing - /p:c/id -|
+remove /p:c/id => E4 => {} => V3 data-missing - /p:c/id -|
+remove /p:c => E7 => {} => V3 data-missing - /p:c/id -|
+create /p:c {"id":1} => 1 to 0 => {"p:c":{"id":1}} => none
+create /p:c {} => E8 => {"p:c":{"id":1}} => none
+remove /p:c/id 1 => E1 => {"p:c":{"id":1}} => none
+remove /p:c/id => 0 to 1 => {"p:c":{}} => V3 data-missing - /p:c/id -|
+remove /p:c => 1 to 1 => {} => V3 data-missing - /p:c/id -|"#;
+    assert_eq!(rt; first_wrong(rt.alloc(), "{}", rows), None);
+}
+
+// The edits of rows `line => what comes of it`.
+fn edits_of(alloc: Global, rows: &str) -> Option<Vec<Edit>> {
+    let mut edits = Vec::new(alloc);
+    for row in rows.lines() {
+        let (line, _) = row.split_once(" => ")?;
+        let edit = Edit::parse(alloc, line).ok()??;
+        edits.push(edit).ok()?;
+    }
+    Some(edits)
+}
+
+fn is_outcome(outcome: &Outcome, row: &str) -> bool {
+    match (outcome, row.split_once(" => ")) {
+        (Outcome::Accepted, Some((_, told))) => told == "accepted",
+        (Outcome::Refused { code, doc }, Some((_, told))) => is_code(*code, *doc, told),
+        (_, None) => false,
+    }
+}
+
+// Whether there are so many outcomes as rows, and each is its row's.
+fn are_outcomes(outcomes: &[Outcome], rows: &str) -> bool {
+    let mut rest = rows.lines();
+    for outcome in outcomes {
+        match rest.next() {
+            Some(row) if is_outcome(outcome, row) => {}
+            _ => return false,
+        }
+    }
+    rest.next().is_none()
+}
+
+fn runs_in(alloc: Global, live: &mut Live, edits: &[Edit]) -> Option<bool> {
+    let outcomes = live.run(edits).ok()?;
+    let is_left = stands(alloc, live, r#"{"p:c":{"id":7}}"#, "none")?;
+    Some(is_left && are_outcomes(&outcomes, EDITS))
+}
+
+/// Whether a list of edits has its outcomes, and the document is as the later ones leave it.
+pub(crate) fn runs(alloc: Global) -> Option<bool> {
+    let edits = edits_of(alloc, EDITS)?;
+    let mut live = live_of(alloc, FAULTY)?;
+    runs_in(alloc, &mut live, &edits)
+}
+
+fn rebuilds(alloc: Global, live: &mut Live) -> Option<bool> {
+    live.rebuild().ok()?;
+    Some(!live.is_stale() && stands(alloc, live, FAULTY, INVALID)?)
+}
+
+/// Whether a document that isn't stale is rebuilt as it was.
+pub(crate) fn is_rebuilt(alloc: Global) -> Option<bool> {
+    let mut live = live_of(alloc, FAULTY)?;
+    rebuilds(alloc, &mut live)
+}
+
+/// Whether edits are checked from a module and a document on.
+pub(crate) fn are_checked(alloc: Global) -> Option<bool> {
+    let modules = modules_of(alloc, &[MODULE])?;
+    let edits = edits_of(alloc, EDITS)?;
+    match check_edits(alloc, &modules, FAULTY.as_bytes(), &edits) {
+        Ok(checked) => { Some(checked.faults.is_empty() && are_outcomes(&checked.outcomes, EDITS)) }
+        Err(CheckFault::Memory) => None,
+        Err(_) => Some(false),
+    }
+}
+
+// Whether edits of this document under a module are refused before the first, with `J2` for the document, or with the
+// code and line of the module.
+fn is_refused(alloc: Global, module: &str, told: &str) -> Option<bool> {
+    let modules = modules_of(alloc, &[module])?;
+    match check_edits(alloc, &modules, b"[]", &[]) {
+        Err(CheckFault::Modules(fault)) => is_refusal_of_modules(fault, told),
+        Err(CheckFault::Document(DocFault::Refused { code, place })) => {
+            Some(told == "J2" && code == DocCode::J2 && place.is_empty())
+        }
+        Err(_) => None,
+        Ok(_) => Some(false),
+    }
+}
+
+/// Whether a document is refused before its edits.
+pub(crate) fn is_document_refused(alloc: Global) -> Option<bool> {
+    is_refused(alloc, MODULE, "J2")
+}
+
+/// Whether modules are refused before their document.
+pub(crate) fn are_modules_refused(alloc: Global) -> Option<bool> {
+    let module = module_text(alloc, " yang-version 1.1;\n list l;").ok()?;
+    is_refused(alloc, module.as_str(), "C1:4")
+}
+
+#[test]
+fn lists_of_edits(rt: HostRuntime) {
+    assert!(rt; runs(rt.alloc()) == Some(true));
+    assert!(rt; is_rebuilt(rt.alloc()) == Some(true));
+    assert!(rt; are_checked(rt.alloc()) == Some(true));
+    assert!(rt; is_document_refused(rt.alloc()) == Some(true));
+    assert!(rt; are_modules_refused(rt.alloc()) == Some(true));
+}
