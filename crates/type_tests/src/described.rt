@@ -118,28 +118,41 @@ fn built_in(alloc: Global, kind: &str, rest: &str) -> Option<Narrowed> {
     }
 }
 
-fn union_of(alloc: Global, first: YType, second: YType) -> Option<Narrowed> {
-    let mut types = Vec::new(alloc);
-    types.push(first).ok()?;
-    types.push(second).ok()?;
-    Some(YType::union(alloc, &types))
+fn restriction(alloc: Global, kind: &str, rest: &str) -> Option<Restriction> {
+    match kind {
+        "range" => range(alloc, rest),
+        "length" => length(alloc, rest),
+        _ => Some(Restriction::RequireInstance(rest.parse::<bool>().ok()?)),
+    }
+}
+
+// The last type, restricted.
+fn restricted(alloc: Global, types: &mut Vec<YType>, by: &Restriction) -> Option<Narrowed> {
+    Some(types.pop()?.narrow(alloc, by))
+}
+
+fn leafref(alloc: Global, types: &mut Vec<YType>) -> Option<Narrowed> {
+    Some(YType::leafref(alloc, &types.pop()?))
+}
+
+// The union of the last two types.
+fn union_of(alloc: Global, types: &mut Vec<YType>) -> Option<Narrowed> {
+    let last = types.pop()?;
+    let mut members = Vec::new(alloc);
+    members.push(types.pop()?).ok()?;
+    members.push(last).ok()?;
+    Some(YType::union(alloc, &members))
 }
 
 // What a step makes of the types before it.
 fn next(alloc: Global, types: &mut Vec<YType>, step: &str) -> Option<Narrowed> {
     let (kind, rest) = step.split_once(':').unwrap_or((step, ""));
     match kind {
-        "range" => Some(types.pop()?.narrow(alloc, &range(alloc, rest)?)),
-        "length" => Some(types.pop()?.narrow(alloc, &length(alloc, rest)?)),
-        "instance" => {
-            let instance = Restriction::RequireInstance(rest.parse::<bool>().ok()?);
-            Some(types.pop()?.narrow(alloc, &instance))
+        "range" | "length" | "instance" => {
+            restricted(alloc, types, &restriction(alloc, kind, rest)?)
         }
-        "leafref" => Some(YType::leafref(alloc, &types.pop()?)),
-        "union" => {
-            let second = types.pop()?;
-            union_of(alloc, types.pop()?, second)
-        }
+        "leafref" => leafref(alloc, types),
+        "union" => union_of(alloc, types),
         _ => built_in(alloc, kind, rest),
     }
 }

@@ -3,7 +3,7 @@
 use crate::described::described;
 use std::alloc::Global;
 use std::cmp::Ordering;
-use ytype::{BadValue, Raw, YType};
+use ytype::{BadValue, Raw, Val, YType};
 
 fn unquoted(text: &str) -> Option<Raw> {
     match text {
@@ -37,34 +37,34 @@ fn printed_default(alloc: Global, of: &YType, text: &str) -> Result<String, BadV
     Ok(of.from_text(alloc, text)?.canonical(alloc, of)?)
 }
 
+fn printed_copy(alloc: Global, of: &YType, raw: &Raw) -> Result<String, BadValue> {
+    printed(alloc, &of.clone()?, &raw.clone()?)
+}
+
 // What a value prints as, or why it isn't taken.
 fn outcome(alloc: Global, way: Way, of: &YType, text: &str) -> Option<Result<String, BadValue>> {
     match way {
         Way::Document => Some(printed(alloc, of, &raw(alloc, text)?)),
-        Way::Copy => {
-            let copied = raw(alloc, text)?.clone().ok()?;
-            Some(printed(alloc, &of.clone().ok()?, &copied))
-        }
+        Way::Copy => Some(printed_copy(alloc, of, &raw(alloc, text)?)),
         Way::Default => Some(printed_default(alloc, of, text)),
     }
 }
 
-// Whether a refusal bears the tag that is wanted, or none where that is empty.
-fn is_tagged(app_tag: Option<&str>, wanted: &str) -> bool {
-    match app_tag {
-        None => wanted.is_empty(),
-        Some(tag) => !wanted.is_empty() && tag == wanted,
+// Whether a refusal with this app-tag is wanted: `!tag`, or `!` for one without.
+fn is_refusal(app_tag: Option<&str>, wanted: &str) -> bool {
+    match wanted.strip_prefix('!') {
+        None => false,
+        Some("") => app_tag.is_none(),
+        Some(wanted) => app_tag == Some(wanted),
     }
 }
 
-// Whether that is the outcome: a text, `!tag` for a refusal with an app-tag, or `!` for one without. None where memory
-// ran out.
+// Whether that is the outcome: a text, or a refusal. None where memory ran out.
 fn is_outcome(found: Result<String, BadValue>, wanted: &str) -> Option<bool> {
-    match (found, wanted.strip_prefix('!')) {
-        (Err(BadValue::Memory), _) => None,
-        (Err(BadValue::Refused { app_tag }), Some(tag)) => Some(is_tagged(app_tag.as_deref(), tag)),
-        (Ok(text), None) => Some(text.as_str() == wanted),
-        _ => Some(false),
+    match found {
+        Ok(text) => Some(text.as_str() == wanted),
+        Err(BadValue::Refused { app_tag }) => Some(is_refusal(app_tag.as_deref(), wanted)),
+        Err(BadValue::Memory) => None,
     }
 }
 
@@ -226,23 +226,22 @@ empty//!";
     }
 }
 
-// Whether one value is below another and not equal to it.
-fn are_ascending(alloc: Global, of: &YType, first: &Raw, second: &Raw) -> Result<bool, BadValue> {
-    let first = of.check(alloc, first)?;
-    let second = of.check(alloc, second)?;
-    Ok(first.cmp(&second) == Ordering::Less && first != second)
+fn value(alloc: Global, of: &YType, text: &str) -> Option<Val> {
+    of.check(alloc, &raw(alloc, text)?).ok()
 }
 
-// Whether a row holds: a type, and two values of it, the first below the second. None also where one isn't taken.
+fn are_ascending(first: &Val, second: &Val) -> bool {
+    first.cmp(second) == Ordering::Less && first != second
+}
+
+// Whether a row holds: a type, and two values of it, the first below the second and not equal to it. None also where
+// one isn't taken.
 fn is_below(alloc: Global, row: &str) -> Option<bool> {
     let (steps, values) = row.split_once('/')?;
     let (first, second) = values.split_once('<')?;
     let of = described(alloc, steps)?;
-    match are_ascending(alloc, &of, &raw(alloc, first)?, &raw(alloc, second)?) {
-        Ok(is_below) => Some(is_below),
-        Err(BadValue::Refused { app_tag: _ }) => None,
-        Err(BadValue::Memory) => None,
-    }
+    let first = value(alloc, &of, first)?;
+    Some(are_ascending(&first, &value(alloc, &of, second)?))
 }
 
 #[test]
