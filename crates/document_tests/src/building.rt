@@ -2,7 +2,7 @@
 //! is refused.
 
 use std::alloc::{AllocError, Global};
-use yinst::{Tree, read};
+use yinst::read;
 use ylive::Live;
 use yschema::{Schema, compile};
 use ytext::{Module, parse};
@@ -48,10 +48,6 @@ pub(crate) fn modules_of(alloc: Global, texts: &[&str]) -> Option<Vec<Module>> {
 pub(crate) fn schema_of(alloc: Global, texts: &[&str]) -> Option<Schema> {
     let modules = modules_of(alloc, texts)?;
     compile(alloc, &modules).ok()
-}
-
-pub(crate) fn tree_of(alloc: Global, schema: &Schema, document: &str) -> Option<Tree> {
-    read(alloc, schema, document.as_bytes()).ok()
 }
 
 /// A live document under the schema of the documents' module.

@@ -1,24 +1,39 @@
 //! Documents: the text that is written for each, and the lines of its faults.
 
-use crate::building::{MODULE, schema_of, tree_of};
+use crate::building::{MODULE, schema_of};
 use crate::telling::{have_lines, is_text};
 use std::alloc::Global;
 use ycheck::faults;
-use yinst::write;
+use yinst::{Tree, read, write};
+use yschema::Schema;
+
+fn is_text_of(alloc: Global, schema: &Schema, document: &str, text: &str) -> Option<bool> {
+    match read(alloc, schema, document.as_bytes()) {
+        Ok(tree) => is_text(write(alloc, schema, &tree), text),
+        Err(_) => None,
+    }
+}
 
 /// Whether a document that is read is written as this text.
 pub(crate) fn is_rewritten(alloc: Global, document: &str, text: &str) -> Option<bool> {
     let schema = schema_of(alloc, &[MODULE])?;
-    let tree = tree_of(alloc, &schema, document)?;
-    is_text(write(alloc, &schema, &tree), text)
+    is_text_of(alloc, &schema, document, text)
+}
+
+fn are_lines_of(alloc: Global, schema: &Schema, tree: &Tree, lines: &str) -> Option<bool> {
+    match faults(alloc, schema, tree) {
+        Ok(faults) => have_lines(alloc, schema, &faults, lines),
+        Err(_) => None,
+    }
 }
 
 /// Whether the faults of a document have these lines.
 pub(crate) fn is_faulty(alloc: Global, document: &str, lines: &str) -> Option<bool> {
     let schema = schema_of(alloc, &[MODULE])?;
-    let tree = tree_of(alloc, &schema, document)?;
-    let found = faults(alloc, &schema, &tree).ok()?;
-    have_lines(alloc, &schema, &found, lines)
+    match read(alloc, &schema, document.as_bytes()) {
+        Ok(tree) => are_lines_of(alloc, &schema, &tree, lines),
+        Err(_) => None,
+    }
 }
 
 // `document => text`, and the text is written as it is.

@@ -3,6 +3,7 @@
 use crate::building::{MODULE, live_of, module_text, modules_of};
 use crate::telling::{have_lines, is_code, is_refusal, is_refusal_of_modules, is_text, number_of};
 use std::alloc::Global;
+use ycheck::Fault;
 use yinst::{DocCode, DocFault, Edit, write};
 use ylive::{Applied, CheckFault, Live, Outcome, Refused, check_edits};
 
@@ -19,14 +20,22 @@ replace /p:c/note {} => E10:J5
 remove /p:c/note => accepted";
 
 fn is_stored(alloc: Global, live: &Live, text: &str) -> Option<bool> {
-    let tree = live.tree().ok()?;
-    is_text(write(alloc, live.schema(), &tree), text)
+    match live.tree() {
+        Ok(tree) => is_text(write(alloc, live.schema(), &tree), text),
+        Err(_) => None,
+    }
+}
+
+fn are_told(alloc: Global, live: &Live, faults: &[Fault], lines: &str) -> Option<bool> {
+    let is_counted = live.fault_count() == Some(faults.len());
+    Some(is_counted && have_lines(alloc, live.schema(), faults, lines)?)
 }
 
 fn is_listed(alloc: Global, live: &Live, lines: &str) -> Option<bool> {
-    let faults = live.list().ok()?;
-    let is_counted = live.fault_count() == Some(faults.len());
-    Some(is_counted && have_lines(alloc, live.schema(), &faults, lines)?)
+    match live.list() {
+        Ok(faults) => are_told(alloc, live, &faults, lines),
+        Err(_) => None,
+    }
 }
 
 /// Whether a document has this text and these lines of faults.
@@ -146,10 +155,16 @@ fn are_outcomes(outcomes: &[Outcome], rows: &str) -> bool {
     rest.next().is_none()
 }
 
+fn has_outcomes(live: &mut Live, edits: &[Edit]) -> Option<bool> {
+    match live.run(edits) {
+        Ok(outcomes) => Some(are_outcomes(&outcomes, EDITS)),
+        Err(_) => None,
+    }
+}
+
 fn runs_in(alloc: Global, live: &mut Live, edits: &[Edit]) -> Option<bool> {
-    let outcomes = live.run(edits).ok()?;
-    let is_left = stands(alloc, live, r#"{"p:c":{"id":7}}"#, "none")?;
-    Some(is_left && are_outcomes(&outcomes, EDITS))
+    let has_run = has_outcomes(live, edits)?;
+    Some(has_run && stands(alloc, live, r#"{"p:c":{"id":7}}"#, "none")?)
 }
 
 /// Whether a list of edits has its outcomes, and the document is as the later ones leave it.

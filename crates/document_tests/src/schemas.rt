@@ -5,30 +5,31 @@ use crate::telling::{is_refusal_of_modules, number_of};
 use std::alloc::{AllocError, Global};
 use yschema::{Children, Kind, Schema, SchemaId, compile};
 
-/// A node by its number, none for `-`. Nothing where the number is mistyped.
-fn id_of(text: &str) -> Option<Option<SchemaId>> {
-    match text {
-        "-" => Some(None),
-        _ => Some(Some(SchemaId(number_of(text)?))),
+// Whether that is the node of a number, or none for `-`.
+fn is_node(found: Option<SchemaId>, wanted: &str) -> Option<bool> {
+    match found {
+        Some(id) => Some(id.0 == number_of(wanted)?),
+        None => Some(wanted == "-"),
     }
 }
 
-fn is_node(found: Option<SchemaId>, wanted: &str) -> Option<bool> {
-    Some(found == id_of(wanted)?)
+fn is_child(schema: &Schema, parent: Option<SchemaId>, row: &str) -> Option<bool> {
+    let (name, wanted) = row.split_once('/')?;
+    match name.split_once(' ') {
+        None => is_node(schema.child_written(parent, name), wanted),
+        Some((module, name)) => {
+            let module = number_of(module)? as usize;
+            is_node(schema.child(parent, module, name), wanted)
+        }
+    }
 }
 
-// `child/parent/module/name/number` and `written/parent/name/number`
+// `parent/name/number` for a name as it is written, `parent/module name/number` for another; the parent `-` is above
+// the roots.
 fn is_found(schema: &Schema, row: &str) -> Option<bool> {
-    let (row, wanted) = row.rsplit_once('/')?;
-    let (row, name) = row.rsplit_once('/')?;
     match row.split_once('/')? {
-        ("written", parent) => is_node(schema.child_written(id_of(parent)?, name), wanted),
-        ("child", row) => {
-            let (parent, module) = row.split_once('/')?;
-            let module = number_of(module)? as usize;
-            is_node(schema.child(id_of(parent)?, module, name), wanted)
-        }
-        _ => None,
+        ("-", rest) => is_child(schema, None, rest),
+        (parent, rest) => is_child(schema, Some(SchemaId(number_of(parent)?)), rest),
     }
 }
 
@@ -39,20 +40,20 @@ fn holds(alloc: Global, row: &str) -> Option<bool> {
 
 #[test]
 fn children_by_name(rt: HostRuntime) {
-    let rows = "child/-/0/c/0
-child/-/1/c/5
-child/-/0/x/-
-child/0/0/x/1
-child/2/0/x/3
-child/5/1/x/6
-child/5/0/x/-
-child/7/0/x/-
-written/-/a:c/0
-written/-/b:c/5
-written/-/c/-
-written/0/x/1
-written/0/a:x/-
-written/5/x/6";
+    let rows = "-/0 c/0
+-/1 c/5
+-/0 x/-
+0/0 x/1
+2/0 x/3
+5/1 x/6
+5/0 x/-
+7/0 x/-
+-/a:c/0
+-/b:c/5
+-/c/-
+0/x/1
+0/a:x/-
+5/x/6";
     for row in rows.lines() {
         assert!(rt; holds(rt.alloc(), row) == Some(true), "{row:?}");
     }
@@ -97,17 +98,31 @@ fn row(alloc: Global, children: Children<'_>) -> Option<String> {
     Some(text)
 }
 
-// `number/what the node is/its children`, the number `-` for the row of the roots
-fn is_node_of(alloc: Global, schema: &Schema, line: &str) -> Option<bool> {
-    let (number, line) = line.split_once('/')?;
+fn is_described(alloc: Global, schema: &Schema, id: SchemaId, wanted: &str) -> Option<bool> {
+    Some(description(alloc, schema, id)?.as_str() == wanted)
+}
+
+fn is_row(alloc: Global, children: Children<'_>, wanted: &str) -> Option<bool> {
+    Some(row(alloc, children)?.as_str() == wanted)
+}
+
+// `what the node is/its children` of a node of the next number
+fn is_next(alloc: Global, schema: &Schema, number: u32, line: &str) -> Option<bool> {
     let (wanted, children) = line.split_once('/')?;
-    match id_of(number)? {
-        None => Some(row(alloc, schema.roots())?.as_str() == children && wanted == "roots"),
-        Some(id) => {
-            let is_described = description(alloc, schema, id)?.as_str() == wanted;
-            Some(is_described && row(alloc, schema.children(id))?.as_str() == children)
+    let id = SchemaId(number);
+    let is_described = is_described(alloc, schema, id, wanted)?;
+    Some(is_described && is_row(alloc, schema.children(id), children)?)
+}
+
+fn are_nodes(alloc: Global, schema: &Schema, lines: &str) -> Option<bool> {
+    let mut number = 0;
+    for line in lines.lines() {
+        if !is_next(alloc, schema, number, line)? {
+            return Some(false);
         }
+        number = number.saturating_add(1);
     }
+    Some(number == 8)
 }
 
 fn are_modules(schema: &Schema) -> bool {
@@ -116,24 +131,25 @@ fn are_modules(schema: &Schema) -> bool {
     schema.modules() == 2 && are_placed && is_second && schema.module_prefix(2) == None
 }
 
-/// Whether the schema of both modules has these nodes.
+fn has_outline(alloc: Global, schema: &Schema) -> Option<bool> {
+    let lines = "container c a:c/ 1 x 0, 2 d 1,
+mandatory x a:x/
+container d a:d/ 3 x 0,
+optional x a:x/
+optional y a:y/
+container b:c c/ 6 x 0,
+optional b:x x/
+none/";
+    let are_roots = is_row(alloc, schema.roots(), " 0 c 2, 4 y 0, 5 c 1,")?;
+    let is_whole = schema.nodes() == 7 && are_modules(schema);
+    Some(are_roots && is_whole && are_nodes(alloc, schema, lines)?)
+}
+
+/// Whether the schema of both modules has these nodes: what each is and its children, with their numbers, names and
+/// how many children they have.
 pub(crate) fn is_outlined(alloc: Global) -> Option<bool> {
     let schema = schema_of(alloc, &[FIRST, SECOND])?;
-    let lines = "-/roots/ 0 c 2, 4 y 0, 5 c 1,
-0/container c a:c/ 1 x 0, 2 d 1,
-1/mandatory x a:x/
-2/container d a:d/ 3 x 0,
-3/optional x a:x/
-4/optional y a:y/
-5/container b:c c/ 6 x 0,
-6/optional b:x x/
-7/none/";
-    for line in lines.lines() {
-        if !is_node_of(alloc, &schema, line)? {
-            return Some(false);
-        }
-    }
-    Some(schema.nodes() == 7 && are_modules(&schema))
+    has_outline(alloc, &schema)
 }
 
 #[test]
@@ -154,11 +170,8 @@ fn is_compiled(alloc: Global, statements: &str, told: &str) -> Option<bool> {
 // `CODE:LINE/statements`
 fn is_told(alloc: Global, row: &str) -> Option<bool> {
     let (told, statements) = row.split_once('/')?;
-    is_compiled(
-        alloc,
-        with_line_feeds(alloc, statements).ok()?.as_str(),
-        told,
-    )
+    let statements = with_line_feeds(alloc, statements).ok()?;
+    is_compiled(alloc, statements.as_str(), told)
 }
 
 #[test]

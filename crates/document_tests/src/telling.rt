@@ -1,7 +1,7 @@
 //! Codes, counts and lines of faults, as the rows of the tables spell them.
 
 use std::alloc::{AllocError, Global};
-use ycheck::{Fault, LineFault, write_line};
+use ycheck::{Fault, write_line};
 use yinst::{DocCode, EditCode, EditFault};
 use yschema::{CompileFault, Schema};
 use ytext::Cut;
@@ -54,11 +54,13 @@ pub(crate) fn is_refusal(fault: EditFault, told: &str) -> Option<bool> {
     }
 }
 
-fn write_lines(schema: &Schema, faults: &[Fault], told: &mut Cut) -> Result<(), LineFault> {
+fn are_written(schema: &Schema, faults: &[Fault], told: &mut Cut) -> bool {
     for fault in faults {
-        write_line(schema, fault, told)?;
+        if write_line(schema, fault, told).is_err() {
+            return false;
+        }
     }
-    Ok(())
+    true
 }
 
 fn are_lines(told: &[u8], lines: &str) -> bool {
@@ -83,7 +85,11 @@ pub(crate) fn have_lines(
     if lines == "none" {
         return Some(faults.is_empty());
     }
-    let mut told = Cut::new(alloc, 4096, 4096, None).ok()?;
-    write_lines(schema, faults, &mut told).ok()?;
-    Some(are_lines(told.bytes(), lines))
+    match Cut::new(alloc, 4096, 4096, None) {
+        Ok(mut told) => {
+            let are_written = are_written(schema, faults, &mut told);
+            Some(are_written && are_lines(told.bytes(), lines))
+        }
+        Err(_) => None,
+    }
 }
