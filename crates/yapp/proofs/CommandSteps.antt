@@ -1,11 +1,10 @@
 -- What clap's answers come to.
-use Rattle.std.proofs.Common.{◌≡◌, ◌⊎◌, inl, inr, List, [], ◌∷◌, Option, Some, None, Bor, map, true, refl, sym, subst, ap, ◌∙◌}
+use Rattle.std.proofs.Common.{◌≡◌, ◌⊎◌, inl, inr, List, [], ◌∷◌, Option, Some, None, Bor, map, true, refl, sym, subst, ap}
 use Rattle.std.specs.Prelude.{Result, Ok, Err, IsErrAnd, option_map, unwrap_or}
-use Rattle.yspec.specs.Output as spec
 use Rattle.yspec.specs.Output.{validate}
 use Rattle.clap.specs.Words.{Kinds, IsAmong, Row, Text, is_simple, is_simple_and_free}
 use Rattle.clap.specs.declared.error.kind.ErrorKind.{ErrorKind}
-use Rattle.clap.specs.declared.error.kind.ErrorKind.TheVariants.{DisplayHelp, OutOfMemory}
+use Rattle.clap.specs.declared.error.kind.ErrorKind.TheVariants.{OutOfMemory}
 use Rattle.clap.proofs.OnLiterals.{clap_on_literals}
 use Rattle.yapp.specs.Application.{yanglive}
 use Rattle.yapp.specs.Command.{Answers, Asks, Explains, asked_by, validation_of}

@@ -1,8 +1,8 @@
 -- A run that writes to one side alone.
-use Rattle.std.proofs.Common.{◌≡◌, ◌⊎◌, inl, inr, ℕ, List, [], ◌∷◌, ◌++◌, take, ap, sym, ◌∙◌, refl, append_assoc}
+use Rattle.std.proofs.Common.{◌≡◌, inl, inr, ℕ, List, [], ◌∷◌, ◌++◌, ap, sym, ◌∙◌, refl, append_assoc}
 use Rattle.yspec.specs.Output.{Outcome}
 use Rattle.std.specs.Prelude.{Result, Ok, Err, is_ok, if◌then◌else◌}
-use Rattle.ytext.specs.Writing.{Side, Wrote, Broke, Writes}
+use Rattle.ytext.specs.Writing.{Side, Writes}
 use Rattle.yapp.specs.Running.{Brings, Ends}
 use Rattle.yapp.specs.Failing.{outcome_of, reported}
 use Rattle.yapp.specs.declared.failure.Failure.{Failure}

@@ -1,5 +1,5 @@
 -- Reading files and modules one after another.
-use Rattle.std.proofs.Common.{◌≡◌, ◌⊎◌, inl, inr, ℕ, ◌+◌, List, [], ◌∷◌, ◌++◌, map, Option, Some, None, refl, sym, subst, ap, ◌∙◌, append_assoc, arith}
+use Rattle.std.proofs.Common.{◌≡◌, ◌⊎◌, inl, inr, ℕ, ◌+◌, List, [], ◌∷◌, ◌++◌, map, Some, None, refl, sym, subst, ap, ◌∙◌, append_assoc, arith}
 use Rattle.std.proofs.Common.{Vec, Global, length}
 use Rattle.std.specs.Borrow.{Bor}
 use Rattle.std.specs.Prelude.{Result, Ok, Err, IsErrAnd}
@@ -7,7 +7,7 @@ use Rattle.std.proofs.lemmas.List.{append-nil, map-append}
 use Rattle.yspec.specs.Forest.{Forest, end, node, join}
 use Rattle.yspec.specs.Statement.{Statement, Slip, module_of}
 use Rattle.yspec.specs.Text.{Text}
-use Rattle.yspec.specs.Output.{Outcome, Request, failed, files_of, outcome, slip_line, unread, validate, validation, with_files, with_module, with_modules}
+use Rattle.yspec.specs.Output.{Outcome, Request, files_of, outcome, validate, validation, with_files, with_module, with_modules}
 use Rattle.ytext.specs.View.{view, modules_view}
 use Rattle.ytext.specs.declared.statement.Module.{Module}
 use Rattle.yapp.specs.Failing.{FailsWith, FromFile, LeadsTo, outcome_of, reported}

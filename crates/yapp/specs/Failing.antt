@@ -1,5 +1,5 @@
 -- What a report or a failure comes to, as the outcome that it prints.
-use Rattle.std.specs.Prelude.{◌≡◌, ℕ, ◌++◌, ◌==◌, List, [], length, codes, decimal, Result, Ok, Err, if◌then◌else◌}
+use Rattle.std.specs.Prelude.{◌≡◌, ℕ, ◌++◌, ◌==◌, List, length, codes, decimal, Result, Ok, Err, if◌then◌else◌}
 use Rattle.ytext.specs.declared.fault.TextCode.{TextCode}
 use Rattle.ytext.specs.declared.fault.TextCode.TheVariants.{L1, L2, L3, L4, L5, L6, L7, L8}
 use Rattle.yschema.specs.Told.{code_number}

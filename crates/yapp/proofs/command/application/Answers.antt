@@ -1,8 +1,8 @@
-use Rattle.std.proofs.Common.{rules, ap, ap₂, refl, codes, true, ◌≡◌, ◌∙◌}
+use Rattle.std.proofs.Common.{rules, ap, ap₂, codes, true, ◌≡◌, ◌∙◌}
 use Rattle.std.proofs.lemmas.Result.{IfOk-weaker}
 use Rattle.clap.specs.Words.{App, app_of, rule_of, with_rule, with_subcommand, new_app}
 use Rattle.clap.specs.Simple.{app_of_fields, on_top}
-use Rattle.yapp.specs.Application.{validate_app, wanted, yanglive, with_commands}
+use Rattle.yapp.specs.Application.{validate_app, wanted}
 use Rattle.yapp.proofs.command.application.Goals as goal
 
 pub returns : goal.returns

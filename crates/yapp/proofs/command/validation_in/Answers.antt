@@ -1,4 +1,4 @@
-use Rattle.std.proofs.Common.{ℕ, List, [], Option, Bor, codes, map, ap, ap₂, ◌≡◌, ◌∙◌}
+use Rattle.std.proofs.Common.{List, [], Option, Bor, codes, map, ap, ap₂, ◌∙◌}
 use Rattle.std.specs.Prelude.{unwrap_or}
 use Rattle.yspec.specs.Output.{validate}
 use Rattle.clap.specs.Words.{found_of, Text}

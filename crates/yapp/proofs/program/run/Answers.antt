@@ -1,4 +1,4 @@
-use Rattle.std.proofs.Common.{◌≡◌, inl, inr, [], refl, map, string_bytes, sym, subst}
+use Rattle.std.proofs.Common.{inl, inr, refl, map, string_bytes}
 use Rattle.yspec.specs.Output.{found}
 use Rattle.yapp.specs.Command.{Answers, refusals}
 use Rattle.yapp.specs.declared.command.NoRequest.TheVariants as none

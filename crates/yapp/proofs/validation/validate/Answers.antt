@@ -1,4 +1,4 @@
-use Rattle.std.proofs.Common.{◌∙◌, ap, map, subst, Some}
+use Rattle.std.proofs.Common.{◌∙◌, ap, subst}
 use Rattle.yspec.specs.Output.{validation}
 use Rattle.yapp.specs.Failing.{LeadsTo, reported}
 use Rattle.yapp.proofs.ValidationSteps.{came_of_reading, came_of_texts, names_in, texts_in}
