@@ -90,10 +90,9 @@ fn first_wrong<'a>(alloc: Global, document: &'a str, rows: &'a str) -> Option<&'
     }
 }
 
-#[test]
-fn replacements(rt: HostRuntime) {
-    let rows =
-        r#"# opened => passed over => {"p:c":{"id":256,"note":"x"}} => V1 invalid-value - /p:c/id -|
+/// Edits of it one after the other, most of them replacements.
+pub(crate) const REPLACEMENTS: &str =
+    r#"# opened => passed over => {"p:c":{"id":256,"note":"x"}} => V1 invalid-value - /p:c/id -|
 replace /p:c/id 7 => 1 to 0 => {"p:c":{"id":7,"note":"x"}} => none
 replace /p:c/id 300 => 0 to 1 => {"p:c":{"id":300,"note":"x"}} => V1 invalid-value - /p:c/id -|
 replace /p:c/note {} => E10:J5 => {"p:c":{"id":300,"note":"x"}} => V1 invalid-value - /p:c/id -|
@@ -106,12 +105,9 @@ replace /p:c[1]/id 1 => E3 => {"p:c":{"id":300,"note":"x"}} => V1 invalid-value 
 replace /p:c {"note":"y"} => 1 to 1 => {"p:c":{"note":"y"}} => V3 data-missing - /p:c/id -|
 replace /p:c/id 1 => E7 => {"p:c":{"note":"y"}} => V3 data-missing - /p:c/id -|
 remove /p:c/id => E7 => {"p:c":{"note":"y"}} => V3 data-missing - /p:c/id -|"#;
-    assert_eq!(rt; first_wrong(rt.alloc(), FAULTY, rows), None);
-}
 
-#[test]
-fn creations(rt: HostRuntime) {
-    let rows = r#"# opened => passed over => {} => V3 data-missing - /p:c/id -|
+/// Edits of an empty document one after the other.
+pub(crate) const CREATIONS: &str = r#"# opened => passed over => {} => V3 data-missing - /p:c/id -|
 replace /p:c/id 1 => E4 => {} => V3 data-missing - /p:c/id -|
 create /p:c/id 1 => E4 => {} => V3 data-missing - /p:c/id -|
 remove /p:c/id => E4 => {} => V3 data-missing - /p:c/id -|
@@ -121,7 +117,30 @@ create /p:c {} => E8 => {"p:c":{"id":1}} => none
 remove /p:c/id 1 => E1 => {"p:c":{"id":1}} => none
 remove /p:c/id => 0 to 1 => {"p:c":{}} => V3 data-missing - /p:c/id -|
 remove /p:c => 1 to 1 => {} => V3 data-missing - /p:c/id -|"#;
-    assert_eq!(rt; first_wrong(rt.alloc(), "{}", rows), None);
+
+fn goes_on(alloc: Global, live: &mut Live, rows: &str) -> Option<bool> {
+    for row in rows.lines() {
+        if !goes(alloc, live, row)? {
+            return Some(false);
+        }
+    }
+    Some(true)
+}
+
+/// Whether rows go as they say, each after the ones before it.
+pub(crate) fn go(alloc: Global, document: &str, rows: &str) -> Option<bool> {
+    let mut live = live_of(alloc, document)?;
+    goes_on(alloc, &mut live, rows)
+}
+
+#[test]
+fn replacements(rt: HostRuntime) {
+    assert_eq!(rt; first_wrong(rt.alloc(), FAULTY, REPLACEMENTS), None);
+}
+
+#[test]
+fn creations(rt: HostRuntime) {
+    assert_eq!(rt; first_wrong(rt.alloc(), "{}", CREATIONS), None);
 }
 
 // The edits of rows `line => what comes of it`.

@@ -3,8 +3,8 @@
 use crate::building::live_of;
 use crate::documents::{is_faulty, is_rewritten};
 use crate::lives::{
-    FAULTY, INVALID, are_checked, are_modules_refused, is_document_refused, is_rebuilt, runs,
-    stands,
+    CREATIONS, FAULTY, INVALID, REPLACEMENTS, are_checked, are_modules_refused, go,
+    is_document_refused, is_rebuilt, runs, stands,
 };
 use crate::schemas::is_outlined;
 use std::alloc::Global;
@@ -46,6 +46,8 @@ fn answer_or_memory(rt: HostRuntime) {
     assert!(rt; is_rewritten(rt.alloc(), document, text) != Some(false));
     assert!(rt; is_faulty(rt.alloc(), FAULTY, INVALID) != Some(false));
     assert!(rt; is_done_or_mended(rt.alloc()) != Some(false));
+    assert!(rt; go(rt.alloc(), FAULTY, REPLACEMENTS) != Some(false));
+    assert!(rt; go(rt.alloc(), "{}", CREATIONS) != Some(false));
     assert!(rt; runs(rt.alloc()) != Some(false));
     assert!(rt; is_rebuilt(rt.alloc()) != Some(false));
     assert!(rt; are_checked(rt.alloc()) != Some(false));

@@ -141,7 +141,8 @@ container b:c c/ 6 x 0,
 optional b:x x/
 none/";
     let are_roots = is_row(alloc, schema.roots(), " 0 c 2, 4 y 0, 5 c 1,")?;
-    let is_whole = schema.nodes() == 7 && are_modules(schema);
+    let are_found = is_found(schema, "-/1 c/5")? && is_found(schema, "5/x/6")?;
+    let is_whole = schema.nodes() == 7 && are_modules(schema) && are_found;
     Some(are_roots && is_whole && are_nodes(alloc, schema, lines)?)
 }
 
