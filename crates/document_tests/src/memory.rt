@@ -54,8 +54,3 @@ fn answer_or_memory(rt: HostRuntime) {
     assert!(rt; is_document_refused(rt.alloc()) != Some(false));
     assert!(rt; are_modules_refused(rt.alloc()) != Some(false));
 }
-
-#[test]
-fn ample(rt: HostRuntime) {
-    assert!(rt; is_done_or_mended(rt.alloc()) == Some(true));
-}
