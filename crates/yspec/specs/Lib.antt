@@ -1,3 +1,4 @@
+pub mod Results
 pub mod Forest
 pub mod Text
 pub mod Token
