@@ -1,3 +1,3 @@
-pub mod CommandSteps
-pub mod RunningSteps
-pub mod ValidationSteps
+pub mod CommandLemmas
+pub mod RunningLemmas
+pub mod ValidationLemmas

@@ -1,7 +1,7 @@
 -- What the words of a command line ask for, by clap's own definition of what it takes.
 use Rattle.std.specs.Prelude.{◌≡◌, List, [], map, codes, Option, Some, None, unwrap_or, Result, Ok, Err}
-use Rattle.yspec.specs.Output as spec
-use Rattle.yspec.specs.Output.{validate}
+use Rattle.yspec.specs.program.Output as spec
+use Rattle.yspec.specs.program.Output.{validate}
 use Rattle.clap.specs.Words.{Kinds, IsAmong, Row, Text, all_of, fault_of, first_of, subcommand_of}
 use Rattle.clap.specs.declared.error.kind.ErrorKind.{ErrorKind}
 use Rattle.clap.specs.declared.error.kind.ErrorKind.TheVariants.{DisplayHelp, OutOfMemory}

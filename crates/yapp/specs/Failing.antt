@@ -4,11 +4,11 @@ use Rattle.ytext.specs.declared.fault.TextCode.{TextCode}
 use Rattle.ytext.specs.declared.fault.TextCode.TheVariants.{L1, L2, L3, L4, L5, L6, L7, L8}
 use Rattle.yschema.specs.Told.{code_number}
 use Rattle.yschema.specs.View as schema_view
-use Rattle.yinst.specs.Told as document
-use Rattle.yinst.specs.View.{place_view}
+use Rattle.ytree.specs.Told as document
+use Rattle.ytree.specs.View.{place_view}
 use Rattle.ycheck.specs.View.{views}
-use Rattle.yspec.specs.Output.{Outcome, failed, found, refusal_line, report, unread}
-use Rattle.yspec.specs.Text.{Text}
+use Rattle.yspec.specs.program.Output.{Outcome, failed, found, refusal_line, report, unread}
+use Rattle.yspec.specs.text.Text.{Text}
 use Rattle.yapp.specs.Running.{without_memory}
 use Rattle.yapp.specs.declared.failure.Failure.{Failure}
 use Rattle.yapp.specs.declared.failure.Failure.TheVariants as failures

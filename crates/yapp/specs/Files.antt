@@ -1,7 +1,7 @@
 -- What files contain, as far as that is told, and how often reading one failed.
 use Rattle.std.specs.Prelude.{◌≡◌, ◌⊎◌, ℕ, ◌+◌, List, [], ◌∷◌, map, Option, Some, None, Result, Ok, Err}
-use Rattle.yspec.specs.Output.{Outcome, Request, files_of, outcome, with_files}
-use Rattle.yspec.specs.Text.{Text}
+use Rattle.yspec.specs.program.Output.{Outcome, Request, files_of, outcome, with_files}
+use Rattle.yspec.specs.text.Text.{Text}
 use Rattle.yapp.specs.Failing.{outcome_of, reported}
 use Rattle.yapp.specs.Running.{without_memory}
 use Rattle.yapp.specs.declared.failure.Failure.{Failure}

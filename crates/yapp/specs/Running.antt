@@ -2,8 +2,8 @@
 use Rattle.std.specs.Prelude.{◌≡◌, ◌⊎◌, ℕ, List, [], codes, take}
 use Rattle.clap.specs.Words.{Kinds, IsAmong}
 use Rattle.clap.specs.declared.error.kind.ErrorKind.TheVariants.{DisplayHelp}
-use Rattle.yspec.specs.Output.{Outcome, failed, found}
-use Rattle.ytext.specs.Writing.{Side, Wrote, Broke}
+use Rattle.yspec.specs.program.Output.{Outcome, failed, found}
+use Rattle.youtput.specs.Writing.{Side, Wrote, Broke}
 
 -- the status where a file, a stream or memory failed
 abbrev pub failure : ℕ

@@ -1,12 +1,12 @@
 //! Why there is no report, and the line that says so.
 
 ghost use Rattle.std.specs.Prelude.{◌≡◌, ◌++◌, codes, decimal};
-ghost use Rattle.yspec.specs.Output.{refusal_line};
-ghost use Rattle.ytext.specs.Writing.{Writes, side};
+ghost use Rattle.yspec.specs.program.Output.{refusal_line};
+ghost use Rattle.youtput.specs.Writing.{Writes, side};
 ghost use Rattle.yschema.specs.Told.{code_number};
 ghost use Rattle.yschema.specs.View as schema_view;
-ghost use Rattle.yinst.specs.Told as document;
-ghost use Rattle.yinst.specs.View.{place_view};
+ghost use Rattle.ytree.specs.Told as document;
+ghost use Rattle.ytree.specs.View.{place_view};
 ghost use Rattle.yapp.specs.Failing.{FromFile, outcome_of, refusal_in, text_code_number};
 ghost use Rattle.yapp.specs.declared.failure.Failure.TheVariants.{Memory};
 

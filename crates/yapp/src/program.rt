@@ -1,12 +1,12 @@
 //! A run of the program.
 
 ghost use Rattle.std.specs.Prelude.{◌≡◌, ◌⊎◌, [], codes, is_ok, if◌then◌else◌, map, string_bytes};
-ghost use Rattle.yspec.specs.Output as spec;
-ghost use Rattle.yspec.specs.Output.{Outcome};
+ghost use Rattle.yspec.specs.program.Output as spec;
+ghost use Rattle.yspec.specs.program.Output.{Outcome};
 ghost use Rattle.yapp.specs.Command.{refusals, request_of, view};
 ghost use Rattle.yapp.specs.Files.{IsOutcome};
 ghost use Rattle.yapp.specs.Running.{AnswersWords, Brings, Ends, refused, without_memory};
-ghost use Rattle.ytext.specs.Writing.{side};
+ghost use Rattle.youtput.specs.Writing.{side};
 
 use crate::command::{NoRequest, Request, read_request};
 use crate::files::Files;

@@ -2,8 +2,8 @@
 
 ghost use Rattle.std.specs.Prelude.{◌≡◌, ◌++◌, codes, decimal};
 ghost use Rattle.std.specs.List.{flat_map};
-ghost use Rattle.yspec.specs.Faults.{line_of};
-ghost use Rattle.ytext.specs.Writing.{Writes, side};
+ghost use Rattle.yspec.specs.document.Faults.{line_of};
+ghost use Rattle.youtput.specs.Writing.{Writes, side};
 ghost use Rattle.yschema.specs.View as schema_view;
 ghost use Rattle.ycheck.specs.View.{views};
 ghost use Rattle.yapp.specs.Failing.{reported};

@@ -2,12 +2,12 @@
 
 ghost use Rattle.std.specs.Prelude.{◌≡◌, ◌∷◌, [], ℕ, List, IfOk, map};
 ghost use Rattle.yspec.specs.Forest.{Forest};
-ghost use Rattle.yspec.specs.Breaks.{compiled};
-ghost use Rattle.yspec.specs.Output as spec;
-ghost use Rattle.yspec.specs.Output.{Outcome, files_of, first_file, judged, validation, with_compiled, with_modules, with_tree};
-ghost use Rattle.yspec.specs.Reading.{document_of};
-ghost use Rattle.yspec.specs.Schema as schema_spec;
-ghost use Rattle.yspec.specs.Statement.{Statement, module_of};
+ghost use Rattle.yspec.specs.schema.Breaks.{compiled};
+ghost use Rattle.yspec.specs.program.Output as spec;
+ghost use Rattle.yspec.specs.program.Output.{Outcome, files_of, first_file, judged, validation, with_compiled, with_modules, with_tree};
+ghost use Rattle.yspec.specs.document.Reading.{document_of};
+ghost use Rattle.yspec.specs.schema.Schema as schema_spec;
+ghost use Rattle.yspec.specs.text.Statement.{Statement, module_of};
 ghost use Rattle.ytext.specs.View.{modules_view};
 ghost use Rattle.yschema.specs.View as schema_view;
 ghost use Rattle.yapp.specs.Failing.{LeadsTo, reported};

@@ -2,16 +2,16 @@
 use Rattle.std.proofs.Common.{◌≡◌, ℕ, ◌-◌, true, false, cond, List, [], ◌∷◌, ◌++◌, length, take, map, Option, None, refl, sym, ap, ap₂, ◌∙◌, arith, append_assoc, length-append}
 use Rattle.std.proofs.lemmas.List.{append-nil, map-append, map-id, take_at}
 use Rattle.yspec.specs.Forest.{Forest, end, node}
-use Rattle.yspec.specs.Types.{Raw}
-use Rattle.yspec.specs.Schema.{Schema, SchemaNode, Kind}
-use Rattle.yspec.specs.Document.{Stored, Tree, Step}
-use Rattle.yspec.specs.Faults.{Fault, under, faults_of, answers_of}
-use Rattle.yspec.specs.RowFaults.{step_at, prefixed, begins_with, stored_own, stored_faults, absent_faults, row_faults}
-use Rattle.yspec.specs.Fitting.{IsNumbered, Fits}
-use Rattle.yspec.proofs.CheckingRows.{prefixed_twice, rows_are_faults}
+use Rattle.yspec.specs.types.Types.{Raw}
+use Rattle.yspec.specs.schema.Schema.{Schema, SchemaNode, Kind}
+use Rattle.yspec.specs.document.Document.{Stored, Tree, Step}
+use Rattle.yspec.specs.document.Faults.{Fault, under, faults_of, answers_of}
+use Rattle.yspec.specs.document.RowFaults.{step_at, prefixed, begins_with, stored_own, stored_faults, absent_faults, row_faults}
+use Rattle.yspec.specs.document.Fitting.{IsNumbered, Fits}
+use Rattle.yspec.proofs.DocumentProofs.CheckingLemmas.{prefixed_twice, rows_are_faults}
 use Rattle.yschema.specs.declared.node.SchemaId.{SchemaId}
-use Rattle.yinst.specs.declared.tree.Step as inst
-use Rattle.yinst.specs.View.{step_view, place_view}
+use Rattle.ytree.specs.declared.tree.Step as inst
+use Rattle.ytree.specs.View.{step_view, place_view}
 use Rattle.ycheck.specs.declared.fault.Fault as check
 use Rattle.ycheck.specs.View.{views}
 

@@ -3,13 +3,13 @@ use Rattle.std.proofs.Common.{◌≡◌, ℕ, List, [], ◌∷◌, ◌++◌, len
 use Rattle.std.proofs.lemmas.List.{append-nil}
 use Rattle.std.specs.Prelude.{◌==◌, option_map, string_bytes, unwrap_or, None}
 use Rattle.std.specs.Option.{option_map_or}
-use Rattle.yspec.specs.Schema.{Schema, SchemaNode, node_at, written_name}
-use Rattle.yspec.specs.Document.{Step}
-use Rattle.yspec.specs.Faults.{info_text, line_of, or_dash, printed_tag}
-use Rattle.yspec.specs.Path.{path_from, path_text, position_text, step_text}
-use Rattle.yspec.specs.Text.{Text}
-use Rattle.yinst.specs.View.{place_view}
-use Rattle.yinst.specs.declared.tree.Step as code
+use Rattle.yspec.specs.schema.Schema.{Schema, SchemaNode, node_at, written_name}
+use Rattle.yspec.specs.document.Document.{Step}
+use Rattle.yspec.specs.document.Faults.{info_text, line_of, or_dash, printed_tag}
+use Rattle.yspec.specs.document.Path.{path_from, path_text, position_text, step_text}
+use Rattle.yspec.specs.text.Text.{Text}
+use Rattle.ytree.specs.View.{place_view}
+use Rattle.ytree.specs.declared.tree.Step as code
 use Rattle.ycheck.specs.View.{code_number, info_view, tag_name, view}
 use Rattle.ycheck.specs.declared.fault.Fault.{Fault}
 use Rattle.ycheck.specs.declared.fault.Info.{Info}

@@ -1,9 +1,9 @@
 -- Faults as the specification's.
 use Rattle.std.specs.Prelude.{ℕ, List, map, codes, option_map, string_bytes}
-use Rattle.yspec.specs.Text.{Text}
-use Rattle.yspec.specs.Faults as spec
-use Rattle.yspec.specs.Faults.{no_info}
-use Rattle.yinst.specs.View.{place_view}
+use Rattle.yspec.specs.text.Text.{Text}
+use Rattle.yspec.specs.document.Faults as spec
+use Rattle.yspec.specs.document.Faults.{no_info}
+use Rattle.ytree.specs.View.{place_view}
 use Rattle.ycheck.specs.declared.fault.FaultCode.{FaultCode}
 use Rattle.ycheck.specs.declared.fault.FaultCode.TheVariants.{V1, V3}
 use Rattle.ycheck.specs.declared.fault.ErrorTag.{ErrorTag}

@@ -2,14 +2,14 @@
 
 ghost use Rattle.std.specs.Prelude.{◌≡◌, ◌++◌, [], ◌∷◌, map, length, take, ◌-◌, None, option_map, string_bytes, OnOk, IfOk, IfSome, is_some};
 ghost use Rattle.yspec.specs.Forest.{Forest, end, node};
-ghost use Rattle.yspec.specs.Schema as spec;
-ghost use Rattle.yspec.specs.Faults.{fault, faults_of, value_faults, no_info};
-ghost use Rattle.yspec.specs.Fitting.{Fits};
-ghost use Rattle.yspec.specs.RowFaults.{prefixed, begins_with, stored_own, stored_faults, absent_own, absent_faults, row_faults};
+ghost use Rattle.yspec.specs.schema.Schema as spec;
+ghost use Rattle.yspec.specs.document.Faults.{fault, faults_of, value_faults, no_info};
+ghost use Rattle.yspec.specs.document.Fitting.{Fits};
+ghost use Rattle.yspec.specs.document.RowFaults.{prefixed, begins_with, stored_own, stored_faults, absent_own, absent_faults, row_faults};
 ghost use Rattle.ytype.specs.View.{raw_of};
 ghost use Rattle.yschema.specs.View as schema_view;
-ghost use Rattle.yinst.specs.View as document_view;
-ghost use Rattle.yinst.specs.View.{place_view};
+ghost use Rattle.ytree.specs.View as document_view;
+ghost use Rattle.ytree.specs.View.{place_view};
 ghost use Rattle.ycheck.specs.View.{code_number, tag_name, views};
 
 use crate::fault::{ErrorTag, Fault, FaultCode, Info};

@@ -2,14 +2,14 @@
 
 ghost use Rattle.std.specs.Prelude.{◌≡◌, ◌++◌, [], codes, decimal, option_map, string_bytes, unwrap_or, if◌then◌else◌, nat_le};
 ghost use Rattle.std.specs.List.{flat_map};
-ghost use Rattle.yspec.specs.Faults.{line_of, or_dash, printed_tag};
-ghost use Rattle.yspec.specs.Path as path;
-ghost use Rattle.yspec.specs.Path.{path_text};
-ghost use Rattle.yspec.specs.Schema as spec;
-ghost use Rattle.ytext.specs.Writing.{Writes, side};
+ghost use Rattle.yspec.specs.document.Faults.{line_of, or_dash, printed_tag};
+ghost use Rattle.yspec.specs.document.Path as path;
+ghost use Rattle.yspec.specs.document.Path.{path_text};
+ghost use Rattle.yspec.specs.schema.Schema as spec;
+ghost use Rattle.youtput.specs.Writing.{Writes, side};
 ghost use Rattle.yschema.specs.View as schema_view;
 ghost use Rattle.yschema.specs.View.{node_view};
-ghost use Rattle.yinst.specs.View.{place_view, step_view};
+ghost use Rattle.ytree.specs.View.{place_view, step_view};
 ghost use Rattle.ycheck.specs.View.{code_number, tag_name, view};
 
 use crate::fault::{ErrorTag, Fault, FaultCode};

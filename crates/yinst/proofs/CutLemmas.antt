@@ -4,8 +4,8 @@ use Rattle.std.specs.Prelude.{MatchOption}
 use Rattle.std.specs.Borrow.{Bor}
 use Rattle.std.proofs.lemmas.Bool.Decides.{nat_tests}
 use Rattle.std.proofs.lemmas.List.{drop_more, drop_all, take_more, append_assoc, append-nil}
-use Rattle.yspec.specs.Text.{Text, space}
-use Rattle.yspec.specs.EditText.{cut_at, parts_at, longer, first_longer, quote_behind, behind, after_spaces}
+use Rattle.yspec.specs.text.Text.{Text, space}
+use Rattle.yspec.specs.edit.EditText.{cut_at, parts_at, longer, first_longer, quote_behind, behind, after_spaces}
 
 -- ---- a byte at the front
 

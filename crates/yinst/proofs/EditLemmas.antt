@@ -2,17 +2,17 @@
 use Rattle.std.proofs.Common.{◌≡◌, ℕ, List, Some, None, Result, Ok, Err, IfOk, sym, ap, ◌∙◌, subst}
 use Rattle.std.specs.Option.{option_map_or}
 use Rattle.serde_json.specs.Data.{Data}
-use Rattle.yspec.specs.Schema.{Schema}
-use Rattle.yspec.specs.Reading.{json_of}
-use Rattle.yspec.specs.Editing.{EditRefusal, refused, part_at, part_of, applied}
-use Rattle.yspec.specs.EditText.{Edit}
-use Rattle.yspec.specs.Document.{Tree}
-use Rattle.yspec.specs.Fitting.{IsNumbered, Fits, LeafsAreBare}
-use Rattle.yspec.specs.Writing.{NamesDiffer, IsDocument}
-use Rattle.yspec.proofs.FittingEdits.{edit_fits, edit_whole}
-use Rattle.yinst.specs.View.{tree_view}
+use Rattle.yspec.specs.schema.Schema.{Schema}
+use Rattle.yspec.specs.document.Reading.{json_of}
+use Rattle.yspec.specs.edit.Editing.{EditRefusal, refused, part_at, part_of, applied}
+use Rattle.yspec.specs.edit.EditText.{Edit}
+use Rattle.yspec.specs.document.Document.{Tree}
+use Rattle.yspec.specs.document.Fitting.{IsNumbered, Fits, LeafsAreBare}
+use Rattle.yspec.specs.document.Writing.{NamesDiffer, IsDocument}
+use Rattle.yspec.proofs.EditProofs.FittingEditLemmas.{edit_fits, edit_whole}
+use Rattle.ytree.specs.View.{tree_view}
 use Rattle.yinst.specs.Applying.{Answers}
-use Rattle.yinst.specs.declared.tree.Tree as tree
+use Rattle.ytree.specs.declared.tree.Tree as tree
 use Rattle.yinst.specs.declared.edit.EditFault.{EditFault}
 
 pub answers_same : {X Y : Type 0} (see : X → Y) (given : Result X EditFault) (a b : Result Y EditRefusal) → a ≡ b → Answers see given b → Answers see given a

@@ -1,11 +1,4 @@
-pub mod ValueLemmas
-pub mod RowLemmas
-pub mod VisitLemmas
-pub mod ReadLemmas
-pub mod NumberedLemmas
-pub mod WriteLemmas
-pub mod NameLemmas
 pub mod CutLemmas
 pub mod PathLemmas
-pub mod RowChanges
 pub mod EditLemmas
+pub mod RowChangeLemmas

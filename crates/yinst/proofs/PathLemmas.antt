@@ -3,8 +3,8 @@ use Rattle.std.proofs.Common.{◌≡◌, ℕ, ◌+◌, ◌-◌, ◌*◌, ◌<◌
 use Rattle.std.specs.Prelude.{option_and_then}
 use Rattle.std.proofs.lemmas.Bool.Decides.{nat_tests}
 use Rattle.std.proofs.lemmas.List.{at_drop_more, at_drop_all, append_assoc, append-nil}
-use Rattle.yspec.specs.Text.{Text}
-use Rattle.yspec.specs.EditText.{Key, cut_at, parts_at, keys_of, key_in, no_keys, close_bracket, all_or_none, digits_value, last_position}
+use Rattle.yspec.specs.text.Text.{Text}
+use Rattle.yspec.specs.edit.EditText.{Key, cut_at, parts_at, keys_of, key_in, no_keys, close_bracket, all_or_none, digits_value, last_position}
 use Rattle.yinst.proofs.CutLemmas.{parts_of, parts_by_cut}
 
 -- ---- digits

@@ -1,9 +1,9 @@
 -- Refusals of edits as the specification's.
 use Rattle.std.specs.Prelude.{◌≡◌, ℕ, List, map, Option, option_map, Result, Ok, Err}
-use Rattle.yspec.specs.Editing.{EditRefusal}
+use Rattle.yspec.specs.edit.Editing.{EditRefusal}
 use Rattle.yschema.specs.declared.node.SchemaId.{SchemaId}
-use Rattle.yinst.specs.Told.{code_number}
-use Rattle.yinst.specs.declared.fault.DocCode.{DocCode}
+use Rattle.ytree.specs.Told.{code_number}
+use Rattle.ytree.specs.declared.fault.DocCode.{DocCode}
 use Rattle.yinst.specs.declared.edit.EditCode.{EditCode}
 use Rattle.yinst.specs.declared.edit.EditCode.TheVariants.{E1, E2, E3, E4, E7, E8, E9, E10, E11}
 use Rattle.yinst.specs.declared.edit.EditFault.{EditFault}

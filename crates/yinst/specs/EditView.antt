@@ -1,8 +1,8 @@
 -- Edits as the specification's.
 use Rattle.std.specs.Prelude.{◌≡◌, ⊤, List, map, Option, Some, None, option_map, Result, Ok, Err, string_bytes, ℕ}
 use Rattle.std.specs.Borrow.{Bor}
-use Rattle.yspec.specs.Text.{Text}
-use Rattle.yspec.specs.EditText as spec
+use Rattle.yspec.specs.text.Text.{Text}
+use Rattle.yspec.specs.edit.EditText as spec
 use Rattle.yinst.specs.declared.edit.Key.{Key}
 use Rattle.yinst.specs.declared.edit.Predicate.{Predicate}
 use Rattle.yinst.specs.declared.edit.Predicate.TheVariants.{Unsaid, Position, Keys}

@@ -1,10 +1,10 @@
 -- Changes of rows of stored nodes.
 use Rattle.std.specs.Prelude.{ℕ, ◌==◌, List, [], ◌∷◌, Bool, nat_le, if◌then◌else◌}
 use Rattle.yspec.specs.Forest.{end, node}
-use Rattle.yspec.specs.Document.{Tree}
-use Rattle.yspec.specs.Editing.{Part, with_part, without}
-use Rattle.yinst.specs.View.{view}
-use Rattle.yinst.specs.declared.tree.Stored.{Stored}
+use Rattle.yspec.specs.document.Document.{Tree}
+use Rattle.yspec.specs.edit.Editing.{Part, with_part, without}
+use Rattle.ytree.specs.View.{view}
+use Rattle.ytree.specs.declared.tree.Stored.{Stored}
 use Rattle.yinst.specs.declared.rows.Change.{Change}
 use Rattle.yinst.specs.declared.rows.Change.TheVariants.{Put, TakeAway}
 

@@ -1,11 +1,11 @@
 //! What an edit makes of a document.
 
 ghost use Rattle.std.specs.Prelude.{◌≡◌, None, IfOk};
-ghost use Rattle.yspec.specs.Fitting.{Fits, LeafsAreBare};
-ghost use Rattle.yspec.specs.Writing.{NamesDiffer, IsDocument};
-ghost use Rattle.yspec.specs.Editing as spec;
+ghost use Rattle.yspec.specs.document.Fitting.{Fits, LeafsAreBare};
+ghost use Rattle.yspec.specs.document.Writing.{NamesDiffer, IsDocument};
+ghost use Rattle.yspec.specs.edit.Editing as spec;
 ghost use Rattle.yschema.specs.View as schema_view;
-ghost use Rattle.yinst.specs.View.{tree_view};
+ghost use Rattle.ytree.specs.View.{tree_view};
 ghost use Rattle.yinst.specs.EditView.{edit_view};
 ghost use Rattle.yinst.specs.Applying.{Answers};
 ghost use Rattle.yinst.specs.Rows.{change_view};
@@ -36,7 +36,7 @@ pub fn apply(alloc: Global, schema: &Schema, tree: &Tree, edit: &Edit) -> Result
 }
 
 /// The document after an edit.
-#[tactic(auto, unfolding(yspec::specs::Editing::applied))]
+#[tactic(auto, unfolding(yspec::specs::edit::Editing::applied))]
 fn edited(alloc: Global, schema: &Schema, tree: &Tree, edit: &Edit) -> Result<Tree, EditFault>
     ensures { Answers tree_view result (spec.applied (schema_view.view schema.now) (tree_view tree.now) (edit_view edit.now)) }
 {

@@ -1,7 +1,7 @@
 //! Cutting texts at ASCII characters.
 
 ghost use Rattle.std.specs.Prelude.{◌≡◌, ◌+◌, ◌<◌, ◌≤◌, ℕ, IfSome, length, take, drop, slice_index, option_map, None, ◌==◌, ◌&&◌, not, is_some, position};
-ghost use Rattle.yspec.specs.EditText.{cut_at, quote_behind, behind, after_spaces};
+ghost use Rattle.yspec.specs.edit.EditText.{cut_at, quote_behind, behind, after_spaces};
 ghost use Rattle.yinst.specs.EditView.{sides};
 
 /// Where a byte first stands.

@@ -2,7 +2,7 @@
 
 ghost use Rattle.std.specs.Prelude.{◌≡◌, IfOk};
 ghost use Rattle.serde_json.specs.View as json;
-ghost use Rattle.yspec.specs.Editing as spec;
+ghost use Rattle.yspec.specs.edit.Editing as spec;
 ghost use Rattle.yschema.specs.View as schema_view;
 ghost use Rattle.yinst.specs.Applying.{Answers};
 ghost use Rattle.yinst.specs.Rows.{part_view};

@@ -2,8 +2,8 @@
 
 ghost use Rattle.std.specs.Prelude.{◌≡◌, ◌+◌, ◌*◌, ◌≤◌, ◌<◌, IfOk, IfSome, option_map, None, Some, string_bytes, min, is_some};
 ghost use Rattle.std.specs.List.{list_all};
-ghost use Rattle.yspec.specs.Text.{is_digit, slash};
-ghost use Rattle.yspec.specs.EditText as spec;
+ghost use Rattle.yspec.specs.text.Text.{is_digit, slash};
+ghost use Rattle.yspec.specs.edit.EditText as spec;
 ghost use Rattle.yinst.specs.EditView.{key_view, keys_view, predicate_view, steps_view, step_view, path_view, edit_view};
 ghost use Rattle.yinst.specs.declared.edit.EditCode.TheVariants.{E1};
 ghost use Rattle.yinst.specs.declared.edit.EditFault.TheVariants.{Refused};
@@ -209,7 +209,7 @@ fn steps_of(alloc: Global, text: &str) -> Result<Option<Vec<NamedStep>>, AllocEr
 }
 
 // The path that a text spells: one step or more, each behind a `/`.
-#[tactic(auto, unfolding(yspec::specs::EditText::path_of))]
+#[tactic(auto, unfolding(yspec::specs::edit::EditText::path_of))]
 fn path_of(alloc: Global, text: &str) -> Result<Option<Path>, AllocError>
     ensures { IfOk result (λ path. option_map path_view path ≡ spec.path_of text.now) }
 {
@@ -257,7 +257,7 @@ fn done_by(alloc: Global, verb: &str, value: &str, path: Path) -> Result<Option<
 }
 
 // The edit that a line spells.
-#[tactic(auto, unfolding(yspec::specs::EditText::edit_of))]
+#[tactic(auto, unfolding(yspec::specs::edit::EditText::edit_of))]
 fn edit_of(alloc: Global, line: &str) -> Result<Option<Edit>, AllocError>
     ensures { IfOk result (λ edit. option_map edit_view edit ≡ spec.edit_of line.now) }
 {
@@ -294,7 +294,7 @@ fn refused() -> EditFault
 }
 
 impl Path {
-    ghost use Rattle.yspec.specs.EditText.{path_of};
+    ghost use Rattle.yspec.specs.edit.EditText.{path_of};
     ghost use Rattle.yinst.specs.EditView.{path_view, Gives};
 
     /// The path that a text spells, or E1.
@@ -309,7 +309,7 @@ impl Path {
 }
 
 impl Edit {
-    ghost use Rattle.yspec.specs.EditText.{asked_by};
+    ghost use Rattle.yspec.specs.edit.EditText.{asked_by};
     ghost use Rattle.yinst.specs.EditView.{Asks};
 
     /// The edit that a line of a script spells; none where it is empty or begins with `#`; or E1.

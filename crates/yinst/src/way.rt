@@ -1,9 +1,9 @@
 //! What the steps of a path mean, and where an edit stands.
 
 ghost use Rattle.std.specs.Prelude.{◌≡◌, not, None};
-ghost use Rattle.yspec.specs.Editing as spec;
+ghost use Rattle.yspec.specs.edit.Editing as spec;
 ghost use Rattle.yschema.specs.View as schema_view;
-ghost use Rattle.yinst.specs.View.{tree_view};
+ghost use Rattle.ytree.specs.View.{tree_view};
 ghost use Rattle.yinst.specs.EditView.{predicate_view, path_view, steps_view};
 ghost use Rattle.yinst.specs.Applying.{Answers, numbers};
 ghost use Rattle.yinst.specs.Ways.{way_view, target_view};

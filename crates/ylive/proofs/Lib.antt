@@ -1,2 +1,2 @@
-pub mod FittingTest
-pub mod RunSteps
+pub mod FittingTestLemmas
+pub mod RunLemmas

@@ -1,11 +1,11 @@
 -- What calls on a live document answer, and what they leave of it, by cases.
 use Rattle.std.specs.Prelude.{◌≡◌, ℕ, ◌≤◌, true, false, List, length, take, Option, Some, None, Result, Ok, Err, Vec, if◌then◌else◌}
-use Rattle.yspec.specs.Document.{Tree}
-use Rattle.yspec.specs.EditText as text
-use Rattle.yspec.specs.Editing as editing
-use Rattle.yspec.specs.Editing.{EditRefusal, applied, decision, decisions, tree_or}
-use Rattle.yspec.specs.Live as spec
-use Rattle.yspec.specs.Live.{fault_count, faults_in, made_stale, with_tree}
+use Rattle.yspec.specs.document.Document.{Tree}
+use Rattle.yspec.specs.edit.EditText as text
+use Rattle.yspec.specs.edit.Editing as editing
+use Rattle.yspec.specs.edit.Editing.{EditRefusal, applied, decision, decisions, tree_or}
+use Rattle.yspec.specs.edit.Live as spec
+use Rattle.yspec.specs.edit.Live.{fault_count, faults_in, made_stale, with_tree}
 use Rattle.yinst.specs.Applying.{refusal_view}
 use Rattle.yinst.specs.declared.edit.EditFault.{EditFault}
 use Rattle.yinst.specs.declared.edit.EditFault.TheVariants as faults

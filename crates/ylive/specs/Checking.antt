@@ -1,14 +1,14 @@
 -- What comes of edits of a document under modules, as the specification's.
 use Rattle.std.specs.Prelude.{◌≡◌, Result, Ok, Err}
-use Rattle.yspec.specs.Live as spec
-use Rattle.yspec.specs.Live.{CheckRefusal, of_modules, of_document}
+use Rattle.yspec.specs.edit.Live as spec
+use Rattle.yspec.specs.edit.Live.{CheckRefusal, of_modules, of_document}
 use Rattle.yschema.specs.Told as schema
 use Rattle.yschema.specs.declared.fault.CompileFault.{CompileFault}
 use Rattle.yschema.specs.declared.fault.CompileFault.TheVariants as compile_faults
-use Rattle.yinst.specs.Told as document
-use Rattle.yinst.specs.View.{place_view}
-use Rattle.yinst.specs.declared.fault.DocFault.{DocFault}
-use Rattle.yinst.specs.declared.fault.DocFault.TheVariants as doc_faults
+use Rattle.ytree.specs.Told as document
+use Rattle.ytree.specs.View.{place_view}
+use Rattle.ytree.specs.declared.fault.DocFault.{DocFault}
+use Rattle.ytree.specs.declared.fault.DocFault.TheVariants as doc_faults
 use Rattle.ycheck.specs.View.{views}
 use Rattle.ylive.specs.View.{outcomes_view}
 use Rattle.ylive.specs.declared.checking.Checked.{Checked}

@@ -1,8 +1,8 @@
 -- What a live document keeps beside its schema and its tree.
 use Rattle.std.specs.Prelude.{Bool, true, false, ◌==◌, ◌&&◌, ◌||◌}
 use Rattle.yspec.specs.Forest.{Forest, end, node}
-use Rattle.yspec.specs.Schema.{SchemaNode}
-use Rattle.yspec.specs.Document.{Tree}
+use Rattle.yspec.specs.schema.Schema.{SchemaNode}
+use Rattle.yspec.specs.document.Document.{Tree}
 
 -- whether a row of stored nodes fits a row of schema nodes, as a test
 unfoldable pub fits : Forest SchemaNode → Tree → Bool

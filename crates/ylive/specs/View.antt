@@ -1,10 +1,10 @@
 -- Live documents, and what comes of edits, as the specification's.
 use Rattle.std.specs.Prelude.{List, map, Some, None, is_none}
-use Rattle.yspec.specs.Live as spec
-use Rattle.yspec.specs.EditText as text
-use Rattle.yspec.specs.Editing.{Decision}
+use Rattle.yspec.specs.edit.Live as spec
+use Rattle.yspec.specs.edit.EditText as text
+use Rattle.yspec.specs.edit.Editing.{Decision}
 use Rattle.yschema.specs.View as schema_view
-use Rattle.yinst.specs.View.{tree_view}
+use Rattle.ytree.specs.View.{tree_view}
 use Rattle.yinst.specs.EditView.{edit_view}
 use Rattle.yinst.specs.Applying.{refusal_view}
 use Rattle.yinst.specs.declared.edit.Edit.{Edit}

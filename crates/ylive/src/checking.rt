@@ -1,8 +1,8 @@
 //! From modules and a document to what comes of edits, and the faults that are left.
 
 ghost use Rattle.std.specs.Prelude.{◌≡◌, IfOk, Ok};
-ghost use Rattle.yspec.specs.Live.{checked, checked_from};
-ghost use Rattle.yspec.specs.Reading.{document_of};
+ghost use Rattle.yspec.specs.edit.Live.{checked, checked_from};
+ghost use Rattle.yspec.specs.document.Reading.{document_of};
 ghost use Rattle.ytext.specs.View.{modules_view};
 ghost use Rattle.yschema.specs.View as schema_view;
 ghost use Rattle.ylive.specs.View.{edits_view};
@@ -36,7 +36,7 @@ pub enum CheckFault {
 
 /// Applies edits in order to the document that JSON bytes denote under a set of modules, and then lists its faults. A
 /// refused edit changes nothing; refused modules or a refused document end it.
-#[tactic(auto, unfolding(yspec::specs::Live::checked))]
+#[tactic(auto, unfolding(yspec::specs::edit::Live::checked))]
 pub fn check_edits(
     alloc: Global,
     modules: &[Module],

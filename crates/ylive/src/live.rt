@@ -2,9 +2,9 @@
 
 ghost use Rattle.std.specs.Prelude.{◌≡◌, true, length, IfSome, IfOk};
 ghost use Rattle.std.proofs.Props.{props};
-ghost use Rattle.yspec.specs.Faults.{faults_of};
+ghost use Rattle.yspec.specs.document.Faults.{faults_of};
 ghost use Rattle.yschema.specs.View as schema_view;
-ghost use Rattle.yinst.specs.View.{tree_view};
+ghost use Rattle.ytree.specs.View.{tree_view};
 ghost use Rattle.ylive.specs.Kept.{fits};
 
 use crate::outcome::{Applied, ListFault, Refused};
@@ -27,8 +27,8 @@ pub struct Live {
 
 impl Live {
     ghost use Rattle.std.specs.Prelude.{◌≡◌, true, is_none, IfOk, IfErr, OnOk, OnErr};
-    ghost use Rattle.yspec.specs.Fitting.{Fits};
-    ghost use Rattle.yspec.specs.Live.{opened, made_stale, made_anew};
+    ghost use Rattle.yspec.specs.document.Fitting.{Fits};
+    ghost use Rattle.yspec.specs.edit.Live.{opened, made_stale, made_anew};
     ghost use Rattle.yinst.specs.EditView.{edit_view};
     ghost use Rattle.ylive.specs.View.{view};
     ghost use Rattle.ylive.specs.Answers.{Edits, Lists, known_count};

@@ -1,3 +1,3 @@
-pub mod Numerals
-pub mod Names
-pub mod Decimals
+pub mod DecimalLemmas
+pub mod NameLemmas
+pub mod NumeralLemmas

@@ -2,9 +2,9 @@
 use Rattle.std.specs.Prelude.{Option, option_map}
 use Rattle.std.specs.String.{string_bytes}
 use Rattle.std.specs.declared.string.String.{String}
-use Rattle.yspec.specs.Text.{Text}
-use Rattle.yspec.specs.Ranges as ranges
-use Rattle.yspec.specs.Restriction as restrictions
+use Rattle.yspec.specs.text.Text.{Text}
+use Rattle.yspec.specs.types.Ranges as ranges
+use Rattle.yspec.specs.types.Restriction as restrictions
 use Rattle.ynumber.specs.declared.restriction.Bound.{Bound}
 use Rattle.ynumber.specs.declared.restriction.Bound.TheVariants as bound
 use Rattle.ynumber.specs.declared.restriction.Restriction.{Restriction}

@@ -2,9 +2,9 @@
 use Rattle.std.specs.Prelude.{◌≡◌, ℕ, ℤ, List, map, pos, negsuc, ◌-◌, ◌^◌, ◌≤ℤ◌, min, Option, Some, None, option_map, option_and_then, Result, Ok, Err, if◌then◌else◌}
 use Rattle.std.specs.Borrow.{Bor}
 use Rattle.std.specs.Global.{Vec}
-use Rattle.yspec.specs.Text.{Text}
-use Rattle.yspec.specs.Names.{Assigned}
-use Rattle.yspec.specs.Ranges.{Part, lies_in}
+use Rattle.yspec.specs.text.Text.{Text}
+use Rattle.yspec.specs.types.Names.{Assigned}
+use Rattle.yspec.specs.types.Ranges.{Part, lies_in}
 use Rattle.ynumber.specs.declared.fault.NarrowFault.{NarrowFault}
 use Rattle.ynumber.specs.declared.fault.NarrowFault.TheVariants as narrow_fault
 

@@ -2,7 +2,7 @@
 
 ghost use Rattle.std.specs.Prelude.{◌≡◌, ◌≤◌, ◌<◌, ◌^◌, ◌++◌, ◌-◌, ◌/◌, ◌%◌, IfOk, OnOk};
 ghost use Rattle.std.specs.String.{string_bytes};
-ghost use Rattle.yspec.specs.Numerals.{integer_text, fraction_digits, or_zero, decimal_magnitude_text, decimal_text};
+ghost use Rattle.yspec.specs.types.Numerals.{integer_text, fraction_digits, or_zero, decimal_magnitude_text, decimal_text};
 
 use crate::digits::FractionDigits;
 use crate::restriction::power_of_ten;
@@ -15,7 +15,7 @@ pub fn integer_text(alloc: Global, number: i128) -> Result<String, AllocError>
     format!(in alloc; "{number}")
 }
 
-#[tactic(auto, using(crate::proofs::Decimals::fractions))]
+#[tactic(auto, using(crate::proofs::DecimalLemmas::fractions))]
 fn first_digit(digits: u32, number: u64) -> (u8, u64)
     requires some { 0 < digits }
     requires digits { digits ≤ 18 }
@@ -29,7 +29,7 @@ fn first_digit(digits: u32, number: u64) -> (u8, u64)
     ((number / power) as u8, number % power)
 }
 
-#[tactic(auto, using(crate::proofs::Decimals::fractions))]
+#[tactic(auto, using(crate::proofs::DecimalLemmas::fractions))]
 fn push_digits(text: &mut String, digits: u32, number: u64) -> Result<(), AllocError>
     requires digits { digits ≤ 18 }
     requires number { number < 10 ^ digits }
@@ -43,7 +43,7 @@ fn push_digits(text: &mut String, digits: u32, number: u64) -> Result<(), AllocE
     push_digits(text, digits - 1, rest)
 }
 
-#[tactic(auto, using(crate::proofs::Decimals::fractions))]
+#[tactic(auto, using(crate::proofs::DecimalLemmas::fractions))]
 fn push_fraction(text: &mut String, digits: u32, number: u64) -> Result<(), AllocError>
     requires digits { digits ≤ 18 }
     requires number { number < 10 ^ digits }
@@ -56,7 +56,7 @@ fn push_fraction(text: &mut String, digits: u32, number: u64) -> Result<(), Allo
     }
 }
 
-#[tactic(auto, using(crate::proofs::Decimals::fractions))]
+#[tactic(auto, using(crate::proofs::DecimalLemmas::fractions))]
 fn push_magnitude(text: &mut String, digits: u32, magnitude: u128) -> Result<(), AllocError>
     requires { digits ≤ 18 }
     ensures { OnOk result (string_bytes text.new ≡ string_bytes text.old ++ decimal_magnitude_text digits magnitude) }

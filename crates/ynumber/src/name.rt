@@ -4,10 +4,10 @@ ghost use Rattle.std.specs.Prelude.{◌≡◌, ◌≤◌, ◌||◌, ◌+ℤ◌, 
 ghost use Rattle.std.specs.List.{list_any, list_all, insert, slice_split};
 ghost use Rattle.std.specs.Ordering.{int_eq};
 ghost use Rattle.std.specs.String.{string_bytes};
-ghost use Rattle.yspec.specs.Text.{is_text, is_white};
-ghost use Rattle.yspec.specs.Ranges.{lies_in};
-ghost use Rattle.yspec.specs.Types.{bits_value, bits_taken};
-ghost use Rattle.yspec.specs.Names.{next_number, number_of, placed, is_like, is_new, with_assigned, with_name, assigned_from, ends_white, is_enum_name, are_enum_names, words_of, is_word, is_space, is_among, has_twice, are_bit_names, named_by, positions_of, enum_numbers, bit_positions, enum_names, bit_names};
+ghost use Rattle.yspec.specs.text.Text.{is_text, is_white};
+ghost use Rattle.yspec.specs.types.Ranges.{lies_in};
+ghost use Rattle.yspec.specs.types.Types.{bits_value, bits_taken};
+ghost use Rattle.yspec.specs.types.Names.{next_number, number_of, placed, is_like, is_new, with_assigned, with_name, assigned_from, ends_white, is_enum_name, are_enum_names, words_of, is_word, is_space, is_among, has_twice, are_bit_names, named_by, positions_of, enum_numbers, bit_positions, enum_names, bit_names};
 ghost use Rattle.ynumber.specs.Words.{Narrows, items_of, words_in, FitsWord, named};
 
 use crate::fault::NarrowFault;
@@ -24,7 +24,7 @@ pub struct Naming {
 
 impl Model for Naming {
     ghost use Rattle.std.specs.String.{string_bytes};
-    ghost use Rattle.yspec.specs.Names as names;
+    ghost use Rattle.yspec.specs.types.Names as names;
 
     ghost Value = { names.Naming };
 
@@ -49,7 +49,7 @@ pub struct Assigned {
 
 impl Model for Assigned {
     ghost use Rattle.std.specs.String.{string_bytes};
-    ghost use Rattle.yspec.specs.Names as names;
+    ghost use Rattle.yspec.specs.types.Names as names;
 
     ghost Value = { names.Assigned };
 

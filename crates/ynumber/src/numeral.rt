@@ -3,8 +3,8 @@
 ghost use Rattle.std.specs.Prelude.{◌≡◌, ◌≤◌, ◌<◌, ◌^◌, ◌||◌, ◌==◌, ◌*◌, length, IfSome, option_map, position};
 ghost use Rattle.std.specs.Char.{digit_value};
 ghost use Rattle.std.specs.Option.{ForSome};
-ghost use Rattle.yspec.specs.Numerals.{number_in, is_negative, unsigned_part, number_of_sign, signed, integer_of, default_magnitude, default_integer_of, is_point, whole_units, fraction_units, added, decimal_magnitude, decimal_of};
-ghost use Rattle.yspec.specs.Ranges.{lies_in};
+ghost use Rattle.yspec.specs.types.Numerals.{number_in, is_negative, unsigned_part, number_of_sign, signed, integer_of, default_magnitude, default_integer_of, is_point, whole_units, fraction_units, added, decimal_magnitude, decimal_of};
+ghost use Rattle.yspec.specs.types.Ranges.{lies_in};
 ghost use Rattle.ynumber.specs.Words.{capped, kept_in, IsNarrow};
 
 use crate::digits::FractionDigits;
@@ -169,7 +169,7 @@ fn point_in(text: &[u8]) -> Option<usize>
     text.iter().position(|byte| *byte == b'.')
 }
 
-#[tactic(auto, using(crate::proofs::Numerals::caps))]
+#[tactic(auto, using(crate::proofs::NumeralLemmas::caps))]
 fn decimal_magnitude(digits: u32, text: &[u8]) -> Option<u128>
     requires { digits ≤ 18 }
     ensures value { result ≡ capped (decimal_magnitude digits text.now) }
@@ -185,7 +185,7 @@ fn decimal_magnitude(digits: u32, text: &[u8]) -> Option<u128>
 }
 
 /// The number of a text with a point, in units of its last digit, where it lies in a part.
-#[tactic(auto, using(crate::proofs::Numerals::caps))]
+#[tactic(auto, using(crate::proofs::NumeralLemmas::caps))]
 pub fn decimal_in(numbers: &Part, digits: FractionDigits, text: &[u8]) -> Option<i128>
     requires { IsNarrow numbers.now }
     ensures { result ≡ kept_in numbers.now (decimal_of digits text.now) }

@@ -1,7 +1,7 @@
 //! Ranges and lengths: sets of whole numbers (RFC 7950, 9.2.4, 9.3.4 and 9.4.4).
 
 ghost use Rattle.std.specs.Prelude.{◌≡◌, ◌≤◌, ◌^◌, ◌&&◌, pos, ◌*ℤ◌, int_le, IfOk};
-ghost use Rattle.yspec.specs.Ranges.{lies_in, holds, is_near, bound_in, part_in, parts_in, is_ascending_from, is_covered, lies_within, ends_of, last_high, restricted, restricting};
+ghost use Rattle.yspec.specs.types.Ranges.{lies_in, holds, is_near, bound_in, part_in, parts_in, is_ascending_from, is_covered, lies_within, ends_of, last_high, restricted, restricting};
 ghost use Rattle.ynumber.specs.Words.{Narrows};
 
 use crate::fault::NarrowFault;
@@ -16,7 +16,7 @@ pub struct Part {
 }
 
 impl Model for Part {
-    ghost use Rattle.yspec.specs.Ranges as ranges;
+    ghost use Rattle.yspec.specs.types.Ranges as ranges;
 
     ghost Value = { ranges.Part };
 
@@ -74,7 +74,7 @@ pub struct Range {
 
 impl Model for Range {
     ghost use Rattle.std.specs.Prelude.{List};
-    ghost use Rattle.yspec.specs.Ranges as ranges;
+    ghost use Rattle.yspec.specs.types.Ranges as ranges;
 
     ghost Value = { List ranges.Part };
 

@@ -4,7 +4,7 @@ use Rattle.std.specs.Prelude.{◌==◌, option_map, unwrap_or, find, nat_lt}
 use Rattle.std.proofs.lemmas.Bool.{eq-eqb, ne_eqb, ltb-true, ltb-false}
 use Rattle.std.proofs.lemmas.Bool.Decides.{Decides-eqb, nat_tests}
 use Rattle.yspec.specs.Forest.{Forest, node, end, size, row, first_of, find_below, joined_below}
-use Rattle.yspec.specs.Schema.{SchemaNode, row_at, first_in_row}
+use Rattle.yspec.specs.schema.Schema.{SchemaNode, row_at, first_in_row}
 use Rattle.yschema.specs.declared.children.Row.{Row}
 use Rattle.yschema.specs.declared.schema.SchemaModule.{SchemaModule}
 use Rattle.yschema.specs.Layout.{Place, places, laid, forest_of, schema_view, IsLaidOut}

@@ -3,8 +3,8 @@ use Rattle.std.proofs.Common.{◌≡◌, ℕ, Bool, true, false, cond, ◌&&◌,
 use Rattle.std.specs.Prelude.{◌==◌, string_bytes}
 use Rattle.std.specs.Option.{option_eq}
 use Rattle.yspec.specs.Forest.{first_of}
-use Rattle.yspec.specs.Text.{Text, is_text}
-use Rattle.yspec.specs.Schema.{Schema, SchemaNode, module_at, is_called, is_written, written_name}
+use Rattle.yspec.specs.text.Text.{Text, is_text}
+use Rattle.yspec.specs.schema.Schema.{Schema, SchemaNode, module_at, is_called, is_written, written_name}
 use Rattle.yschema.specs.Keys.{same_parent}
 use Rattle.yschema.specs.Layout.{Place, place_of, number_of, node_view}
 use Rattle.yschema.specs.Lookup.{held, Puts, first_below, FindsNamed, FindsWritten}

@@ -6,10 +6,10 @@ use Rattle.ytext.specs.declared.statement.Module.{Module}
 use Rattle.ytext.specs.declared.statement.Stmt.{Stmt}
 use Rattle.ytext.proofs.ViewLemmas.{row_view_at}
 use Rattle.yspec.specs.Forest.{Forest}
-use Rattle.yspec.specs.Statement.{Statement}
-use Rattle.yspec.specs.Grammar.{Allowed, Rule, rule_of}
-use Rattle.yspec.specs.Breaks.{Break, is_known_substatement, least_from, statement_breaks, breaks_at, substatements_of, grammar_breaks, at_top, by_module}
-use Rattle.yspec.proofs.LeastLemmas.{least_of_both}
+use Rattle.yspec.specs.text.Statement.{Statement}
+use Rattle.yspec.specs.schema.Grammar.{Allowed, Rule, rule_of}
+use Rattle.yspec.specs.schema.Breaks.{Break, is_known_substatement, least_from, statement_breaks, breaks_at, substatements_of, grammar_breaks, at_top, by_module}
+use Rattle.yspec.proofs.SchemaProofs.LeastLemmas.{least_of_both}
 use Rattle.yschema.proofs.ModuleLemmas.{modules_view_at}
 
 breaks_at_known : (m : ℕ) (allowed : List Allowed) (s : Statement) (below : Forest Statement) (r : Rule)

@@ -8,7 +8,7 @@ use Rattle.std.proofs.lemmas.List.{length-map}
 use Rattle.std.specs.List.{list_any, position_or_len}
 use Rattle.std.proofs.lemmas.Slice.Eq.{bytes_eq-Decides}
 use Rattle.indexmap.specs.IndexSet.{insert_key}
-use Rattle.yspec.specs.Text.{Text, is_text}
+use Rattle.yspec.specs.text.Text.{Text, is_text}
 use Rattle.yspec.specs.Forest.{first_of}
 use Rattle.yschema.specs.Keys.{same_parent, same_module, same_key}
 use Rattle.yschema.specs.Lookup.{key}

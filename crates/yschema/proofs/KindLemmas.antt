@@ -2,10 +2,10 @@
 use Rattle.std.proofs.Common.{◌≡◌, Bool, false, [], Option, Some, None, codes, unwrap_or, option_and_then, refl, sym, ap, ap₂, ◌∙◌}
 use Rattle.std.specs.Option.{option_map_or}
 use Rattle.yspec.specs.Forest.{Forest}
-use Rattle.yspec.specs.Text.{Text, is_text}
-use Rattle.yspec.specs.Statement.{Statement}
-use Rattle.yspec.specs.Types.{YangType, string_type, built_in}
-use Rattle.yspec.specs.Schema.{leaf, leaf_kind, kind_of, argument_of}
+use Rattle.yspec.specs.text.Text.{Text, is_text}
+use Rattle.yspec.specs.text.Statement.{Statement}
+use Rattle.yspec.specs.types.Types.{YangType, string_type, built_in}
+use Rattle.yspec.specs.schema.Schema.{leaf, leaf_kind, kind_of, argument_of}
 
 type_by : (a : Option Text) → unwrap_or (built_in (unwrap_or a [])) string_type ≡ unwrap_or (option_and_then built_in a) string_type
 type_by None = refl

@@ -6,9 +6,9 @@ use Rattle.ytext.specs.declared.statement.Stmt.{Stmt}
 use Rattle.ytext.specs.declared.statement.Module.{Module}
 use Rattle.ytext.proofs.ViewLemmas.{row_view_at}
 use Rattle.yspec.specs.Forest.{Forest, node, end, size, join}
-use Rattle.yspec.specs.Statement.{Statement}
-use Rattle.yspec.specs.Schema.{SchemaNode, SchemaModule, is_data_definition, data_size, schema_node, nodes_from, all_nodes, schema_module, modules_of}
-use Rattle.yspec.specs.Breaks.{data_size_of_all}
+use Rattle.yspec.specs.text.Statement.{Statement}
+use Rattle.yspec.specs.schema.Schema.{SchemaNode, SchemaModule, is_data_definition, data_size, schema_node, nodes_from, all_nodes, schema_module, modules_of}
+use Rattle.yspec.specs.schema.Breaks.{data_size_of_all}
 use Rattle.yschema.specs.declared.children.Row.{Row}
 use Rattle.yschema.specs.Layout.{node_view, Place, place_of, places, laid, IsLaidOut}
 use Rattle.yschema.specs.View.{forest_of}

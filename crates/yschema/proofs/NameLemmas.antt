@@ -8,11 +8,11 @@ use Rattle.ytext.specs.declared.statement.Stmt.{Stmt}
 use Rattle.ytext.specs.declared.statement.Module.{Module}
 use Rattle.ytext.proofs.ViewLemmas.{row_view_at}
 use Rattle.yspec.specs.Forest.{Forest, node, end}
-use Rattle.yspec.specs.Text.{Text, is_text}
-use Rattle.yspec.specs.Statement.{Statement}
-use Rattle.yspec.specs.Schema.{argument_text, is_data_definition}
-use Rattle.yspec.specs.Breaks.{Break, broken, when, least_from, doubled, name_breaks, by_body}
-use Rattle.yspec.proofs.LeastLemmas.{least_of_both}
+use Rattle.yspec.specs.text.Text.{Text, is_text}
+use Rattle.yspec.specs.text.Statement.{Statement}
+use Rattle.yspec.specs.schema.Schema.{argument_text, is_data_definition}
+use Rattle.yspec.specs.schema.Breaks.{Break, broken, when, least_from, doubled, name_breaks, by_body}
+use Rattle.yspec.proofs.SchemaProofs.LeastLemmas.{least_of_both}
 use Rattle.yschema.proofs.ModuleLemmas.{modules_view_at}
 
 -- the same names are among both

@@ -3,7 +3,7 @@ use Rattle.std.proofs.Common.{◌≡◌, ◌⊎◌, inl, inr, ℕ, ◌+◌, ◌�
 use Rattle.std.specs.Prelude.{◌==◌, option_map, unwrap_or, find}
 use Rattle.std.proofs.lemmas.Bool.{eq-eqb, ne_eqb}
 use Rattle.yspec.specs.Forest.{Forest, node, end, row, find_below}
-use Rattle.yspec.specs.Schema.{SchemaNode, row_at, node_at, children_of, first_in_row}
+use Rattle.yspec.specs.schema.Schema.{SchemaNode, row_at, node_at, children_of, first_in_row}
 use Rattle.yschema.specs.declared.children.Row.{Row}
 use Rattle.yschema.specs.declared.schema.Schema.{Schema}
 use Rattle.yschema.specs.Layout.{forest_of}

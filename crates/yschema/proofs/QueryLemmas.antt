@@ -6,7 +6,7 @@ use Rattle.std.proofs.lemmas.Bool.{eq-eqb, ne_eqb, le-leb, leb-true}
 use Rattle.std.proofs.lemmas.List.{take-append-drop, take_min, length-map}
 use Rattle.std.proofs.lemmas.Option.{slice_get_past}
 use Rattle.yspec.specs.Forest.{Forest, node, end, size, find_label, first_of, find_below, joined_below}
-use Rattle.yspec.specs.Schema.{SchemaNode, module_at}
+use Rattle.yspec.specs.schema.Schema.{SchemaNode, module_at}
 use Rattle.yschema.specs.declared.children.Row.{Row}
 use Rattle.yschema.specs.Layout.{node_view, places, laid, fits_within, schema_view, IsLaidOut}
 use Rattle.yschema.specs.declared.schema.SchemaModule.{SchemaModule}

@@ -2,7 +2,7 @@
 use Rattle.std.proofs.Common.{◌≡◌, ℕ, zero, suc, ◌+◌, ◌≤◌, min, List, [], ◌∷◌, length, take, drop, Option, None, refl, sym, ap, ap₂, ◌∙◌, subst, arith, length-take, length-drop}
 use Rattle.std.proofs.lemmas.List.{take_min, drop_min}
 use Rattle.yspec.specs.Forest.{Forest, node, end}
-use Rattle.yspec.specs.Schema.{SchemaNode}
+use Rattle.yspec.specs.schema.Schema.{SchemaNode}
 use Rattle.yschema.specs.declared.children.Row.{Row}
 use Rattle.yschema.specs.declared.children.Child.{Child}
 use Rattle.yschema.specs.declared.children.Children.{Children}

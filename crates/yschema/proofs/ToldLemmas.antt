@@ -6,9 +6,9 @@ use Rattle.std.proofs.lemmas.Bool.{ltb-false}
 use Rattle.ytext.specs.View.{view, modules_view}
 use Rattle.ytext.specs.declared.statement.Module.{Module}
 use Rattle.yspec.specs.Forest.{Forest, node, end}
-use Rattle.yspec.specs.Statement.{Statement}
-use Rattle.yspec.specs.Schema.{schema_of}
-use Rattle.yspec.specs.Breaks.{Break, broken, when, lesser, least_from, or_told, told, phases, last_module, limit_breaks, data_size_of_all, data_levels_of_all, level_limit, by_module, by_body, at_top, grammar_breaks, name_breaks, compiled}
+use Rattle.yspec.specs.text.Statement.{Statement}
+use Rattle.yspec.specs.schema.Schema.{schema_of}
+use Rattle.yspec.specs.schema.Breaks.{Break, broken, when, lesser, least_from, or_told, told, phases, last_module, limit_breaks, data_size_of_all, data_levels_of_all, level_limit, by_module, by_body, at_top, grammar_breaks, name_breaks, compiled}
 
 -- where there is one so far, there is a least one
 least_some : (a : Break) (bs : List Break) → (b : Break) × (least_from (Some a) bs ≡ Some b)

@@ -1,7 +1,7 @@
 -- How the nodes of a schema lie in rows: each before those below it, with how many these are.
 use Rattle.std.specs.Prelude.{ℕ, zero, suc, ◌+◌, Bool, true, ◌&&◌, nat_le, length, take, drop, map, List, [], ◌∷◌, ◌++◌, Option, Some, None, option_map, string_bytes, ◌≡◌}
 use Rattle.yspec.specs.Forest.{Forest, end, node, size}
-use Rattle.yspec.specs.Schema as spec
+use Rattle.yspec.specs.schema.Schema as spec
 use Rattle.yschema.specs.declared.node.SchemaId.{SchemaId}
 use Rattle.yschema.specs.declared.node.SchemaNode.{SchemaNode}
 use Rattle.yschema.specs.declared.node.Kind.{Kind}

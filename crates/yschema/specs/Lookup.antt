@@ -3,9 +3,9 @@ use Rattle.std.specs.Prelude.{◌≡◌, ℕ, ◌==◌, ◌&&◌, Bool, List, []
 use Rattle.std.specs.Option.{option_eq}
 use Rattle.std.specs.Map.{lookup}
 use Rattle.yspec.specs.Forest.{first_of}
-use Rattle.yspec.specs.Text.{Text, is_text}
-use Rattle.yspec.specs.Schema as spec
-use Rattle.yspec.specs.Schema.{is_called, is_written}
+use Rattle.yspec.specs.text.Text.{Text, is_text}
+use Rattle.yspec.specs.schema.Schema as spec
+use Rattle.yspec.specs.schema.Schema.{is_called, is_written}
 use Rattle.yschema.specs.Keys.{same_parent, same_module, same_key}
 use Rattle.yschema.specs.Layout.{Place, number_of}
 use Rattle.yschema.specs.declared.node.SchemaId.{SchemaId}

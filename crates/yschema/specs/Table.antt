@@ -1,7 +1,7 @@
 -- The table of statements as the specification's.
 use Rattle.std.specs.Prelude.{List, map}
-use Rattle.yspec.specs.Grammar as spec
-use Rattle.yspec.specs.Grammar.{identifier, name, flag, any_text, exactly_one, at_most_one, any_number}
+use Rattle.yspec.specs.schema.Grammar as spec
+use Rattle.yspec.specs.schema.Grammar.{identifier, name, flag, any_text, exactly_one, at_most_one, any_number}
 use Rattle.yschema.specs.declared.grammar.Form.{Form}
 use Rattle.yschema.specs.declared.grammar.Form.TheVariants as forms
 use Rattle.yschema.specs.declared.grammar.Count.{Count}

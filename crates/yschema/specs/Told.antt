@@ -1,6 +1,6 @@
 -- Broken rules as the specification's.
 use Rattle.std.specs.Prelude.{◌≡◌, ℕ, Option, option_map, Result, Ok, Err}
-use Rattle.yspec.specs.Breaks as spec
+use Rattle.yspec.specs.schema.Breaks as spec
 use Rattle.yschema.specs.declared.fault.Break.{Break}
 use Rattle.yschema.specs.declared.fault.CompileFault.{CompileFault}
 use Rattle.yschema.specs.declared.fault.CompileFault.TheVariants.{Refused, Memory}

@@ -1,7 +1,7 @@
 -- Schemas as the specification's.
 use Rattle.std.specs.Prelude.{◌≡◌, Option, Some, None}
 use Rattle.yspec.specs.Forest.{Forest, end, node}
-use Rattle.yspec.specs.Schema as spec
+use Rattle.yspec.specs.schema.Schema as spec
 pub use Rattle.yschema.specs.Layout.{kind_view, status_view, node_view, forest_of, module_view, schema_view}
 unfoldable pub use Rattle.yschema.specs.Layout.{forest_within}
 use Rattle.yschema.specs.declared.children.Children.{Children}

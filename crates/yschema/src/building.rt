@@ -1,10 +1,10 @@
 //! From modules to their schema.
 
 ghost use Rattle.std.specs.Prelude.{◌≡◌, ◌+◌, ◌≤◌, ◌++◌, ◌∷◌, [], ℕ, suc, Some, None, IfOk, OnOk, unwrap_or, length};
-ghost use Rattle.yspec.specs.Schema as spec;
-ghost use Rattle.yspec.specs.Schema.{data_size, schema_node, nodes_from, schema_of};
-ghost use Rattle.yspec.specs.Types.{built_in, string_type};
-ghost use Rattle.yspec.specs.Breaks.{told, phases, limit_breaks, least_from, compiled, data_size_of_all};
+ghost use Rattle.yspec.specs.schema.Schema as spec;
+ghost use Rattle.yspec.specs.schema.Schema.{data_size, schema_node, nodes_from, schema_of};
+ghost use Rattle.yspec.specs.types.Types.{built_in, string_type};
+ghost use Rattle.yspec.specs.schema.Breaks.{told, phases, limit_breaks, least_from, compiled, data_size_of_all};
 ghost use Rattle.ytext.specs.View as text;
 ghost use Rattle.ytext.specs.View.{row_view, modules_view};
 ghost use Rattle.yschema.specs.Layout.{kind_view, node_view, number_of, places, laid};
@@ -25,7 +25,7 @@ use ytype::YType;
 
 /// The schema of a set of modules, or the least broken rule, by module, line and number, of the first phase that has one.
 /// Phases: the statement table; the number of nodes; names; levels. Of no modules it is a schema without nodes.
-#[tactic(auto, unfolding(yspec::specs::Breaks::compiled))]
+#[tactic(auto, unfolding(yspec::specs::schema::Breaks::compiled))]
 pub fn compile(alloc: Global, modules: &[Module]) -> Result<Schema, CompileFault>
     ensures { Gives view result (compiled (modules_view modules.now)) }
 {

@@ -81,7 +81,7 @@ impl From<Break> for CompileFault {
 
 impl Break {
     ghost use Rattle.std.specs.Prelude.{◌≡◌};
-    ghost use Rattle.yspec.specs.Breaks as spec;
+    ghost use Rattle.yspec.specs.schema.Breaks as spec;
     ghost use Rattle.yschema.specs.Told.{view};
 
     /// Whether this one is told before another.

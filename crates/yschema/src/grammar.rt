@@ -4,10 +4,10 @@ ghost use Rattle.std.specs.Prelude.{◌≡◌, ◌&&◌, ◌++◌, [], false, is
 ghost use Rattle.std.specs.List.{list_any};
 ghost use Rattle.std.specs.Option.{option_map_or};
 ghost use Rattle.yspec.specs.Forest.{row};
-ghost use Rattle.yspec.specs.Grammar as spec;
-ghost use Rattle.yspec.specs.Schema.{argument_text};
-ghost use Rattle.yspec.specs.Types.{built_in};
-ghost use Rattle.yspec.specs.Breaks.{least_from, is_known_substatement, occurrences, is_miscounted, is_current_version, is_unknown_type, is_unversioned, argument_breaks, statement_breaks, breaks_at, substatements_of, grammar_breaks, at_top, by_module};
+ghost use Rattle.yspec.specs.schema.Grammar as spec;
+ghost use Rattle.yspec.specs.schema.Schema.{argument_text};
+ghost use Rattle.yspec.specs.types.Types.{built_in};
+ghost use Rattle.yspec.specs.schema.Breaks.{least_from, is_known_substatement, occurrences, is_miscounted, is_current_version, is_unknown_type, is_unversioned, argument_breaks, statement_breaks, breaks_at, substatements_of, grammar_breaks, at_top, by_module};
 ghost use Rattle.ytext.specs.View.{view, row_view, modules_view};
 ghost use Rattle.yschema.specs.Table.{form_view, count_view, allowed_view, allowed_views, rule_view};
 ghost use Rattle.yschema.specs.Told.{seen};
@@ -243,7 +243,7 @@ fn is_unversioned(statement: &Stmt) -> bool
 }
 
 /// The rules that a statement breaks, apart from those that its substatements break.
-#[tactic(auto, using(yspec::proofs::LeastLemmas::least_of_both))]
+#[tactic(auto, using(yspec::proofs::SchemaProofs::LeastLemmas::least_of_both))]
 fn judge_alone(module: usize, rule: Rule, statement: &Stmt, so_far: Option<Break>) -> Option<Break>
     ensures { seen result ≡ least_from (seen so_far)
         (statement_breaks «module» (rule_view rule) (view statement.now).0 (view statement.now).1) }
@@ -263,7 +263,7 @@ fn judge_alone(module: usize, rule: Rule, statement: &Stmt, so_far: Option<Break
 
 /// The least rule broken by a statement that stands where these are allowed, and below it.
 #[cycle(judge)]
-#[tactic(auto, using(yspec::proofs::LeastLemmas::least_of_both))]
+#[tactic(auto, using(yspec::proofs::SchemaProofs::LeastLemmas::least_of_both))]
 fn judge(
     module: usize,
     allowed: &[Allowed],
@@ -287,7 +287,7 @@ fn judge(
 
 /// The least rule broken by statements that stand in one block, and below them.
 #[cycle(judge)]
-#[tactic(auto, using(yspec::proofs::LeastLemmas::least_of_both), unfolding(yspec::specs::Breaks::grammar_breaks))]
+#[tactic(auto, using(yspec::proofs::SchemaProofs::LeastLemmas::least_of_both), unfolding(yspec::specs::schema::Breaks::grammar_breaks))]
 fn judge_row(
     module: usize,
     allowed: &[Allowed],

@@ -2,7 +2,7 @@
 
 ghost use Rattle.std.specs.Prelude.{◌≡◌, ◌≤◌, ◌<◌, ◌^◌, ◌++◌, ◌∷◌, [], None, OnOk, IfOk, length, string_bytes};
 ghost use Rattle.std.specs.Map.{lookup};
-ghost use Rattle.yspec.specs.Schema.{module_at, written_name};
+ghost use Rattle.yspec.specs.schema.Schema.{module_at, written_name};
 ghost use Rattle.yschema.specs.Keys.{same_key};
 ghost use Rattle.yschema.specs.declared.index.Key.{Key};
 ghost use Rattle.yschema.specs.Layout.{number_of, node_view, place_of, laid, schema_view, IsLaidOut};

@@ -1,7 +1,7 @@
 //! Which of several broken rules is told: the least by module, line and number.
 
 ghost use Rattle.std.specs.Prelude.{◌≡◌, [], ◌∷◌};
-ghost use Rattle.yspec.specs.Breaks.{least_from, when};
+ghost use Rattle.yspec.specs.schema.Breaks.{least_from, when};
 ghost use Rattle.yschema.specs.Told.{view, seen};
 
 use crate::fault::Break;

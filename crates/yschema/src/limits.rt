@@ -1,8 +1,8 @@
 //! How many schema nodes modules may have, and how deep these may nest.
 
 ghost use Rattle.std.specs.Prelude.{◌≡◌, ◌+◌, ◌≤◌, min, nat_lt};
-ghost use Rattle.yspec.specs.Schema.{data_size, data_levels, is_data_definition};
-ghost use Rattle.yspec.specs.Breaks.{data_size_of_all, data_levels_of_all};
+ghost use Rattle.yspec.specs.schema.Schema.{data_size, data_levels, is_data_definition};
+ghost use Rattle.yspec.specs.schema.Breaks.{data_size_of_all, data_levels_of_all};
 ghost use Rattle.ytext.specs.View.{view, row_view, modules_view};
 
 use ytext::{Module, Stmt};
@@ -21,7 +21,7 @@ pub(crate) fn is_data_node(statement: &Stmt) -> bool
 }
 
 /// How many data nodes there are, counted on from a number, and no further than one past the limit.
-#[tactic(auto, unfolding(yspec::specs::Schema::data_size))]
+#[tactic(auto, unfolding(yspec::specs::schema::Schema::data_size))]
 pub(crate) fn count_nodes(statements: &[Stmt], so_far: usize) -> usize
     requires { so_far ≤ NODE_LIMIT + 1 }
     ensures { result ≡ min (so_far + data_size (row_view statements.now)) (NODE_LIMIT + 1) }
@@ -47,7 +47,7 @@ pub(crate) fn has_too_many_nodes(modules: &[Module]) -> bool
 }
 
 /// Whether data nodes nest deeper than so many levels.
-#[tactic(auto, unfolding(yspec::specs::Schema::data_levels))]
+#[tactic(auto, unfolding(yspec::specs::schema::Schema::data_levels))]
 fn nests_deeper(statements: &[Stmt], levels: usize) -> bool
     ensures { result ≡ nat_lt levels (data_levels (row_view statements.now)) }
 {

@@ -1,8 +1,8 @@
 //! Names that two children of one node share (RFC 7950, 6.2.1).
 
 ghost use Rattle.std.specs.Prelude.{◌≡◌, [], None, IfOk};
-ghost use Rattle.yspec.specs.Schema.{argument_text};
-ghost use Rattle.yspec.specs.Breaks.{least_from, name_breaks, by_body};
+ghost use Rattle.yspec.specs.schema.Schema.{argument_text};
+ghost use Rattle.yspec.specs.schema.Breaks.{least_from, name_breaks, by_body};
 ghost use Rattle.ytext.specs.View.{view, row_view, modules_view};
 ghost use Rattle.yschema.specs.Told.{seen};
 

@@ -1,7 +1,7 @@
 //! The schema of a set of modules, and what can be asked of it.
 
 ghost use Rattle.std.specs.Prelude.{◌≡◌, ◌+◌, ◌<◌, ◌^◌, length, vec_len, position, string_bytes};
-ghost use Rattle.yspec.specs.Text.{is_text};
+ghost use Rattle.yspec.specs.text.Text.{is_text};
 ghost use Rattle.yschema.specs.Layout.{laid, schema_view, IsLaidOut};
 ghost use Rattle.yschema.specs.Lookup.{FindsNamed, FindsWritten};
 
@@ -33,8 +33,8 @@ pub struct Schema {
 impl Schema {
     ghost use Rattle.std.specs.Prelude.{◌≡◌, option_map, slice_get, IfOk};
     ghost use Rattle.yspec.specs.Forest.{size};
-    ghost use Rattle.yspec.specs.Schema as spec;
-    ghost use Rattle.yspec.specs.Schema.{node_at, children_of, child_named, child_written};
+    ghost use Rattle.yspec.specs.schema.Schema as spec;
+    ghost use Rattle.yspec.specs.schema.Schema.{node_at, children_of, child_named, child_written};
     ghost use Rattle.yschema.specs.Layout.{node_view, number_of};
     ghost use Rattle.yschema.specs.View.{view, row_view, forest_of, module_view};
 

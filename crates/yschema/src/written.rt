@@ -2,7 +2,7 @@
 
 ghost use Rattle.std.specs.Prelude.{◌≡◌, [], map, option_map, slice_get, unwrap_or, IfOk, string_bytes};
 ghost use Rattle.yspec.specs.Forest.{end};
-ghost use Rattle.yspec.specs.Schema as spec;
+ghost use Rattle.yspec.specs.schema.Schema as spec;
 ghost use Rattle.yschema.specs.Layout.{node_view, schema_view};
 
 use crate::node::SchemaNode;

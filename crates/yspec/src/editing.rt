@@ -2,16 +2,16 @@
 
 ghost use Rattle.std.specs.Prelude.{◌≡◌, List, [], ◌∷◌, codes, Some, None, Err};
 ghost use Rattle.yspec.specs.Forest.{Forest};
-ghost use Rattle.yspec.specs.Statement.{Statement};
-ghost use Rattle.yspec.specs.Schema.{Schema};
-ghost use Rattle.yspec.specs.Breaks.{compiled};
-ghost use Rattle.yspec.specs.Document.{Tree};
-ghost use Rattle.yspec.specs.Fitting.{IsNumbered, LeafsAreBare, Fits};
-ghost use Rattle.yspec.specs.Writing.{NamesDiffer, IsDocument};
-ghost use Rattle.yspec.specs.Editing.{after};
-ghost use Rattle.yspec.specs.EditText.{Edit, unsaid, at_position, with_keys, path_of, edit_of, create, replace, remove};
-ghost use Rattle.yspec.specs.Examples.{accepted, at_id, checked_as, checked_lines, edited, module_p, module_text, refused_as, value_refused_as};
-ghost use Rattle.yspec.specs.Live.{of_document, of_modules};
+ghost use Rattle.yspec.specs.text.Statement.{Statement};
+ghost use Rattle.yspec.specs.schema.Schema.{Schema};
+ghost use Rattle.yspec.specs.schema.Breaks.{compiled};
+ghost use Rattle.yspec.specs.document.Document.{Tree};
+ghost use Rattle.yspec.specs.document.Fitting.{IsNumbered, LeafsAreBare, Fits};
+ghost use Rattle.yspec.specs.document.Writing.{NamesDiffer, IsDocument};
+ghost use Rattle.yspec.specs.edit.Editing.{after};
+ghost use Rattle.yspec.specs.edit.EditText.{Edit, unsaid, at_position, with_keys, path_of, edit_of, create, replace, remove};
+ghost use Rattle.yspec.specs.program.Examples.{accepted, at_id, checked_as, checked_lines, edited, module_p, module_text, refused_as, value_refused_as};
+ghost use Rattle.yspec.specs.edit.Live.{of_document, of_modules};
 
 /// A document that fits its schema fits it after any edits.
 pub fn edited_documents_fit()

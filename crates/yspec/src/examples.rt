@@ -1,8 +1,8 @@
 //! Worked examples, from the bytes of a module and a document to the bytes that are printed.
 
 ghost use Rattle.std.specs.Prelude.{◌≡◌, ◌++◌, [], ◌∷◌, codes, Some, None};
-ghost use Rattle.yspec.specs.Output.{found, failed, validate, outcome};
-ghost use Rattle.yspec.specs.Examples.{shown, shown_by_p, compiled_alone, without_faults, module_p, nested_module, container_module, rewritten};
+ghost use Rattle.yspec.specs.program.Output.{found, failed, validate, outcome};
+ghost use Rattle.yspec.specs.program.Examples.{shown, shown_by_p, compiled_alone, without_faults, module_p, nested_module, container_module, rewritten};
 
 /// A missing mandatory leaf, a number out of range, a good document, and a container that is in play though it isn't stored.
 pub fn documents_of_a_container()

@@ -1,11 +1,11 @@
 //! Laws of reading and writing documents.
 
 ghost use Rattle.std.specs.Prelude.{◌≡◌, ℕ, List, None, Some, Ok};
-ghost use Rattle.yspec.specs.Schema.{Schema};
-ghost use Rattle.yspec.specs.Document.{Tree};
-ghost use Rattle.yspec.specs.Reading.{json_of, document_of};
-ghost use Rattle.yspec.specs.Fitting.{IsNumbered, Fits};
-ghost use Rattle.yspec.specs.Writing.{ModulesDiffer, AreNamed, NamesDiffer, IsDocument, written_value};
+ghost use Rattle.yspec.specs.schema.Schema.{Schema};
+ghost use Rattle.yspec.specs.document.Document.{Tree};
+ghost use Rattle.yspec.specs.document.Reading.{json_of, document_of};
+ghost use Rattle.yspec.specs.document.Fitting.{IsNumbered, Fits};
+ghost use Rattle.yspec.specs.document.Writing.{ModulesDiffer, AreNamed, NamesDiffer, IsDocument, written_value};
 
 /// A document that is read fits its schema.
 pub fn read_documents_fit()

@@ -2,12 +2,12 @@
 
 ghost use Rattle.std.specs.Prelude.{◌≡◌, ◌<◌, List, [], length, codes, Ok, Err, Some, None};
 ghost use Rattle.yspec.specs.Forest.{Forest, end, node};
-ghost use Rattle.yspec.specs.Text.{Text};
-ghost use Rattle.yspec.specs.Token.{Token, tokens_of};
-ghost use Rattle.yspec.specs.Statement.{Statement, Slip, text_limit, module_of};
-ghost use Rattle.yspec.specs.Spelling.{start, Cut, Spells};
-ghost use Rattle.yspec.specs.Slips.{slips, first, told, IsFirstWrong};
-ghost use Rattle.yspec.specs.SpellingExamples.{labelled, module_named, slip_of, nested};
+ghost use Rattle.yspec.specs.text.Text.{Text};
+ghost use Rattle.yspec.specs.text.Token.{Token, tokens_of};
+ghost use Rattle.yspec.specs.text.Statement.{Statement, Slip, text_limit, module_of};
+ghost use Rattle.yspec.specs.text.Spelling.{start, Cut, Spells};
+ghost use Rattle.yspec.specs.text.Slips.{slips, first, told, IsFirstWrong};
+ghost use Rattle.yspec.specs.text.SpellingExamples.{labelled, module_named, slip_of, nested};
 
 /// Each text is cut into its tokens, and in no other way.
 pub fn one_cut()

@@ -2,12 +2,12 @@
 
 ghost use Rattle.std.specs.Prelude.{◌≡◌, ◌++◌, map, [], ◌∷◌, codes, Some, None, Ok};
 ghost use Rattle.yspec.specs.Forest.{end, node};
-ghost use Rattle.yspec.specs.Spelling.{start};
-ghost use Rattle.yspec.specs.Statement.{module_of, slip};
-ghost use Rattle.yspec.specs.Scanning.{Piece, Scan, pieces_of, scan_of, unquoted, single_quoted, double_quoted, semicolon, opening, closing};
-ghost use Rattle.yspec.specs.Text.{Text};
-ghost use Rattle.yspec.specs.Token.{tokens_of};
-ghost use Rattle.yspec.specs.TextSamples.{with_argument, token_of};
+ghost use Rattle.yspec.specs.text.Spelling.{start};
+ghost use Rattle.yspec.specs.text.Statement.{module_of, slip};
+ghost use Rattle.yspec.specs.text.Scanning.{Piece, Scan, pieces_of, scan_of, unquoted, single_quoted, double_quoted, semicolon, opening, closing};
+ghost use Rattle.yspec.specs.text.Text.{Text};
+ghost use Rattle.yspec.specs.text.Token.{tokens_of};
+ghost use Rattle.yspec.specs.text.TextSamples.{with_argument, token_of};
 
 /// Later lines of a double-quoted string lose white space up to the column of its opening quote; a tab that is met
 /// counts as eight spaces, and the columns past that one stay. Escapes are replaced after that.

@@ -1,7 +1,7 @@
 -- What is still to be judged of a text's characters.
 use Rattle.std.specs.Prelude.{ℕ, ◌-◌, List, Bool, true, false, Option, Some, if◌then◌else◌, nat_le, nat_lt, ◌==◌, ◌&&◌, ◌||◌}
-use Rattle.yspec.specs.Text.{begins, tab, line_feed, forbidden_line}
-use Rattle.yspec.specs.Scanning.{forbidden_place}
+use Rattle.yspec.specs.text.Text.{begins, tab, line_feed, forbidden_line}
+use Rattle.yspec.specs.text.Scanning.{forbidden_place}
 
 -- a byte of no character that isn't allowed, and no carriage return
 abbrev pub is_plain : ℕ → Bool

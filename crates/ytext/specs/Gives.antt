@@ -1,6 +1,6 @@
 -- What a fallible call gives.
 use Rattle.std.specs.Prelude.{ℕ, ◌≡◌, Option, Some, None, Result, Ok, Err}
-use Rattle.yspec.specs.Statement.{Slip, slip}
+use Rattle.yspec.specs.text.Statement.{Slip, slip}
 use Rattle.ytext.specs.declared.fault.TextCode.{TextCode}
 use Rattle.ytext.specs.declared.fault.TextCode.TheVariants.{L1, L2, L3, L4, L5, L6, L7, L8}
 use Rattle.ytext.specs.declared.fault.TextFault.{TextFault}

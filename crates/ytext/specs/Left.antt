@@ -1,7 +1,7 @@
 -- What is left of a text's tokens at a place.
 use Rattle.std.specs.Prelude.{ℕ, ◌+◌, ◌-◌, List, [], ◌∷◌, drop, map, slice_range, slice_index, if◌then◌else◌}
-use Rattle.yspec.specs.Token.{Token, column_behind, at, Front, front}
-use Rattle.yspec.specs.Scanning.{Piece, piece_at, pieces_from}
+use Rattle.yspec.specs.text.Token.{Token, column_behind, at, Front, front}
+use Rattle.yspec.specs.text.Scanning.{Piece, piece_at, pieces_from}
 use Rattle.ytext.specs.View.{lexeme_of, ends_text}
 use Rattle.ytext.specs.declared.cursor.Cursor.{Cursor}
 use Rattle.ytext.specs.declared.cursor.Found.{Found}

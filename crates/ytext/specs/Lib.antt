@@ -5,6 +5,4 @@ pub mod Quoted
 pub mod Reading
 pub mod Scanned
 pub mod Shown
-pub mod Sink
 pub mod View
-pub mod Writing

@@ -1,9 +1,9 @@
 -- What the rest of a double-quoted string says.
 use Rattle.std.specs.Prelude.{ℕ, List, [], ◌∷◌, ◌++◌, Bool, true, false, not, ◌&&◌, ◌||◌, ◌==◌, if◌then◌else◌, Result, Ok}
 use Rattle.std.specs.Option.{option_map_or}
-use Rattle.yspec.specs.Text.{Text, begins, is_blank, tab, line_feed, carriage_return, backslash}
-use Rattle.yspec.specs.Token.{joined_breaks, trimmed_ends, stripped_starts, unescaped, bad_escape_line}
-use Rattle.yspec.specs.Statement.{Slip, slip}
+use Rattle.yspec.specs.text.Text.{Text, begins, is_blank, tab, line_feed, carriage_return, backslash}
+use Rattle.yspec.specs.text.Token.{joined_breaks, trimmed_ends, stripped_starts, unescaped, bad_escape_line}
+use Rattle.yspec.specs.text.Statement.{Slip, slip}
 
 -- `left` columns of its line are still to be stripped
 unfoldable pub said : ℕ → ℕ → List ℕ → Text

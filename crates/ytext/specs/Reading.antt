@@ -1,8 +1,8 @@
 -- The tokens ahead of a reader, and what is read of them.
 use Rattle.std.specs.Prelude.{ℕ, ◌+◌, ◌-◌, List, [], ◌∷◌, ◌++◌, length, Result, Ok, if◌then◌else◌}
-use Rattle.yspec.specs.Text.{Text}
-use Rattle.yspec.specs.Token.{Token}
-use Rattle.yspec.specs.Statement.{Slip, ◌>>=◌, piece, Row, statements, closed}
+use Rattle.yspec.specs.text.Text.{Text}
+use Rattle.yspec.specs.text.Token.{Token}
+use Rattle.yspec.specs.text.Statement.{Slip, ◌>>=◌, piece, Row, statements, closed}
 use Rattle.ytext.specs.View.{ends_text}
 use Rattle.ytext.specs.Left.{with_token, token_of, left}
 use Rattle.ytext.specs.declared.reader.Reader.{Reader}

@@ -1,7 +1,7 @@
 -- What is left of a scan.
 use Rattle.std.specs.Prelude.{List, [], Result, if◌then◌else◌}
-use Rattle.yspec.specs.Scanning.{Scanned, given_of}
-use Rattle.yspec.specs.Statement.{Slip}
+use Rattle.yspec.specs.text.Scanning.{Scanned, given_of}
+use Rattle.yspec.specs.text.Statement.{Slip}
 use Rattle.ytext.specs.Left.{pieces_left}
 use Rattle.ytext.specs.declared.scanner.Tokens.{Tokens}
 

@@ -1,8 +1,8 @@
 -- What a scan gives, as a value of the definitions.
 use Rattle.std.specs.Prelude.{Result, Ok, Err}
-use Rattle.yspec.specs.Scanning as scanning
-use Rattle.yspec.specs.Scanning.{Cause, Kind, Scanned}
-use Rattle.yspec.specs.Statement.{Slip, slip}
+use Rattle.yspec.specs.text.Scanning as scanning
+use Rattle.yspec.specs.text.Scanning.{Cause, Kind, Scanned}
+use Rattle.yspec.specs.text.Statement.{Slip, slip}
 use Rattle.ytext.specs.Gives.{number_of}
 use Rattle.ytext.specs.declared.fault.TextFault.{TextFault}
 use Rattle.ytext.specs.declared.fault.TextFault.TheVariants as fault

@@ -1,13 +1,13 @@
 -- What the code's tokens and statements are as values of the definitions.
 use Rattle.std.specs.Prelude.{ℕ, ◌+◌, ◌-◌, ◌<◌, ◌≤◌, length, ◌≡◌, Bool, true, false, List, [], ◌∷◌, map, option_map, string_bytes}
 use Rattle.std.specs.Str.{IsCharBoundary}
-use Rattle.yspec.specs.Token as token
+use Rattle.yspec.specs.text.Token as token
 use Rattle.ytext.specs.declared.cursor.Lexeme.{Lexeme}
 use Rattle.ytext.specs.declared.cursor.Lexeme.TheVariants.{Word, Single, Double, Semi, Open, Close, End, UnclosedQuote, UnclosedComment, StrayEnd}
 use Rattle.ytext.specs.declared.cursor.Front.{Front}
 use Rattle.ytext.specs.declared.cursor.Front.TheVariants as front
 use Rattle.yspec.specs.Forest.{Forest, end, node}
-use Rattle.yspec.specs.Statement.{Statement}
+use Rattle.yspec.specs.text.Statement.{Statement}
 use Rattle.ytext.specs.declared.statement.Stmt.{Stmt, fold-Stmt}
 use Rattle.ytext.specs.declared.statement.Stmt.TheOpen.{Stmt-F}
 use Rattle.ytext.specs.declared.statement.Module.{Module}

@@ -1,7 +1,7 @@
 //! What is wrong with a text's characters, quotes and comments, and where.
 ghost use Rattle.std.specs.Prelude.{◌≡◌, ◌+◌, ◌<◌, ◌≤◌, ◌^◌, length, option_map, IfSome, Err};
 ghost use Rattle.std.specs.Option.{ForSome};
-ghost use Rattle.yspec.specs.Scanning.{first_cause, cause_within, told_of};
+ghost use Rattle.yspec.specs.text.Scanning.{first_cause, cause_within, told_of};
 ghost use Rattle.ytext.specs.View.{extent, lexeme_of, Reaches};
 ghost use Rattle.ytext.specs.Shown.{cause_of, shown};
 

@@ -59,8 +59,8 @@ pub(crate) struct Found<'a> {
 }
 
 impl<'a> Cursor<'a> {
-    ghost use Rattle.yspec.specs.Token.{tokens_of, word, token, word_length, slash_front, single_front, double_front, other_front};
-    ghost use Rattle.yspec.specs.Scanning.{pieces_of};
+    ghost use Rattle.yspec.specs.text.Token.{tokens_of, word, token, word_length, slash_front, single_front, double_front, other_front};
+    ghost use Rattle.yspec.specs.text.Scanning.{pieces_of};
     ghost use Rattle.ytext.specs.View.{ends_text, extent, indent, front_of, GoesOn, Reaches};
     ghost use Rattle.ytext.specs.Left.{left, pieces_left, pieces_behind, column_of, stands, with_piece, with_token};
 

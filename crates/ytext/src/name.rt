@@ -2,7 +2,7 @@
 
 ghost use Rattle.std.specs.Prelude.{◌≡◌, ◌==◌, ◌<◌, length, position, IfSome};
 ghost use Rattle.std.specs.List.{list_all};
-ghost use Rattle.yspec.specs.Text.{is_letter, is_digit, begins_identifier, continues_identifier, is_identifier, is_name, colon};
+ghost use Rattle.yspec.specs.text.Text.{is_letter, is_digit, begins_identifier, continues_identifier, is_identifier, is_name, colon};
 
 fn is_letter(byte: u8) -> bool
     ensures { result ≡ is_letter byte }

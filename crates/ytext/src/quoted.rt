@@ -1,9 +1,9 @@
 //! What a quoted string says (RFC 7950, 6.1.3).
 ghost use Rattle.std.specs.Prelude.{◌≡◌, ℕ, ◌+◌, ◌*◌, ◌^◌, ◌<◌, ◌≤◌, List, ◌++◌, Ok, length, drop, slice_index, slice_range, string_bytes, true, false, IsTrue, ◌==◌, ◌&&◌, ◌||◌, IsSome, IfSome, IfOk, IfErr, OnOk, replicate};
 ghost use Rattle.std.specs.Str.{IsCharBoundary};
-ghost use Rattle.yspec.specs.Text.{is_blank, space, begins, line_feed, carriage_return};
-ghost use Rattle.yspec.specs.Token.{joined_breaks, stripped_starts, single_text, escape, column_behind, column_after};
-ghost use Rattle.yspec.specs.Scanning.{wrong_escape};
+ghost use Rattle.yspec.specs.text.Text.{is_blank, space, begins, line_feed, carriage_return};
+ghost use Rattle.yspec.specs.text.Token.{joined_breaks, stripped_starts, single_text, escape, column_behind, column_after};
+ghost use Rattle.yspec.specs.text.Scanning.{wrong_escape};
 ghost use Rattle.ytext.specs.Gives.{Gives, Fails};
 ghost use Rattle.ytext.specs.Quoted.{reading, all_blank, blank_width, is_break, is_plain};
 
@@ -88,7 +88,7 @@ fn feeds_at(bytes: &[u8], at: usize) -> bool
 }
 
 // Whether a line break begins at this place.
-#[tactic(auto, using(crate::proofs::QuotedSteps::break_at, crate::proofs::QuotedSteps::no_break))]
+#[tactic(auto, using(crate::proofs::QuotedLemmas::break_at, crate::proofs::QuotedLemmas::no_break))]
 fn breaks_at(bytes: &[u8], at: usize) -> bool
     ensures cases { result ≡ is_break (drop at bytes.now) }
     ensures ascii { IsTrue result → slice_index bytes.now at < 128 }
@@ -98,7 +98,7 @@ fn breaks_at(bytes: &[u8], at: usize) -> bool
 }
 
 // Whether the character at this place stands for itself.
-#[tactic(auto, using(crate::proofs::QuotedSteps::plain_at))]
+#[tactic(auto, using(crate::proofs::QuotedLemmas::plain_at))]
 fn is_plain_at(bytes: &[u8], at: usize) -> bool
     requires { at < length bytes.now }
     ensures cases { result ≡ is_plain (drop at bytes.now) }
@@ -347,7 +347,7 @@ pub(crate) fn push_double(
     Ok(())
 }
 
-#[tactic(auto, unfolding(yspec::specs::Scanning::wrong_escape))]
+#[tactic(auto, unfolding(yspec::specs::text::Scanning::wrong_escape))]
 /// The place of the first backslash that another character follows, the first byte standing at a place.
 pub(crate) fn wrong_escape(raw: &[u8], from: usize) -> Option<usize>
     requires { from + length raw.now < 2 ^ 64 }

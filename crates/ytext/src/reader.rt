@@ -24,7 +24,7 @@ pub(crate) struct Reader<'a> {
 }
 
 impl<'a> Lexed<'a> {
-    ghost use Rattle.yspec.specs.Statement.{misplaced_code, is_quoted, is_plus};
+    ghost use Rattle.yspec.specs.text.Statement.{misplaced_code, is_quoted, is_plus};
     ghost use Rattle.ytext.specs.Gives.{told_by};
     ghost use Rattle.ytext.specs.View.{ends_text, lexeme_of};
 
@@ -62,11 +62,11 @@ impl<'a> Lexed<'a> {
 }
 
 impl<'a> Reader<'a> {
-    ghost use Rattle.yspec.specs.Statement.{Statement, piece, pieces, argument, is_quoted, body, closed, statement, ending, row_at, top_statement};
+    ghost use Rattle.yspec.specs.text.Statement.{Statement, piece, pieces, argument, is_quoted, body, closed, statement, ending, row_at, top_statement};
     ghost use Rattle.yspec.specs.Forest.{Forest, end};
     ghost use Rattle.ytext.specs.View.{a_word, is_word};
     ghost use Rattle.ytext.specs.View.{row_view, modules_view};
-    ghost use Rattle.yspec.specs.Token.{tokens_of};
+    ghost use Rattle.yspec.specs.text.Token.{tokens_of};
     ghost use Rattle.ytext.specs.Gives.{Gives};
     ghost use Rattle.ytext.specs.View.{ends_text, lexeme_of};
     ghost use Rattle.ytext.specs.Left.{left, token_of};

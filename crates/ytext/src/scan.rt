@@ -1,8 +1,8 @@
 //! How far each piece of a text goes (RFC 7950, 6.1). Places are indices into the bytes of the whole text.
 ghost use Rattle.std.specs.Prelude.{◌≡◌, ℕ, ◌+◌, ◌≤◌, ◌<◌, length, drop, slice_index, false, IsTrue, not, ◌==◌, ◌&&◌, Option, Some, None, IfSome, option_map, ◌-◌};
 ghost use Rattle.std.specs.Str.{IsCharBoundary};
-ghost use Rattle.yspec.specs.Text.{begins, is_white, star, slash};
-ghost use Rattle.yspec.specs.Token.{is_delimiter, ends_word, word_length, line_comment_length, comment_rest_length, single_length, double_length};
+ghost use Rattle.yspec.specs.text.Text.{begins, is_white, star, slash};
+ghost use Rattle.yspec.specs.text.Token.{is_delimiter, ends_word, word_length, line_comment_length, comment_rest_length, single_length, double_length};
 
 /// The place behind an ASCII character, where a text may be cut.
 pub(crate) fn behind_ascii(text: &str, at: usize) -> usize
@@ -48,7 +48,7 @@ fn ends_word(bytes: &[u8], at: usize) -> bool
         || (byte == b'*' && stands_at(bytes, at + 1, b'/'))
 }
 
-#[tactic(auto, using(crate::proofs::ScanSteps::word_more, crate::proofs::ScanSteps::word_stops, crate::proofs::ScanSteps::word_all))]
+#[tactic(auto, using(crate::proofs::ScanLemmas::word_more, crate::proofs::ScanLemmas::word_stops, crate::proofs::ScanLemmas::word_all))]
 /// Where the word ends that goes on at this place.
 pub(crate) fn word_end(bytes: &[u8], from: usize) -> usize
     requires { from ≤ length bytes.now }
@@ -86,7 +86,7 @@ fn ends_comment(bytes: &[u8], at: usize) -> bool
     bytes[at] == b'*' && stands_at(bytes, at + 1, b'/')
 }
 
-#[tactic(auto, using(crate::proofs::ScanSteps::comment_stops))]
+#[tactic(auto, using(crate::proofs::ScanLemmas::comment_stops))]
 /// Where the comment ends, behind its `*/`.
 pub(crate) fn comment_end(bytes: &[u8], from: usize) -> Option<usize>
     requires { from ≤ length bytes.now }

@@ -19,7 +19,7 @@ pub struct Tokens<'a> {
 
 impl<'a> Tokens<'a> {
     ghost use Rattle.std.specs.Prelude.{◌≡◌};
-    ghost use Rattle.yspec.specs.Scanning.{scan_of};
+    ghost use Rattle.yspec.specs.text.Scanning.{scan_of};
     ghost use Rattle.ytext.specs.Scanned.{tokens_left};
 
     pub(crate) fn new(text: &'a str) -> Tokens<'a>

@@ -3,11 +3,11 @@ ghost use Rattle.std.specs.Prelude.{◌≡◌, ℕ, ◌+◌, ◌<◌, ◌≤◌,
 ghost use Rattle.std.specs.Str.{chars};
 ghost use Rattle.std.specs.Char.{len_utf8};
 ghost use Rattle.std.specs.List.{list_all};
-ghost use Rattle.yspec.specs.Text.{line_behind, is_noncharacter, is_yang_char, forbidden_line};
-ghost use Rattle.yspec.specs.Statement.{module_of, top_statement};
+ghost use Rattle.yspec.specs.text.Text.{line_behind, is_noncharacter, is_yang_char, forbidden_line};
+ghost use Rattle.yspec.specs.text.Statement.{module_of, top_statement};
 ghost use Rattle.ytext.specs.Gives.{Gives, Fails};
-ghost use Rattle.yspec.specs.Token.{tokens_of};
-ghost use Rattle.yspec.specs.Scanning.{forbidden_place, scan_of};
+ghost use Rattle.yspec.specs.text.Token.{tokens_of};
+ghost use Rattle.yspec.specs.text.Scanning.{forbidden_place, scan_of};
 ghost use Rattle.ytext.specs.Characters.{is_plain, pending, pending_place};
 ghost use Rattle.ytext.specs.Scanned.{tokens_left};
 ghost use Rattle.ytext.specs.View.{modules_view};

@@ -1,6 +1,6 @@
 //! Tokens with their places.
 ghost use Rattle.std.specs.Prelude.{◌≡◌, false, option_map, IfSome};
-ghost use Rattle.yspec.specs.Scanning.{kind_of, scanned};
+ghost use Rattle.yspec.specs.text.Scanning.{kind_of, scanned};
 ghost use Rattle.ytext.specs.View.{ends_text, lexeme_of, Reaches};
 ghost use Rattle.ytext.specs.Left.{piece_of};
 ghost use Rattle.ytext.specs.Shown.{kind_shown, scanned_of};

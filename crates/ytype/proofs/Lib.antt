@@ -1,2 +1,2 @@
-pub mod MemberSteps
-pub mod NameSteps
+pub mod MemberLemmas
+pub mod NameLemmas

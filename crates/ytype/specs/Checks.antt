@@ -1,7 +1,7 @@
 -- What a check answers.
 use Rattle.std.specs.Prelude.{◌≡◌, Option, Some, None, Result, Ok, Err}
-use Rattle.yspec.specs.Text.{Text}
-use Rattle.yspec.specs.Types.{Val}
+use Rattle.yspec.specs.text.Text.{Text}
+use Rattle.yspec.specs.types.Types.{Val}
 use Rattle.ytype.specs.declared.fault.BadValue.{BadValue}
 use Rattle.ytype.specs.declared.fault.BadValue.TheVariants as bad_value
 use Rattle.ynumber.specs.View.{text_of}

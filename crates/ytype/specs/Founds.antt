@@ -1,6 +1,6 @@
 -- What a built-in type finds.
 use Rattle.std.specs.Prelude.{Option, option_map}
-use Rattle.yspec.specs.Types.{Content}
+use Rattle.yspec.specs.types.Types.{Content}
 use Rattle.ytype.specs.declared.base.Found.{Found}
 use Rattle.ytype.specs.declared.val.Content as made
 use Rattle.std.specs.Borrow.{Bor}

@@ -3,7 +3,7 @@ use Rattle.std.specs.Prelude.{refl}
 use Rattle.std.specs.Ordering.{as_partial_cmp}
 use Rattle.std.specs.Cmp.{IsTotalOrder, IsEquivalence, IsPartialEquivalence, IsPartialOrder, partial_equiv_from_equiv, partial_order_from_agreeing_total}
 use Rattle.std.proofs.lemmas.Cmp.{eq_by_cmp_equiv, on_total, then_total, nat_cmp_total, nat_list_cmp_total, int_cmp_total, lists_total}
-use Rattle.yspec.specs.Order.{kind_number, text_part, number_part, bits_part, content_cmp, member_of, content_of, value_cmp, same_value}
+use Rattle.yspec.specs.types.Order.{kind_number, text_part, number_part, bits_part, content_cmp, member_of, content_of, value_cmp, same_value}
 
 pub content_total : IsTotalOrder content_cmp
 content_total = then_total (on_total kind_number nat_cmp_total) (then_total (on_total text_part nat_list_cmp_total)

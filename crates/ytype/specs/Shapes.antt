@@ -1,5 +1,5 @@
 -- What a type is made of.
-use Rattle.yspec.specs.Types as types
+use Rattle.yspec.specs.types.Types as types
 use Rattle.ytype.specs.declared.ytype.Shape.{Shape}
 use Rattle.ytype.specs.declared.ytype.Shape.TheVariants as shape
 

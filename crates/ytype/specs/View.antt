@@ -10,7 +10,7 @@ use Rattle.ytype.specs.declared.base.Found.{Found}
 use Rattle.ytype.specs.declared.base.Found.TheVariants as found
 use Rattle.ytype.specs.declared.val.Content.{Content}
 use Rattle.ytype.specs.declared.val.Content.TheVariants as content
-use Rattle.yspec.specs.Types as types
+use Rattle.yspec.specs.types.Types as types
 
 abbrev pub raw_of : Raw → types.Raw
 raw_of (raw.Text t) = types.text (string_bytes t)

@@ -2,9 +2,9 @@
 
 ghost use Rattle.std.specs.Prelude.{◌≡◌, ◌≤◌, length, option_map, IfOk};
 ghost use Rattle.std.specs.Str.{chars};
-ghost use Rattle.yspec.specs.Types.{numbers_of, is_written_as_text, is_string_char, is_string_value, number_value, bool_value, integer_taken, decimal_taken, enum_taken, bits_taken, string_taken, text_taken, base_taken, measure};
-ghost use Rattle.yspec.specs.Names.{words_of};
-ghost use Rattle.yspec.specs.Values.{base_read, bool_of};
+ghost use Rattle.yspec.specs.types.Types.{numbers_of, is_written_as_text, is_string_char, is_string_value, number_value, bool_value, integer_taken, decimal_taken, enum_taken, bits_taken, string_taken, text_taken, base_taken, measure};
+ghost use Rattle.yspec.specs.types.Names.{words_of};
+ghost use Rattle.yspec.specs.types.Values.{base_read, bool_of};
 ghost use Rattle.ytype.specs.View.{raw_of, integer_of, base_of, found_of, content_of};
 ghost use Rattle.ynumber.specs.Words.{IsNarrow};
 ghost use Rattle.ytype.specs.Founds.{founds};

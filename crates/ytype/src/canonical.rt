@@ -4,8 +4,8 @@ ghost use Rattle.std.specs.Prelude.{◌≡◌, ◌++◌, ◌∷◌, if◌then◌
 ghost use Rattle.std.specs.List.{list_any};
 ghost use Rattle.std.specs.Ordering.{int_eq};
 ghost use Rattle.std.specs.String.{string_bytes};
-ghost use Rattle.yspec.specs.Text.{space};
-ghost use Rattle.yspec.specs.Values.{name_of_number, spaced_from, is_position, names_at, bool_text, number_text, bits_text, content_text};
+ghost use Rattle.yspec.specs.text.Text.{space};
+ghost use Rattle.yspec.specs.types.Values.{name_of_number, spaced_from, is_position, names_at, bool_text, number_text, bits_text, content_text};
 ghost use Rattle.ytype.specs.View.{base_of, content_of};
 
 use crate::base::Base;

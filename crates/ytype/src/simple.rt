@@ -3,10 +3,10 @@
 ghost use Rattle.std.specs.Prelude.{◌≡◌, ◌++◌, ◌∷◌, [], option_map, option_and_then, ◌≤◌, IfOk, IfSome};
 ghost use Rattle.std.specs.Option.{ForSome};
 ghost use Rattle.std.specs.String.{string_bytes};
-ghost use Rattle.yspec.specs.Ranges.{holds};
-ghost use Rattle.yspec.specs.Types.{excluding, limited, simple_taken, simple_app_tag, base_taken};
-ghost use Rattle.yspec.specs.Values.{simple_read, content_text};
-ghost use Rattle.yspec.specs.Restriction.{left_by, left_after, limited_by, with_limit, range_base, length_base, lengths, narrowed_simple};
+ghost use Rattle.yspec.specs.types.Ranges.{holds};
+ghost use Rattle.yspec.specs.types.Types.{excluding, limited, simple_taken, simple_app_tag, base_taken};
+ghost use Rattle.yspec.specs.types.Values.{simple_read, content_text};
+ghost use Rattle.yspec.specs.types.Restriction.{left_by, left_after, limited_by, with_limit, range_base, length_base, lengths, narrowed_simple};
 ghost use Rattle.ynumber.specs.View.{text_of, restriction_of};
 ghost use Rattle.ynumber.specs.Words.{Narrows, same};
 ghost use Rattle.ytype.specs.View.{raw_of, base_of, content_of};
@@ -37,7 +37,7 @@ pub(crate) struct Limit {
 }
 
 impl Model for Limit {
-    ghost use Rattle.yspec.specs.Ranges as ranges;
+    ghost use Rattle.yspec.specs.types.Ranges as ranges;
 
     ghost Value = { ranges.Limit };
 
@@ -100,7 +100,7 @@ pub(crate) struct SimpleType {
 }
 
 impl Model for SimpleType {
-    ghost use Rattle.yspec.specs.Types as types;
+    ghost use Rattle.yspec.specs.types.Types as types;
 
     ghost Value = { types.SimpleType };
 

@@ -1,7 +1,7 @@
 //! What a type makes of a value that it takes.
 
 ghost use Rattle.std.specs.Prelude.{◌≡◌};
-ghost use Rattle.yspec.specs.Order.{member_number, kind_number, text_part, number_part, bits_part, content_cmp};
+ghost use Rattle.yspec.specs.types.Order.{member_number, kind_number, text_part, number_part, bits_part, content_cmp};
 
 use crate::ytype::YType;
 use std::alloc::{AllocError, Global};
@@ -25,7 +25,7 @@ pub struct Val {
 }
 
 impl Model for Val {
-    ghost use Rattle.yspec.specs.Types as types;
+    ghost use Rattle.yspec.specs.types.Types as types;
 
     ghost Value = { types.Val };
 
@@ -98,7 +98,7 @@ impl Content {
 }
 
 impl PartialEq for Val {
-    ghost use Rattle.yspec.specs.Order.{same_value};
+    ghost use Rattle.yspec.specs.types.Order.{same_value};
     ghost use Rattle.ytype.specs.Laws.{same_value_laws};
 
     ghost eq = { same_value };
@@ -118,7 +118,7 @@ impl Eq for Val {
 
 impl PartialOrd for Val {
     ghost use Rattle.std.specs.Ordering.{as_partial_cmp};
-    ghost use Rattle.yspec.specs.Order.{value_cmp};
+    ghost use Rattle.yspec.specs.types.Order.{value_cmp};
     ghost use Rattle.ytype.specs.Laws.{value_order_laws};
 
     ghost partial_cmp = { as_partial_cmp value_cmp };
@@ -132,7 +132,7 @@ impl PartialOrd for Val {
 
 impl Ord for Val {
     ghost use Rattle.std.specs.Prelude.{refl};
-    ghost use Rattle.yspec.specs.Order.{value_cmp};
+    ghost use Rattle.yspec.specs.types.Order.{value_cmp};
     ghost use Rattle.ytype.specs.Laws.{value_total};
 
     ghost cmp = { value_cmp };
@@ -153,8 +153,8 @@ impl Ord for Val {
 impl Val {
     ghost use Rattle.std.specs.Prelude.{◌≡◌, IfOk};
     ghost use Rattle.std.specs.String.{string_bytes};
-    ghost use Rattle.yspec.specs.Types.{value};
-    ghost use Rattle.yspec.specs.Values.{canonical};
+    ghost use Rattle.yspec.specs.types.Types.{value};
+    ghost use Rattle.yspec.specs.types.Values.{canonical};
     ghost use Rattle.ytype.specs.View.{content_of};
 
     pub(crate) fn new(member: Option<usize>, content: Content) -> Val

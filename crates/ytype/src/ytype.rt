@@ -1,10 +1,10 @@
 //! Types.
 
 ghost use Rattle.std.specs.Prelude.{◌≡◌, ◌++◌, [], ◌∷◌, Ok, IfOk, OnOk, Some, None, option_map};
-ghost use Rattle.yspec.specs.Types.{taken, app_tag_of, simple_taken, first_value, plain, integer_type, string_type, uint8_type, int8, int16, int32, int64, uint8, uint16, uint32, uint64, string_base, boolean_base, empty_base, decimal_base, enumeration_base, bits_base};
-ghost use Rattle.yspec.specs.Values.{value_of_text, simple_read, taker};
-ghost use Rattle.yspec.specs.Names as names;
-ghost use Rattle.yspec.specs.Restriction.{members_of, all_members, union_type, leafref_type, narrowed};
+ghost use Rattle.yspec.specs.types.Types.{taken, app_tag_of, simple_taken, first_value, plain, integer_type, string_type, uint8_type, int8, int16, int32, int64, uint8, uint16, uint32, uint64, string_base, boolean_base, empty_base, decimal_base, enumeration_base, bits_base};
+ghost use Rattle.yspec.specs.types.Values.{value_of_text, simple_read, taker};
+ghost use Rattle.yspec.specs.types.Names as names;
+ghost use Rattle.yspec.specs.types.Restriction.{members_of, all_members, union_type, leafref_type, narrowed};
 ghost use Rattle.ynumber.specs.View.{restriction_of};
 ghost use Rattle.ynumber.specs.Words.{Narrows, same};
 ghost use Rattle.ytype.specs.View.{raw_of, base_of, integer_of};
@@ -50,7 +50,7 @@ pub struct YType {
 }
 
 impl Model for YType {
-    ghost use Rattle.yspec.specs.Types.{YangType};
+    ghost use Rattle.yspec.specs.types.Types.{YangType};
 
     ghost Value = { YangType };
 

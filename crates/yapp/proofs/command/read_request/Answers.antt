@@ -1,7 +1,7 @@
 use Rattle.std.proofs.Common.{map, string_bytes, ap, sym, ◌∙◌}
 use Rattle.clap.specs.Words.{App, fault_of, is_simple, is_simple_and_free, subcommand_of}
 use Rattle.yapp.specs.Command.{asked_by, refusals}
-use Rattle.yapp.proofs.CommandSteps.{answered, asks_memory, is_free, is_plain}
+use Rattle.yapp.proofs.CommandLemmas.{answered, asks_memory, is_free, is_plain}
 use Rattle.yapp.proofs.command.read_request.Goals as goal
 
 pub returns-in_err-application : goal.returns-in_err-application

@@ -1,9 +1,9 @@
 use Rattle.std.proofs.Common.{List, [], Option, Bor, codes, map, ap, ap₂, ◌∙◌}
 use Rattle.std.specs.Prelude.{unwrap_or}
-use Rattle.yspec.specs.Output.{validate}
+use Rattle.yspec.specs.program.Output.{validate}
 use Rattle.clap.specs.Words.{found_of, Text}
 use Rattle.clap.proofs.WalkLemmas.{first_value-rows, raw_values-rows}
-use Rattle.yapp.proofs.CommandSteps.{now_or, names_or}
+use Rattle.yapp.proofs.CommandLemmas.{now_or, names_or}
 use Rattle.yapp.proofs.command.validation_in.Goals as goal
 
 pub returns : goal.returns

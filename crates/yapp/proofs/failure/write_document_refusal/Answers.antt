@@ -1,9 +1,9 @@
 use Rattle.std.proofs.Common.{codes, decimal}
-use Rattle.yspec.specs.Path.{path_text}
+use Rattle.yspec.specs.document.Path.{path_text}
 use Rattle.yschema.specs.View.{view}
-use Rattle.yinst.specs.View.{place_view}
-use Rattle.ytext.proofs.WritingSteps.{left_all, left_after, left_broken, left_failed, left_last, left_same}
-use Rattle.yapp.proofs.RunningSteps.{refusal_parts}
+use Rattle.ytree.specs.View.{place_view}
+use Rattle.youtput.proofs.WritingLemmas.{left_all, left_after, left_broken, left_failed, left_last, left_same}
+use Rattle.yapp.proofs.RunningLemmas.{refusal_parts}
 use Rattle.yapp.proofs.failure.write_document_refusal.Goals as goal
 
 pub returns-in_err-write_document_code : goal.returns-in_err-write_document_code

@@ -1,10 +1,10 @@
 use Rattle.std.proofs.Common.{inl, inr, refl, map, string_bytes}
-use Rattle.yspec.specs.Output.{found}
+use Rattle.yspec.specs.program.Output.{found}
 use Rattle.yapp.specs.Command.{Answers, refusals}
 use Rattle.yapp.specs.declared.command.NoRequest.TheVariants as none
 use Rattle.yapp.specs.Running.{refused, without_memory}
-use Rattle.yapp.proofs.CommandSteps.{refused_words}
-use Rattle.yapp.proofs.RunningSteps.{on_output, on_errors}
+use Rattle.yapp.proofs.CommandLemmas.{refused_words}
+use Rattle.yapp.proofs.RunningLemmas.{on_output, on_errors}
 use Rattle.yapp.proofs.program.run.Goals as goal
 
 pub returns-in-Err-Help : goal.returns-in-Err-Help

@@ -1,6 +1,6 @@
 use Rattle.std.proofs.lemmas.List.{append-nil}
-use Rattle.ytext.proofs.WritingSteps.{writes_same}
-use Rattle.yapp.proofs.RunningSteps.{ends}
+use Rattle.youtput.proofs.WritingLemmas.{writes_same}
+use Rattle.yapp.proofs.RunningLemmas.{ends}
 use Rattle.yapp.proofs.program.show.Goals as goal
 
 pub returns : goal.returns

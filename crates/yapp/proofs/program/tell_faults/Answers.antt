@@ -1,7 +1,7 @@
 use Rattle.std.proofs.Common.{ℕ, ap, ◌∙◌}
 use Rattle.std.specs.Prelude.{is_ok, if◌then◌else◌}
 use Rattle.yapp.specs.Failing.{outcome_of, reported}
-use Rattle.yapp.proofs.RunningSteps.{ends, on_failure, on_report}
+use Rattle.yapp.proofs.RunningLemmas.{ends, on_failure, on_report}
 use Rattle.yapp.proofs.program.tell_faults.Goals as goal
 
 pub returns-in-Ok : goal.returns-in-Ok

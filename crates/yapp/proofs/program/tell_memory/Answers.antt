@@ -1,4 +1,4 @@
-use Rattle.yapp.proofs.RunningSteps.{ends}
+use Rattle.yapp.proofs.RunningLemmas.{ends}
 use Rattle.yapp.proofs.program.tell_memory.Goals as goal
 
 pub returns : goal.returns

@@ -1,10 +1,10 @@
 use Rattle.std.proofs.Common.{drop}
 use Rattle.std.specs.List.{flat_map}
-use Rattle.yspec.specs.Faults.{line_of}
+use Rattle.yspec.specs.document.Faults.{line_of}
 use Rattle.yschema.specs.View as schema
 use Rattle.ycheck.specs.View.{views}
-use Rattle.ytext.specs.Writing.{side}
-use Rattle.ytext.proofs.WritingSteps.{Left}
+use Rattle.youtput.specs.Writing.{side}
+use Rattle.youtput.proofs.WritingLemmas.{Left}
 use Rattle.yapp.proofs.report.write_lines.Given as goal
 
 abbrev pub invariant-loop-fault : goal.invariant-loop-fault

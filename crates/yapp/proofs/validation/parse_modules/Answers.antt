@@ -1,10 +1,10 @@
 use Rattle.std.proofs.Common.{ℕ, List, ◌+◌, ◌∙◌, ap, drop, get_or, refl, subst, sym}
 use Rattle.std.proofs.lemmas.List.{at_drop_all, at_drop_more, length-map}
-use Rattle.yspec.specs.Output.{with_module}
-use Rattle.yspec.specs.Statement.{module_of}
+use Rattle.yspec.specs.program.Output.{with_module}
+use Rattle.yspec.specs.text.Statement.{module_of}
 use Rattle.ytext.specs.View.{modules_view}
 use Rattle.yapp.specs.Failing.{FailsWith}
-use Rattle.yapp.proofs.ValidationSteps.{ParsedSoFar, all_parsed, names_in, no_name, none_parsed, one_parsed, parsed_same, parsing_fails, texts_in, texts_parsed}
+use Rattle.yapp.proofs.ValidationLemmas.{ParsedSoFar, all_parsed, names_in, no_name, none_parsed, one_parsed, parsed_same, parsing_fails, texts_in, texts_parsed}
 use Rattle.yapp.proofs.validation.parse_modules.Goals as goal
 
 pub loop-name-init : goal.loop-name-init

@@ -1,6 +1,6 @@
 use Rattle.std.proofs.Common.{drop}
 use Rattle.ytext.specs.View.{modules_view}
-use Rattle.yapp.proofs.ValidationSteps.{ParsedSoFar, names_in, texts_in}
+use Rattle.yapp.proofs.ValidationLemmas.{ParsedSoFar, names_in, texts_in}
 use Rattle.yapp.proofs.validation.parse_modules.Given as goal
 
 abbrev pub invariant-loop-name : goal.invariant-loop-name

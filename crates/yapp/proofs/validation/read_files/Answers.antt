@@ -1,7 +1,7 @@
 use Rattle.std.proofs.Common.{ℕ, Global, Vec, [], ◌∷◌, ◌+◌, ◌∙◌, ap, arith, drop, get_or, refl, subst, sym}
 use Rattle.std.proofs.lemmas.List.{at_drop_all, at_drop_more, map-append}
 use Rattle.yapp.specs.Files.{Tells}
-use Rattle.yapp.proofs.ValidationSteps.{ReadSoFar, all_read, memory_reads, names_in, no_name, none_read, one_read, reading_fails, texts_in}
+use Rattle.yapp.proofs.ValidationLemmas.{ReadSoFar, all_read, memory_reads, names_in, no_name, none_read, one_read, reading_fails, texts_in}
 use Rattle.yapp.proofs.validation.read_files.Goals as goal
 
 pub loop-name-init : goal.loop-name-init

@@ -1,6 +1,6 @@
 use Rattle.std.proofs.Common.{◌≡◌, drop}
-use Rattle.yspec.specs.Text.{Text}
-use Rattle.yapp.proofs.ValidationSteps.{ReadSoFar, names_in, texts_in}
+use Rattle.yspec.specs.text.Text.{Text}
+use Rattle.yapp.proofs.ValidationLemmas.{ReadSoFar, names_in, texts_in}
 use Rattle.yapp.proofs.validation.read_files.Given as goal
 
 abbrev pub invariant-loop-name : goal.invariant-loop-name

@@ -1,7 +1,7 @@
 use Rattle.std.proofs.Common.{◌∙◌, ap, subst}
-use Rattle.yspec.specs.Output.{validation}
+use Rattle.yspec.specs.program.Output.{validation}
 use Rattle.yapp.specs.Failing.{LeadsTo, reported}
-use Rattle.yapp.proofs.ValidationSteps.{came_of_reading, came_of_texts, names_in, texts_in}
+use Rattle.yapp.proofs.ValidationLemmas.{came_of_reading, came_of_texts, names_in, texts_in}
 use Rattle.yapp.proofs.validation.validate.Goals as goal
 
 pub returns-in-Ok-read_files : goal.returns-in-Ok-read_files

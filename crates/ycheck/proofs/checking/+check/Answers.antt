@@ -1,10 +1,10 @@
 use Rattle.std.proofs.Common.{ap, option_map}
-use Rattle.yspec.specs.RowFaults.{prefixed, absent_own, row_faults}
+use Rattle.yspec.specs.document.RowFaults.{prefixed, absent_own, row_faults}
 use Rattle.yspec.specs.Forest.{end}
 use Rattle.ytype.specs.View.{raw_of}
 use Rattle.yschema.specs.View as schema_view
-use Rattle.yinst.specs.View as document_view
-use Rattle.yinst.specs.View.{place_view}
+use Rattle.ytree.specs.View as document_view
+use Rattle.ytree.specs.View.{place_view}
 use Rattle.ycheck.specs.View.{views}
 use Rattle.ycheck.proofs.FoundLemmas.{child_stored, child_absent, left_below, left_stored, row_ended}
 use Rattle.ycheck.proofs.checking.+check.Goals as goal

@@ -1,9 +1,9 @@
 use Rattle.std.proofs.Common.{◌≡◌, ◌+◌, ◌*◌, ◌≤◌, ◌++◌, map}
 use Rattle.yspec.specs.Forest.{size}
-use Rattle.yspec.specs.RowFaults.{prefixed, row_faults}
+use Rattle.yspec.specs.document.RowFaults.{prefixed, row_faults}
 use Rattle.yschema.specs.View.{row_view, below_of}
-use Rattle.yinst.specs.View as document_view
-use Rattle.yinst.specs.View.{place_view}
+use Rattle.ytree.specs.View as document_view
+use Rattle.ytree.specs.View.{place_view}
 use Rattle.ycheck.specs.View.{views}
 use Rattle.ycheck.proofs.checking.+check.Given as goal
 

@@ -1,8 +1,8 @@
 use Rattle.yschema.specs.View as schema_view
-use Rattle.yinst.specs.View as document_view
+use Rattle.ytree.specs.View as document_view
 use Rattle.ycheck.specs.View.{views}
 use Rattle.ycheck.proofs.FoundLemmas.{all_found}
-use Rattle.yinst.proofs.NumberedLemmas.{numbered}
+use Rattle.ytree.proofs.NumberedLemmas.{numbered}
 use Rattle.ycheck.proofs.checking.faults.Goals as goal
 
 pub returns : goal.returns

@@ -1,9 +1,9 @@
 use Rattle.std.proofs.Common.{drop, None}
-use Rattle.yspec.specs.Path.{path_from}
-use Rattle.ytext.specs.Writing.{side}
-use Rattle.ytext.proofs.WritingSteps.{Left}
+use Rattle.yspec.specs.document.Path.{path_from}
+use Rattle.youtput.specs.Writing.{side}
+use Rattle.youtput.proofs.WritingLemmas.{Left}
 use Rattle.yschema.specs.View.{view}
-use Rattle.yinst.specs.View.{place_view}
+use Rattle.ytree.specs.View.{place_view}
 use Rattle.ycheck.proofs.lines.write_path.Given as goal
 
 abbrev pub invariant-loop-step : goal.invariant-loop-step

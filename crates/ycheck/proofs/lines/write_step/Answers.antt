@@ -1,6 +1,6 @@
 use Rattle.yschema.specs.View.{view, node_view}
-use Rattle.yinst.specs.View.{step_view}
-use Rattle.ytext.proofs.WritingSteps.{writes_after, writes_same, left_failed, left_all}
+use Rattle.ytree.specs.View.{step_view}
+use Rattle.youtput.proofs.WritingLemmas.{writes_after, writes_same, left_failed, left_all}
 use Rattle.ycheck.proofs.LineLemmas.{named_step}
 use Rattle.ycheck.proofs.lines.write_step.Goals as goal
 

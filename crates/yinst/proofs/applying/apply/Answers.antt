@@ -1,7 +1,7 @@
 use Rattle.yschema.specs.View.{view}
-use Rattle.yinst.specs.View.{tree_view}
+use Rattle.ytree.specs.View.{tree_view}
 use Rattle.yinst.specs.EditView.{edit_view}
-use Rattle.yinst.proofs.NumberedLemmas.{numbered}
+use Rattle.ytree.proofs.NumberedLemmas.{numbered}
 use Rattle.yinst.proofs.EditLemmas.{fits_if_applied, whole_if_applied}
 use Rattle.yinst.proofs.applying.apply.Goals as goal
 

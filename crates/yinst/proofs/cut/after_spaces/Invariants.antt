@@ -1,5 +1,5 @@
 use Rattle.std.proofs.Common.{◌≡◌, length, IsUtf8}
-use Rattle.yspec.specs.EditText.{after_spaces}
+use Rattle.yspec.specs.edit.EditText.{after_spaces}
 use Rattle.yinst.proofs.cut.after_spaces.Given as goal
 
 abbrev pub invariant-loop-more : goal.invariant-loop-more

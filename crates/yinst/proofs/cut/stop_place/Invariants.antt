@@ -1,5 +1,5 @@
 use Rattle.std.proofs.Common.{◌≡◌, ◌-◌, ◌≤◌, length, take, drop, None}
-use Rattle.yspec.specs.EditText.{cut_at}
+use Rattle.yspec.specs.edit.EditText.{cut_at}
 use Rattle.yinst.proofs.CutLemmas.{cut_behind}
 use Rattle.yinst.proofs.cut.stop_place.Given as goal
 

@@ -1,6 +1,6 @@
 use Rattle.std.proofs.Common.{◌≡◌, ◌≤◌, drop}
 use Rattle.std.specs.Prelude.{min}
-use Rattle.yspec.specs.EditText.{digits_value, last_position}
+use Rattle.yspec.specs.edit.EditText.{digits_value, last_position}
 use Rattle.yinst.proofs.paths.digits_value.Given as goal
 
 abbrev pub invariant-loop-byte : goal.invariant-loop-byte

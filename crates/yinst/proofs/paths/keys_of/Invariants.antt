@@ -1,5 +1,5 @@
 use Rattle.std.proofs.Common.{◌≡◌, ◌++◌, length, IsUtf8, None, option_map}
-use Rattle.yspec.specs.EditText.{keys_of, parts_at, close_bracket}
+use Rattle.yspec.specs.edit.EditText.{keys_of, parts_at, close_bracket}
 use Rattle.yinst.specs.EditView.{keys_view}
 use Rattle.yinst.proofs.paths.keys_of.Given as goal
 

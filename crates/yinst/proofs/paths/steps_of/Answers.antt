@@ -1,7 +1,7 @@
 use Rattle.std.proofs.Common.{Some, [], option_map, sym, ap, ◌∙◌, rules}
 use Rattle.std.proofs.lemmas.List.{map_push}
-use Rattle.yspec.specs.Text.{slash}
-use Rattle.yspec.specs.EditText.{step_of}
+use Rattle.yspec.specs.text.Text.{slash}
+use Rattle.yspec.specs.edit.EditText.{step_of}
 use Rattle.yinst.specs.EditView.{step_view, steps_view}
 use Rattle.yinst.proofs.PathLemmas.{with_more, some_first, no_first, last_item, each_cut, each_uncut}
 use Rattle.yinst.proofs.paths.steps_of.Goals as goal

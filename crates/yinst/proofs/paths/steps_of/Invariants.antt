@@ -1,6 +1,6 @@
 use Rattle.std.proofs.Common.{◌≡◌, ◌++◌, length, IsUtf8, None, option_map}
-use Rattle.yspec.specs.Text.{slash}
-use Rattle.yspec.specs.EditText.{all_or_none, step_of, parts_at}
+use Rattle.yspec.specs.text.Text.{slash}
+use Rattle.yspec.specs.edit.EditText.{all_or_none, step_of, parts_at}
 use Rattle.yinst.specs.EditView.{steps_view}
 use Rattle.yinst.proofs.paths.steps_of.Given as goal
 

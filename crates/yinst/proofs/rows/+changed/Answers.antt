@@ -1,5 +1,5 @@
-use Rattle.yinst.specs.View.{row_view}
-use Rattle.yinst.proofs.RowChanges.{same_if_ok, below_changed, nothing_changed}
+use Rattle.ytree.specs.View.{row_view}
+use Rattle.yinst.proofs.RowChangeLemmas.{same_if_ok, below_changed, nothing_changed}
 use Rattle.yinst.proofs.rows.+changed.Goals as goal
 
 pub changed_below-returns-in_ok-with_below-in-Some : goal.changed_below-returns-in_ok-with_below-in-Some

@@ -1,5 +1,5 @@
 use Rattle.std.proofs.Common.{Some, ap, sym, ◌∙◌}
-use Rattle.yinst.proofs.RowChanges.{found_below, found_none, nothing_left}
+use Rattle.yinst.proofs.RowChangeLemmas.{found_below, found_none, nothing_left}
 use Rattle.yinst.proofs.rows.below_in.Goals as goal
 
 pub returns-in-Some : goal.returns-in-Some

@@ -1,5 +1,5 @@
-use Rattle.yinst.specs.View.{row_view}
-use Rattle.yinst.proofs.RowChanges.{same_if_ok, part_put}
+use Rattle.ytree.specs.View.{row_view}
+use Rattle.yinst.proofs.RowChangeLemmas.{same_if_ok, part_put}
 use Rattle.yinst.proofs.rows.with_part.Goals as goal
 
 pub returns : goal.returns

@@ -1,5 +1,5 @@
 use Rattle.std.proofs.Common.{◌∙◌}
-use Rattle.yinst.proofs.RowChanges.{node_taken}
+use Rattle.yinst.proofs.RowChangeLemmas.{node_taken}
 use Rattle.yinst.proofs.rows.without.Goals as goal
 
 pub returns : goal.returns

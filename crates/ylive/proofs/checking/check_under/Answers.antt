@@ -1,5 +1,5 @@
 use Rattle.std.proofs.Common.{Ok, ap, sym, ◌∙◌}
-use Rattle.yspec.specs.Live.{Live, checked_from}
+use Rattle.yspec.specs.edit.Live.{Live, checked_from}
 use Rattle.yschema.specs.View as schema_view
 use Rattle.ylive.specs.View.{edits_view}
 use Rattle.ylive.proofs.checking.check_under.Goals as goal

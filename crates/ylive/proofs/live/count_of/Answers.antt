@@ -1,7 +1,7 @@
 use Rattle.std.proofs.Common.{ap, length, sym, ◌∙◌}
 use Rattle.std.proofs.lemmas.List.{length-map}
 use Rattle.ycheck.specs.View.{view}
-use Rattle.ylive.proofs.FittingTest.{fits_is}
+use Rattle.ylive.proofs.FittingTestLemmas.{fits_is}
 use Rattle.ylive.proofs.live.count_of.Goals as goal
 
 pub returns : goal.returns

@@ -1,6 +1,6 @@
 use Rattle.std.proofs.Common.{◌≡◌, drop, map}
 use Rattle.std.specs.List.{list_all}
-use Rattle.yspec.specs.Names.{Assigned, is_among}
+use Rattle.yspec.specs.types.Names.{Assigned, is_among}
 use Rattle.ynumber.specs.Words.{words_in}
 use Rattle.ynumber.proofs.name.are_bit_names.Given as goal
 

@@ -1,5 +1,5 @@
 use Rattle.std.proofs.Common.{◌≡◌, drop}
-use Rattle.yspec.specs.Names.{are_enum_names}
+use Rattle.yspec.specs.types.Names.{are_enum_names}
 use Rattle.ynumber.proofs.name.are_enum_names.Given as goal
 
 abbrev pub invariant-namings : goal.invariant-namings

@@ -1,5 +1,5 @@
 use Rattle.std.proofs.Common.{◌≡◌, [], drop}
-use Rattle.yspec.specs.Names.{assigned_from}
+use Rattle.yspec.specs.types.Names.{assigned_from}
 use Rattle.ynumber.proofs.name.assign.Given as goal
 
 abbrev pub invariant-namings : goal.invariant-namings

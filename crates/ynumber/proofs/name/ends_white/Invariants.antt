@@ -1,5 +1,5 @@
 use Rattle.std.proofs.Common.{◌≡◌, drop}
-use Rattle.yspec.specs.Names.{ends_white}
+use Rattle.yspec.specs.types.Names.{ends_white}
 use Rattle.ynumber.proofs.name.ends_white.Given as goal
 
 abbrev pub invariant-rest : goal.invariant-rest

@@ -1,5 +1,5 @@
 use Rattle.std.proofs.Common.{◌≡◌, drop}
-use Rattle.yspec.specs.Names.{has_twice}
+use Rattle.yspec.specs.types.Names.{has_twice}
 use Rattle.ynumber.specs.Words.{words_in}
 use Rattle.ynumber.proofs.name.has_twice.Given as goal
 

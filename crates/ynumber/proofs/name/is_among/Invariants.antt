@@ -1,5 +1,5 @@
 use Rattle.std.proofs.Common.{◌≡◌, drop}
-use Rattle.yspec.specs.Names.{is_among}
+use Rattle.yspec.specs.types.Names.{is_among}
 use Rattle.ynumber.specs.Words.{words_in}
 use Rattle.ynumber.proofs.name.is_among.Given as goal
 

@@ -1,5 +1,5 @@
 use Rattle.std.proofs.Common.{◌≡◌, drop, map}
-use Rattle.yspec.specs.Names.{Assigned, is_among}
+use Rattle.yspec.specs.types.Names.{Assigned, is_among}
 use Rattle.ynumber.proofs.name.is_name.Given as goal
 
 abbrev pub invariant-names : goal.invariant-names

@@ -1,5 +1,5 @@
 use Rattle.std.proofs.Common.{◌≡◌, drop}
-use Rattle.yspec.specs.Names.{next_after, next_number}
+use Rattle.yspec.specs.types.Names.{next_after, next_number}
 use Rattle.ynumber.proofs.name.next_number.Given as goal
 
 abbrev pub invariant-names : goal.invariant-names

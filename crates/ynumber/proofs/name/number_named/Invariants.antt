@@ -1,7 +1,7 @@
 use Rattle.std.proofs.Common.{◌≡◌, drop}
 use Rattle.std.specs.Prelude.{find}
-use Rattle.yspec.specs.Text.{is_text}
-use Rattle.yspec.specs.Names.{Assigned}
+use Rattle.yspec.specs.text.Text.{is_text}
+use Rattle.yspec.specs.types.Names.{Assigned}
 use Rattle.ynumber.proofs.name.number_named.Given as goal
 
 abbrev pub invariant-names : goal.invariant-names

@@ -1,7 +1,7 @@
 use Rattle.std.proofs.Common.{rules, tests}
 use Rattle.std.proofs.lemmas.Iterator.Consumers.{map_from_collect}
 use Rattle.std.proofs.lemmas.Iterator.Splits.{YieldsList-from_slice_split}
-use Rattle.yspec.specs.Names.{is_space}
+use Rattle.yspec.specs.types.Names.{is_space}
 use Rattle.ynumber.proofs.name.pieces_of.Goals as goal
 
 pub returns : goal.returns

@@ -1,7 +1,7 @@
 use Rattle.std.proofs.Common.{arith}
 use Rattle.std.proofs.lemmas.Int.{to_z-of_z}
 use Rattle.std.specs.Int.{w64}
-use Rattle.ynumber.proofs.Names.{place_end}
+use Rattle.ynumber.proofs.NameLemmas.{place_end}
 use Rattle.ynumber.proofs.name.place_of.Goals as goal
 
 pub returns-clause-place : goal.returns-clause-place

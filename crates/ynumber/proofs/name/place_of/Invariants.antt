@@ -1,5 +1,5 @@
 use Rattle.std.proofs.Common.{◌≡◌, ℕ, ◌++◌, take, drop, List}
-use Rattle.yspec.specs.Names.{placed}
+use Rattle.yspec.specs.types.Names.{placed}
 use Rattle.ynumber.specs.Words.{named}
 use Rattle.ynumber.proofs.name.place_of.Given as goal
 

@@ -1,8 +1,8 @@
 use Rattle.std.proofs.Common.{◌≡◌, List, Bor, ◌++◌, ◌∷◌, [], get_or, ap, ◌∙◌, rules}
-use Rattle.yspec.specs.Text.{Text}
-use Rattle.yspec.specs.Names.{Assigned, is_among}
+use Rattle.yspec.specs.text.Text.{Text}
+use Rattle.yspec.specs.types.Names.{Assigned, is_among}
 use Rattle.ynumber.specs.Words.{items_of, words_in}
-use Rattle.ynumber.proofs.Names.{name_taken, name_passed}
+use Rattle.ynumber.proofs.NameLemmas.{name_taken, name_passed}
 use Rattle.ynumber.proofs.name.positions_in.Goals as goal
 use Rattle.ynumber.proofs.name.positions_in.Goals.{then-is_among+in_ok-push, else-is_among}
 

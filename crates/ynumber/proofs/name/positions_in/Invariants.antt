@@ -1,5 +1,5 @@
 use Rattle.std.proofs.Common.{◌≡◌, ◌++◌, drop}
-use Rattle.yspec.specs.Names.{named_by, positions_of}
+use Rattle.yspec.specs.types.Names.{named_by, positions_of}
 use Rattle.ynumber.specs.Words.{words_in}
 use Rattle.ynumber.proofs.name.positions_in.Given as goal
 

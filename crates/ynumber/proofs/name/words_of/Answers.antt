@@ -1,6 +1,6 @@
 use Rattle.std.proofs.Common.{ap, ◌∙◌}
 use Rattle.ynumber.specs.Words.{items_of}
-use Rattle.ynumber.proofs.Names.{word_taken, word_passed}
+use Rattle.ynumber.proofs.NameLemmas.{word_taken, word_passed}
 use Rattle.ynumber.proofs.name.words_of.Goals as goal
 use Rattle.ynumber.proofs.name.words_of.Goals.{then-is_word+in_ok-push, else-is_word}
 

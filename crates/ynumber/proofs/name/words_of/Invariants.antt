@@ -1,6 +1,6 @@
 use Rattle.std.proofs.Common.{◌≡◌, ◌++◌, drop}
 use Rattle.std.specs.Prelude.{filter}
-use Rattle.yspec.specs.Names.{is_word}
+use Rattle.yspec.specs.types.Names.{is_word}
 use Rattle.ynumber.specs.Words.{words_in}
 use Rattle.ynumber.proofs.name.words_of.Given as goal
 

@@ -1,5 +1,5 @@
 use Rattle.std.proofs.Common.{arith}
-use Rattle.ynumber.proofs.Numerals.{digits_step}
+use Rattle.ynumber.proofs.NumeralLemmas.{digits_step}
 use Rattle.ynumber.proofs.numeral.number_in.Goals as goal
 
 pub digits-preserved : goal.digits-preserved

@@ -1,5 +1,5 @@
 use Rattle.std.proofs.Common.{◌≡◌, ◌^◌, ◌≤◌, drop}
-use Rattle.yspec.specs.Numerals.{digits_from}
+use Rattle.yspec.specs.types.Numerals.{digits_from}
 use Rattle.ynumber.specs.Words.{capped}
 use Rattle.ynumber.proofs.numeral.number_in.Given as goal
 

@@ -1,5 +1,5 @@
 use Rattle.std.proofs.Common.{◌≡◌, drop}
-use Rattle.yspec.specs.Ranges.{last_high}
+use Rattle.yspec.specs.types.Ranges.{last_high}
 use Rattle.ynumber.proofs.restriction.ends_of.Given as goal
 
 abbrev pub invariant-others : goal.invariant-others

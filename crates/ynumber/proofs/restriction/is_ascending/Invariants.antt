@@ -1,5 +1,5 @@
 use Rattle.std.proofs.Common.{◌≡◌, None, drop}
-use Rattle.yspec.specs.Ranges.{is_ascending_from}
+use Rattle.yspec.specs.types.Ranges.{is_ascending_from}
 use Rattle.ynumber.proofs.restriction.is_ascending.Given as goal
 
 abbrev pub invariant-parts : goal.invariant-parts

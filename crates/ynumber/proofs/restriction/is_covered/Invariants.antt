@@ -1,5 +1,5 @@
 use Rattle.std.proofs.Common.{◌≡◌, drop}
-use Rattle.yspec.specs.Ranges.{is_covered}
+use Rattle.yspec.specs.types.Ranges.{is_covered}
 use Rattle.ynumber.proofs.restriction.is_covered.Given as goal
 
 abbrev pub invariant-parts : goal.invariant-parts

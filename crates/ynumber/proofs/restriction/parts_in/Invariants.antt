@@ -1,6 +1,6 @@
 use Rattle.std.proofs.Common.{◌≡◌, ◌++◌, drop}
 use Rattle.std.specs.Prelude.{option_map}
-use Rattle.yspec.specs.Ranges.{parts_in}
+use Rattle.yspec.specs.types.Ranges.{parts_in}
 use Rattle.ynumber.proofs.restriction.parts_in.Given as goal
 
 abbrev pub invariant-spans : goal.invariant-spans

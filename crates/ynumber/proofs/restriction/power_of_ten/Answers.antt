@@ -1,6 +1,6 @@
 use Rattle.std.proofs.Common.{◌≤◌, ◌<◌, ◌^◌, arith}
 use Rattle.std.proofs.Math.Nat.{pow-le-pow_right}
-use Rattle.ynumber.proofs.Decimals.{ten_pos}
+use Rattle.ynumber.proofs.DecimalLemmas.{ten_pos}
 use Rattle.ynumber.proofs.restriction.power_of_ten.Goals as goal
 
 pub returns-clause-bound : goal.returns-clause-bound

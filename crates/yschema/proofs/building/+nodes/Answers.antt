@@ -2,7 +2,7 @@ use Rattle.std.proofs.Common.{◌≡◌, ◌+◌, ◌++◌, drop, Some, ap, ap�
 use Rattle.std.proofs.lemmas.Result.{on_ok_weaker}
 use Rattle.ytext.specs.declared.statement.Stmt.{the_lemmas}
 use Rattle.std.proofs.lemmas.Grind.{common_steps}
-use Rattle.yspec.specs.Schema.{data_size, schema_node, nodes_from}
+use Rattle.yspec.specs.schema.Schema.{data_size, schema_node, nodes_from}
 use Rattle.ytext.specs.View.{view, row_view}
 use Rattle.yschema.specs.Layout.{Place, number_of, places, laid}
 use Rattle.yschema.proofs.LayoutLemmas.{laid_below, laid_row, laid_other, laid_all, length_after, size_at_data, size_at_other, room_at}

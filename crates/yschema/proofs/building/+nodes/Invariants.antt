@@ -1,5 +1,5 @@
 use Rattle.std.proofs.Common.{◌≡◌, ◌+◌, ◌≤◌, ◌++◌, drop, length}
-use Rattle.yspec.specs.Schema.{data_size, nodes_from}
+use Rattle.yspec.specs.schema.Schema.{data_size, nodes_from}
 use Rattle.ytext.specs.View.{row_view}
 use Rattle.yschema.specs.Layout.{number_of, places, laid}
 use Rattle.yschema.proofs.building.+nodes.Given as goal

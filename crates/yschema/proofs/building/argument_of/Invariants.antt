@@ -1,5 +1,5 @@
 use Rattle.std.proofs.Common.{◌≡◌, drop}
-use Rattle.yspec.specs.Schema.{argument_of}
+use Rattle.yspec.specs.schema.Schema.{argument_of}
 use Rattle.ytext.specs.View.{row_view}
 use Rattle.yschema.proofs.building.argument_of.Given as goal
 

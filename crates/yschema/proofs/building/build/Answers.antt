@@ -1,6 +1,6 @@
 use Rattle.std.proofs.Common.{◌+◌, ◌++◌, drop, ap, ap₂, None, ◌∙◌, map, arith, subst, sym}
 use Rattle.std.proofs.lemmas.List.{map_push}
-use Rattle.yspec.specs.Schema.{data_size, modules_of, all_nodes}
+use Rattle.yspec.specs.schema.Schema.{data_size, modules_of, all_nodes}
 use Rattle.ytext.specs.View.{row_view, modules_view}
 use Rattle.yschema.specs.View.{module_view}
 use Rattle.yschema.proofs.LayoutLemmas.{laid_module, length_module, named_module, size_at_module, forest_of-laid, laid_as, whole_laid, whole_set}

@@ -1,6 +1,6 @@
 use Rattle.std.proofs.Common.{◌≡◌, ◌+◌, ◌≤◌, ◌++◌, None, drop, map, length}
-use Rattle.yspec.specs.Schema.{all_nodes, modules_of}
-use Rattle.yspec.specs.Breaks.{data_size_of_all}
+use Rattle.yspec.specs.schema.Schema.{all_nodes, modules_of}
+use Rattle.yspec.specs.schema.Breaks.{data_size_of_all}
 use Rattle.ytext.specs.View.{modules_view}
 use Rattle.yschema.specs.Layout.{places, laid}
 use Rattle.yschema.specs.View.{module_view}

@@ -1,6 +1,6 @@
 use Rattle.std.proofs.Common.{ap, subst, sym, ◌∙◌}
 use Rattle.ytext.specs.View.{modules_view}
-use Rattle.yspec.specs.Breaks.{compiled}
+use Rattle.yspec.specs.schema.Breaks.{compiled}
 use Rattle.yschema.specs.Told.{seen, view, Fails}
 use Rattle.yschema.proofs.ToldLemmas.{few_nodes, refused_as}
 use Rattle.yschema.proofs.building.compile.Goals as goal

@@ -1,5 +1,5 @@
 use Rattle.std.proofs.Common.{None, ap, sym, ◌∙◌, []}
-use Rattle.yspec.specs.Breaks.{by_module, by_body, limit_breaks, least_from, or_told, grammar_breaks, name_breaks, at_top, node_limit, level_limit, data_size_of_all, data_levels_of_all}
+use Rattle.yspec.specs.schema.Breaks.{by_module, by_body, limit_breaks, least_from, or_told, grammar_breaks, name_breaks, at_top, node_limit, level_limit, data_size_of_all, data_levels_of_all}
 use Rattle.std.specs.Prelude.{nat_lt}
 use Rattle.ytext.specs.View.{modules_view}
 use Rattle.yschema.specs.Told.{view, seen}

@@ -1,5 +1,5 @@
 use Rattle.std.proofs.Common.{◌≡◌, drop}
-use Rattle.yspec.specs.Breaks.{least_from, grammar_breaks}
+use Rattle.yspec.specs.schema.Breaks.{least_from, grammar_breaks}
 use Rattle.ytext.specs.View.{row_view}
 use Rattle.yschema.specs.Table.{allowed_views}
 use Rattle.yschema.specs.Told.{seen}

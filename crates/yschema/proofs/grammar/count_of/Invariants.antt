@@ -1,5 +1,5 @@
 use Rattle.std.proofs.Common.{◌≡◌, ◌+◌, ◌≤◌, drop}
-use Rattle.yspec.specs.Breaks.{occurrences}
+use Rattle.yspec.specs.schema.Breaks.{occurrences}
 use Rattle.ytext.specs.View.{row_view}
 use Rattle.yschema.proofs.grammar.count_of.Given as goal
 

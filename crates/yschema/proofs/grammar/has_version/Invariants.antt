@@ -1,7 +1,7 @@
 use Rattle.std.proofs.Common.{◌≡◌, drop}
 use Rattle.std.specs.List.{list_any}
 use Rattle.yspec.specs.Forest.{row}
-use Rattle.yspec.specs.Breaks.{is_current_version}
+use Rattle.yspec.specs.schema.Breaks.{is_current_version}
 use Rattle.ytext.specs.View.{row_view}
 use Rattle.yschema.proofs.grammar.has_version.Given as goal
 

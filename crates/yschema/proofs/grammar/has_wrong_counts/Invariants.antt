@@ -1,6 +1,6 @@
 use Rattle.std.proofs.Common.{◌≡◌, drop}
 use Rattle.std.specs.List.{list_any}
-use Rattle.yspec.specs.Breaks.{is_miscounted}
+use Rattle.yspec.specs.schema.Breaks.{is_miscounted}
 use Rattle.ytext.specs.View.{row_view}
 use Rattle.yschema.specs.Table.{allowed_views}
 use Rattle.yschema.proofs.grammar.has_wrong_counts.Given as goal

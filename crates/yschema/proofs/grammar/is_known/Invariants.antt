@@ -1,5 +1,5 @@
 use Rattle.std.proofs.Common.{◌≡◌, drop}
-use Rattle.yspec.specs.Breaks.{is_known_substatement}
+use Rattle.yspec.specs.schema.Breaks.{is_known_substatement}
 use Rattle.yschema.specs.Table.{allowed_views}
 use Rattle.yschema.proofs.grammar.is_known.Given as goal
 

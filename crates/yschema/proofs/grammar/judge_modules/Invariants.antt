@@ -1,5 +1,5 @@
 use Rattle.std.proofs.Common.{◌≡◌, drop, None}
-use Rattle.yspec.specs.Breaks.{least_from, grammar_breaks, at_top, by_module}
+use Rattle.yspec.specs.schema.Breaks.{least_from, grammar_breaks, at_top, by_module}
 use Rattle.ytext.specs.View.{modules_view}
 use Rattle.yschema.specs.Told.{seen}
 use Rattle.yschema.proofs.grammar.judge_modules.Given as goal

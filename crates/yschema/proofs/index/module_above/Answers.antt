@@ -1,7 +1,7 @@
 use Rattle.std.proofs.Common.{◌≡◌, Some, None, [], length, refl, sym, ap, ◌∙◌}
 use Rattle.std.specs.Prelude.{option_map, slice_get}
 use Rattle.std.proofs.lemmas.Option.{slice_get_read, slice_get_past}
-use Rattle.yspec.specs.Schema.{module_at}
+use Rattle.yspec.specs.schema.Schema.{module_at}
 use Rattle.yschema.specs.Layout.{number_of, schema_view}
 use Rattle.yschema.proofs.QueryLemmas.{module_of_row}
 use Rattle.yschema.proofs.index.module_above.Goals as goal

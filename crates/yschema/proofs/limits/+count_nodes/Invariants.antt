@@ -1,5 +1,5 @@
 use Rattle.std.proofs.Common.{◌≡◌, ◌+◌, ◌≤◌, min, drop}
-use Rattle.yspec.specs.Schema.{data_size}
+use Rattle.yspec.specs.schema.Schema.{data_size}
 use Rattle.ytext.specs.View.{row_view}
 use Rattle.yschema.proofs.limits.+count_nodes.Given as goal
 

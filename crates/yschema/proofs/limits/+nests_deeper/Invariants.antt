@@ -1,5 +1,5 @@
 use Rattle.std.proofs.Common.{◌≡◌, drop, nat_lt}
-use Rattle.yspec.specs.Schema.{data_levels}
+use Rattle.yspec.specs.schema.Schema.{data_levels}
 use Rattle.ytext.specs.View.{row_view}
 use Rattle.yschema.proofs.limits.+nests_deeper.Given as goal
 

@@ -1,5 +1,5 @@
 use Rattle.std.proofs.Common.{◌≡◌, drop, nat_lt}
-use Rattle.yspec.specs.Breaks.{data_levels_of_all, level_limit}
+use Rattle.yspec.specs.schema.Breaks.{data_levels_of_all, level_limit}
 use Rattle.ytext.specs.View.{modules_view}
 use Rattle.yschema.proofs.limits.has_too_many_levels.Given as goal
 

@@ -1,5 +1,5 @@
 use Rattle.std.proofs.Common.{◌≡◌, ◌+◌, ◌≤◌, min, drop}
-use Rattle.yspec.specs.Breaks.{data_size_of_all}
+use Rattle.yspec.specs.schema.Breaks.{data_size_of_all}
 use Rattle.ytext.specs.View.{modules_view}
 use Rattle.yschema.proofs.limits.has_too_many_nodes.Given as goal
 

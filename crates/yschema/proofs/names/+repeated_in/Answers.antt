@@ -1,9 +1,9 @@
 use Rattle.std.proofs.Common.{◌≡◌, ◌+◌, drop, ◌∷◌, ap, map, sym, ◌∙◌, arith, rules, not}
 use Rattle.std.specs.List.{list_any}
 use Rattle.std.proofs.lemmas.List.{at_drop_all}
-use Rattle.yspec.specs.Text.{is_text}
-use Rattle.yspec.specs.Schema.{argument_text}
-use Rattle.yspec.specs.Breaks.{least_from, name_breaks}
+use Rattle.yspec.specs.text.Text.{is_text}
+use Rattle.yspec.specs.schema.Schema.{argument_text}
+use Rattle.yspec.specs.schema.Breaks.{least_from, name_breaks}
 use Rattle.ytext.specs.View.{view, row_view}
 use Rattle.yschema.specs.Told.{seen}
 use Rattle.yschema.proofs.NameLemmas.{HaveSame, judged_name, passed_over, insert_key-has, contains-texts}

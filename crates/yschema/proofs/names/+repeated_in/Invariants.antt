@@ -1,5 +1,5 @@
 use Rattle.std.proofs.Common.{◌≡◌, [], drop, map}
-use Rattle.yspec.specs.Breaks.{least_from, name_breaks}
+use Rattle.yspec.specs.schema.Breaks.{least_from, name_breaks}
 use Rattle.ytext.specs.View.{row_view}
 use Rattle.yschema.specs.Told.{seen}
 use Rattle.yschema.proofs.names.+repeated_in.Given as goal

@@ -1,5 +1,5 @@
 use Rattle.std.proofs.Common.{◌≡◌, [], drop, None}
-use Rattle.yspec.specs.Breaks.{least_from, name_breaks, by_body}
+use Rattle.yspec.specs.schema.Breaks.{least_from, name_breaks, by_body}
 use Rattle.ytext.specs.View.{modules_view}
 use Rattle.yschema.specs.Told.{seen}
 use Rattle.yschema.proofs.names.repeated_name.Given as goal

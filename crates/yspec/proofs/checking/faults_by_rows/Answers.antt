@@ -1,6 +1,6 @@
 use Rattle.std.proofs.Common.{sym}
-use Rattle.yspec.specs.Faults.{answers_of}
-use Rattle.yspec.proofs.CheckingRows.{rows_are_faults}
+use Rattle.yspec.specs.document.Faults.{answers_of}
+use Rattle.yspec.proofs.DocumentProofs.CheckingLemmas.{rows_are_faults}
 use Rattle.yspec.proofs.checking.faults_by_rows.Goals as goal
 
 pub returns : goal.returns

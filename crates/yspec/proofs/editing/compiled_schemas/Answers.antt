@@ -1,4 +1,4 @@
-use Rattle.yspec.proofs.CompiledShape.{compiled_numbered, compiled_bare}
+use Rattle.yspec.proofs.SchemaProofs.CompiledLemmas.{compiled_numbered, compiled_bare}
 use Rattle.yspec.proofs.editing.compiled_schemas.Goals as goal
 
 pub returns : goal.returns

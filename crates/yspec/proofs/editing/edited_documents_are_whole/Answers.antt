@@ -1,4 +1,4 @@
-use Rattle.yspec.proofs.FittingEdits.{edits_whole}
+use Rattle.yspec.proofs.EditProofs.FittingEditLemmas.{edits_whole}
 use Rattle.yspec.proofs.editing.edited_documents_are_whole.Goals as goal
 
 pub returns : goal.returns

@@ -1,4 +1,4 @@
-use Rattle.yspec.proofs.FittingEdits.{edits_fit}
+use Rattle.yspec.proofs.EditProofs.FittingEditLemmas.{edits_fit}
 use Rattle.yspec.proofs.editing.edited_documents_fit.Goals as goal
 
 pub returns : goal.returns

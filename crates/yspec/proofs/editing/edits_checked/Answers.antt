@@ -1,6 +1,6 @@
 use Rattle.std.proofs.Common.{refl}
-use Rattle.yspec.proofs.OnLiterals.{yspec_on_literals}
-use Rattle.yspec.specs.Live.{checked}
+use Rattle.yspec.proofs.LiteralLemmas.{yspec_on_literals}
+use Rattle.yspec.specs.edit.Live.{checked}
 use Rattle.yspec.proofs.editing.edits_checked.Goals as goal
 
 pub returns : goal.returns

@@ -1,5 +1,5 @@
 use Rattle.std.proofs.Common.{refl}
-use Rattle.yspec.proofs.OnLiterals.{yspec_on_literals}
+use Rattle.yspec.proofs.LiteralLemmas.{yspec_on_literals}
 use Rattle.yspec.proofs.examples.written_documents.Goals as goal
 
 pub returns : goal.returns

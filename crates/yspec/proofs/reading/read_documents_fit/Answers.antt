@@ -1,4 +1,4 @@
-use Rattle.yspec.proofs.FittingRead.{read_fits}
+use Rattle.yspec.proofs.DocumentProofs.FittingReadLemmas.{read_fits}
 use Rattle.yspec.proofs.reading.read_documents_fit.Goals as goal
 
 pub returns : goal.returns

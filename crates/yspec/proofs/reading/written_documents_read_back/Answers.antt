@@ -1,4 +1,4 @@
-use Rattle.yspec.proofs.ReadBack.{written_read}
+use Rattle.yspec.proofs.DocumentProofs.ReadBackLemmas.{written_read}
 use Rattle.yspec.proofs.reading.written_documents_read_back.Goals as goal
 
 pub returns : goal.returns

@@ -1,5 +1,5 @@
 use Rattle.std.proofs.Common.{None}
-use Rattle.yspec.proofs.WrittenNames.{names_differ}
+use Rattle.yspec.proofs.DocumentProofs.WrittenNameLemmas.{names_differ}
 use Rattle.yspec.proofs.reading.written_names_differ.Goals as goal
 
 pub returns : goal.returns

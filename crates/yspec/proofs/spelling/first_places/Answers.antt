@@ -1,6 +1,6 @@
 use Rattle.std.proofs.Common.{refl}
-use Rattle.yspec.specs.Slips.{wrong_escapes, slips_from, told}
-use Rattle.yspec.proofs.OnLiterals.{yspec_on_literals}
+use Rattle.yspec.specs.text.Slips.{wrong_escapes, slips_from, told}
+use Rattle.yspec.proofs.LiteralLemmas.{yspec_on_literals}
 use Rattle.yspec.proofs.spelling.first_places.Goals as goal
 
 pub returns : goal.returns

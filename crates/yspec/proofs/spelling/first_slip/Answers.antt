@@ -1,4 +1,4 @@
-use Rattle.yspec.proofs.SlipsTold.{refusal_told, told_refused, spelled_silent, silent_spells}
+use Rattle.yspec.proofs.TextProofs.SlipToldLemmas.{refusal_told, told_refused, spelled_silent, silent_spells}
 use Rattle.yspec.proofs.spelling.first_slip.Goals as goal
 
 pub returns : goal.returns

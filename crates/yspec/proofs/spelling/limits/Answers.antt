@@ -1,8 +1,8 @@
 use Rattle.std.proofs.Common.{refl, length}
-use Rattle.yspec.specs.Slips.{wrong_escapes, slips_from, told}
+use Rattle.yspec.specs.text.Slips.{wrong_escapes, slips_from, told}
 use Rattle.std.proofs.lemmas.Bool.{lt-ltb}
-use Rattle.yspec.specs.Statement.{text_limit}
-use Rattle.yspec.proofs.OnLiterals.{yspec_on_literals}
+use Rattle.yspec.specs.text.Statement.{text_limit}
+use Rattle.yspec.proofs.LiteralLemmas.{yspec_on_literals}
 use Rattle.yspec.proofs.spelling.limits.Goals as goal
 
 pub returns : goal.returns

@@ -1,4 +1,4 @@
-use Rattle.yspec.proofs.SpellingLaws as laws
+use Rattle.yspec.proofs.TextProofs.SpellingLemmas as laws
 use Rattle.yspec.proofs.spelling.one_reading.Goals as goal
 
 pub returns : goal.returns

@@ -1,4 +1,4 @@
-use Rattle.yspec.proofs.SlipsPlace.{first_slip_place}
+use Rattle.yspec.proofs.TextProofs.SlipPlaceLemmas.{first_slip_place}
 use Rattle.yspec.proofs.spelling.place_of_the_first_slip.Goals as goal
 
 pub returns : goal.returns

@@ -1,4 +1,4 @@
-use Rattle.yspec.proofs.SpellingLaws.{module_found, module_only}
+use Rattle.yspec.proofs.TextProofs.SpellingLemmas.{module_found, module_only}
 use Rattle.yspec.proofs.spelling.reading.Goals as goal
 
 pub returns : goal.returns

@@ -1,4 +1,4 @@
-use Rattle.yspec.proofs.SpellingLaws.{refused_spells_nothing, nothing_is_refused}
+use Rattle.yspec.proofs.TextProofs.SpellingLemmas.{refused_spells_nothing, nothing_is_refused}
 use Rattle.yspec.proofs.spelling.refusals.Goals as goal
 
 pub returns : goal.returns

@@ -1,6 +1,6 @@
 use Rattle.std.proofs.Common.{refl}
-use Rattle.yspec.proofs.OnLiterals.{yspec_on_literals}
-use Rattle.yspec.proofs.SpellingLaws.{module_found}
+use Rattle.yspec.proofs.LiteralLemmas.{yspec_on_literals}
+use Rattle.yspec.proofs.TextProofs.SpellingLemmas.{module_found}
 use Rattle.yspec.proofs.spelling.spelled_texts.Goals as goal
 
 pub returns : goal.returns

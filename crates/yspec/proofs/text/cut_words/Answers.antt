@@ -1,5 +1,5 @@
 use Rattle.std.proofs.Common.{refl}
-use Rattle.yspec.proofs.OnLiterals.{yspec_on_literals}
+use Rattle.yspec.proofs.LiteralLemmas.{yspec_on_literals}
 use Rattle.yspec.proofs.text.cut_words.Goals as goal
 
 pub returns : goal.returns

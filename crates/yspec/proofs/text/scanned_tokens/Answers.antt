@@ -1,6 +1,6 @@
 use Rattle.std.proofs.Common.{length, le_refl}
-use Rattle.yspec.specs.Spelling.{start}
-use Rattle.yspec.proofs.ScanningLaws.{same_tokens, scanned_so}
+use Rattle.yspec.specs.text.Spelling.{start}
+use Rattle.yspec.proofs.TextProofs.ScanningLemmas.{same_tokens, scanned_so}
 use Rattle.yspec.proofs.text.scanned_tokens.Goals as goal
 
 pub returns : goal.returns

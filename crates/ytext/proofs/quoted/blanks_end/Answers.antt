@@ -1,8 +1,8 @@
 use Rattle.std.proofs.Common.{List, ℕ, get_or, sym, ap, ◌∙◌, arith}
 use Rattle.std.specs.Prelude.{slice_range}
-use Rattle.yspec.specs.Text.{is_blank}
+use Rattle.yspec.specs.text.Text.{is_blank}
 use Rattle.ytext.specs.Quoted.{all_blank}
-use Rattle.ytext.proofs.QuotedSteps.{blank_more}
+use Rattle.ytext.proofs.QuotedLemmas.{blank_more}
 use Rattle.ytext.proofs.quoted.blanks_end.Goals as goal
 
 pub loop-at-preserved : goal.loop-at-preserved

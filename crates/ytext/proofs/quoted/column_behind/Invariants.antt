@@ -1,5 +1,5 @@
 use Rattle.std.proofs.Common.{◌≡◌, ◌+◌, ◌*◌, ◌≤◌, drop}
-use Rattle.yspec.specs.Token.{column_behind}
+use Rattle.yspec.specs.text.Token.{column_behind}
 use Rattle.ytext.proofs.quoted.column_behind.Given as goal
 
 abbrev pub invariant-loop-byte : goal.invariant-loop-byte

@@ -1,6 +1,6 @@
 use Rattle.std.proofs.Common.{List, ℕ, drop, sym, ap, ◌∙◌, arith}
 use Rattle.ytext.specs.Quoted.{is_plain}
-use Rattle.ytext.proofs.QuotedSteps.{plain_first, plain_next}
+use Rattle.ytext.proofs.QuotedLemmas.{plain_first, plain_next}
 use Rattle.ytext.proofs.quoted.plain_end.Goals as goal
 
 pub loop-at-init : goal.loop-at-init

@@ -1,9 +1,9 @@
 use Rattle.std.proofs.Common.{◌≡◌, ◌≤◌, List, ℕ, ◌+◌, ◌-◌, ◌++◌, get_or, replicate, sym, ap, ◌∙◌, arith, string_bytes, ◌⊎◌, inl, inr}
 use Rattle.std.specs.Prelude.{slice_range}
-use Rattle.yspec.specs.Text.{space}
-use Rattle.yspec.specs.Token.{stripped_starts}
+use Rattle.yspec.specs.text.Text.{space}
+use Rattle.yspec.specs.text.Token.{stripped_starts}
 use Rattle.ytext.specs.Quoted.{all_blank, blank_width}
-use Rattle.ytext.proofs.QuotedSteps.{strip_step, first_blank, strip_end}
+use Rattle.ytext.proofs.QuotedLemmas.{strip_step, first_blank, strip_end}
 use Rattle.ytext.proofs.quoted.push_blanks.Goals as goal
 use Rattle.ytext.proofs.quoted.push_blanks.Goals.{then-loop-at-test+else-left-gt0, else-loop-at-test}
 

@@ -1,7 +1,7 @@
 use Rattle.std.proofs.Common.{◌≡◌, true, ◌++◌, ◌-◌, ◌≤◌, string_bytes}
 use Rattle.std.specs.Prelude.{slice_range}
 use Rattle.std.specs.Str.{IsCharBoundary}
-use Rattle.yspec.specs.Token.{stripped_starts}
+use Rattle.yspec.specs.text.Token.{stripped_starts}
 use Rattle.ytext.specs.Quoted.{all_blank}
 use Rattle.ytext.proofs.quoted.push_blanks.Given as goal
 

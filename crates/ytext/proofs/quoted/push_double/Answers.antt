@@ -1,7 +1,7 @@
 use Rattle.std.proofs.Common.{ℕ, refl, sym, ap, ◌∙◌, arith, string_bytes}
 use Rattle.std.proofs.lemmas.Str.{IsCharBoundary-start}
 use Rattle.ytext.specs.Quoted.{reading}
-use Rattle.ytext.proofs.QuotedSteps.{reading_done}
+use Rattle.ytext.proofs.QuotedLemmas.{reading_done}
 use Rattle.ytext.proofs.quoted.push_double.Goals as goal
 
 pub loop-place-init : goal.loop-place-init

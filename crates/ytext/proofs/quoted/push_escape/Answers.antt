@@ -1,9 +1,9 @@
 use Rattle.std.proofs.Common.{List, ℕ, ◌++◌, drop, get_or, sym, ap, subst, ◌∙◌, arith, string_bytes}
-use Rattle.yspec.specs.Token.{escape}
+use Rattle.yspec.specs.text.Token.{escape}
 use Rattle.ytext.specs.Gives.{Fails}
 use Rattle.ytext.specs.declared.fault.TextFault.{TextFault}
 use Rattle.ytext.specs.Quoted.{reading}
-use Rattle.ytext.proofs.QuotedSteps.{step_alone, step_escape, step_wrong}
+use Rattle.ytext.proofs.QuotedLemmas.{step_alone, step_escape, step_wrong}
 use Rattle.ytext.proofs.quoted.push_escape.Goals as goal
 
 pub returns-then-next-bytes-clause-ok : goal.returns-then-next-bytes-clause-ok

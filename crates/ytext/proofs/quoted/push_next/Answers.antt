@@ -1,7 +1,7 @@
 use Rattle.std.proofs.Common.{List, ℕ, ◌+◌, ◌++◌, drop, get_or, ◌==◌, ◌&&◌, sym, ap, ◌∙◌, arith, string_bytes}
-use Rattle.yspec.specs.Text.{begins}
+use Rattle.yspec.specs.text.Text.{begins}
 use Rattle.ytext.specs.Quoted.{is_break}
-use Rattle.ytext.proofs.QuotedSteps.{step_feed, step_return, step_dropped, step_kept, solid_at, returned}
+use Rattle.ytext.proofs.QuotedLemmas.{step_feed, step_return, step_dropped, step_kept, solid_at, returned}
 use Rattle.ytext.proofs.quoted.push_next.Goals as goal
 
 pub returns-then-breaks_at-clause-ok : goal.returns-then-breaks_at-clause-ok

@@ -1,7 +1,7 @@
 use Rattle.std.proofs.Common.{◌<◌, ℕ, List, Ok, ◌++◌, drop, length, refl, ap, ◌∙◌, arith, string_bytes}
 use Rattle.std.proofs.lemmas.Str.{IsCharBoundary-start}
-use Rattle.yspec.specs.Token.{joined_breaks}
-use Rattle.ytext.proofs.QuotedSteps.{single_done, single_more}
+use Rattle.yspec.specs.text.Token.{joined_breaks}
+use Rattle.ytext.proofs.QuotedLemmas.{single_done, single_more}
 use Rattle.ytext.proofs.quoted.push_single.Goals as goal
 
 pub loop-at-init : goal.loop-at-init

@@ -1,6 +1,6 @@
 use Rattle.std.proofs.Common.{◌≡◌, ◌++◌, ◌-◌, length, drop, string_bytes}
 use Rattle.std.specs.Str.{IsCharBoundary}
-use Rattle.yspec.specs.Token.{joined_breaks}
+use Rattle.yspec.specs.text.Token.{joined_breaks}
 use Rattle.ytext.proofs.quoted.push_single.Given as goal
 
 abbrev pub invariant-loop-at : goal.invariant-loop-at

@@ -1,5 +1,5 @@
 use Rattle.std.proofs.Common.{◌≡◌, ◌++◌, replicate, string_bytes}
-use Rattle.yspec.specs.Text.{space}
+use Rattle.yspec.specs.text.Text.{space}
 use Rattle.ytext.proofs.quoted.push_spaces.Given as goal
 
 abbrev pub invariant-loop-left : goal.invariant-loop-left

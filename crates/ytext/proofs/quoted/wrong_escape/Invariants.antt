@@ -1,5 +1,5 @@
 use Rattle.std.proofs.Common.{◌≡◌, ◌+◌, ◌<◌, true, false, drop}
-use Rattle.yspec.specs.Scanning.{wrong_escape}
+use Rattle.yspec.specs.text.Scanning.{wrong_escape}
 use Rattle.ytext.proofs.quoted.wrong_escape.Given as goal
 
 abbrev pub invariant-loop-byte : goal.invariant-loop-byte

@@ -1,5 +1,5 @@
 use Rattle.std.proofs.Common.{sym, ◌∙◌, arith}
-use Rattle.ytext.proofs.ScanSteps.{comment_more}
+use Rattle.ytext.proofs.ScanLemmas.{comment_more}
 use Rattle.ytext.proofs.scan.comment_end.Goals as goal
 
 pub loop-at-preserved : goal.loop-at-preserved

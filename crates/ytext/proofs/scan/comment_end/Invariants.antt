@@ -1,5 +1,5 @@
 use Rattle.std.proofs.Common.{◌≡◌, ◌+◌, ◌-◌, ◌≤◌, length, drop, option_map}
-use Rattle.yspec.specs.Token.{comment_rest_length}
+use Rattle.yspec.specs.text.Token.{comment_rest_length}
 use Rattle.ytext.proofs.scan.comment_end.Given as goal
 
 abbrev pub invariant-loop-at : goal.invariant-loop-at

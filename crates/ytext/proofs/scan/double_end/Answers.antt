@@ -1,6 +1,6 @@
 use Rattle.std.proofs.Common.{sym, ap, ◌∙◌, arith, option_map, Bool, drop, ◌+◌}
-use Rattle.yspec.specs.Token.{double_length}
-use Rattle.ytext.proofs.ScanSteps.{double_more}
+use Rattle.yspec.specs.text.Token.{double_length}
+use Rattle.ytext.proofs.ScanLemmas.{double_more}
 use Rattle.ytext.proofs.scan.double_end.Goals as goal
 
 pub loop-at-preserved : goal.loop-at-preserved

@@ -1,5 +1,5 @@
 use Rattle.std.proofs.Common.{◌≡◌, ◌+◌, ◌-◌, ◌≤◌, false, length, drop, option_map}
-use Rattle.yspec.specs.Token.{double_length}
+use Rattle.yspec.specs.text.Token.{double_length}
 use Rattle.ytext.proofs.scan.double_end.Given as goal
 
 abbrev pub invariant-loop-at : goal.invariant-loop-at

@@ -1,5 +1,5 @@
 use Rattle.std.proofs.Common.{◌≡◌, ◌+◌, ◌-◌, ◌≤◌, length, drop}
-use Rattle.yspec.specs.Token.{line_comment_length}
+use Rattle.yspec.specs.text.Token.{line_comment_length}
 use Rattle.ytext.proofs.scan.line_end.Given as goal
 
 abbrev pub invariant-loop-at : goal.invariant-loop-at

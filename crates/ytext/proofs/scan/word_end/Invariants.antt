@@ -1,5 +1,5 @@
 use Rattle.std.proofs.Common.{◌≡◌, ◌+◌, ◌-◌, ◌≤◌, length, drop}
-use Rattle.yspec.specs.Token.{word_length}
+use Rattle.yspec.specs.text.Token.{word_length}
 use Rattle.ytext.proofs.scan.word_end.Given as goal
 
 abbrev pub invariant-loop-at : goal.invariant-loop-at

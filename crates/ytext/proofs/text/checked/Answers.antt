@@ -1,8 +1,8 @@
 use Rattle.std.proofs.Common.{ℕ, Some, None, sym, ap, subst, ◌∙◌, arith}
-use Rattle.yspec.specs.Statement.{module_of, slip}
+use Rattle.yspec.specs.text.Statement.{module_of, slip}
 use Rattle.ytext.specs.Gives.{Fails}
 use Rattle.ytext.specs.declared.fault.TextFault.{TextFault}
-use Rattle.ytext.proofs.TextSteps.{too_long, judged, no_text}
+use Rattle.ytext.proofs.TextLemmas.{too_long, judged, no_text}
 use Rattle.ytext.proofs.text.checked.Goals as goal
 
 pub returns-then-bytes-gt-TEXT_LIMIT-clause-err : goal.returns-then-bytes-gt-TEXT_LIMIT-clause-err

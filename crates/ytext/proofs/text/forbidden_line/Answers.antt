@@ -6,9 +6,9 @@ use Rattle.std.proofs.lemmas.Str.{encodes-chars}
 use Rattle.std.specs.Str.{chars}
 use Rattle.std.specs.List.{list_all}
 use Rattle.ytext.specs.Characters.{is_plain}
-use Rattle.ytext.proofs.PlainSteps.{plain_line}
+use Rattle.ytext.proofs.PlainLemmas.{plain_line}
 use Rattle.ytext.specs.Characters.{pending}
-use Rattle.ytext.proofs.TextSteps.{char_at, few_chars, none_left}
+use Rattle.ytext.proofs.TextLemmas.{char_at, few_chars, none_left}
 use Rattle.ytext.proofs.text.forbidden_line.Goals as goal
 
 pub loop-character-preserved : goal.loop-character-preserved

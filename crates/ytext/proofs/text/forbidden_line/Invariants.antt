@@ -1,6 +1,6 @@
 use Rattle.std.proofs.Common.{◌≡◌, ◌+◌, ◌≤◌, drop, length}
 use Rattle.std.specs.Str.{chars}
-use Rattle.yspec.specs.Text.{forbidden_line}
+use Rattle.yspec.specs.text.Text.{forbidden_line}
 use Rattle.ytext.specs.Characters.{pending}
 use Rattle.ytext.proofs.text.forbidden_line.Given as goal
 

@@ -6,10 +6,10 @@ use Rattle.std.proofs.lemmas.Str.{encodes-chars, len_utf8_bounds}
 use Rattle.std.specs.Str.{chars}
 use Rattle.std.specs.List.{list_all}
 use Rattle.ytext.specs.Characters.{is_plain}
-use Rattle.ytext.proofs.PlainSteps.{plain_place}
+use Rattle.ytext.proofs.PlainLemmas.{plain_place}
 use lib.Utf8.{encodes}
 use Rattle.ytext.specs.Characters.{pending_place}
-use Rattle.ytext.proofs.TextSteps.{char_at, char_bytes, none_left, no_return}
+use Rattle.ytext.proofs.TextLemmas.{char_at, char_bytes, none_left, no_return}
 use Rattle.ytext.proofs.text.forbidden_place.Goals as goal
 
 pub loop-character-init : goal.loop-character-init

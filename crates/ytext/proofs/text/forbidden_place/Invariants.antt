@@ -1,7 +1,7 @@
 use Rattle.std.proofs.Common.{◌≡◌, ◌+◌, ◌<◌, true, drop, length}
 use Rattle.std.specs.Str.{chars}
 use lib.Utf8.{encodes}
-use Rattle.yspec.specs.Scanning.{forbidden_place}
+use Rattle.yspec.specs.text.Scanning.{forbidden_place}
 use Rattle.ytext.specs.Characters.{pending_place}
 use Rattle.ytext.proofs.text.forbidden_place.Given as goal
 

@@ -1,5 +1,5 @@
 use Rattle.std.proofs.Common.{◌≡◌, ◌+◌, ◌≤◌, drop}
-use Rattle.yspec.specs.Text.{line_behind}
+use Rattle.yspec.specs.text.Text.{line_behind}
 use Rattle.ytext.proofs.text.line_behind.Given as goal
 
 abbrev pub invariant-loop-byte : goal.invariant-loop-byte

@@ -1,7 +1,7 @@
 use Rattle.std.proofs.Common.{◌≡◌, true, false, cond, ◌∷◌, ◌++◌, get_or, string_bytes, ◌∙◌, rules}
-use Rattle.yspec.specs.Text.{space}
-use Rattle.yspec.specs.Values.{is_position}
-use Rattle.ytype.proofs.NameSteps.{name_written, name_passed}
+use Rattle.yspec.specs.text.Text.{space}
+use Rattle.yspec.specs.types.Values.{is_position}
+use Rattle.ytype.proofs.NameLemmas.{name_written, name_passed}
 use Rattle.ytype.proofs.canonical.bits_text.Goals as goal
 use Rattle.ytype.proofs.canonical.bits_text.Goals.{then-is_position+in_ok-push_name, else-is_position}
 

@@ -1,6 +1,6 @@
 use Rattle.std.proofs.Common.{◌≡◌, ◌++◌, true, drop}
 use Rattle.std.specs.String.{string_bytes}
-use Rattle.yspec.specs.Values.{spaced_from, names_at}
+use Rattle.yspec.specs.types.Values.{spaced_from, names_at}
 use Rattle.ytype.proofs.canonical.bits_text.Given as goal
 
 abbrev pub invariant-names : goal.invariant-names

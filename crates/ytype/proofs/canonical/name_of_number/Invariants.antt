@@ -1,5 +1,5 @@
 use Rattle.std.proofs.Common.{◌≡◌, drop}
-use Rattle.yspec.specs.Values.{name_of_number}
+use Rattle.yspec.specs.types.Values.{name_of_number}
 use Rattle.ytype.proofs.canonical.name_of_number.Given as goal
 
 abbrev pub invariant-names : goal.invariant-names

@@ -1,5 +1,5 @@
 use Rattle.std.proofs.Common.{◌≡◌, drop}
-use Rattle.yspec.specs.Types.{excluding}
+use Rattle.yspec.specs.types.Types.{excluding}
 use Rattle.ytype.proofs.simple.excluding.Given as goal
 
 abbrev pub invariant-limits : goal.invariant-limits

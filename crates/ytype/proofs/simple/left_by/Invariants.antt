@@ -1,5 +1,5 @@
 use Rattle.std.proofs.Common.{◌≡◌, drop}
-use Rattle.yspec.specs.Restriction.{left_after}
+use Rattle.yspec.specs.types.Restriction.{left_after}
 use Rattle.ytype.proofs.simple.left_by.Given as goal
 
 abbrev pub invariant-limits : goal.invariant-limits

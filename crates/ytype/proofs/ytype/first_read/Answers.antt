@@ -1,9 +1,9 @@
 use Rattle.std.proofs.Common.{sym, ap, ◌∙◌, Some}
-use Rattle.yspec.specs.Types.{SimpleType, Val}
-use Rattle.yspec.specs.Values.{simple_read}
+use Rattle.yspec.specs.types.Types.{SimpleType, Val}
+use Rattle.yspec.specs.types.Values.{simple_read}
 use Rattle.ytype.specs.View.{content_of}
 use Rattle.ytype.specs.Founds.{contents}
-use Rattle.ytype.proofs.MemberSteps.{not_first, is_first}
+use Rattle.ytype.proofs.MemberLemmas.{not_first, is_first}
 use Rattle.ytype.proofs.ytype.first_read.Goals as goal
 
 pub members-preserved : goal.members-preserved

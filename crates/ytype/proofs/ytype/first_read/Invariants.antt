@@ -1,6 +1,6 @@
 use Rattle.std.proofs.Common.{◌≡◌, drop}
-use Rattle.yspec.specs.Types.{SimpleType, first_value}
-use Rattle.yspec.specs.Values.{simple_read}
+use Rattle.yspec.specs.types.Types.{SimpleType, first_value}
+use Rattle.yspec.specs.types.Values.{simple_read}
 use Rattle.ytype.proofs.ytype.first_read.Given as goal
 
 abbrev pub invariant-members : goal.invariant-members

@@ -1,10 +1,10 @@
 use Rattle.std.proofs.Common.{sym, ap, ◌∙◌, Some}
-use Rattle.yspec.specs.Types.{SimpleType, Val}
-use Rattle.yspec.specs.Types.{simple_taken}
+use Rattle.yspec.specs.types.Types.{SimpleType, Val}
+use Rattle.yspec.specs.types.Types.{simple_taken}
 use Rattle.ytype.specs.View.{raw_of}
 use Rattle.ytype.specs.View.{content_of}
 use Rattle.ytype.specs.Founds.{contents}
-use Rattle.ytype.proofs.MemberSteps.{not_first, is_first}
+use Rattle.ytype.proofs.MemberLemmas.{not_first, is_first}
 use Rattle.ytype.proofs.ytype.first_taken.Goals as goal
 
 pub members-preserved : goal.members-preserved

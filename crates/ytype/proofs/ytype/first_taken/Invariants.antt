@@ -1,5 +1,5 @@
 use Rattle.std.proofs.Common.{◌≡◌, drop}
-use Rattle.yspec.specs.Types.{SimpleType, first_value, simple_taken}
+use Rattle.yspec.specs.types.Types.{SimpleType, first_value, simple_taken}
 use Rattle.ytype.specs.View.{raw_of}
 use Rattle.ytype.proofs.ytype.first_taken.Given as goal
 

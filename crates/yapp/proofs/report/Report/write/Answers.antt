@@ -1,10 +1,10 @@
 use Rattle.std.proofs.Common.{ℕ, ◌++◌, codes, decimal, length, ap, ◌∙◌, sym}
 use Rattle.std.proofs.lemmas.List.{length-map}
 use Rattle.std.specs.List.{flat_map}
-use Rattle.yspec.specs.Faults.{line_of}
+use Rattle.yspec.specs.document.Faults.{line_of}
 use Rattle.yschema.specs.View as schema
 use Rattle.ycheck.specs.View.{view, views}
-use Rattle.ytext.proofs.WritingSteps.{left_all, left_after, left_failed, left_last, left_same, wrote_same, broke_same}
+use Rattle.youtput.proofs.WritingLemmas.{left_all, left_after, left_failed, left_last, left_same, wrote_same, broke_same}
 use Rattle.yapp.proofs.report.Report.write.Goals as goal
 
 pub returns-in_err-write_lines : goal.returns-in_err-write_lines

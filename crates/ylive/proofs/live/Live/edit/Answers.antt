@@ -1,4 +1,4 @@
-use Rattle.ylive.proofs.FittingTest.{fits_is, fits_true}
+use Rattle.ylive.proofs.FittingTestLemmas.{fits_is, fits_true}
 use Rattle.ylive.proofs.live.Live.edit.Goals as goal
 
 pub count_of-requires : goal.count_of-requires

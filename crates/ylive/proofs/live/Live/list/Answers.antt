@@ -1,6 +1,6 @@
 use Rattle.ylive.specs.View.{view}
-use Rattle.ylive.proofs.FittingTest.{fits_is}
-use Rattle.ylive.proofs.RunSteps.{is_fresh}
+use Rattle.ylive.proofs.FittingTestLemmas.{fits_is}
+use Rattle.ylive.proofs.RunLemmas.{is_fresh}
 use Rattle.ylive.proofs.live.Live.list.Goals as goal
 
 pub returns-in-Ok : goal.returns-in-Ok

@@ -1,4 +1,4 @@
-use Rattle.ylive.proofs.FittingTest.{fits_true}
+use Rattle.ylive.proofs.FittingTestLemmas.{fits_true}
 use Rattle.ylive.proofs.live.Live.open.Goals as goal
 
 pub count_of-requires : goal.count_of-requires

@@ -1,6 +1,6 @@
 use Rattle.std.proofs.Common.{◌∙◌, arith}
 use Rattle.ylive.specs.View.{view, outcome_view, outcomes_view}
-use Rattle.ylive.proofs.RunSteps.{decided_to_next, is_fresh, one_longer, pushed, still_fresh, stopped}
+use Rattle.ylive.proofs.RunLemmas.{decided_to_next, is_fresh, one_longer, pushed, still_fresh, stopped}
 use Rattle.ylive.proofs.live.Live.run.Goals as goal
 
 pub returns-in-Err-decide : goal.returns-in-Err-decide

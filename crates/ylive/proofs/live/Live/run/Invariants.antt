@@ -1,7 +1,7 @@
 use Rattle.std.proofs.Common.{◌≡◌, ◌≤◌, false, take, length}
 use Rattle.std.specs.Vec.{vec_len, vec_capacity}
 use Rattle.ylive.specs.View.{view, edits_view, outcomes_view}
-use Rattle.ylive.proofs.RunSteps.{Decided}
+use Rattle.ylive.proofs.RunLemmas.{Decided}
 use Rattle.ylive.proofs.live.Live.run.Given as goal
 
 abbrev pub invariant-loop-edit : goal.invariant-loop-edit

@@ -1,8 +1,8 @@
 use Rattle.std.proofs.Common.{subst, sym}
 use Rattle.std.proofs.lemmas.Result.{MatchResult-weaker}
-use Rattle.yspec.specs.Fitting.{Fits}
+use Rattle.yspec.specs.document.Fitting.{Fits}
 use Rattle.yschema.specs.View as schema_view
-use Rattle.ylive.proofs.FittingTest.{fits_is}
+use Rattle.ylive.proofs.FittingTestLemmas.{fits_is}
 use Rattle.ylive.proofs.live.Live.tree.Goals as goal
 
 pub returns-clause-fitting : goal.returns-clause-fitting

@@ -1,6 +1,6 @@
 use Rattle.std.proofs.Common.{◌≡◌, ◌+◌, ◌∷◌, ◌++◌, [], take, length, sym, ap, ◌∙◌, subst, arith, length-take, string_bytes}
 use Rattle.std.proofs.lemmas.List.{take_more, take_all}
-use Rattle.yspec.specs.Schema.{module_at, written_name}
+use Rattle.yspec.specs.schema.Schema.{module_at, written_name}
 use Rattle.yschema.specs.Layout.{laid, place_of, number_of, node_view, schema_view}
 use Rattle.yschema.specs.Lookup.{FindsNamed, FindsWritten}
 use Rattle.yschema.proofs.LayoutLemmas.{laid_push}

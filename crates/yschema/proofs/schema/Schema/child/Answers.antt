@@ -1,5 +1,5 @@
 use Rattle.std.proofs.Common.{ap, ◌∙◌}
-use Rattle.yspec.specs.Schema.{is_called}
+use Rattle.yspec.specs.schema.Schema.{is_called}
 use Rattle.yschema.specs.Layout.{number_of}
 use Rattle.yschema.proofs.ChildLemmas.{first_child}
 use Rattle.yschema.proofs.schema.Schema.child.Goals as goal

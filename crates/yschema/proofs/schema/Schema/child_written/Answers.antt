@@ -1,5 +1,5 @@
 use Rattle.std.proofs.Common.{ap, ◌∙◌}
-use Rattle.yspec.specs.Schema.{is_written}
+use Rattle.yspec.specs.schema.Schema.{is_written}
 use Rattle.yschema.specs.Layout.{number_of}
 use Rattle.yschema.specs.View.{view}
 use Rattle.yschema.proofs.ChildLemmas.{first_child}

@@ -1,6 +1,6 @@
 use Rattle.std.proofs.Common.{sym, ap, ◌∙◌}
 use Rattle.std.specs.Prelude.{position, string_bytes}
-use Rattle.yspec.specs.Text.{is_text}
+use Rattle.yspec.specs.text.Text.{is_text}
 use Rattle.yschema.specs.View.{module_view}
 use Rattle.yschema.proofs.QueryLemmas.{position-map}
 use Rattle.yschema.proofs.schema.Schema.«module».Goals as goal

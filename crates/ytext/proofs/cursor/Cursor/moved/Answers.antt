@@ -1,7 +1,7 @@
 use Rattle.std.proofs.Common.{ℕ, List, ◌<◌, ◌+◌, ◌-◌, length, drop, get_or, sym, ap, ◌∙◌, arith}
-use Rattle.yspec.specs.Scanning.{pieces_from}
+use Rattle.yspec.specs.text.Scanning.{pieces_from}
 use Rattle.ytext.specs.Left.{column_at}
-use Rattle.ytext.proofs.TokenSteps.{break_passed, other_passed}
+use Rattle.ytext.proofs.TokenLemmas.{break_passed, other_passed}
 use Rattle.ytext.proofs.cursor.Cursor.moved.Goals as goal
 use Rattle.ytext.proofs.cursor.Cursor.moved.Goals.{then-bytes-i-eq10, else-bytes-i-eq10}
 

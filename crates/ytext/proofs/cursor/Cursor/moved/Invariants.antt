@@ -1,5 +1,5 @@
 use Rattle.std.proofs.Common.{◌≡◌, ◌+◌, ◌-◌, ◌≤◌, drop}
-use Rattle.yspec.specs.Scanning.{pieces_from}
+use Rattle.yspec.specs.text.Scanning.{pieces_from}
 use Rattle.ytext.specs.Left.{pieces_behind, column_at}
 use Rattle.ytext.proofs.cursor.Cursor.moved.Given as goal
 

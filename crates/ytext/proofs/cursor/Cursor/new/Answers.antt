@@ -1,6 +1,6 @@
 use Rattle.std.proofs.Common.{arith}
 use Rattle.std.proofs.lemmas.Str.{IsCharBoundary-start}
-use Rattle.yspec.proofs.ScanningLaws.{same_tokens}
+use Rattle.yspec.proofs.TextProofs.ScanningLemmas.{same_tokens}
 use Rattle.ytext.proofs.cursor.Cursor.new.Goals as goal
 
 pub invariant_of-result : goal.invariant_of-result

@@ -1,5 +1,5 @@
 use Rattle.ytext.specs.Left.{pieces_left}
-use Rattle.ytext.proofs.CursorSteps.{token_met}
+use Rattle.ytext.proofs.CursorLemmas.{token_met}
 use Rattle.ytext.proofs.cursor.Cursor.next.Goals as goal
 
 pub returns-clause-tokens : goal.returns-clause-tokens

@@ -1,8 +1,8 @@
 use Rattle.std.proofs.Common.{ℕ, List, ◌<◌, ◌+◌, length, drop, get_or, sym, ap, ◌∙◌, arith}
-use Rattle.yspec.specs.Text.{is_white}
-use Rattle.yspec.specs.Scanning.{pieces_from}
+use Rattle.yspec.specs.text.Text.{is_white}
+use Rattle.yspec.specs.text.Scanning.{pieces_from}
 use Rattle.ytext.specs.Left.{column_at}
-use Rattle.ytext.proofs.TokenSteps.{white_break, white_other}
+use Rattle.ytext.proofs.TokenLemmas.{white_break, white_other}
 use Rattle.ytext.proofs.cursor.Cursor.past_white.Goals as goal
 use Rattle.ytext.proofs.cursor.Cursor.past_white.Goals.{then-bytes-at-eq10, else-bytes-at-eq10}
 

@@ -1,6 +1,6 @@
 use Rattle.std.proofs.Common.{◌≡◌, ◌+◌, ◌-◌, ◌≤◌, drop, length}
 use Rattle.std.specs.Str.{IsCharBoundary}
-use Rattle.yspec.specs.Scanning.{pieces_from}
+use Rattle.yspec.specs.text.Scanning.{pieces_from}
 use Rattle.ytext.specs.Left.{pieces_left, column_at}
 use Rattle.ytext.proofs.cursor.Cursor.past_white.Given as goal
 

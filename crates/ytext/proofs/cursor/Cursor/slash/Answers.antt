@@ -1,6 +1,6 @@
 use Rattle.std.proofs.Common.{◌≡◌, ℕ, List, ◌+◌, ◌-◌, arith, subst, drop, ap, sym, ◌∙◌}
-use Rattle.yspec.specs.Text.{begins}
-use Rattle.ytext.proofs.TokenSteps.{comment_found, comment_open}
+use Rattle.yspec.specs.text.Text.{begins}
+use Rattle.ytext.proofs.TokenLemmas.{comment_found, comment_open}
 use Rattle.std.specs.Str.{IsCharBoundary}
 use Rattle.std.proofs.lemmas.Str.{IsCharBoundary-after_ascii}
 use Rattle.ytext.proofs.cursor.Cursor.slash.Goals as goal

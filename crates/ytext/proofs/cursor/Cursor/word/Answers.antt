@@ -1,4 +1,4 @@
-use Rattle.ytext.proofs.TokenSteps.{word_front}
+use Rattle.ytext.proofs.TokenLemmas.{word_front}
 use Rattle.ytext.proofs.cursor.Cursor.word.Goals as goal
 
 pub returns-clause-front : goal.returns-clause-front

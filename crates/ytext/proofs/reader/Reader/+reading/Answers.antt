@@ -1,12 +1,12 @@
 use Rattle.std.proofs.Common.{List, sym, ap, subst, ◌∙◌, arith}
-use Rattle.yspec.specs.Token.{Token}
+use Rattle.yspec.specs.text.Token.{Token}
 use Rattle.ytext.specs.Gives.{Fails}
 use Rattle.ytext.specs.Left.{left}
 use Rattle.ytext.specs.Reading.{tokens_ahead, rows}
 use Rattle.ytext.specs.View.{row_view}
 use Rattle.ytext.specs.declared.statement.Stmt.{Stmt}
-use Rattle.ytext.proofs.RowSteps.{with_front, front_nothing, row_grows, row_fails}
-use Rattle.ytext.proofs.ReaderSteps.{word_ahead, row_ends, row_breaks}
+use Rattle.ytext.proofs.RowLemmas.{with_front, front_nothing, row_grows, row_fails}
+use Rattle.ytext.proofs.ReaderLemmas.{word_ahead, row_ends, row_breaks}
 use Rattle.ytext.proofs.reader.Reader.+reading.Goals as goal
 
 pub statements-loop-self-init : goal.statements-loop-self-init

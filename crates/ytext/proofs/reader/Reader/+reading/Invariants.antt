@@ -1,7 +1,7 @@
 use Rattle.std.proofs.Common.{◌≡◌, ◌≤◌, ◌+◌, ◌-◌, ◌*◌}
 use Rattle.ytext.specs.Reading.{ahead, rows, tokens_ahead}
 use Rattle.ytext.specs.View.{row_view}
-use Rattle.ytext.proofs.RowSteps.{with_front}
+use Rattle.ytext.proofs.RowLemmas.{with_front}
 use Rattle.ytext.proofs.reader.Reader.+reading.Given as goal
 
 abbrev pub decreases-body : goal.decreases-body

@@ -1,7 +1,7 @@
 use Rattle.std.proofs.Common.{Result, sym, ap, subst, ◌∙◌}
-use Rattle.yspec.specs.Statement.{Slip, Row, ◌>>=◌, ending}
+use Rattle.yspec.specs.text.Statement.{Slip, Row, ◌>>=◌, ending}
 use Rattle.ytext.specs.Gives.{Fails}
-use Rattle.ytext.proofs.ReaderSteps.{top_of, top_fails}
+use Rattle.ytext.proofs.ReaderLemmas.{top_of, top_fails}
 use Rattle.ytext.proofs.reader.Reader.module.Goals as goal
 
 pub returns-in-Err : goal.returns-in-Err

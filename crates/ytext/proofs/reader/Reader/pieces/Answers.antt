@@ -1,8 +1,8 @@
 use Rattle.std.proofs.Common.{sym, ap, subst, ◌∙◌, arith, string_bytes}
-use Rattle.yspec.specs.Text.{Text}
+use Rattle.yspec.specs.text.Text.{Text}
 use Rattle.ytext.specs.Gives.{Fails}
 use Rattle.ytext.specs.Reading.{first_of, rest_of, tokens_ahead, piece_behind}
-use Rattle.ytext.proofs.PieceSteps.{going, first_fails, first_taken, fails_taken, piece_taken, plus_quoted}
+use Rattle.ytext.proofs.PieceLemmas.{going, first_fails, first_taken, fails_taken, piece_taken, plus_quoted}
 use Rattle.ytext.proofs.reader.Reader.pieces.Goals as goal
 
 pub returns-in-Err-clause-pieces : goal.returns-in-Err-clause-pieces

@@ -1,7 +1,7 @@
 use Rattle.std.proofs.Common.{◌≡◌, ◌<◌, string_bytes}
-use Rattle.yspec.specs.Statement.{pieces}
+use Rattle.yspec.specs.text.Statement.{pieces}
 use Rattle.ytext.specs.Reading.{ahead, tokens_ahead}
-use Rattle.ytext.proofs.PieceSteps.{going}
+use Rattle.ytext.proofs.PieceLemmas.{going}
 use Rattle.ytext.proofs.reader.Reader.pieces.Given as goal
 
 abbrev pub invariant-loop-line : goal.invariant-loop-line

@@ -1,12 +1,12 @@
 use Rattle.std.proofs.Common.{Result, sym, ap, subst, ◌∙◌, string_bytes}
-use Rattle.yspec.specs.Text.{Text}
-use Rattle.yspec.specs.Token.{column_behind}
-use Rattle.yspec.specs.Statement.{Slip, piece}
+use Rattle.yspec.specs.text.Text.{Text}
+use Rattle.yspec.specs.text.Token.{column_behind}
+use Rattle.yspec.specs.text.Statement.{Slip, piece}
 use Rattle.ytext.specs.Gives.{Gives}
 use Rattle.ytext.specs.Reading.{added}
 use Rattle.ytext.specs.View.{lexeme_of}
 use Rattle.ytext.specs.declared.cursor.Lexeme.{Lexeme}
-use Rattle.ytext.proofs.PieceSteps.{reading_piece}
+use Rattle.ytext.proofs.PieceLemmas.{reading_piece}
 use Rattle.ytext.proofs.reader.Reader.push_piece.Goals as goal
 
 pub returns-in-Double-clause-piece : goal.returns-in-Double-clause-piece

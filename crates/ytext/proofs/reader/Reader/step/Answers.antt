@@ -1,7 +1,7 @@
 use Rattle.std.proofs.Common.{length, List, ap, ◌∙◌, ◌∷◌, arith}
-use Rattle.yspec.specs.Token.{Token}
+use Rattle.yspec.specs.text.Token.{Token}
 use Rattle.ytext.specs.Left.{token_of}
-use Rattle.ytext.proofs.ReaderSteps.{token_gone, fewer_ahead}
+use Rattle.ytext.proofs.ReaderLemmas.{token_gone, fewer_ahead}
 use Rattle.ytext.proofs.reader.Reader.step.Goals as goal
 
 pub returns-clause-ahead : goal.returns-clause-ahead

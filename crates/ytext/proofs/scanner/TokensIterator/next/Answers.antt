@@ -1,10 +1,10 @@
 use Rattle.std.proofs.Common.{◌-◌, List, [], ◌∷◌, Result, Ok, cond, ap, sym, ◌∙◌, refl}
-use Rattle.yspec.specs.Statement.{Slip}
-use Rattle.yspec.specs.Scanning.{Scanned, given_of}
+use Rattle.yspec.specs.text.Statement.{Slip}
+use Rattle.yspec.specs.text.Scanning.{Scanned, given_of}
 use Rattle.ytext.specs.Left.{piece_of, pieces_behind}
 use Rattle.ytext.specs.View.{ends_text}
 use Rattle.ytext.specs.Shown.{scanned_of}
-use Rattle.ytext.proofs.ScannerSteps.{left_by_piece, told_given, token_given, end_given, behind_token, progress}
+use Rattle.ytext.proofs.ScannerLemmas.{left_by_piece, told_given, token_given, end_given, behind_token, progress}
 use Rattle.ytext.proofs.scanner.TokensIterator.next.Goals as goal
 
 pub returns-in-Some-clause-steps : goal.returns-in-Some-clause-steps

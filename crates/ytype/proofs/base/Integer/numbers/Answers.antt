@@ -1,7 +1,7 @@
 use Rattle.std.proofs.Common.{◌≡◌, sym, ap, subst, ◌∙◌, rules}
-use Rattle.yspec.specs.Ranges.{Part}
-use Rattle.yspec.specs.Types.{numbers_of}
-use Rattle.yspec.specs.Types as types
+use Rattle.yspec.specs.types.Ranges.{Part}
+use Rattle.yspec.specs.types.Types.{numbers_of}
+use Rattle.yspec.specs.types.Types as types
 use Rattle.ynumber.specs.Words.{IsNarrow}
 use Rattle.ytype.specs.View.{integer_of}
 use Rattle.ytype.specs.declared.base.Integer.{Integer}

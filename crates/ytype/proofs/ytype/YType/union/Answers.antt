@@ -1,6 +1,6 @@
 use Rattle.std.proofs.Common.{◌≡◌, ◌++◌, ◌∙◌, get_or, rules}
-use Rattle.yspec.specs.Restriction.{members_of}
-use Rattle.ytype.proofs.MemberSteps.{members_more}
+use Rattle.yspec.specs.types.Restriction.{members_of}
+use Rattle.ytype.proofs.MemberLemmas.{members_more}
 use Rattle.ytype.proofs.ytype.YType.union.Goals as goal
 
 pub types-preserved : goal.types-preserved

@@ -1,5 +1,5 @@
 use Rattle.std.proofs.Common.{◌≡◌, ◌++◌, drop}
-use Rattle.yspec.specs.Restriction.{all_members}
+use Rattle.yspec.specs.types.Restriction.{all_members}
 use Rattle.ytype.proofs.ytype.YType.union.Given as goal
 
 abbrev pub invariant-types : goal.invariant-types

@@ -1,0 +1,9 @@
+pub mod CheckingLemmas
+pub mod FittingLemmas
+pub mod FittingReadLemmas
+pub mod VisitLemmas
+pub mod WrittenRowLemmas
+pub mod ReadBackLemmas
+pub mod WrittenNameLemmas
+pub mod WrittenShapeLemmas
+pub mod ReadWholeLemmas

@@ -1,0 +1,36 @@
+-- What is in play below a stored node or at the top: a function of its schema children and of how many instances of
+-- each are stored (RFC 7950, 7.5.1, 7.6.1 and 7.6.5).
+use Rattle.std.specs.Prelude.{ℕ, ◌++◌, Bool, List, [], ◌∷◌, None, if◌then◌else◌, nat_lt}
+use Rattle.std.specs.Option.{option_map_or}
+use Rattle.yspec.specs.Forest.{Forest, end, node}
+use Rattle.yspec.specs.schema.Schema.{SchemaNode, Kind, container, leaf}
+use Rattle.yspec.specs.document.Document.{Step}
+
+-- Steps lead down from that node, through containers that are implied.
+pub data Item : Type 0 where
+  -- tell the fault of this number there
+  tell : ℕ → List Step → Item
+  -- the default of this schema node is in use
+  in_use : ℕ → Item
+  -- the stored instances of this schema node
+  visit : ℕ → Item
+
+abbrev pub leaf_items : SchemaNode → List Step → Bool → Bool → List Item
+leaf_items n steps has_default mandatory =
+    if mandatory then tell 3 steps ∷ [] else (if has_default then in_use n.number ∷ [] else [])
+
+-- A container without presence is in play though it isn't stored; `inside` are the items below it.
+abbrev pub absent_items : Kind → SchemaNode → List Step → List Item → List Item
+absent_items (container presence) n steps inside = if presence then [] else inside
+absent_items (leaf type default_value mandatory) n steps inside =
+    leaf_items n steps (option_map_or (λ _. Bool.true) default_value Bool.false) mandatory
+
+abbrev pub step_below : List Step → SchemaNode → List Step
+step_below above n = above ++ record { schema_number = n.number; position = None } ∷ []
+
+-- in order of definition; `stored` counts the stored instances of a schema node
+unfoldable pub items_in_play : (ℕ → ℕ) → List Step → Forest SchemaNode → List Item
+items_in_play stored above end = []
+items_in_play stored above (node n below after) = (if nat_lt 0 (stored n.number) then visit n.number ∷ []
+    else absent_items n.kind n (step_below above n) (items_in_play stored (step_below above n) below))
+    ++ items_in_play stored above after

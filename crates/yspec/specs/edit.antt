@@ -1,0 +1,5 @@
+-- Edits of documents, and the live document.
+pub mod Edit
+pub mod EditText
+pub mod Editing
+pub mod Live

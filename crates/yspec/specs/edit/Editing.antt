@@ -1,0 +1,188 @@
+-- What an edit does to a document, or why it is refused.
+use Rattle.std.specs.Prelude.{ℕ, ◌==◌, ◌++◌, Bool, true, false, List, [], ◌∷◌, map, Option, Some, None, is_some, option_and_then, Result, Ok, Err, if◌then◌else◌, nat_lt}
+use Rattle.std.specs.Option.{option_map_or}
+use Rattle.serde_json.specs.Data.{Data}
+use Rattle.yspec.specs.Forest.{end, node, size}
+use Rattle.yspec.specs.text.Text.{Text}
+use Rattle.yspec.specs.schema.Schema.{Schema, SchemaNode, node_at, children_of, child_written}
+use Rattle.yspec.specs.document.Document.{Stored, Tree, Step}
+use Rattle.yspec.specs.document.Reading.{node_visits, first_wrong, json_of, stored_node, stored_rows, members_of}
+use Rattle.yspec.specs.edit.Edit.{edit_at}
+use Rattle.yspec.specs.edit.EditText.{Predicate, unsaid, Path, Edit, create, replace, remove}
+
+-- why an edit is refused: the number behind the `E`, and of a value that doesn't fit the one behind the `J`
+pub record EditRefusal : Type 0 where
+  pub code : ℕ
+  pub document_code : Option ℕ
+
+abbrev pub refused : {A : Type 0} → ℕ → Result A EditRefusal
+refused code = Err (record { code = code; document_code = None })
+
+abbrev pub value_refused : {A : Type 0} → ℕ → Result A EditRefusal
+value_refused document_code = Err (record { code = 10; document_code = Some document_code })
+
+infixl 10 ◌>>=◌
+abbrev pub ◌>>=◌ : {A B : Type 0} → Result A EditRefusal → (A → Result B EditRefusal) → Result B EditRefusal
+(Ok x) >>= f = f x
+(Err e) >>= f = Err e
+
+-- ---- what the steps of a path mean
+
+-- the schema nodes above one, from the top, and that node
+pub record Way : Type 0 where
+  pub above : List ℕ
+  pub last : ℕ
+
+-- the way on from a node, by the names of its steps; E2: a name isn't there, or in the form that isn't due
+abbrev pub way_on : Schema → List ℕ → ℕ → Path → Result Way EditRefusal
+way_on schema above last [] = Ok (record { above = above; last = last })
+way_on schema above last (s ∷ steps) =
+    option_map_or (λ n. way_on schema (above ++ last ∷ []) n steps) (child_written schema (Some last) s.name) (refused 2)
+
+-- a path has a step
+abbrev pub way : Schema → Path → Result Way EditRefusal
+way schema [] = refused 1
+way schema (s ∷ steps) = option_map_or (λ n. way_on schema [] n steps) (child_written schema None s.name) (refused 2)
+
+abbrev pub says_nothing : Predicate → Bool
+says_nothing unsaid = true
+says_nothing _ = false
+
+abbrev pub says_which : Path → Bool
+says_which [] = false
+says_which (s ∷ steps) = if says_nothing s.predicate then says_which steps else true
+
+-- E3: a container and a leaf have one instance, so no step of today says which
+abbrev pub meant : Schema → Path → Result Way EditRefusal
+meant schema path = way schema path >>= (λ w. if says_which path then refused 3 else Ok w)
+
+-- ---- where an edit stands
+
+-- what stands below the stored node of a schema node in a row, where it is stored
+abbrev pub stored_in : Tree → ℕ → Option Tree
+stored_in end number = None
+stored_in (node s below after) number = if s.schema_number == number then Some below else stored_in after number
+
+-- the row below the last of some nodes, each of which is stored below the one before it
+abbrev pub row_under : Tree → List ℕ → Option Tree
+row_under tree [] = Some tree
+row_under tree (n ∷ ns) = option_and_then (λ below. row_under below ns) (stored_in tree n)
+
+-- the nodes above one, that node, and whether it is stored
+pub record Target : Type 0 where
+  pub above : List ℕ
+  pub schema_number : ℕ
+  pub is_stored : Bool
+
+abbrev pub target_in : Way → Tree → Target
+target_in w row = record { above = w.above; schema_number = w.last; is_stored = is_some (stored_in row w.last) }
+
+-- E4: a container before the last step isn't stored
+abbrev pub target : Tree → Way → Result Target EditRefusal
+target tree w = option_map_or (λ row. Ok (target_in w row)) (row_under tree w.above) (refused 4)
+
+abbrev pub step_to : ℕ → Step
+step_to number = record { schema_number = number; position = None }
+
+-- the tree, with the row in which the target stands, or would stand, changed
+abbrev pub with_row : Target → (Tree → Tree) → Tree → Tree
+with_row t change tree = edit_at (map step_to t.above) change tree
+
+-- ---- the value
+
+-- a node with what stands below it
+pub record Part : Type 0 where
+  pub label : Stored
+  pub below : Tree
+
+abbrev pub part : Schema → SchemaNode → Data → Part
+part schema n d = record {
+  label = stored_node n d;
+  below = stored_rows schema (Some n.module_number) (children_of schema n.number) (members_of d);
+}
+
+-- E10: a value doesn't fit its node, with the first refusal of a document
+abbrev pub fitting_part : Schema → SchemaNode → Data → Result Part EditRefusal
+fitting_part schema n d = option_map_or (λ r. value_refused r.code)
+    (first_wrong (node_visits schema n (children_of schema n.number) [] d)) (Ok (part schema n d))
+
+-- a number that the schema gave has its node
+abbrev pub part_at : Schema → ℕ → Data → Result Part EditRefusal
+part_at schema number d = option_map_or (λ n. fitting_part schema n d) (node_at schema number) (refused 2)
+
+-- E9: the text is no JSON
+abbrev pub part_of : Schema → ℕ → Text → Result Part EditRefusal
+part_of schema number text = option_map_or (part_at schema number) (json_of text) (refused 9)
+
+-- ---- changes of a row
+
+-- with a part in its place: before the first node of a greater number, instead of one of the same
+abbrev pub with_part : Part → Tree → Tree
+with_part p end = node p.label p.below end
+with_part p (node s below after) = if s.schema_number == p.label.schema_number then node p.label p.below after
+    else (if nat_lt p.label.schema_number s.schema_number then node p.label p.below (node s below after)
+    else node s below (with_part p after))
+
+abbrev pub without : ℕ → Tree → Tree
+without number end = end
+without number (node s below after) = if s.schema_number == number then after else node s below (without number after)
+
+-- ---- edits
+
+-- a document has at most so many nodes
+abbrev pub node_limit : ℕ
+node_limit = 1000000
+
+-- E11
+abbrev pub within_limit : Tree → Result Tree EditRefusal
+within_limit tree = if nat_lt node_limit (size tree) then refused 11 else Ok tree
+
+abbrev pub with_value : Schema → Tree → Text → Target → Result Tree EditRefusal
+with_value schema tree text t = part_of schema t.schema_number text >>= (λ p. within_limit (with_row t (with_part p) tree))
+
+-- E8: what is created is there
+abbrev pub created : Schema → Tree → Text → Target → Result Tree EditRefusal
+created schema tree text t = if t.is_stored then refused 8 else with_value schema tree text t
+
+-- E7: what is replaced or removed isn't there
+abbrev pub replaced : Schema → Tree → Text → Target → Result Tree EditRefusal
+replaced schema tree text t = if t.is_stored then with_value schema tree text t else refused 7
+
+abbrev pub removed : Tree → Target → Result Tree EditRefusal
+removed tree t = if t.is_stored then Ok (with_row t (without t.schema_number) tree) else refused 7
+
+abbrev pub target_of : Schema → Tree → Path → Result Target EditRefusal
+target_of schema tree path = meant schema path >>= target tree
+
+-- the tree after an edit, or its refusal: the text's first, then the path's names and predicates, then where it stands,
+-- then its value
+unfoldable pub applied : Schema → Tree → Edit → Result Tree EditRefusal
+applied schema tree (create path text) = target_of schema tree path >>= created schema tree text
+applied schema tree (replace path text) = target_of schema tree path >>= replaced schema tree text
+applied schema tree (remove path) = target_of schema tree path >>= removed tree
+
+-- ---- lists of edits
+
+-- what comes of an edit: it is accepted, or refused so
+abbrev pub Decision : Type 0
+Decision = Option EditRefusal
+
+abbrev pub decision : Result Tree EditRefusal → Decision
+decision (Ok tree) = None
+decision (Err e) = Some e
+
+-- a refused edit changes nothing
+abbrev pub tree_or : Result Tree EditRefusal → Tree → Tree
+tree_or (Ok tree) before = tree
+tree_or (Err e) before = before
+
+-- the tree with the accepted ones of these edits applied, in order
+abbrev pub after : Schema → Tree → List Edit → Tree
+after schema tree [] = tree
+after schema tree (e ∷ edits) = after schema (tree_or (applied schema tree e) tree) edits
+
+-- what comes of each
+abbrev pub decisions : Schema → Tree → List Edit → List Decision
+decisions schema tree [] = []
+decisions schema tree (e ∷ edits) = let answer = applied schema tree e in
+    decision answer ∷ decisions schema (tree_or answer tree) edits

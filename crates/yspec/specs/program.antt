@@ -1,0 +1,3 @@
+-- What a run of the program prints.
+pub mod Output
+pub mod Examples

@@ -1,0 +1,99 @@
+-- Worked examples: modules and documents whose faults and refusals are known from the standard's rules.
+use Rattle.std.specs.Prelude.{ℕ, List, ◌++◌, [], ◌∷◌, codes, Option, Some, None, option_map, option_and_then, Result, Ok}
+use Rattle.std.specs.Result.{result_ok}
+use Rattle.yspec.specs.text.Text.{Text}
+use Rattle.yspec.specs.text.Statement.{module_of}
+use Rattle.yspec.specs.schema.Schema.{Schema, schema_of}
+use Rattle.yspec.specs.document.Reading.{document_of}
+use Rattle.yspec.specs.document.Writing.{written_text}
+use Rattle.yspec.specs.program.Output.{Outcome, validate, outcome, found}
+use Rattle.yspec.specs.document.Document.{Tree}
+use Rattle.yspec.specs.edit.EditText.{Edit, edit_of}
+use Rattle.yspec.specs.edit.Editing.{Decision, after, decisions, step_to}
+use Rattle.yspec.specs.document.Faults.{Fault, fault}
+use Rattle.yspec.specs.edit.Live.{Checked, CheckRefusal, checked}
+
+-- a module of a name, of which these lines stand from line 5 on
+abbrev pub module_text : Text → Text → Text
+module_text name lines = codes "module " ++ (name ++ (codes " {\n  yang-version 1.1;\n  namespace \"urn:" ++ (name
+    ++ (codes "\";\n  prefix " ++ (name ++ (codes ";\n" ++ (lines ++ codes "}\n")))))))
+
+-- a container of a mandatory number, whose type is given, and a note
+abbrev pub container_module : Text → Text
+container_module type = module_text (codes "p") (codes "  container c {\n    leaf id { type "
+    ++ (type ++ codes "; mandatory true; }\n    leaf note { type string; }\n  }\n"))
+
+abbrev pub module_p : Text
+module_p = container_module (codes "uint8")
+
+-- a mandatory leaf in a container in a container
+abbrev pub nested_module : Text
+nested_module = module_text (codes "q") (codes "  container a {\n    container b {\n"
+    ++ codes "      leaf c { type uint8; mandatory true; }\n    }\n    leaf d { type string; }\n  }\n")
+
+-- what `validate d.json m.yang` prints of a module's text and a document's
+abbrev pub shown : Text → Text → Outcome
+shown module_bytes document =
+    outcome (validate (codes "d.json") (codes "m.yang" ∷ [])) (Some module_bytes ∷ Some document ∷ [])
+
+-- the same of module p
+abbrev pub shown_by_p : Text → Outcome
+shown_by_p document = shown module_p document
+
+-- the same, of an empty document under a module with these lines from line 5 on
+abbrev pub compiled_alone : Text → Outcome
+compiled_alone lines = shown (module_text (codes "p") lines) (codes "{}")
+
+abbrev pub without_faults : Outcome
+without_faults = found 0 (codes "0 faults\n")
+
+abbrev pub read_and_written : Schema → Text → Option Text
+read_and_written schema document = option_map (written_text schema) (result_ok (document_of schema document))
+
+-- the text that is written of a document that was read under a module
+abbrev pub rewritten : Text → Text → Option Text
+rewritten module_bytes document =
+    option_and_then (λ m. read_and_written (schema_of m) document) (result_ok (module_of module_bytes))
+
+-- ---- edits
+
+-- a document under module p, and the edits that lines spell
+abbrev pub Edited : Type 0
+Edited = Option (List Decision × Text)
+
+abbrev pub edits_of : List Text → Option (List Edit)
+edits_of [] = Some []
+edits_of (line ∷ lines) = option_and_then (λ e. option_map (λ es. e ∷ es) (edits_of lines)) (edit_of line)
+
+abbrev pub edited_tree : Schema → List Text → Tree → Edited
+edited_tree schema lines tree =
+    option_map (λ edits. (decisions schema tree edits, written_text schema (after schema tree edits))) (edits_of lines)
+
+abbrev pub edited_under : Text → Text → List Text → Edited
+edited_under module_bytes document lines = option_and_then (λ m. option_and_then (edited_tree (schema_of m) lines)
+    (result_ok (document_of (schema_of m) document))) (result_ok (module_of module_bytes))
+
+-- what comes of each of some edits, and the document behind them
+abbrev pub edited : Text → List Text → Edited
+edited document lines = edited_under module_p document lines
+
+abbrev pub accepted : Text → Edited
+accepted document = Some (None ∷ [], document)
+
+abbrev pub refused_as : ℕ → Text → Edited
+refused_as code document = Some (Some (record { code = code; document_code = None }) ∷ [], document)
+
+abbrev pub value_refused_as : ℕ → Text → Edited
+value_refused_as code document = Some (Some (record { code = 10; document_code = Some code }) ∷ [], document)
+
+-- what comes of the edits of a document that lines spell, and its faults after them, from the module's text on
+abbrev pub checked_lines : Text → Text → List Text → Option (Result Checked CheckRefusal)
+checked_lines module_bytes document lines = option_and_then (λ m. option_map (checked m document) (edits_of lines))
+    (result_ok (module_of module_bytes))
+
+abbrev pub checked_as : List Decision → List Fault → Option (Result Checked CheckRefusal)
+checked_as decisions faults = Some (Ok (record { decisions = decisions; faults = faults }))
+
+-- a fault of module p's number
+abbrev pub at_id : ℕ → Fault
+at_id code = fault code None (step_to 0 ∷ step_to 1 ∷ [])

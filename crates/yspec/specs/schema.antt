@@ -1,0 +1,4 @@
+-- The grammar of statements, the schema that modules make, and the rules that they break.
+pub mod Grammar
+pub mod Schema
+pub mod Breaks

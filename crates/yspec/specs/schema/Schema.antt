@@ -1,0 +1,170 @@
+-- The schema tree of a set of modules (RFC 7950, 4.2.2 and 7).
+use Rattle.std.specs.Prelude.{ℕ, suc, ◌+◌, ◌==◌, Bool, true, false, List, [], ◌∷◌, codes, Option, Some, None, option_map, option_and_then, unwrap_or, if◌then◌else◌, find, slice_get, ◌&&◌, ◌||◌, ◌++◌, max}
+use Rattle.std.specs.Option.{option_map_or}
+use Rattle.yspec.specs.Forest.{Forest, end, node, row, join, find_label, find_below}
+use Rattle.yspec.specs.text.Text.{Text, is_text}
+use Rattle.yspec.specs.text.Statement.{Statement}
+use Rattle.yspec.specs.types.Types.{YangType, Val, string_type, built_in}
+
+-- what only this kind of node has
+pub data Kind : Type 0 where
+  -- whether its presence means something (RFC 7950, 7.5.1)
+  container : Bool → Kind
+  -- its type, its default in use where it has one, and whether it is mandatory
+  leaf : YangType → Option Val → Bool → Kind
+
+-- RFC 7950, 7.21.2
+pub data Status : Type 0 where
+  current : Status
+  deprecated : Status
+  obsolete : Status
+
+-- A schema node is named by its number in preorder over the whole forest, modules as given; its module by the place of
+-- that module in the set.
+pub record SchemaNode : Type 0 where
+  pub number : ℕ
+  pub module_number : ℕ
+  pub name : Text
+  pub config : Bool
+  pub status : Status
+  pub kind : Kind
+
+pub record SchemaModule : Type 0 where
+  pub name : Text
+  pub prefix : Text
+
+pub record Schema : Type 0 where
+  pub modules : List SchemaModule
+  pub nodes : Forest SchemaNode
+
+-- ---- statements
+
+abbrev pub argument_text : Statement → Text
+argument_text s = unwrap_or s.argument []
+
+-- the argument of the first statement of a row with this keyword
+abbrev pub argument_of : Text → Forest Statement → Option Text
+argument_of keyword statements =
+    option_map argument_text (find (λ s. is_text s.keyword keyword) (row statements))
+
+-- a statement that stands for a data node
+abbrev pub is_data_definition : Text → Bool
+is_data_definition keyword = is_text keyword (codes "container") || is_text keyword (codes "leaf")
+
+-- how many data nodes statements stand for
+unfoldable pub data_size : Forest Statement → ℕ
+data_size end = 0
+data_size (node s below after) =
+    if is_data_definition s.keyword then suc (data_size below + data_size after) else data_size after
+
+-- how many levels of them there are
+unfoldable pub data_levels : Forest Statement → ℕ
+data_levels end = 0
+data_levels (node s below after) = if is_data_definition s.keyword then max (suc (data_levels below)) (data_levels after)
+    else data_levels after
+
+abbrev pub leaf_kind : Forest Statement → Kind
+leaf_kind below = leaf (unwrap_or (option_and_then built_in (argument_of (codes "type") below)) string_type) None
+    (option_map_or (λ t. is_text t (codes "true")) (argument_of (codes "mandatory") below) false)
+
+abbrev pub kind_of : Statement → Forest Statement → Kind
+kind_of s below = if is_text s.keyword (codes "container") then container false else leaf_kind below
+
+abbrev pub schema_node : ℕ → ℕ → Statement → Forest Statement → SchemaNode
+schema_node module_number number s below = record {
+  number = number;
+  module_number = module_number;
+  name = argument_text s;
+  config = true;
+  status = current;
+  kind = kind_of s below;
+}
+
+-- the schema nodes of a module's statements, numbered from a number on
+unfoldable pub nodes_from : ℕ → ℕ → Forest Statement → Forest SchemaNode
+nodes_from module_number next end = end
+nodes_from module_number next (node s below after) = if is_data_definition s.keyword
+    then node (schema_node module_number next s below) (nodes_from module_number (next + 1) below)
+    (nodes_from module_number (next + 1 + data_size below) after)
+    else nodes_from module_number next after
+
+abbrev pub schema_module : Statement → Forest Statement → SchemaModule
+schema_module s below =
+    record { name = argument_text s; prefix = unwrap_or (argument_of (codes "prefix") below) [] }
+
+abbrev pub modules_of : Forest Statement → List SchemaModule
+modules_of end = []
+modules_of (node s below after) = schema_module s below ∷ modules_of after
+
+abbrev pub all_nodes : ℕ → ℕ → Forest Statement → Forest SchemaNode
+all_nodes module_number next end = end
+all_nodes module_number next (node s below after) =
+    join (nodes_from module_number next below) (all_nodes (module_number + 1) (next + data_size below) after)
+
+-- the schema of the row of the `module` statements of a set in which no rule is broken
+abbrev pub schema_of : Forest Statement → Schema
+schema_of modules = record { modules = modules_of modules; nodes = all_nodes 0 0 modules }
+
+-- ---- what a schema holds
+
+-- the node of a number in a row or below it, and its children in order of definition
+abbrev pub node_in : Forest SchemaNode → ℕ → Option SchemaNode
+node_in nodes number = find_label (λ n. n.number == number) nodes
+
+abbrev pub row_below : Forest SchemaNode → ℕ → Forest SchemaNode
+row_below nodes number = unwrap_or (find_below (λ n. n.number == number) nodes) end
+
+abbrev pub node_at : Schema → ℕ → Option SchemaNode
+node_at schema number = node_in schema.nodes number
+
+abbrev pub children_of : Schema → ℕ → Forest SchemaNode
+children_of schema number = row_below schema.nodes number
+
+abbrev pub module_name : Schema → ℕ → Text
+module_name schema number = option_map_or (λ m. m.name) (slice_get schema.modules number) []
+
+-- the name of a child as it is written below a node of a module, or at the top: with its module's name in front
+-- where that isn't the same (RFC 7951, 4)
+abbrev pub qualified_name : Schema → SchemaNode → Text
+qualified_name schema n = module_name schema n.module_number ++ codes ":" ++ n.name
+
+abbrev pub is_module : ℕ → Option ℕ → Bool
+is_module m None = false
+is_module m (Some parent) = m == parent
+
+abbrev pub written_name : Schema → Option ℕ → SchemaNode → Text
+written_name schema parent n = if is_module n.module_number parent then n.name else qualified_name schema n
+
+-- the form that is not due there
+abbrev pub other_name : Schema → Option ℕ → SchemaNode → Text
+other_name schema parent n = if is_module n.module_number parent then qualified_name schema n else n.name
+
+-- ---- a child by its name
+
+-- the children of a node, or the top nodes
+abbrev pub row_at : Schema → Option ℕ → Forest SchemaNode
+row_at schema None = schema.nodes
+row_at schema (Some parent) = children_of schema parent
+
+-- the module of a node; none at the top
+abbrev pub module_at : Schema → Option ℕ → Option ℕ
+module_at schema None = None
+module_at schema (Some number) = option_map (λ n. n.module_number) (node_at schema number)
+
+abbrev pub is_called : ℕ → Text → SchemaNode → Bool
+is_called module_number name n = module_number == n.module_number && is_text name n.name
+
+abbrev pub is_written : Schema → Option ℕ → Text → SchemaNode → Bool
+is_written schema parent name n = is_text name (written_name schema (module_at schema parent) n)
+
+-- the number of the first node of a row that passes a test
+abbrev pub first_in_row : (SchemaNode → Bool) → Forest SchemaNode → Option ℕ
+first_in_row test nodes = option_map (λ n. n.number) (find test (row nodes))
+
+-- the child of a module and a name
+abbrev pub child_named : Schema → Option ℕ → ℕ → Text → Option ℕ
+child_named schema parent module_number name = first_in_row (is_called module_number name) (row_at schema parent)
+
+-- the child whose name a document writes so
+abbrev pub child_written : Schema → Option ℕ → Text → Option ℕ
+child_written schema parent name = first_in_row (is_written schema parent name) (row_at schema parent)

@@ -1,0 +1,9 @@
+-- Types, the values that they take, and restrictions.
+pub mod Ranges
+pub mod Numerals
+pub mod Names
+pub mod Types
+pub mod Restriction
+pub mod Values
+pub mod TypeExamples
+pub mod Order

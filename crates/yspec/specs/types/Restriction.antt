@@ -1,0 +1,83 @@
+-- Derived types: what a restriction makes of a type (RFC 7950, 9.2.4, 9.3.4, 9.4.4 and 9.9.3).
+use Rattle.std.specs.Prelude.{ℕ, ◌-◌, ◌^◌, pos, Bool, true, List, [], ◌∷◌, ◌++◌, Option, Some, None, option_map, option_and_then}
+use Rattle.yspec.specs.text.Text.{Text}
+use Rattle.yspec.specs.types.Ranges.{Part, Limit, Span, restricted}
+use Rattle.yspec.specs.types.Types.{Base, integer_base, decimal_base, string_base, SimpleType, Shape, single, union, YangType, numbers_of, int64}
+
+pub data Restriction : Type 0 where
+  range : List Span → Option Text → Restriction
+  length : List Span → Option Text → Restriction
+  require_instance : Bool → Restriction
+
+-- a length runs from 0 to the greatest number of 64 bits
+abbrev pub lengths : Part
+lengths = record { low = pos 0; high = pos (2 ^ 64 - 1) }
+
+-- the numbers that a range may restrict, and how many digits they have after the point
+abbrev pub range_base : Base → Option (Part × ℕ)
+range_base (integer_base i) = Some (numbers_of i, 0)
+range_base (decimal_base digits) = Some (numbers_of int64, digits)
+range_base _ = None
+
+abbrev pub length_base : Base → Option (Part × ℕ)
+length_base string_base = Some (lengths, 0)
+length_base _ = None
+
+abbrev pub left_after : List Part → List Limit → List Part
+left_after parts [] = parts
+left_after parts (l ∷ ls) = left_after l.parts ls
+
+-- the numbers that the restrictions of a type leave: those of the outermost one, which lies within all others
+abbrev pub left_by : Part → List Limit → List Part
+left_by numbers limits = left_after (numbers ∷ []) limits
+
+abbrev pub with_limit : SimpleType → Option Text → List Part → SimpleType
+with_limit type app_tag parts =
+    record type { limits = type.limits ++ record { parts = parts; app_tag = app_tag } ∷ [] }
+
+abbrev pub limited_by : SimpleType → List Span → Option Text → Part × ℕ → Option SimpleType
+limited_by type spans app_tag bounds =
+    option_map (with_limit type app_tag) (restricted (left_by bounds.0 type.limits) bounds.1 spans)
+
+abbrev with_shape : SimpleType → YangType
+with_shape s = record { shape = single s; requires_instance = None }
+
+abbrev pub narrowed_simple : SimpleType → Restriction → Option SimpleType
+narrowed_simple s (range spans app_tag) = option_and_then (limited_by s spans app_tag) (range_base s.base)
+narrowed_simple s (length spans app_tag) = option_and_then (limited_by s spans app_tag) (length_base s.base)
+narrowed_simple s (require_instance b) = None
+
+abbrev narrowed_shape : Shape → Restriction → Option YangType
+narrowed_shape (single s) r = option_map with_shape (narrowed_simple s r)
+narrowed_shape (union members) r = None
+
+-- whether an instance is required is said of leafrefs alone, and the outermost decides
+abbrev requiring : Shape → Restriction → Option YangType
+requiring shape (require_instance b) = Some (record { shape = shape; requires_instance = Some b })
+requiring shape _ = None
+
+abbrev narrowed_by : Shape → Option Bool → Restriction → Option YangType
+narrowed_by shape None r = narrowed_shape shape r
+narrowed_by shape (Some b) r = requiring shape r
+
+-- the type that a restriction makes of a type, if it may stand there
+abbrev pub narrowed : YangType → Restriction → Option YangType
+narrowed type r = narrowed_by type.shape type.requires_instance r
+
+-- ---- types that are made of others
+
+abbrev pub members_of : Shape → List SimpleType
+members_of (single s) = s ∷ []
+members_of (union members) = members
+
+-- a union has the members of the unions among its members
+abbrev pub all_members : List YangType → List SimpleType
+all_members [] = []
+all_members (t ∷ ts) = members_of t.shape ++ all_members ts
+
+abbrev pub union_type : List YangType → YangType
+union_type types = record { shape = union (all_members types); requires_instance = None }
+
+-- a leafref requires an instance unless it is said
+abbrev pub leafref_type : YangType → YangType
+leafref_type target = record { shape = target.shape; requires_instance = Some true }

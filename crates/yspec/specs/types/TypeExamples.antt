@@ -1,0 +1,76 @@
+-- Worked examples of types: built-in types and restrictions whose values are known from the standard's rules.
+use Rattle.std.specs.Prelude.{ℕ, ℤ, pos, Bool, false, List, [], ◌∷◌, codes, Option, Some, None, is_some, option_map, option_and_then}
+use Rattle.std.specs.Option.{option_map_or}
+use Rattle.yspec.specs.text.Text.{Text}
+use Rattle.yspec.specs.types.Ranges.{Bound, least, greatest, number, Span}
+use Rattle.yspec.specs.types.Names.{Naming, enum_names, bit_names}
+use Rattle.yspec.specs.types.Types.{Raw, text, Val, number_value, Integer, YangType, plain, integer_type, decimal_base, enumeration_base, bits_base, taken, value}
+use Rattle.yspec.specs.types.Restriction.{Restriction, range, narrowed}
+use Rattle.yspec.specs.types.Values.{value_of_text, canonical}
+
+abbrev pub decimal : ℕ → YangType
+decimal digits = plain (decimal_base digits)
+
+-- what a string in a document prints as, where a type takes it
+abbrev pub shown : YangType → Text → Option Text
+shown type t = option_map (canonical type) (taken type (text t))
+
+abbrev pub number_is : ℤ → Option Val
+number_is z = Some (value None (number_value z))
+
+-- the values of an integer's default
+abbrev pub default_of : Integer → Text → Option Val
+default_of i t = value_of_text (integer_type i) t
+
+abbrev pub at : ℤ → Bound
+at z = number z 0
+
+abbrev pub from_to : ℤ → ℤ → Span
+from_to low high = record { first = at low; last = at high }
+
+abbrev pub one : ℤ → Span
+one z = from_to z z
+
+abbrev pub tagged : List Span → Text → Restriction
+tagged spans tag = range spans (Some tag)
+
+abbrev pub untagged : List Span → Restriction
+untagged spans = range spans None
+
+-- `min..5 | 7 | 9..max`
+abbrev pub gaps : Restriction
+gaps = untagged (record { first = least; last = at (pos 5) } ∷ one (pos 7) ∷ record { first = at (pos 9); last = greatest } ∷ [])
+
+-- a type with a restriction after another
+abbrev pub twice_narrowed : YangType → Restriction → Restriction → Option YangType
+twice_narrowed type inner outer = option_and_then (λ t. narrowed t outer) (narrowed type inner)
+
+abbrev pub is_taken : Option YangType → Raw → Bool
+is_taken type raw = option_map_or (λ t. is_some (taken t raw)) type false
+
+abbrev pub named : Text → Naming
+named name = record { name = name; number = None }
+
+abbrev pub numbered : Text → ℤ → Naming
+numbered name z = record { name = name; number = Some z }
+
+-- a, b with 5, c, d with 2, e
+abbrev pub five_enums : List Naming
+five_enums = named (codes "a") ∷ numbered (codes "b") (pos 5) ∷ named (codes "c") ∷ numbered (codes "d") (pos 2)
+    ∷ named (codes "e") ∷ []
+
+abbrev pub enumeration : List Naming → Option YangType
+enumeration names = option_map (λ ns. plain (enumeration_base ns)) (enum_names names)
+
+abbrev pub bits : List Naming → Option YangType
+bits names = option_map (λ ns. plain (bits_base ns)) (bit_names names)
+
+-- x at 3, y, z at 0
+abbrev pub three_bits : List Naming
+three_bits = numbered (codes "x") (pos 3) ∷ named (codes "y") ∷ numbered (codes "z") (pos 0) ∷ []
+
+abbrev pub taken_by : Option YangType → Text → Option Val
+taken_by type t = option_and_then (λ y. taken y (text t)) type
+
+abbrev pub shown_by : Option YangType → Text → Option Text
+shown_by type t = option_and_then (λ y. shown y t) type

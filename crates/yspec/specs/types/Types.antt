@@ -1,0 +1,229 @@
+-- Types, and the values that they take (RFC 7950, 9; the forms of JSON by RFC 7951, 6).
+use Rattle.std.specs.Prelude.{ℕ, ◌+◌, ◌-◌, ◌^◌, ℤ, pos, negsuc, Bool, true, false, not, ◌||◌, ◌==◌, List, [], ◌∷◌, length, Option, Some, None, is_some, codes, option_map, option_and_then, find, if◌then◌else◌}
+use Rattle.std.specs.List.{list_all}
+use Rattle.std.specs.Str.{chars}
+use Rattle.yspec.specs.text.Text.{Text, is_text, is_yang_char, carriage_return}
+use Rattle.yspec.specs.types.Ranges.{Part, Limit, holds, lies_in}
+use Rattle.yspec.specs.types.Numerals.{integer_of, decimal_of}
+use Rattle.yspec.specs.types.Names.{Assigned, words_of, are_bit_names, named_by, positions_of}
+
+-- what a document has at a leaf
+pub data Raw : Type 0 where
+  text : Text → Raw
+  int : ℤ → Raw
+  bool : Bool → Raw
+  empty : Raw
+
+-- what a type makes of it
+pub data Content : Type 0 where
+  text_value : Text → Content
+  -- an integer, the number of an enum, or a decimal64 in units of its last digit
+  number_value : ℤ → Content
+  bool_value : Bool → Content
+  empty_value : Content
+  -- the positions of the bits that are set, ascending
+  bits_value : List ℤ → Content
+
+-- a value of a union bears also the number of the member that took it, from 0
+pub record Val : Type 0 where
+  pub member : Option ℕ
+  pub content : Content
+
+-- ---- types
+
+pub data Integer : Type 0 where
+  int8 : Integer
+  int16 : Integer
+  int32 : Integer
+  int64 : Integer
+  uint8 : Integer
+  uint16 : Integer
+  uint32 : Integer
+  uint64 : Integer
+
+-- RFC 7950, 9.2
+abbrev pub numbers_of : Integer → Part
+numbers_of int8 = record { low = negsuc (2 ^ 7 - 1); high = pos (2 ^ 7 - 1) }
+numbers_of int16 = record { low = negsuc (2 ^ 15 - 1); high = pos (2 ^ 15 - 1) }
+numbers_of int32 = record { low = negsuc (2 ^ 31 - 1); high = pos (2 ^ 31 - 1) }
+numbers_of int64 = record { low = negsuc (2 ^ 63 - 1); high = pos (2 ^ 63 - 1) }
+numbers_of uint8 = record { low = pos 0; high = pos (2 ^ 8 - 1) }
+numbers_of uint16 = record { low = pos 0; high = pos (2 ^ 16 - 1) }
+numbers_of uint32 = record { low = pos 0; high = pos (2 ^ 32 - 1) }
+numbers_of uint64 = record { low = pos 0; high = pos (2 ^ 64 - 1) }
+
+-- those of 64 bits are strings in documents (RFC 7951, 6.1)
+abbrev pub is_written_as_text : Integer → Bool
+is_written_as_text int64 = true
+is_written_as_text uint64 = true
+is_written_as_text _ = false
+
+-- a built-in type, or what a derived type begins with
+pub data Base : Type 0 where
+  integer_base : Integer → Base
+  -- with so many digits after the point
+  decimal_base : ℕ → Base
+  string_base : Base
+  boolean_base : Base
+  empty_base : Base
+  enumeration_base : List Assigned → Base
+  bits_base : List Assigned → Base
+
+-- a type that is no union: its ranges or lengths stand from the built-in type outwards
+pub record SimpleType : Type 0 where
+  pub base : Base
+  pub limits : List Limit
+
+-- a union of unions has the members of all of them, in order (RFC 7950, 9.12)
+pub data Shape : Type 0 where
+  single : SimpleType → Shape
+  union : List SimpleType → Shape
+
+-- A leafref has the shape of its target's type, and says whether it requires an instance (RFC 7950, 9.9).
+pub record YangType : Type 0 where
+  pub shape : Shape
+  pub requires_instance : Option Bool
+
+abbrev pub plain : Base → YangType
+plain b = record { shape = single (record { base = b; limits = [] }); requires_instance = None }
+
+abbrev pub integer_type : Integer → YangType
+integer_type i = plain (integer_base i)
+
+abbrev pub string_type : YangType
+string_type = plain string_base
+
+abbrev pub uint8_type : YangType
+uint8_type = integer_type uint8
+
+-- the built-in type of a name
+abbrev pub built_in : Text → Option YangType
+built_in name = if is_text name (codes "string") then Some string_type
+    else (if is_text name (codes "uint8") then Some uint8_type else None)
+
+-- ---- what a built-in type takes
+
+-- A string holds the characters of a module's text, and carriage returns anywhere (RFC 7950, 9.4).
+abbrev pub is_string_char : ℕ → Bool
+is_string_char c = is_yang_char c || c == carriage_return
+
+abbrev pub is_string_value : Text → Bool
+is_string_value t = list_all is_string_char (chars t)
+
+abbrev pub number_within : Part → ℤ → Option Content
+number_within numbers z = if lies_in z numbers then Some (number_value z) else None
+
+-- numbers, and strings for 64 bits (RFC 7950, 9.2; RFC 7951, 6.1)
+abbrev pub integer_taken : Integer → Raw → Option Content
+integer_taken i (int z) = if is_written_as_text i then None else number_within (numbers_of i) z
+integer_taken i (text t) =
+    if is_written_as_text i then option_and_then (number_within (numbers_of i)) (integer_of t) else None
+integer_taken i (bool b) = None
+integer_taken i empty = None
+
+-- 64 bits signed, in units of the last digit (RFC 7950, 9.3)
+abbrev pub decimal_taken : ℕ → Text → Option Content
+decimal_taken digits t = option_and_then (number_within (numbers_of int64)) (decimal_of digits t)
+
+-- RFC 7950, 9.6
+abbrev pub enum_taken : List Assigned → Text → Option Content
+enum_taken names t = option_map (λ a. number_value a.number) (find (λ a. is_text t a.name) names)
+
+-- names parted by spaces, none twice (RFC 7950, 9.7.2)
+abbrev pub bits_taken : List Assigned → List Text → Option Content
+bits_taken names words = if are_bit_names names words
+    then Some (bits_value (positions_of (named_by names words))) else None
+
+abbrev pub string_taken : Text → Option Content
+string_taken t = if is_string_value t then Some (text_value t) else None
+
+-- what a type that is written as a string takes
+abbrev pub text_taken : Base → Text → Option Content
+text_taken (integer_base i) t = None
+text_taken (decimal_base digits) t = decimal_taken digits t
+text_taken string_base t = string_taken t
+text_taken boolean_base t = None
+text_taken empty_base t = None
+text_taken (enumeration_base names) t = enum_taken names t
+text_taken (bits_base names) t = bits_taken names (words_of t)
+
+abbrev in_text : Raw → (Text → Option Content) → Option Content
+in_text (text t) taken = taken t
+in_text _ taken = None
+
+-- RFC 7950, 9.5
+abbrev bool_taken : Raw → Option Content
+bool_taken (bool b) = Some (bool_value b)
+bool_taken _ = None
+
+-- RFC 7950, 9.11
+abbrev empty_taken : Raw → Option Content
+empty_taken empty = Some empty_value
+empty_taken _ = None
+
+abbrev pub base_taken : Base → Raw → Option Content
+base_taken (integer_base i) raw = integer_taken i raw
+base_taken (decimal_base digits) raw = in_text raw (decimal_taken digits)
+base_taken string_base raw = in_text raw string_taken
+base_taken boolean_base raw = bool_taken raw
+base_taken empty_base raw = empty_taken raw
+base_taken (enumeration_base names) raw = in_text raw (enum_taken names)
+base_taken (bits_base names) raw = in_text raw (λ t. bits_taken names (words_of t))
+
+-- ---- restrictions
+
+-- what a range or length judges: a number, or how many characters a text has
+abbrev pub measure : Content → ℤ
+measure (text_value t) = pos (length (chars t))
+measure (number_value z) = z
+measure _ = pos 0
+
+-- the first restriction that excludes a number
+abbrev pub excluding : List Limit → ℤ → Option Limit
+excluding limits z = find (λ l. not (holds l.parts z)) limits
+
+abbrev pub limited : List Limit → Content → Option Content
+limited limits c = if is_some (excluding limits (measure c)) then None else Some c
+
+abbrev pub simple_taken : SimpleType → Raw → Option Content
+simple_taken type raw = option_and_then (limited type.limits) (base_taken type.base raw)
+
+abbrev tag_of_limit : Limit → Option Text
+tag_of_limit l = l.app_tag
+
+abbrev excluding_tag : List Limit → Content → Option Text
+excluding_tag limits c = option_and_then tag_of_limit (excluding limits (measure c))
+
+abbrev pub simple_app_tag : SimpleType → Raw → Option Text
+simple_app_tag type raw = option_and_then (excluding_tag type.limits) (base_taken type.base raw)
+
+-- ---- unions
+
+abbrev pub value : Option ℕ → Content → Val
+value member c = record { member = member; content = c }
+
+abbrev or_value : Option Val → Option Val → Option Val
+or_value None later = later
+or_value (Some v) later = Some v
+
+-- the first member that gives a value, the members being numbered from a number on
+abbrev pub first_value : (SimpleType → Option Content) → ℕ → List SimpleType → Option Val
+first_value given number [] = None
+first_value given number (m ∷ ms) =
+    or_value (option_map (value (Some number)) (given m)) (first_value given (number + 1) ms)
+
+abbrev pub shape_value : (SimpleType → Option Content) → Shape → Option Val
+shape_value given (single s) = option_map (value None) (given s)
+shape_value given (union members) = first_value given 0 members
+
+-- the value that a type takes from what a document has, if it takes it
+abbrev pub taken : YangType → Raw → Option Val
+taken type raw = shape_value (λ s. simple_taken s raw) type.shape
+
+abbrev shape_app_tag : Shape → Raw → Option Text
+shape_app_tag (single s) raw = simple_app_tag s raw
+shape_app_tag (union members) raw = None
+
+-- the error-app-tag of the innermost restriction that excludes it (RFC 7950, 7.5.4.2); built-in types and unions have none
+abbrev pub app_tag_of : YangType → Raw → Option Text
+app_tag_of type raw = shape_app_tag type.shape raw

@@ -1,0 +1,80 @@
+-- The judgement of a whole text, character by character and step by step.
+use Rattle.std.proofs.Common.{◌≡◌, ℕ, suc, get_or, drop-cons, ◌+◌, ◌<◌, ◌≤◌, List, [], ◌∷◌, Bool, true, false, ◌&&◌, ◌||◌, ◌==◌, cond, Option, Some, length, take, drop, nat_lt, refl, sym, ap, ◌∙◌, arith, lt-ltb, le-ltb}
+use Rattle.std.specs.Option.{option_map_or}
+use Rattle.std.specs.Char.{len_utf8}
+use lib.Utf8.{encodes, encode}
+use Rattle.std.specs.Str.{chars, IsUtf8, is_utf8}
+use Rattle.std.specs.Str.Lossy.{utf8_valid_len}
+use Rattle.std.proofs.lemmas.Bool.{ne_eqb}
+use Rattle.std.proofs.lemmas.Str.{is_utf8-from_IsUtf8, IsUtf8-from_is_utf8, length-le-encodes, encodes-chars, length-encode}
+use Rattle.std.proofs.lemmas.List.{drop_all, length-append}
+use Rattle.yspec.specs.text.Text.{begins, is_yang_char, line_after, line_behind, forbidden_line, line_feed, carriage_return}
+use Rattle.yspec.specs.text.Token.{tokens_of}
+use Rattle.yspec.specs.text.Statement.{slip, module_of, allowed_text, top_statement}
+use Rattle.ytext.specs.Characters.{pending}
+
+pub at_feed : (r : Bool) (line : ℕ) (cs : List ℕ) → pending r line (10 ∷ cs) ≡ pending false (line + 1) cs
+at_feed true line cs = refl
+at_feed false line cs = refl
+
+pub after_return : (line c : ℕ) (cs : List ℕ) → (c ≡ 10 → ⊥) → pending true line (c ∷ cs) ≡ Some line
+after_return line c cs e = ap (λ (b : Bool). cond b (forbidden_line line (c ∷ cs)) (Some line)) (ne_eqb c 10 e)
+
+pub at_return : (line : ℕ) (cs : List ℕ) → pending false line (13 ∷ cs) ≡ pending true line cs
+at_return line cs = refl
+
+pub at_allowed : (line c : ℕ) (cs : List ℕ) → (c ≡ 10 → ⊥) → is_yang_char c ≡ true → pending false line (c ∷ cs) ≡ pending false line cs
+at_allowed line c cs e f =
+    ap (λ (b : Bool). cond (b || (c == carriage_return && begins line_feed cs)) (forbidden_line (line_after c line) cs) (Some line)) f
+    ∙ ap (λ (b : Bool). forbidden_line (cond b (line + 1) line) cs) (ne_eqb c 10 e)
+
+pub at_forbidden : (line c : ℕ) (cs : List ℕ) → (c ≡ 13 → ⊥) → is_yang_char c ≡ false → pending false line (c ∷ cs) ≡ Some line
+at_forbidden line c cs e f =
+    ap (λ (b : Bool). cond (b || (c == carriage_return && begins line_feed cs)) (forbidden_line (line_after c line) cs) (Some line)) f
+    ∙ ap (λ (b : Bool). cond (b && begins line_feed cs) (forbidden_line (line_after c line) cs) (Some line)) (ne_eqb c 13 e)
+
+not_limit : (n : ℕ) → n ≤ 4194304 → nat_lt 4194304 n ≡ false
+not_limit n h = le-ltb 4194304 n h
+
+pub too_long : (t : List ℕ) → 4194304 < length t → module_of t ≡ slip 7 1
+unfolding module_of
+too_long t h = ap (λ (b : Bool). cond b (slip 7 1) (cond (is_utf8 t) (allowed_text t) (slip 1 (line_behind 1 (take (utf8_valid_len t) t))))) (lt-ltb 4194304 (length t) h)
+
+fits : (t : List ℕ) → length t ≤ 4194304 → module_of t ≡ cond (is_utf8 t) (allowed_text t) (slip 1 (line_behind 1 (take (utf8_valid_len t) t)))
+unfolding module_of
+fits t h = ap (λ (b : Bool). cond b (slip 7 1) (cond (is_utf8 t) (allowed_text t) (slip 1 (line_behind 1 (take (utf8_valid_len t) t))))) (not_limit (length t) h)
+
+not_true : (b : Bool) → (b ≡ true → ⊥) → b ≡ false
+not_true true e = absurd (e refl)
+not_true false e = refl
+
+pub no_text : (t valid : List ℕ) (n : ℕ) → length t ≤ 4194304 → (IsUtf8 t → ⊥) → n ≡ utf8_valid_len t → valid ≡ take n t → module_of t ≡ slip 1 (line_behind 1 valid)
+no_text t valid n h e is cut =
+    fits t h ∙ ap (λ (b : Bool). cond b (allowed_text t) (slip 1 (line_behind 1 (take (utf8_valid_len t) t)))) (not_true (is_utf8 t) (λ u. e (IsUtf8-from_is_utf8 t u)))
+    ∙ ap (λ (k : ℕ). slip 1 (line_behind 1 (take k t))) (sym is) ∙ ap (λ (v : List ℕ). slip 1 (line_behind 1 v)) (sym cut)
+
+pub judged : (t text : List ℕ) (o : Option ℕ) → text ≡ t → length t ≤ 4194304 → IsUtf8 t → o ≡ forbidden_line 1 (chars text) → module_of t ≡ option_map_or (λ line. slip 2 line) o (top_statement (tokens_of t))
+judged t text o is h u e =
+    fits t h ∙ ap (λ (b : Bool). cond b (allowed_text t) (slip 1 (line_behind 1 (take (utf8_valid_len t) t)))) (is_utf8-from_IsUtf8 t u)
+    ∙ ap (λ (p : Option ℕ). option_map_or (λ line. slip 2 line) p (top_statement (tokens_of t))) (sym (e ∙ ap (λ (v : List ℕ). forbidden_line 1 (chars v)) is))
+
+pub char_at : (cs : List ℕ) (n c : ℕ) → (n < length cs) × (c ≡ get_or cs n c) → drop n cs ≡ c ∷ drop (n + 1) cs
+char_at cs n c h =
+    let next : suc n ≡ n + 1 = omega arith in
+    drop-cons cs n c h.0 ∙ ap (λ (k : ℕ). get_or cs n c ∷ drop k cs) next ∙ ap (λ (x : ℕ). x ∷ drop (n + 1) cs) (sym h.1)
+
+pub few_chars : (t : List ℕ) → IsUtf8 t → length (chars t) ≤ length t
+few_chars t u = omega (arith, length-le-encodes (chars t), ap length (encodes-chars t u))
+
+pub none_left : (cs : List ℕ) (n : ℕ) → n ≡ length cs → drop n cs ≡ []
+none_left cs n e = drop_all n cs (omega (arith, e))
+
+-- a character of a text by its bytes
+pub char_bytes : (cs : List ℕ) (n c : ℕ) → drop n cs ≡ c ∷ drop (n + 1) cs
+    → length (encodes (drop n cs)) ≡ len_utf8 c + length (encodes (drop (n + 1) cs))
+char_bytes cs n c e =
+    ap (λ (ds : List ℕ). length (encodes ds)) e ∙ length-append (encode c) (encodes (drop (n + 1) cs))
+    ∙ ap (λ (k : ℕ). k + length (encodes (drop (n + 1) cs))) (length-encode c)
+
+pub no_return : false ≡ true → 0 < 0
+no_return e = cc

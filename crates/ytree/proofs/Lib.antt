@@ -1,0 +1,7 @@
+pub mod NameLemmas
+pub mod NumberedLemmas
+pub mod ReadLemmas
+pub mod RowLemmas
+pub mod ValueLemmas
+pub mod VisitLemmas
+pub mod WriteLemmas

@@ -1,0 +1,57 @@
+-- From bytes to what is told of them.
+use Rattle.std.proofs.Common.{◌≡◌, ℕ, Bool, true, false, cond, List, [], Option, Some, None, Result, Ok, Err, IfOk, refl, sym, ap, ◌∙◌, subst}
+use Rattle.std.specs.Str.{is_utf8, IsUtf8}
+use Rattle.std.specs.Option.{option_map_or}
+use Rattle.std.proofs.lemmas.Str.{IsUtf8-from_is_utf8, is_utf8-from_IsUtf8}
+use Rattle.serde_json.specs.Data.{Data}
+use Rattle.serde_json.specs.Read.{read}
+use Rattle.yspec.specs.schema.Schema.{Schema}
+use Rattle.yspec.specs.document.Reading.{Refusal, tree_or_refusal, json_of, document_of}
+use Rattle.yspec.specs.document.Fitting.{Fits}
+use Rattle.yspec.specs.document.Writing.{NamesDiffer, IsDocument}
+use Rattle.yspec.proofs.DocumentProofs.FittingReadLemmas.{read_fits}
+use Rattle.yspec.proofs.DocumentProofs.ReadWholeLemmas.{read_whole}
+use Rattle.ytree.specs.Told.{Tells, Fails, Gives, code_number}
+use Rattle.ytree.specs.View.{place_view, tree_view}
+use Rattle.ytree.specs.declared.tree.Tree as tree
+use Rattle.ytree.specs.declared.fault.DocFault.{DocFault}
+use Rattle.ytree.specs.declared.fault.DocFault.TheVariants.{Refused, Memory}
+
+pub json_found : (bytes : List ℕ) (d : Data) → IsUtf8 bytes → read bytes ≡ Some d → json_of bytes ≡ Some d
+json_found bytes d utf8 is = ap (λ (b : Bool). cond b (read bytes) None) (is_utf8-from_IsUtf8 bytes utf8) ∙ is
+
+none_if : (bytes : List ℕ) (b : Bool) → is_utf8 bytes ≡ b → (IsUtf8 bytes → read bytes ≡ None) → cond b (read bytes) None ≡ None
+none_if bytes true is h = h (IsUtf8-from_is_utf8 bytes is)
+none_if bytes false is h = refl
+
+pub no_json : (bytes : List ℕ) → (IsUtf8 bytes → read bytes ≡ None) → json_of bytes ≡ None
+no_json bytes h = none_if bytes (is_utf8 bytes) refl h
+
+pub of_json : (s : Schema) (bytes : List ℕ) (d : Data) → json_of bytes ≡ Some d → document_of s bytes ≡ tree_or_refusal s d
+unfolding document_of
+of_json s bytes d is = ap (λ (o : Option Data). option_map_or (tree_or_refusal s) o (Err (record { code = 1; place = [] }))) is
+
+pub of_none : (s : Schema) (bytes : List ℕ) → json_of bytes ≡ None → document_of s bytes ≡ Err (record { code = 1; place = [] })
+unfolding document_of
+of_none s bytes is = ap (λ (o : Option Data). option_map_or (tree_or_refusal s) o (Err (record { code = 1; place = [] }))) is
+
+same_refusal : (a b : Refusal) → Some a ≡ Some b → a ≡ b
+same_refusal a b h = cc
+
+-- what is told is the refusal
+pub fails_by : {Y : Type 0} (f : DocFault) (told : Option Refusal) (r : Refusal) (answer : Result Y Refusal) → Tells f told → told ≡ Some r → answer ≡ Err r → Fails f answer
+fails_by (Refused code place) told r answer tells is said =
+    said ∙ ap Err (same_refusal r (record { code = code_number code; place = place_view place.items }) (sym is ∙ tells))
+fails_by Memory told r answer tells is said = tt
+
+pub gives_same : {X Y : Type 0} (see : X → Y) (given : Result X DocFault) (a b : Result Y Refusal) → a ≡ b → Gives see given b → Gives see given a
+gives_same {X} {Y} see given a b is h = subst (λ (r : Result Y Refusal). Gives see given r) (sym is) h
+
+pub fits_if_read : (given : Result tree.Tree DocFault) (s : Schema) (bytes : List ℕ) → Gives tree_view given (document_of s bytes) → IfOk given (λ t. Fits s.nodes (tree_view t))
+fits_if_read (Ok t) s bytes is = read_fits s bytes (tree_view t) is
+fits_if_read (Err f) s bytes is = tt
+
+pub whole_if_read : (given : Result tree.Tree DocFault) (s : Schema) (bytes : List ℕ) → Gives tree_view given (document_of s bytes)
+    → IfOk given (λ t. NamesDiffer s None s.nodes → IsDocument s.nodes (tree_view t))
+whole_if_read (Ok t) s bytes is = λ differ. read_whole s bytes (tree_view t) differ is
+whole_if_read (Err f) s bytes is = tt
