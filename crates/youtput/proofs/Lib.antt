@@ -1,2 +1,3 @@
+pub mod WalkLemmas
 pub mod SinkLemmas
 pub mod WritingLemmas

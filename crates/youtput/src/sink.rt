@@ -6,9 +6,11 @@ ghost use Rattle.youtput.specs.Writing.{Writes, side};
 
 use crate::count::FailureCount;
 use std::alloc::{AllocError, Global};
+use thiserror::Error;
 
 /// What was to be written wasn't.
-#[derive(Clone, Copy, Debug, PartialEq, Eq)]
+#[derive(Clone, Copy, Debug, PartialEq, Eq, Error)]
+#[error("write failed")]
 pub struct SinkFault;
 
 /// Takes bytes, perhaps only some of what it is given at a time.
@@ -58,6 +60,7 @@ pub fn write_texts<S: Sink>(sink: &mut S, texts: &[&str]) -> Result<(), SinkFaul
 #[derive(Drop)]
 pub struct Cut {
     buffer: Vec<u8>,
+    room: usize,
     bytes_per_call: usize,
     failing_call: Option<u64>,
     calls: u64,
@@ -65,6 +68,9 @@ pub struct Cut {
 }
 
 impl Cut {
+    ghost use Rattle.std.specs.Prelude.{◌≡◌, Some, IfOk, length, min};
+    ghost use Rattle.youtput.specs.Cut as cut;
+
     /// A sink of so much room that takes so many bytes a call. Calls count from 1; the failing one answers an error.
     pub fn new(
         alloc: Global,
@@ -74,10 +80,15 @@ impl Cut {
     ) -> Result<Cut, AllocError>
         ensures empty { IfOk result (λ c. ⟦<Cut as Sink>⟧.taken c ≡ Some []) }
         ensures without_failure { IfOk result (λ c. ⟦<Cut as Sink>⟧.failures c ≡ 0) }
+        ensures room { IfOk result (λ c. cut.room c ≡ room) }
+        ensures bytes_per_call { IfOk result (λ c. cut.bytes_per_call c ≡ bytes_per_call) }
+        ensures failing_call { IfOk result (λ c. cut.failing_call c ≡ failing_call) }
+        ensures without_call { IfOk result (λ c. cut.calls c ≡ 0) }
     {
         let buffer = Vec::with_capacity(alloc, room)?;
         Ok(Cut {
             buffer,
+            room,
             bytes_per_call,
             failing_call,
             calls: 0,
@@ -93,25 +104,40 @@ impl Cut {
     }
 
     /// How many calls it got.
-    pub fn calls(&self) -> u64 {
+    pub fn calls(&self) -> u64
+        ensures { result ≡ cut.calls self.now }
+    {
         self.calls
     }
 
     // How much of a part is taken at once.
     fn share(&self, part: &[u8]) -> usize
-        ensures { result ≤ length part.now }
+        ensures { result ≡ cut.share self.now part.now }
     {
-        let room = self.buffer.capacity().saturating_sub(self.buffer.len());
-        part.len().min(self.bytes_per_call).min(room)
+        part.len().min(self.bytes_per_call.min(self.room))
     }
 }
 
 impl Sink for Cut {
+    ghost use Rattle.std.specs.Prelude.{◌≡◌, ◌+◌, ◌≤◌, ◌-◌, Some, IfOk, OnErr, IsErr, length, take};
+    ghost use Rattle.youtput.specs.Sink.{followed_by, failed_calls};
+    ghost use Rattle.youtput.specs.Cut as cut;
+
     ghost taken = { λ c. Some c.buffer.items };
 
     ghost failures = { λ c. c.count.failures };
 
-    fn write(&mut self, part: &[u8]) -> Result<usize, SinkFault> {
+    fn write(&mut self, part: &[u8]) -> Result<usize, SinkFault>
+        ensures length { IfOk result (λ n. n ≤ length part.now) }
+        ensures ok { IfOk result (λ n. ⟦<Cut as Sink>⟧.taken self.new ≡ followed_by (⟦<Cut as Sink>⟧.taken self.old) (take n part.now)) }
+        ensures err { OnErr result (⟦<Cut as Sink>⟧.taken self.new ≡ ⟦<Cut as Sink>⟧.taken self.old) }
+        ensures counted { ⟦<Cut as Sink>⟧.failures self.new ≡ ⟦<Cut as Sink>⟧.failures self.old + failed_calls result part.now }
+        ensures failing { cut.failing_call self.old ≡ Some (cut.next_call self.old) → IsErr result }
+        ensures share { IfOk result (λ n. n ≡ cut.share self.old part.now) }
+        ensures calls { cut.calls self.new ≡ cut.next_call self.old }
+        ensures room { IfOk result (λ n. cut.room self.new ≡ cut.room self.old - n) }
+        ensures kept { cut.KeepsWay self.old self.new }
+    {
         self.calls = self.calls.saturating_add(1);
         let n = self.share(part);
         if self.failing_call == Some(self.calls)
@@ -120,6 +146,7 @@ impl Sink for Cut {
             self.count.rise();
             return Err(SinkFault);
         }
+        self.room -= n;
         if n == 0 && !part.is_empty() {
             self.count.rise();
         }

@@ -9,4 +9,4 @@ pub mod ScanLemmas
 pub mod ScannerLemmas
 pub mod TextLemmas
 pub mod TokenLemmas
-pub mod WalkLemmas
+pub mod ParseLemmas

@@ -4,7 +4,8 @@ use Rattle.std.specs.Option.{option_map_or}
 use Rattle.yspec.specs.text.Text.{Text}
 use Rattle.yspec.specs.text.Token.{Token, double, double_text, bad_escape_line}
 use Rattle.yspec.specs.text.Statement.{Slip, slip, ◌>>=◌, piece, pieces, after_piece, appended, is_plus, begins_quoted}
-use Rattle.ytext.specs.Gives.{Fails, told_by, number_of}
+use Rattle.yspec.specs.Results.{Fails}
+use Rattle.ytext.specs.Told.{told_by, number_of}
 use Rattle.ytext.specs.Quoted.{said, reading}
 use Rattle.ytext.specs.Reading.{piece_behind, behind_piece}
 use Rattle.ytext.specs.declared.fault.TextFault.{TextFault}
@@ -13,7 +14,7 @@ use Rattle.ytext.specs.declared.fault.TextFault.TheVariants.{Refused, Memory}
 slip_same : (s t : Slip) → Some s ≡ Some t → s ≡ t
 slip_same s t e = cc
 
-pub fails_by : {Y : Type 0} (e : TextFault) (s : Slip) (read : Result Y Slip) → told_by e ≡ Some s → read ≡ Err s → Fails e read
+pub fails_by : {Y : Type 0} (e : TextFault) (s : Slip) (read : Result Y Slip) → told_by e ≡ Some s → read ≡ Err s → Fails (told_by e) read
 fails_by (Refused code line) s read told is = is ∙ ap Err (slip_same s (record { code = number_of code; line = line }) (sym told))
 fails_by Memory s read told is = tt
 
@@ -84,14 +85,14 @@ not_taken : (r : Result Text Slip) (before : Text) (ts : List Token) (s : Slip) 
 not_taken (Ok x) before ts s e = cc
 not_taken (Err t) before ts s e = cc
 
-pub fails_taken : (e : TextFault) (before : Text) (first : Token) (ts : List Token) → Fails e (piece_behind before (first ∷ ts)) → Fails e (pieces (first ∷ ts) >>= appended before)
+pub fails_taken : (e : TextFault) (before : Text) (first : Token) (ts : List Token) → Fails (told_by e) (piece_behind before (first ∷ ts)) → Fails (told_by e) (pieces (first ∷ ts) >>= appended before)
 fails_taken Memory before first ts h = tt
 fails_taken (Refused code line) before first ts h =
     let s : Slip = record { code = number_of code; line = line } in
     ap (λ (r : Result (Text × List Token) Slip). r >>= appended before) (piece_fails first ts s (not_taken (piece first.line first.lexeme) before ts s h))
 
-pub first_fails : (e : TextFault) (first : Token) (ts : List Token) → Fails e (piece_behind [] (first ∷ ts)) → Fails e (pieces (first ∷ ts))
-first_fails e first ts h = subst (Fails e) (appended_nothing (pieces (first ∷ ts))) (fails_taken e [] first ts h)
+pub first_fails : (e : TextFault) (first : Token) (ts : List Token) → Fails (told_by e) (piece_behind [] (first ∷ ts)) → Fails (told_by e) (pieces (first ∷ ts))
+first_fails e first ts h = subst (Fails (told_by e)) (appended_nothing (pieces (first ∷ ts))) (fails_taken e [] first ts h)
 
 -- behind a `+`
 pub plus_quoted : (text : Text) (t : Token) (ts : List Token) → is_plus t.lexeme ≡ true → begins_quoted ts ≡ true → going text (t ∷ ts) ≡ pieces ts >>= appended text

@@ -4,7 +4,8 @@ use Rattle.std.specs.Str.{IsCharBoundary}
 use Rattle.yspec.specs.Forest.{Forest, end}
 use Rattle.yspec.specs.text.Token.{Token, at, word}
 use Rattle.yspec.specs.text.Statement.{Statement, Slip, Row, ◌>>=◌, statement, statements, ending, top_statement, row_at}
-use Rattle.ytext.specs.Gives.{Fails}
+use Rattle.yspec.specs.Results.{Fails}
+use Rattle.ytext.specs.Told.{told_by}
 use Rattle.ytext.specs.Left.{left}
 use Rattle.ytext.specs.Reading.{ahead, tokens_ahead, first_of, rest_of, rows}
 use Rattle.ytext.specs.View.{row_view}
@@ -28,7 +29,7 @@ top_of r w e =
     ap top_statement (word_ahead r w e)
     ∙ ap (λ (read : Result Row Slip). read >>= ending) (statement_same (statements (length ts) 1) (rows 1) 0 w.now r.token.line ts (length ts) (rows_agree (length ts) 1) (le_refl (length ts)))
 
-pub top_fails : (r : Reader) (w : Bor (List ℕ)) (e : TextFault) → r.token.lexeme ≡ Word w → Fails e (statement (rows 1) 0 w.now r.token.line (left r.cursor)) → Fails e (top_statement (tokens_ahead r))
+pub top_fails : (r : Reader) (w : Bor (List ℕ)) (e : TextFault) → r.token.lexeme ≡ Word w → Fails (told_by e) (statement (rows 1) 0 w.now r.token.line (left r.cursor)) → Fails (told_by e) (top_statement (tokens_ahead r))
 top_fails r w Memory is h = tt
 top_fails r w (Refused code line) is h = top_of r w is ∙ ap (λ (read : Result Row Slip). read >>= ending) h
 
@@ -40,7 +41,7 @@ row_ends level r ss read rest e =
     ∙ ap (λ (f : Forest Statement). Ok (f, tokens_ahead r)) (join_end (row_view ss))
 
 pub row_breaks : (level : ℕ) (r : Reader) (ss : List Stmt) (read : Result Row Slip) (e : TextFault) → with_front (row_view ss) (rows level (tokens_ahead r)) ≡ read
-    → Fails e (row_at (lexeme_of r.token.lexeme) (rows (level + 1)) (rows level) level (first_of r) (rest_of r)) → Fails e read
+    → Fails (told_by e) (row_at (lexeme_of r.token.lexeme) (rows (level + 1)) (rows level) level (first_of r) (rest_of r)) → Fails (told_by e) read
 row_breaks level r ss read Memory rest h = tt
 row_breaks level r ss read (Refused code line) rest h =
     sym rest ∙ ap (with_front (row_view ss)) (rows_by level (first_of r) (rest_of r) ∙ h) ∙ front_err (row_view ss) _

@@ -6,7 +6,8 @@ use Rattle.yspec.specs.text.Token.{Token, Lexeme, word, single, double, semi, op
 use Rattle.yspec.specs.text.Statement.{Slip, slip, ◌>>=◌, Statement, Row, piece, pieces, after_piece, appended, some_argument, argument, argument_at, is_plus, begins_quoted, body, body_at, closed, closed_at, statement, row_at, in_row, statements, block_limit}
 use Rattle.yspec.specs.Forest.{join}
 use Rattle.yspec.specs.text.Token.{at}
-use Rattle.ytext.specs.Gives.{Fails}
+use Rattle.yspec.specs.Results.{Fails}
+use Rattle.ytext.specs.Told.{told_by}
 use Rattle.ytext.specs.Reading.{rows}
 use Rattle.ytext.specs.View.{view, row_view}
 use Rattle.ytext.specs.declared.statement.Stmt.{Stmt}
@@ -289,7 +290,7 @@ row_grows level kw line ts us ss s e =
     ∙ ap (λ (f : Forest Statement). with_front f (rows level us)) (sym (row_view_push ss s))
 
 pub row_fails : (level : ℕ) (kw : Text) (line : ℕ) (ts : List Token) (ss : List Stmt) (e : TextFault)
-    → Fails e (statement (rows (level + 1)) level kw line ts) → Fails e (with_front (row_view ss) (rows level (at line (word kw) ∷ ts)))
+    → Fails (told_by e) (statement (rows (level + 1)) level kw line ts) → Fails (told_by e) (with_front (row_view ss) (rows level (at line (word kw) ∷ ts)))
 unfolding with_front
 row_fails level kw line ts ss Memory h = tt
 row_fails level kw line ts ss (Refused code l) h =

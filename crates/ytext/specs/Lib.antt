@@ -1,5 +1,5 @@
 pub mod Characters
-pub mod Gives
+pub mod Told
 pub mod Left
 pub mod Quoted
 pub mod Reading

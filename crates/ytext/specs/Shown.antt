@@ -3,7 +3,7 @@ use Rattle.std.specs.Prelude.{Result, Ok, Err}
 use Rattle.yspec.specs.text.Scanning as scanning
 use Rattle.yspec.specs.text.Scanning.{Cause, Kind, Scanned}
 use Rattle.yspec.specs.text.Statement.{Slip, slip}
-use Rattle.ytext.specs.Gives.{number_of}
+use Rattle.ytext.specs.Told.{number_of}
 use Rattle.ytext.specs.declared.fault.TextFault.{TextFault}
 use Rattle.ytext.specs.declared.fault.TextFault.TheVariants as fault
 use Rattle.ytext.specs.declared.cause.Cause as wrong

@@ -2,7 +2,6 @@
 #![tactic(auto)]
 
 mod cause;
-mod count;
 mod cursor;
 mod fault;
 mod name;
@@ -10,16 +9,14 @@ mod quoted;
 mod reader;
 mod scan;
 mod scanner;
-mod sink;
 mod statement;
 mod text;
 mod token;
 
-pub use count::FailureCount;
 pub use fault::{TextCode, TextFault};
 pub use name::{is_identifier, is_name};
 pub use scanner::Tokens;
-pub use sink::{Cut, Sink, SinkFault, write_all, write_texts};
 pub use statement::{Module, Stmt};
 pub use text::{parse, tokens};
 pub use token::{Token, TokenKind};
+pub use youtput::{Cut, FailureCount, Sink, SinkFault, write_all, write_texts};

@@ -4,7 +4,8 @@ ghost use Rattle.std.specs.Str.{IsCharBoundary};
 ghost use Rattle.yspec.specs.text.Text.{is_blank, space, begins, line_feed, carriage_return};
 ghost use Rattle.yspec.specs.text.Token.{joined_breaks, stripped_starts, single_text, escape, column_behind, column_after};
 ghost use Rattle.yspec.specs.text.Scanning.{wrong_escape};
-ghost use Rattle.ytext.specs.Gives.{Gives, Fails};
+ghost use Rattle.yspec.specs.Results.{Gives, Fails};
+ghost use Rattle.ytext.specs.Told.{told_by};
 ghost use Rattle.ytext.specs.Quoted.{reading, all_blank, blank_width, is_break, is_plain};
 
 use crate::fault::{TextCode, TextFault};
@@ -169,7 +170,7 @@ fn between(raw: &str, start: usize, end: usize) -> &str
 
 /// Adds what a single-quoted string says: each of its characters, a line break being a line feed.
 pub(crate) fn push_single(text: &mut String, raw: &str) -> Result<(), TextFault>
-    ensures { Gives (λ _. string_bytes text.new) result (Ok (string_bytes text.old ++ single_text raw.now)) }
+    ensures { Gives (λ _. string_bytes text.new) told_by result (Ok (string_bytes text.old ++ single_text raw.now)) }
 {
     let mut at = 0;
     while at <= raw.len() {
@@ -239,7 +240,7 @@ fn push_escape(text: &mut String, raw: &str, place: Place) -> Result<Place, Text
     ensures ok { (width : ℕ) → IfOk result (λ p. reading width p.left p.line (string_bytes text.new) (drop p.at raw.now)
         ≡ reading width place.left place.line (string_bytes text.old) (drop place.at raw.now)) }
     ensures err { (width : ℕ) → IfErr result (λ e.
-        Fails e (reading width place.left place.line (string_bytes text.old) (drop place.at raw.now))) }
+        Fails (told_by e) (reading width place.left place.line (string_bytes text.old) (drop place.at raw.now))) }
     ensures place { IfOk result (λ p. (place.at < p.at) × IsCharBoundary raw.now p.at) }
     ensures line { IfOk result (λ p. p.line ≡ place.line) }
 {
@@ -272,7 +273,7 @@ fn push_next(text: &mut String, raw: &str, width: usize, place: Place) -> Result
     requires few_lines { place.line + length raw.now < 2 ^ 32 + place.at }
     ensures ok { IfOk result (λ p. reading width p.left p.line (string_bytes text.new) (drop p.at raw.now)
         ≡ reading width place.left place.line (string_bytes text.old) (drop place.at raw.now)) }
-    ensures err { IfErr result (λ e. Fails e (reading width place.left place.line (string_bytes text.old) (drop place.at raw.now))) }
+    ensures err { IfErr result (λ e. Fails (told_by e) (reading width place.left place.line (string_bytes text.old) (drop place.at raw.now))) }
     ensures place { IfOk result (λ p. (place.at < p.at) × IsCharBoundary raw.now p.at) }
     ensures line { IfOk result (λ p. p.line + place.at ≤ place.line + p.at) }
 {
@@ -333,7 +334,7 @@ pub(crate) fn push_double(
 ) -> Result<(), TextFault>
     requires few_columns { 8 * length before.now < 2 ^ 63 }
     requires few_lines { line + length raw.now < 2 ^ 32 }
-    ensures { Gives (λ _. string_bytes text.new) result (reading (column_behind 1 before.now) 0 line (string_bytes text.old) raw.now) }
+    ensures { Gives (λ _. string_bytes text.new) told_by result (reading (column_behind 1 before.now) 0 line (string_bytes text.old) raw.now) }
 {
     let width = column_behind(before);
     let mut place = Place {

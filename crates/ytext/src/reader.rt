@@ -25,7 +25,7 @@ pub(crate) struct Reader<'a> {
 
 impl<'a> Lexed<'a> {
     ghost use Rattle.yspec.specs.text.Statement.{misplaced_code, is_quoted, is_plus};
-    ghost use Rattle.ytext.specs.Gives.{told_by};
+    ghost use Rattle.ytext.specs.Told.{told_by};
     ghost use Rattle.ytext.specs.View.{ends_text, lexeme_of};
 
     // What is wrong where this token may not stand.
@@ -67,7 +67,8 @@ impl<'a> Reader<'a> {
     ghost use Rattle.ytext.specs.View.{a_word, is_word};
     ghost use Rattle.ytext.specs.View.{row_view, modules_view};
     ghost use Rattle.yspec.specs.text.Token.{tokens_of};
-    ghost use Rattle.ytext.specs.Gives.{Gives};
+    ghost use Rattle.yspec.specs.Results.{Gives};
+    ghost use Rattle.ytext.specs.Told.{told_by};
     ghost use Rattle.ytext.specs.View.{ends_text, lexeme_of};
     ghost use Rattle.ytext.specs.Left.{left, token_of};
     ghost use Rattle.ytext.specs.Reading.{ahead, tokens_ahead, added, piece_behind, rows, block_of, first_of, rest_of};
@@ -98,7 +99,7 @@ impl<'a> Reader<'a> {
     fn push_piece(&self, text: &mut String) -> Result<(), TextFault>
         requires { is_quoted (lexeme_of self.now.token.lexeme) ≡ true }
         ensures goes_on { OnOk result (ends_text self.now.token.lexeme ≡ false) }
-        ensures piece { Gives (λ _. string_bytes text.new) result
+        ensures piece { Gives (λ _. string_bytes text.new) told_by result
             (added (string_bytes text.old) (piece self.now.token.line (lexeme_of self.now.token.lexeme))) }
     {
         match self.token.lexeme {
@@ -112,7 +113,7 @@ impl<'a> Reader<'a> {
     fn take_piece(&mut self, text: &mut String) -> Result<(), TextFault>
         requires { is_quoted (lexeme_of self.old.token.lexeme) ≡ true }
         ensures ahead { OnOk result (ahead self.new < ahead self.old) }
-        ensures piece { Gives (λ _. (string_bytes text.new, tokens_ahead self.new)) result
+        ensures piece { Gives (λ _. (string_bytes text.new, tokens_ahead self.new)) told_by result
             (piece_behind (string_bytes text.old) (tokens_ahead self.old)) }
     {
         self.push_piece(text)?;
@@ -124,7 +125,7 @@ impl<'a> Reader<'a> {
     fn pieces(&mut self) -> Result<String, TextFault>
         requires { is_quoted (lexeme_of self.old.token.lexeme) ≡ true }
         ensures ahead { OnOk result (ahead self.new < ahead self.old) }
-        ensures pieces { Gives (λ text. (string_bytes text, tokens_ahead self.new)) result (pieces (tokens_ahead self.old)) }
+        ensures pieces { Gives (λ text. (string_bytes text, tokens_ahead self.new)) told_by result (pieces (tokens_ahead self.old)) }
     {
         let mut text = String::new(self.alloc);
         if let Err(fault) = self.take_piece(&mut text) {
@@ -145,7 +146,7 @@ impl<'a> Reader<'a> {
 
     fn argument(&mut self) -> Result<Option<String>, TextFault>
         ensures ahead { OnOk result (ahead self.new ≤ ahead self.old) }
-        ensures argument { Gives (λ arg. (option_map string_bytes arg, tokens_ahead self.new)) result (argument (tokens_ahead self.old)) }
+        ensures argument { Gives (λ arg. (option_map string_bytes arg, tokens_ahead self.new)) told_by result (argument (tokens_ahead self.old)) }
     {
         if let Lexeme::Word(word) = self.token.lexeme {
             let text = String::from_str(self.alloc, word)?;
@@ -162,7 +163,7 @@ impl<'a> Reader<'a> {
     #[cycle(reading)]
     fn body(&mut self, level: u32) -> Result<Vec<Stmt>, TextFault>
         ensures ahead { OnOk result (ahead self.new < ahead self.old) }
-        ensures body { Gives (λ subs. (row_view subs.items, tokens_ahead self.new)) result
+        ensures body { Gives (λ subs. (row_view subs.items, tokens_ahead self.new)) told_by result
             (body (rows (level + 1)) level (tokens_ahead self.old)) }
     {
         match self.token.lexeme {
@@ -185,7 +186,7 @@ impl<'a> Reader<'a> {
     #[cycle(reading)]
     fn block(&mut self, level: u32) -> Result<Vec<Stmt>, TextFault>
         ensures ahead { OnOk result (ahead self.new < ahead self.old) }
-        ensures block { Gives (λ subs. (row_view subs.items, tokens_ahead self.new)) result
+        ensures block { Gives (λ subs. (row_view subs.items, tokens_ahead self.new)) told_by result
             (block_of level (tokens_ahead self.old)) }
     {
         let subs = self.statements(level)?;
@@ -197,7 +198,7 @@ impl<'a> Reader<'a> {
 
     fn close(&mut self) -> Result<(), TextFault>
         ensures ahead { OnOk result (ahead self.new < ahead self.old) }
-        ensures closed { (below : Forest Statement) → Gives (λ _. (below, tokens_ahead self.new)) result
+        ensures closed { (below : Forest Statement) → Gives (λ _. (below, tokens_ahead self.new)) told_by result
             (closed (below, tokens_ahead self.old)) }
     {
         match self.token.lexeme {
@@ -214,7 +215,7 @@ impl<'a> Reader<'a> {
     fn statement(&mut self, word: &str, level: u32) -> Result<Stmt, TextFault>
         requires { lexeme_of self.old.token.lexeme ≡ a_word word.now }
         ensures ahead { OnOk result (ahead self.new < ahead self.old) }
-        ensures statement { Gives (λ stmt. (row_view (stmt ∷ []), tokens_ahead self.new)) result
+        ensures statement { Gives (λ stmt. (row_view (stmt ∷ []), tokens_ahead self.new)) told_by result
             (statement (rows (level + 1)) level word.now self.old.token.line (left self.old.cursor)) }
     {
         let line = self.token.line;
@@ -237,7 +238,7 @@ impl<'a> Reader<'a> {
     #[cycle(reading)]
     fn statements(&mut self, level: u32) -> Result<Vec<Stmt>, TextFault>
         ensures ahead { OnOk result (ahead self.new ≤ ahead self.old) }
-        ensures rows { Gives (λ subs. (row_view subs.items, tokens_ahead self.new)) result (rows level (tokens_ahead self.old)) }
+        ensures rows { Gives (λ subs. (row_view subs.items, tokens_ahead self.new)) told_by result (rows level (tokens_ahead self.old)) }
     {
         let mut subs = Vec::new(self.alloc);
         while let Lexeme::Word(word) = self.token.lexeme {
@@ -255,7 +256,7 @@ impl<'a> Reader<'a> {
     // A row ends before a `}` and at the end of the text.
     fn row_end(&self) -> Result<(), TextFault>
         requires { is_word (lexeme_of self.now.token.lexeme) ≡ false }
-        ensures { (level : ℕ) → Gives (λ _. (end, tokens_ahead self.now)) result
+        ensures { (level : ℕ) → Gives (λ _. (end, tokens_ahead self.now)) told_by result
             (row_at (lexeme_of self.now.token.lexeme) (rows (level + 1)) (rows level) level (first_of self.now) (rest_of self.now)) }
     {
         match self.token.lexeme {
@@ -267,7 +268,7 @@ impl<'a> Reader<'a> {
 
     // Nothing may follow the top statement.
     fn end(&self) -> Result<(), TextFault>
-        ensures { (top : Forest Statement) → Gives (λ _. top) result (ending (top, tokens_ahead self.now)) }
+        ensures { (top : Forest Statement) → Gives (λ _. top) told_by result (ending (top, tokens_ahead self.now)) }
     {
         match self.token.lexeme {
             Lexeme::End => Ok(()),
@@ -281,7 +282,7 @@ impl<'a> Reader<'a> {
 
     /// The one statement of a module's text.
     pub(crate) fn module(&mut self) -> Result<Module, TextFault>
-        ensures { Gives (λ read. modules_view (read ∷ [])) result (top_statement (tokens_ahead self.old)) }
+        ensures { Gives (λ read. modules_view (read ∷ [])) told_by result (top_statement (tokens_ahead self.old)) }
     {
         match self.token.lexeme {
             Lexeme::Word(word) => {

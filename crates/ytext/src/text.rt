@@ -5,7 +5,10 @@ ghost use Rattle.std.specs.Char.{len_utf8};
 ghost use Rattle.std.specs.List.{list_all};
 ghost use Rattle.yspec.specs.text.Text.{line_behind, is_noncharacter, is_yang_char, forbidden_line};
 ghost use Rattle.yspec.specs.text.Statement.{module_of, top_statement};
-ghost use Rattle.ytext.specs.Gives.{Gives, Fails};
+ghost use Rattle.yspec.specs.Results.{Gives, Fails};
+ghost use Rattle.ytext.specs.Told.{told_by};
+ghost use Rattle.yspec.specs.text.Spelling.{Spells};
+ghost use Rattle.yspec.specs.text.Slips.{told};
 ghost use Rattle.yspec.specs.text.Token.{tokens_of};
 ghost use Rattle.yspec.specs.text.Scanning.{forbidden_place, scan_of};
 ghost use Rattle.ytext.specs.Characters.{is_plain, pending, pending_place};
@@ -164,7 +167,7 @@ fn checked(bytes: &[u8]) -> Result<&str, TextFault>
     ensures text { IfOk result (λ text. text.now ≡ bytes.now) }
     ensures length { IfOk result (λ text. length text.now ≤ 4194304) }
     ensures ok { IfOk result (λ text. module_of bytes.now ≡ top_statement (tokens_of bytes.now)) }
-    ensures err { IfErr result (λ e. Fails e (module_of bytes.now)) }
+    ensures err { IfErr result (λ e. Fails (told_by e) (module_of bytes.now)) }
 {
     if bytes.len() > TEXT_LIMIT {
         return Err(TextFault::refused(TextCode::L7, 1));
@@ -184,7 +187,16 @@ fn checked(bytes: &[u8]) -> Result<&str, TextFault>
 /// The statements of a module's text (RFC 7950, 6), or the first thing that is wrong with it: its length is judged
 /// first, then that it is UTF-8, then its characters, and then the rest from left to right.
 pub fn parse(alloc: Global, bytes: &[u8]) -> Result<Module, TextFault>
-    ensures { Gives (λ read. modules_view (read ∷ [])) result (module_of bytes.now) }
+    ensures answer { Gives (λ read. modules_view (read ∷ [])) told_by result (module_of bytes.now) }
+    ensures spells { IfOk result (λ read. Spells bytes.now (modules_view (read ∷ []))) }
+    ensures told { IfErr result (λ fault. IfSome (told_by fault) (λ slip. told bytes.now ≡ Some slip)) }
+{
+    read_module(alloc, bytes)
+}
+
+// The same, as the definition by functions has it.
+fn read_module(alloc: Global, bytes: &[u8]) -> Result<Module, TextFault>
+    ensures { Gives (λ read. modules_view (read ∷ [])) told_by result (module_of bytes.now) }
 {
     match checked(bytes) {
         Ok(text) => Reader::new(alloc, text).module(),

@@ -1,6 +1,7 @@
 use Rattle.std.proofs.Common.{List, ℕ, ◌++◌, drop, get_or, sym, ap, subst, ◌∙◌, arith, string_bytes}
 use Rattle.yspec.specs.text.Token.{escape}
-use Rattle.ytext.specs.Gives.{Fails}
+use Rattle.yspec.specs.Results.{Fails}
+use Rattle.ytext.specs.Told.{told_by}
 use Rattle.ytext.specs.declared.fault.TextFault.{TextFault}
 use Rattle.ytext.specs.Quoted.{reading}
 use Rattle.ytext.proofs.QuotedLemmas.{step_alone, step_escape, step_wrong}
@@ -24,7 +25,7 @@ pub returns-in-None-clause-err : goal.returns-in-None-clause-err
 returns-in-None-clause-err c = λ width.
     let raw : List ℕ = c.args.raw.now in
     let next : ℕ = c.behind_ascii-next.result in
-    subst (λ (e : TextFault). Fails e (reading width c.args.place.left c.args.place.line (string_bytes c.args.text.now) (drop c.args.place.at raw))) (sym c.refused.ensures)
+    subst (λ (e : TextFault). Fails (told_by e) (reading width c.args.place.left c.args.place.line (string_bytes c.args.text.now) (drop c.args.place.at raw))) (sym c.refused.ensures)
     (step_wrong width c.args.place.left c.args.place.line (string_bytes c.args.text.now) raw c.args.place.at next
     c.behind_ascii-next.ensures.next (omega (arith, c.if-next-bytes.false, c.as_bytes-bytes.ensures.len, c.behind_ascii-next.ensures.place.0)) c.requires.slash
     (c.in-None.ensures.value ∙ ap (λ (t : List ℕ). escape (get_or t next 0)) c.as_bytes-bytes.ensures.value))

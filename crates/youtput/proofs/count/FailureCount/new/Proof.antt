@@ -23,10 +23,10 @@ use denote.Triple.Entry.{alive}
 use denote.Triple.Spec.{Meets, triple_of}
 use denote.Triple.Table.{entered}
 use denote.Triple.Walked.{says, Stays, walk_of, ends_at, walk_Meets}
-use Rattle.ytext.proofs.WalkLemmas.{none, none_made}
-use Rattle.ytext.specs.contracts.count.FailureCount as FailureCount
-use Rattle.ytext.specs.contracts.count.FailureCount.new as F
-use Rattle.ytext.specs.contracts.count.FailureCount.new.Key.{name as #self}
+use Rattle.youtput.proofs.WalkLemmas.{none, none_made}
+use Rattle.youtput.specs.contracts.count.FailureCount as FailureCount
+use Rattle.youtput.specs.contracts.count.FailureCount.new as F
+use Rattle.youtput.specs.contracts.count.FailureCount.new.Key.{name as #self}
 use Rattle.youtput.proofs.count.FailureCount.new.Statement as stated
 use Rattle.youtput.proofs.count.FailureCount.new.Code as code
 

@@ -25,10 +25,10 @@ use denote.Triple.Entry.{alive}
 use denote.Triple.Spec.{Meets, triple_of}
 use denote.Triple.Table.{entered}
 use denote.Triple.Walked.{says, Stays, stay_dropped, walk_of, ends_at, walk_Meets, Goes-dropped}
-use Rattle.ytext.proofs.WalkLemmas.{none, none_made}
-use Rattle.ytext.specs.contracts.count.FailureCount as FailureCount
-use Rattle.ytext.specs.contracts.count.FailureCount.risen as F
-use Rattle.ytext.specs.contracts.count.FailureCount.risen.Key.{name as #self}
+use Rattle.youtput.proofs.WalkLemmas.{none, none_made}
+use Rattle.youtput.specs.contracts.count.FailureCount as FailureCount
+use Rattle.youtput.specs.contracts.count.FailureCount.risen as F
+use Rattle.youtput.specs.contracts.count.FailureCount.risen.Key.{name as #self}
 use Rattle.youtput.proofs.count.FailureCount.risen.Statement as stated
 use Rattle.youtput.proofs.count.FailureCount.risen.Code as code
 

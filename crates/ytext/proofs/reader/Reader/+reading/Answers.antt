@@ -1,6 +1,7 @@
 use Rattle.std.proofs.Common.{List, sym, ap, subst, ◌∙◌, arith}
 use Rattle.yspec.specs.text.Token.{Token}
-use Rattle.ytext.specs.Gives.{Fails}
+use Rattle.yspec.specs.Results.{Fails}
+use Rattle.ytext.specs.Told.{told_by}
 use Rattle.ytext.specs.Left.{left}
 use Rattle.ytext.specs.Reading.{tokens_ahead, rows}
 use Rattle.ytext.specs.View.{row_view}
@@ -36,7 +37,7 @@ statements-returns-in-Err-clause-rows t c =
     let level = c.args.level in
     let before = c.loop-self.self in
     let ss = c.loop-self.subs.items in
-    subst (Fails c.in-Err.fault) (ap (λ (ts : List Token). with_front (row_view ss) (rows level ts)) (sym (word_ahead before c.in-Word.word c.in-Word.is)) ∙ c.loop-self.invariant.rest)
+    subst (Fails (told_by c.in-Err.fault)) (ap (λ (ts : List Token). with_front (row_view ss) (rows level ts)) (sym (word_ahead before c.in-Word.word c.in-Word.is)) ∙ c.loop-self.invariant.rest)
     (row_fails level c.in-Word.word.now before.token.line (left before.cursor) ss c.in-Err.fault c.in-Err.ensures.statement)
 
 pub statements-returns-in-Ok-row_end : goal.statements-returns-in-Ok-row_end

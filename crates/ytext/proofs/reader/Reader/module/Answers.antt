@@ -1,6 +1,7 @@
 use Rattle.std.proofs.Common.{Result, sym, ap, subst, ◌∙◌}
 use Rattle.yspec.specs.text.Statement.{Slip, Row, ◌>>=◌, ending}
-use Rattle.ytext.specs.Gives.{Fails}
+use Rattle.yspec.specs.Results.{Fails}
+use Rattle.ytext.specs.Told.{told_by}
 use Rattle.ytext.proofs.ReaderLemmas.{top_of, top_fails}
 use Rattle.ytext.proofs.reader.Reader.module.Goals as goal
 
@@ -13,4 +14,4 @@ returns-in-Ok-end c =
 
 pub returns-in-Err-end : goal.returns-in-Err-end
 returns-in-Err-end c =
-    subst (Fails c.in-Err-end.fault) (sym (top_of c.args.self.now c.in-Word.word c.in-Word.is ∙ ap (λ (read : Result Row Slip). read >>= ending) c.in-Ok.ensures.statement)) (c.in-Err-end.ensures _)
+    subst (Fails (told_by c.in-Err-end.fault)) (sym (top_of c.args.self.now c.in-Word.word c.in-Word.is ∙ ap (λ (read : Result Row Slip). read >>= ending) c.in-Ok.ensures.statement)) (c.in-Err-end.ensures _)

@@ -1,6 +1,7 @@
 use Rattle.std.proofs.Common.{sym, ap, subst, ◌∙◌, arith, string_bytes}
 use Rattle.yspec.specs.text.Text.{Text}
-use Rattle.ytext.specs.Gives.{Fails}
+use Rattle.yspec.specs.Results.{Fails}
+use Rattle.ytext.specs.Told.{told_by}
 use Rattle.ytext.specs.Reading.{first_of, rest_of, tokens_ahead, piece_behind}
 use Rattle.ytext.proofs.PieceLemmas.{going, first_fails, first_taken, fails_taken, piece_taken, plus_quoted}
 use Rattle.ytext.proofs.reader.Reader.pieces.Goals as goal
@@ -9,7 +10,7 @@ pub returns-in-Err-clause-pieces : goal.returns-in-Err-clause-pieces
 returns-in-Err-clause-pieces c =
     let start = c.args.self.now in
     first_fails c.in-Err.fault (first_of start) (rest_of start)
-    (subst (λ (t : Text). Fails c.in-Err.fault (piece_behind t (tokens_ahead start))) c.new-text.ensures.bytes c.in-Err.ensures.piece)
+    (subst (λ (t : Text). Fails (told_by c.in-Err.fault) (piece_behind t (tokens_ahead start))) c.new-text.ensures.bytes c.in-Err.ensures.piece)
 
 pub loop-line-init : goal.loop-line-init
 loop-line-init c =
@@ -27,7 +28,7 @@ returns-in-Err-take_piece-clause-pieces c =
     let behind = c.step.new.self in
     let text = string_bytes c.loop-line.text in
     let joined = ap (going text) c.step.ensures.tokens ∙ plus_quoted text (first_of before) (tokens_ahead behind) (sym c.loop-line-test.ensures.cases) (sym c.if-not-is_quoted.ensures) in
-    subst (Fails c.in-Err-take_piece.fault) (sym joined ∙ c.loop-line.invariant.rest)
+    subst (Fails (told_by c.in-Err-take_piece.fault)) (sym joined ∙ c.loop-line.invariant.rest)
     (fails_taken c.in-Err-take_piece.fault text (first_of behind) (rest_of behind) c.in-Err-take_piece.ensures.piece)
 
 pub loop-line-preserved : goal.loop-line-preserved
