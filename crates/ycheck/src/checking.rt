@@ -14,8 +14,8 @@ ghost use Rattle.ycheck.specs.View.{code_number, tag_name, views};
 
 use crate::fault::{ErrorTag, Fault, FaultCode, Info};
 use std::alloc::{AllocError, Global};
-use yinst::{Step, Stored, Tree};
 use yschema::{Child, Children, Kind, Schema, SchemaId, SchemaNode};
+use ytree::{Step, Stored, Tree};
 use ytype::{BadValue, Raw, YType};
 
 /// The faults that are found, and the steps to the node at hand.

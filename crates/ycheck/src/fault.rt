@@ -1,6 +1,7 @@
 //! What is wrong with a document.
 
-use yinst::Step;
+use std::fmt;
+use ytree::Step;
 
 /// Which rule a document breaks.
 #[derive(Clone, Copy, Debug, PartialEq, Eq)]
@@ -9,6 +10,24 @@ pub enum FaultCode {
     V1 = 1,
     /// A mandatory leaf is missing (RFC 7950, 7.6.5).
     V3 = 3,
+}
+
+impl FaultCode {
+    ghost use Rattle.std.specs.Prelude.{◌≡◌};
+    ghost use Rattle.ycheck.specs.View.{code_number};
+
+    /// The number behind the `V`.
+    pub fn number(self) -> u8
+        ensures { result ≡ code_number self }
+    {
+        self as u8
+    }
+}
+
+impl fmt::Display for FaultCode {
+    fn fmt<W: fmt::Write>(&self, f: &mut fmt::Formatter<W>) -> fmt::Result {
+        write!(f, "V{}", self.number())
+    }
 }
 
 /// The error-tag of a fault (RFC 7950, 15).

@@ -14,14 +14,16 @@ ghost use Rattle.ycheck.specs.View.{code_number, tag_name, view};
 
 use crate::fault::{ErrorTag, Fault, FaultCode};
 use itoa::Buffer;
-use yinst::Step;
+use thiserror::Error;
+use youtput::{Sink, SinkFault, write_all, write_texts};
 use yschema::{Schema, SchemaNode};
-use ytext::{Sink, SinkFault, write_all, write_texts};
+use ytree::Step;
 
 /// Why a line wasn't written.
-#[derive(Clone, Copy, Debug, PartialEq, Eq)]
+#[derive(Clone, Copy, Debug, PartialEq, Eq, Error)]
 pub enum LineFault {
     /// A call of the sink failed.
+    #[error("write failed")]
     Device,
 }
 

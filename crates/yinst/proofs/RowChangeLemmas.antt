@@ -10,7 +10,8 @@ use Rattle.yspec.specs.edit.Editing.{Part, stored_in, with_part, without}
 use Rattle.ytree.specs.View.{view, row_view}
 use Rattle.yinst.specs.Rows.{number_of, has_number, is_not_before, before_first, from_first, part_view, without_first}
 use Rattle.ytree.specs.declared.tree.Stored.{Stored}
-use Rattle.ytree.proofs.RowLemmas.{join_last, join_end}
+use Rattle.yspec.proofs.ForestLemmas.{join_end}
+use Rattle.ytree.proofs.RowLemmas.{join_last}
 
 -- the place of the first that passes, or the length
 pub place_or_len : {X : Type 0} (p : X → Bool) (xs : List X) → unwrap_or (position p xs) (length xs) ≡ position_or_len p xs

@@ -1,5 +1,5 @@
 -- Refusals of edits as the specification's.
-use Rattle.std.specs.Prelude.{◌≡◌, ℕ, List, map, Option, option_map, Result, Ok, Err}
+use Rattle.std.specs.Prelude.{ℕ, List, map, Option, Some, None, option_map}
 use Rattle.yspec.specs.edit.Editing.{EditRefusal}
 use Rattle.yschema.specs.declared.node.SchemaId.{SchemaId}
 use Rattle.ytree.specs.Told.{code_number}
@@ -23,15 +23,10 @@ edit_number E11 = 11
 abbrev pub refusal_view : EditCode → Option DocCode → EditRefusal
 refusal_view code doc = record { code = edit_number code; document_code = option_map code_number doc }
 
--- the answer is this refusal; where memory ran out nothing is said
-abbrev pub IsRefused : {Y : Type 0} → EditFault → Result Y EditRefusal → Type 0
-IsRefused (Refused code doc) answer = answer ≡ Err (refusal_view code doc)
-IsRefused Memory answer = Unit {0}
-
--- what was returned, as it is seen, is the answer, unless memory ran out
-abbrev pub Answers : {X Y : Type 0} → (X → Y) → Result X EditFault → Result Y EditRefusal → Type 0
-Answers see (Ok x) answer = answer ≡ Ok (see x)
-Answers see (Err fault) answer = IsRefused fault answer
+-- the refusal that a fault tells; none of want of memory
+abbrev pub told_by : EditFault → Option EditRefusal
+told_by (Refused code doc) = Some (refusal_view code doc)
+told_by Memory = None
 
 -- the numbers of schema nodes
 abbrev pub numbers : List SchemaId → List ℕ

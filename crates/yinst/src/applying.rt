@@ -7,17 +7,18 @@ ghost use Rattle.yspec.specs.edit.Editing as spec;
 ghost use Rattle.yschema.specs.View as schema_view;
 ghost use Rattle.ytree.specs.View.{tree_view};
 ghost use Rattle.yinst.specs.EditView.{edit_view};
-ghost use Rattle.yinst.specs.Applying.{Answers};
+ghost use Rattle.yspec.specs.Results.{Gives};
+ghost use Rattle.yinst.specs.Applying.{told_by};
 ghost use Rattle.yinst.specs.Rows.{change_view};
 ghost use Rattle.yinst.specs.Ways.{target_view};
 
 use crate::edit::{Edit, EditCode, EditFault};
 use crate::part::part_of;
 use crate::rows::{Change, changed, is_over};
-use crate::tree::Tree;
 use crate::way::{Target, refused, target_of};
 use std::alloc::{AllocError, Global};
 use yschema::Schema;
+use ytree::Tree;
 
 /// A document has at most so many nodes.
 const NODE_LIMIT: usize = 1_000_000;
@@ -25,7 +26,7 @@ const NODE_LIMIT: usize = 1_000_000;
 /// The document after an edit, or the first refusal: of the path's steps E1, of its names E2 and its predicates E3, of
 /// where it stands E4, E7 and E8, of its value E9 and E10, and E11. The document that is given stays as it is.
 pub fn apply(alloc: Global, schema: &Schema, tree: &Tree, edit: &Edit) -> Result<Tree, EditFault>
-    ensures answer { Answers tree_view result (spec.applied (schema_view.view schema.now) (tree_view tree.now) (edit_view edit.now)) }
+    ensures answer { Gives tree_view told_by result (spec.applied (schema_view.view schema.now) (tree_view tree.now) (edit_view edit.now)) }
     // of a document that fits its schema, as one that is read under it does
     ensures fitting { let s = schema_view.view schema.now in Fits s.nodes (tree_view tree.now) → IfOk result (λ t. Fits s.nodes (tree_view t)) }
     // where no two siblings are written with one name, and no leaf has children
@@ -38,7 +39,7 @@ pub fn apply(alloc: Global, schema: &Schema, tree: &Tree, edit: &Edit) -> Result
 /// The document after an edit.
 #[tactic(auto, unfolding(yspec::specs::edit::Editing::applied))]
 fn edited(alloc: Global, schema: &Schema, tree: &Tree, edit: &Edit) -> Result<Tree, EditFault>
-    ensures { Answers tree_view result (spec.applied (schema_view.view schema.now) (tree_view tree.now) (edit_view edit.now)) }
+    ensures { Gives tree_view told_by result (spec.applied (schema_view.view schema.now) (tree_view tree.now) (edit_view edit.now)) }
 {
     match edit {
         Edit::Create { path, value } => match target_of(alloc, schema, tree, path) {
@@ -64,7 +65,7 @@ fn create(
     target: Target,
     value: &str,
 ) -> Result<Tree, EditFault>
-    ensures { Answers tree_view result (spec.created (schema_view.view schema.now) (tree_view tree.now) value.now (target_view target)) }
+    ensures { Gives tree_view told_by result (spec.created (schema_view.view schema.now) (tree_view tree.now) value.now (target_view target)) }
 {
     if target.is_stored {
         return Err(refused(EditCode::E8));
@@ -80,7 +81,7 @@ fn replace(
     target: Target,
     value: &str,
 ) -> Result<Tree, EditFault>
-    ensures { Answers tree_view result (spec.replaced (schema_view.view schema.now) (tree_view tree.now) value.now (target_view target)) }
+    ensures { Gives tree_view told_by result (spec.replaced (schema_view.view schema.now) (tree_view tree.now) value.now (target_view target)) }
 {
     if !target.is_stored {
         return Err(refused(EditCode::E7));
@@ -90,7 +91,7 @@ fn replace(
 
 /// E7 of what isn't there.
 fn remove(alloc: Global, tree: &Tree, target: Target) -> Result<Tree, EditFault>
-    ensures { Answers tree_view result (spec.removed (tree_view tree.now) (target_view target)) }
+    ensures { Gives tree_view told_by result (spec.removed (tree_view tree.now) (target_view target)) }
 {
     if !target.is_stored {
         return Err(refused(EditCode::E7));
@@ -107,7 +108,7 @@ fn with_value(
     target: &Target,
     value: &str,
 ) -> Result<Tree, EditFault>
-    ensures { Answers tree_view result (spec.with_value (schema_view.view schema.now) (tree_view tree.now) value.now (target_view target.now)) }
+    ensures { Gives tree_view told_by result (spec.with_value (schema_view.view schema.now) (tree_view tree.now) value.now (target_view target.now)) }
 {
     match part_of(alloc, schema, target.id, value) {
         Ok(part) => within_limit(with_row(alloc, tree, target, Change::Put(part))?),
@@ -123,7 +124,7 @@ fn with_row(alloc: Global, tree: &Tree, target: &Target, change: Change) -> Resu
 }
 
 fn within_limit(tree: Tree) -> Result<Tree, EditFault>
-    ensures { Answers tree_view result (spec.within_limit (tree_view tree)) }
+    ensures { Gives tree_view told_by result (spec.within_limit (tree_view tree)) }
 {
     if is_over(tree.nodes(), NODE_LIMIT) {
         Err(refused(EditCode::E11))

@@ -3,8 +3,10 @@
 ghost use Rattle.std.specs.Prelude.{◌≡◌};
 ghost use Rattle.yinst.specs.declared.edit.EditFault.TheVariants.{Memory};
 
-use crate::fault::DocCode;
 use std::alloc::{AllocError, AllocFailed};
+use std::fmt;
+use thiserror::Error;
+use ytree::DocCode;
 
 /// The canonical text that a key is to have.
 #[derive(Debug, Drop)]
@@ -65,14 +67,46 @@ pub enum EditCode {
     E11 = 11,
 }
 
+impl EditCode {
+    ghost use Rattle.std.specs.Prelude.{◌≡◌};
+    ghost use Rattle.yinst.specs.Applying.{edit_number};
+
+    /// The number behind the `E`.
+    pub fn number(self) -> u8
+        ensures { result ≡ edit_number self }
+    {
+        self as u8
+    }
+}
+
+impl fmt::Display for EditCode {
+    fn fmt<W: fmt::Write>(&self, f: &mut fmt::Formatter<W>) -> fmt::Result {
+        write!(f, "E{}", self.number())
+    }
+}
+
 /// Why an edit isn't done, and with E10 why the value doesn't fit: J3 to J6.
-#[derive(Clone, Copy, Debug, PartialEq, Eq)]
+#[derive(Clone, Copy, Debug, PartialEq, Eq, Error)]
 pub enum EditFault {
+    #[error("{code}{}", Because(*.doc))]
     Refused {
         code: EditCode,
         doc: Option<DocCode>,
     },
+    #[error("memory")]
     Memory,
+}
+
+/// Why a value doesn't fit, as it stands behind an edit's code.
+struct Because(Option<DocCode>);
+
+impl fmt::Display for Because {
+    fn fmt<W: fmt::Write>(&self, f: &mut fmt::Formatter<W>) -> fmt::Result {
+        match self.0 {
+            Some(code) => write!(f, " {code}"),
+            None => Ok(()),
+        }
+    }
 }
 
 impl From<AllocError> for EditFault {

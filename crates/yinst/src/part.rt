@@ -4,18 +4,16 @@ ghost use Rattle.std.specs.Prelude.{◌≡◌, IfOk};
 ghost use Rattle.serde_json.specs.View as json;
 ghost use Rattle.yspec.specs.edit.Editing as spec;
 ghost use Rattle.yschema.specs.View as schema_view;
-ghost use Rattle.yinst.specs.Applying.{Answers};
+ghost use Rattle.yspec.specs.Results.{Gives};
+ghost use Rattle.yinst.specs.Applying.{told_by};
 ghost use Rattle.yinst.specs.Rows.{part_view};
 
 use crate::edit::{EditCode, EditFault};
-use crate::fault::DocFault;
-use crate::reading::stored;
-use crate::tree::Stored;
-use crate::visits::visit_node;
 use crate::way::refused;
 use serde_json::Value;
 use std::alloc::Global;
-use yschema::{Schema, SchemaId, SchemaNode};
+use yschema::{Schema, SchemaId};
+use ytree::{DocFault, Stored, read_node};
 
 /// The node that a JSON text denotes at a schema node: E9, E10 with the first refusal of a document.
 pub(crate) fn part_of(
@@ -24,7 +22,7 @@ pub(crate) fn part_of(
     id: SchemaId,
     text: &str,
 ) -> Result<Stored, EditFault>
-    ensures { Answers part_view result (spec.part_of (schema_view.view schema.now) id.0 text.now) }
+    ensures { Gives part_view told_by result (spec.part_of (schema_view.view schema.now) id.0 text.now) }
 {
     match Value::from_slice(alloc, text.as_bytes()) {
         Ok(value) => part_at(alloc, schema, id, &value),
@@ -35,14 +33,11 @@ pub(crate) fn part_of(
 
 /// The node that a value denotes at a schema node.
 fn part_at(alloc: Global, schema: &Schema, id: SchemaId, value: &Value) -> Result<Stored, EditFault>
-    ensures { Answers part_view result (spec.part_at (schema_view.view schema.now) id.0 (json.view value.now)) }
+    ensures { Gives part_view told_by result (spec.part_at (schema_view.view schema.now) id.0 (json.view value.now)) }
 {
-    let Some(node) = schema.kind(id) else {
-        return Err(refused(EditCode::E2));
-    };
-    let mut place = Vec::new(alloc);
-    match visit_node(alloc, schema, id, value, &mut place) {
-        Ok(()) => Ok(stored(alloc, schema, id, node, schema.children(id), value)?),
+    match read_node(alloc, schema, id, value) {
+        Ok(Some(stored)) => Ok(stored),
+        Ok(None) => Err(refused(EditCode::E2)),
         Err(DocFault::Refused { code, .. }) => Err(EditFault::Refused {
             code: EditCode::E10,
             doc: Some(code),

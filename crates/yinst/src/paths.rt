@@ -294,12 +294,14 @@ fn refused() -> EditFault
 }
 
 impl Path {
-    ghost use Rattle.yspec.specs.edit.EditText.{path_of};
-    ghost use Rattle.yinst.specs.EditView.{path_view, Gives};
+    ghost use Rattle.yspec.specs.edit.Editing.{path_spelled};
+    ghost use Rattle.yspec.specs.Results.{Gives};
+    ghost use Rattle.yinst.specs.EditView.{path_view};
+    ghost use Rattle.yinst.specs.Applying.{told_by};
 
     /// The path that a text spells, or E1.
     pub fn parse(alloc: Global, text: &str) -> Result<Path, EditFault>
-        ensures { Gives path_view result (path_of text.now) }
+        ensures { Gives path_view told_by result (path_spelled text.now) }
     {
         match path_of(alloc, text)? {
             Some(path) => Ok(path),
@@ -309,12 +311,15 @@ impl Path {
 }
 
 impl Edit {
-    ghost use Rattle.yspec.specs.edit.EditText.{asked_by};
-    ghost use Rattle.yinst.specs.EditView.{Asks};
+    ghost use Rattle.std.specs.Prelude.{option_map};
+    ghost use Rattle.yspec.specs.edit.Editing.{edit_asked};
+    ghost use Rattle.yspec.specs.Results.{Gives};
+    ghost use Rattle.yinst.specs.EditView.{edit_view};
+    ghost use Rattle.yinst.specs.Applying.{told_by};
 
     /// The edit that a line of a script spells; none where it is empty or begins with `#`; or E1.
     pub fn parse(alloc: Global, line: &str) -> Result<Option<Edit>, EditFault>
-        ensures { Asks result (asked_by line.now) }
+        ensures { Gives (option_map edit_view) told_by result (edit_asked line.now) }
     {
         if is_passed_over(line) {
             return Ok(None);

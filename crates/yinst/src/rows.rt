@@ -1,6 +1,6 @@
 //! Changes of rows, on copies.
 
-ghost use Rattle.std.specs.Prelude.{◌≡◌, ◌+◌, ◌<◌, MatchOption, length, map, position, nat_lt, is_some, IfOk, IfSome, option_map};
+ghost use Rattle.std.specs.Prelude.{◌≡◌, ◌+◌, ◌<◌, MatchOption, length, map, position, nat_lt, is_some, IfOk, IfSome, OnOk, option_map};
 ghost use Rattle.yspec.specs.Forest.{node, join, size};
 ghost use Rattle.yspec.specs.edit.Edit.{change_below, edit_at};
 ghost use Rattle.yspec.specs.edit.Editing as spec;
@@ -10,10 +10,9 @@ ghost use Rattle.yinst.specs.Applying.{numbers};
 ghost use Rattle.yinst.specs.Rows.{has_number, is_not_before, before_first, from_first, part_view, change_view};
 ghost use Rattle.yinst.specs.Rows as rows;
 
-use crate::copying::{copies_of, copy_of_value, push_copies};
-use crate::tree::Stored;
 use std::alloc::{AllocError, Global};
 use yschema::SchemaId;
+use ytree::Stored;
 
 /// What is done in a row.
 #[derive(Debug, Drop)]
@@ -119,7 +118,7 @@ fn changed_below(
     match from.split_first() {
         Some((stored, after)) => {
             let below = changed(alloc, stored.below(), rest, change)?;
-            with_more(nodes, with_below(stored, below)?, after)
+            with_more(nodes, stored.with_below(below)?, after)
         }
         None => Ok(nodes),
     }
@@ -137,14 +136,6 @@ fn with_more(
     nodes.push(next)?;
     push_copies(&mut nodes, others)?;
     Ok(nodes)
-}
-
-/// A copy of a node with other nodes below it.
-fn with_below(stored: &Stored, below: Vec<Stored>) -> Result<Stored, AllocError>
-    ensures { IfOk result (λ s. view s ≡ ((view stored.now).0, row_view below.items)) }
-{
-    let value = copy_of_value(stored.value())?;
-    Ok(Stored::new(stored.id(), value, below))
 }
 
 /// A copy of a row with a change made in it.
@@ -183,6 +174,25 @@ fn without(alloc: Global, row: &[Stored], id: SchemaId) -> Result<Vec<Stored>, A
     let mut nodes = copies_of(alloc, before)?;
     push_copies(&mut nodes, without_first(from, id))?;
     Ok(nodes)
+}
+
+/// Copies of the nodes of a row.
+fn copies_of(alloc: Global, row: &[Stored]) -> Result<Vec<Stored>, AllocError>
+    ensures { IfOk result (λ nodes. row_view nodes.items ≡ row_view row.now) }
+{
+    let mut nodes = Vec::with_capacity(alloc, row.len())?;
+    push_copies(&mut nodes, row)?;
+    Ok(nodes)
+}
+
+/// Puts copies of the nodes of a row behind those of another.
+fn push_copies(nodes: &mut Vec<Stored>, row: &[Stored]) -> Result<(), AllocError>
+    ensures { OnOk result (row_view nodes.new.items ≡ join (row_view nodes.old.items) (row_view row.now)) }
+{
+    for stored in row {
+        nodes.push(stored.clone()?)?;
+    }
+    Ok(())
 }
 
 /// Whether a row has more nodes, with those below them, than this.

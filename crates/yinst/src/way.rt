@@ -5,15 +5,16 @@ ghost use Rattle.yspec.specs.edit.Editing as spec;
 ghost use Rattle.yschema.specs.View as schema_view;
 ghost use Rattle.ytree.specs.View.{tree_view};
 ghost use Rattle.yinst.specs.EditView.{predicate_view, path_view, steps_view};
-ghost use Rattle.yinst.specs.Applying.{Answers, numbers};
+ghost use Rattle.yspec.specs.Results.{Gives};
+ghost use Rattle.yinst.specs.Applying.{numbers, told_by};
 ghost use Rattle.yinst.specs.Ways.{way_view, target_view};
 ghost use Rattle.yinst.specs.declared.edit.EditFault.TheVariants.{Refused};
 
 use crate::edit::{EditCode, EditFault, NamedStep, Path, Predicate};
 use crate::rows::{is_stored_in, row_under};
-use crate::tree::Tree;
 use std::alloc::Global;
 use yschema::{Schema, SchemaId};
+use ytree::Tree;
 
 /// The schema nodes above one, from the top, and that node.
 #[derive(Debug, Drop)]
@@ -37,7 +38,7 @@ pub(crate) fn target_of(
     tree: &Tree,
     path: &Path,
 ) -> Result<Target, EditFault>
-    ensures { Answers target_view result (spec.target_of (schema_view.view schema.now) (tree_view tree.now) (path_view path.now)) }
+    ensures { Gives target_view told_by result (spec.target_of (schema_view.view schema.now) (tree_view tree.now) (path_view path.now)) }
 {
     match meant(alloc, schema, path.steps.as_slice()) {
         Ok(way) => located(tree, way),
@@ -47,7 +48,7 @@ pub(crate) fn target_of(
 
 /// Where a way leads in a document.
 fn located(tree: &Tree, way: Way) -> Result<Target, EditFault>
-    ensures { Answers target_view result (spec.target (tree_view tree.now) (way_view way)) }
+    ensures { Gives target_view told_by result (spec.target (tree_view tree.now) (way_view way)) }
 {
     let Way { above, last } = way;
     match row_under(tree.nodes(), &above) {
@@ -68,7 +69,7 @@ pub(crate) fn refused(code: EditCode) -> EditFault
 }
 
 fn meant(alloc: Global, schema: &Schema, steps: &[NamedStep]) -> Result<Way, EditFault>
-    ensures { Answers way_view result (spec.meant (schema_view.view schema.now) (steps_view steps.now)) }
+    ensures { Gives way_view told_by result (spec.meant (schema_view.view schema.now) (steps_view steps.now)) }
 {
     match way_of(alloc, schema, steps) {
         Ok(_) if says_which(steps) => Err(refused(EditCode::E3)),
@@ -79,7 +80,7 @@ fn meant(alloc: Global, schema: &Schema, steps: &[NamedStep]) -> Result<Way, Edi
 
 /// The way by the names of some steps.
 fn way_of(alloc: Global, schema: &Schema, steps: &[NamedStep]) -> Result<Way, EditFault>
-    ensures { Answers way_view result (spec.way (schema_view.view schema.now) (steps_view steps.now)) }
+    ensures { Gives way_view told_by result (spec.way (schema_view.view schema.now) (steps_view steps.now)) }
 {
     let Some((first, steps)) = steps.split_first() else {
         return Err(refused(EditCode::E1));
@@ -99,7 +100,7 @@ fn way_of(alloc: Global, schema: &Schema, steps: &[NamedStep]) -> Result<Way, Ed
 
 /// The way on from where a way leads.
 fn way_on(schema: &Schema, way: Way, steps: &[NamedStep]) -> Result<Way, EditFault>
-    ensures { Answers way_view result
+    ensures { Gives way_view told_by result
         (spec.way_on (schema_view.view schema.now) (numbers way.above.items) way.last.0 (steps_view steps.now)) }
 {
     let Way {

@@ -7,3 +7,4 @@ pub mod ReadBackLemmas
 pub mod WrittenNameLemmas
 pub mod WrittenShapeLemmas
 pub mod ReadWholeLemmas
+pub mod JsonLemmas

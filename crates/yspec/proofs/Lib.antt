@@ -1,3 +1,4 @@
+pub mod ForestLemmas
 pub mod DocumentProofs
 pub mod EditProofs
 pub mod LiteralLemmas

@@ -11,21 +11,12 @@ use Rattle.yspec.specs.document.Fitting.{Fits}
 use Rattle.yspec.specs.document.Writing.{NamesDiffer, IsDocument}
 use Rattle.yspec.proofs.DocumentProofs.FittingReadLemmas.{read_fits}
 use Rattle.yspec.proofs.DocumentProofs.ReadWholeLemmas.{read_whole}
-use Rattle.ytree.specs.Told.{Tells, Fails, Gives, code_number}
+use Rattle.ytree.specs.Told.{Tells, code_number, told_by}
+use Rattle.yspec.specs.Results.{Fails, Gives}
 use Rattle.ytree.specs.View.{place_view, tree_view}
 use Rattle.ytree.specs.declared.tree.Tree as tree
 use Rattle.ytree.specs.declared.fault.DocFault.{DocFault}
 use Rattle.ytree.specs.declared.fault.DocFault.TheVariants.{Refused, Memory}
-
-pub json_found : (bytes : List ℕ) (d : Data) → IsUtf8 bytes → read bytes ≡ Some d → json_of bytes ≡ Some d
-json_found bytes d utf8 is = ap (λ (b : Bool). cond b (read bytes) None) (is_utf8-from_IsUtf8 bytes utf8) ∙ is
-
-none_if : (bytes : List ℕ) (b : Bool) → is_utf8 bytes ≡ b → (IsUtf8 bytes → read bytes ≡ None) → cond b (read bytes) None ≡ None
-none_if bytes true is h = h (IsUtf8-from_is_utf8 bytes is)
-none_if bytes false is h = refl
-
-pub no_json : (bytes : List ℕ) → (IsUtf8 bytes → read bytes ≡ None) → json_of bytes ≡ None
-no_json bytes h = none_if bytes (is_utf8 bytes) refl h
 
 pub of_json : (s : Schema) (bytes : List ℕ) (d : Data) → json_of bytes ≡ Some d → document_of s bytes ≡ tree_or_refusal s d
 unfolding document_of
@@ -39,19 +30,19 @@ same_refusal : (a b : Refusal) → Some a ≡ Some b → a ≡ b
 same_refusal a b h = cc
 
 -- what is told is the refusal
-pub fails_by : {Y : Type 0} (f : DocFault) (told : Option Refusal) (r : Refusal) (answer : Result Y Refusal) → Tells f told → told ≡ Some r → answer ≡ Err r → Fails f answer
+pub fails_by : {Y : Type 0} (f : DocFault) (told : Option Refusal) (r : Refusal) (answer : Result Y Refusal) → Tells f told → told ≡ Some r → answer ≡ Err r → Fails (told_by f) answer
 fails_by (Refused code place) told r answer tells is said =
     said ∙ ap Err (same_refusal r (record { code = code_number code; place = place_view place.items }) (sym is ∙ tells))
 fails_by Memory told r answer tells is said = tt
 
-pub gives_same : {X Y : Type 0} (see : X → Y) (given : Result X DocFault) (a b : Result Y Refusal) → a ≡ b → Gives see given b → Gives see given a
-gives_same {X} {Y} see given a b is h = subst (λ (r : Result Y Refusal). Gives see given r) (sym is) h
+pub gives_same : {X Y : Type 0} (see : X → Y) (given : Result X DocFault) (a b : Result Y Refusal) → a ≡ b → Gives see told_by given b → Gives see told_by given a
+gives_same {X} {Y} see given a b is h = subst (λ (r : Result Y Refusal). Gives see told_by given r) (sym is) h
 
-pub fits_if_read : (given : Result tree.Tree DocFault) (s : Schema) (bytes : List ℕ) → Gives tree_view given (document_of s bytes) → IfOk given (λ t. Fits s.nodes (tree_view t))
+pub fits_if_read : (given : Result tree.Tree DocFault) (s : Schema) (bytes : List ℕ) → Gives tree_view told_by given (document_of s bytes) → IfOk given (λ t. Fits s.nodes (tree_view t))
 fits_if_read (Ok t) s bytes is = read_fits s bytes (tree_view t) is
 fits_if_read (Err f) s bytes is = tt
 
-pub whole_if_read : (given : Result tree.Tree DocFault) (s : Schema) (bytes : List ℕ) → Gives tree_view given (document_of s bytes)
+pub whole_if_read : (given : Result tree.Tree DocFault) (s : Schema) (bytes : List ℕ) → Gives tree_view told_by given (document_of s bytes)
     → IfOk given (λ t. NamesDiffer s None s.nodes → IsDocument s.nodes (tree_view t))
 whole_if_read (Ok t) s bytes is = λ differ. read_whole s bytes (tree_view t) differ is
 whole_if_read (Err f) s bytes is = tt

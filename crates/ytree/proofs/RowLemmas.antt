@@ -10,6 +10,7 @@ use Rattle.yspec.specs.document.Document.{Tree}
 use Rattle.yspec.specs.document.Reading.{stored_rows, stored_node, value_of, members_of, placed}
 use Rattle.yschema.specs.View as schema_view
 use Rattle.yschema.specs.declared.node.SchemaNode as code
+use Rattle.yspec.proofs.ForestLemmas.{join_end}
 use Rattle.ytree.specs.View.{view, row_view}
 use Rattle.ytree.specs.declared.tree.Stored.{Stored}
 
@@ -18,11 +19,6 @@ pub join_last : (done : List Stored) (s : Stored) (l : spec.Stored) (below rest 
     → join (row_view (done ++ s ∷ [])) rest ≡ join (row_view done) (node l below rest)
 join_last [] s l below rest is = ap (λ p. node p.0 p.1 rest) is
 join_last (d ∷ done) s l below rest is = ap (node (view d).0 (view d).1) (join_last done s l below rest is)
-
--- a row behind which nothing stands
-pub join_end : (f : Tree) → join f end ≡ f
-join_end end = refl
-join_end (node l below after) = ap (node l below) (join_end after)
 
 -- no members, no nodes
 pub rows_of_none : (s : Schema) (parent : Option ℕ) (f : Forest SchemaNode) → stored_rows s parent f no_members ≡ end

@@ -15,7 +15,7 @@ use Rattle.yspec.proofs.DocumentProofs.ReadBackLemmas.{written_read}
 use Rattle.yspec.proofs.DocumentProofs.WrittenShapeLemmas.{levels_fit, no_fractions, written_depth}
 use Rattle.ytree.specs.View.{view, row_view}
 use Rattle.ytree.specs.declared.tree.Stored.{Stored}
-use Rattle.ytree.proofs.ReadLemmas.{json_found}
+use Rattle.yspec.proofs.DocumentProofs.JsonLemmas.{json_found}
 
 pub next_put : (s : Schema) (parent : Option ℕ) (row : List Stored) (i : ℕ) (st : Stored) (old new whole : Members) → i < length row → st ≡ get_or row i st
     → new ≡ with_node s parent (node_at s (view st).0.schema_number) (view st).0.value (λ m. row_members s (Some m) no_members (view st).1) old

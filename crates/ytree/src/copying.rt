@@ -1,7 +1,6 @@
 //! Copies of documents.
 
-ghost use Rattle.std.specs.Prelude.{◌≡◌, IfOk, OnOk, option_map};
-ghost use Rattle.yspec.specs.Forest.{join};
+ghost use Rattle.std.specs.Prelude.{◌≡◌, IfOk, option_map};
 ghost use Rattle.ytype.specs.View.{raw_of};
 ghost use Rattle.ytree.specs.View.{view, row_view, tree_view};
 
@@ -14,6 +13,18 @@ impl Clone for Stored {
 
     fn clone(&self) -> Result<Stored, AllocError> {
         copy_of(self)
+    }
+}
+
+impl Stored {
+    ghost use Rattle.std.specs.Prelude.{◌≡◌, IfOk};
+    ghost use Rattle.ytree.specs.View.{view, row_view};
+
+    /// A copy of the node with other nodes below it.
+    pub fn with_below(&self, below: Vec<Stored>) -> Result<Stored, AllocError>
+        ensures { IfOk result (λ s. view s ≡ ((view self.now).0, row_view below.items)) }
+    {
+        Ok(Stored::new(self.id(), copy_of_value(self.value())?, below))
     }
 }
 
@@ -34,7 +45,7 @@ fn copy_of(stored: &Stored) -> Result<Stored, AllocError>
     Ok(Stored::new(stored.id(), value, below))
 }
 
-pub(crate) fn copy_of_value(value: Option<&Raw>) -> Result<Option<Raw>, AllocError>
+fn copy_of_value(value: Option<&Raw>) -> Result<Option<Raw>, AllocError>
     ensures { IfOk result (λ raw. option_map raw_of raw ≡ option_map (λ r. raw_of r.now) value.entry) }
 {
     match value {
@@ -45,7 +56,7 @@ pub(crate) fn copy_of_value(value: Option<&Raw>) -> Result<Option<Raw>, AllocErr
 
 /// Copies of the nodes of a row.
 #[cycle(copies)]
-pub(crate) fn copies_of(alloc: Global, row: &[Stored]) -> Result<Vec<Stored>, AllocError>
+fn copies_of(alloc: Global, row: &[Stored]) -> Result<Vec<Stored>, AllocError>
     ensures { IfOk result (λ nodes. row_view nodes.items ≡ row_view row.now) }
 {
     let mut nodes = Vec::with_capacity(alloc, row.len())?;
@@ -53,14 +64,4 @@ pub(crate) fn copies_of(alloc: Global, row: &[Stored]) -> Result<Vec<Stored>, Al
         nodes.push(copy_of(stored)?)?;
     }
     Ok(nodes)
-}
-
-/// Puts copies of the nodes of a row behind those of another.
-pub(crate) fn push_copies(nodes: &mut Vec<Stored>, row: &[Stored]) -> Result<(), AllocError>
-    ensures { OnOk result (row_view nodes.new.items ≡ join (row_view nodes.old.items) (row_view row.now)) }
-{
-    for stored in row {
-        nodes.push(stored.clone()?)?;
-    }
-    Ok(())
 }

@@ -7,6 +7,8 @@ ghost use Rattle.ytree.specs.declared.fault.DocFault.TheVariants.{Memory};
 
 use crate::tree::Step;
 use std::alloc::{AllocError, AllocFailed, Global};
+use std::fmt;
+use thiserror::Error;
 
 /// Why a document isn't read under a schema.
 #[derive(Clone, Copy, Debug, PartialEq, Eq)]
@@ -25,10 +27,30 @@ pub enum DocCode {
     J6 = 6,
 }
 
+impl DocCode {
+    ghost use Rattle.std.specs.Prelude.{◌≡◌};
+    ghost use Rattle.ytree.specs.Told.{code_number};
+
+    /// The number behind the `J`.
+    pub fn number(self) -> u8
+        ensures { result ≡ code_number self }
+    {
+        self as u8
+    }
+}
+
+impl fmt::Display for DocCode {
+    fn fmt<W: fmt::Write>(&self, f: &mut fmt::Formatter<W>) -> fmt::Result {
+        write!(f, "J{}", self.number())
+    }
+}
+
 /// Why a document isn't read, and at which node; no step leads to the root.
-#[derive(Debug, Drop)]
+#[derive(Debug, Drop, Error)]
 pub enum DocFault {
+    #[error("{code}")]
     Refused { code: DocCode, place: Vec<Step> },
+    #[error("memory")]
     Memory,
 }
 

@@ -8,13 +8,14 @@ ghost use Rattle.yspec.specs.document.Writing.{NamesDiffer, IsDocument};
 ghost use Rattle.ytype.specs.View.{raw_of};
 ghost use Rattle.yschema.specs.View as schema_view;
 ghost use Rattle.ytree.specs.View.{view, row_view, tree_view};
-ghost use Rattle.ytree.specs.Told.{Gives, Tells, code_number};
+ghost use Rattle.yspec.specs.Results.{Gives};
+ghost use Rattle.ytree.specs.Told.{Judges, Tells, code_number, denoted_at, refused_at, told_by};
 
 use crate::fault::{DocCode, DocFault};
 use crate::names::written_name;
 use crate::tree::{Stored, Tree};
 use crate::values::raw_of;
-use crate::visits::visit_members;
+use crate::visits::{visit_members, visit_node};
 use serde_json::{Map, Value};
 use std::alloc::{AllocError, Global};
 use yschema::{Children, Kind, Schema, SchemaId, SchemaNode};
@@ -23,7 +24,7 @@ use ytype::Raw;
 /// The document that JSON bytes denote under a schema, or the first refusal: J1 and J2, then J3 to J6 depth first, members
 /// in byte order of their names (RFC 7951).
 pub fn read(alloc: Global, schema: &Schema, bytes: &[u8]) -> Result<Tree, DocFault>
-    ensures answer { Gives tree_view result (document_of (schema_view.view schema.now) bytes.now) }
+    ensures answer { Gives tree_view told_by result (document_of (schema_view.view schema.now) bytes.now) }
     ensures fitting { IfOk result (λ tree. Fits (schema_view.view schema.now).nodes (tree_view tree)) }
     // where no two siblings are written with one name
     ensures whole { let s = schema_view.view schema.now in
@@ -47,7 +48,7 @@ fn at_root(alloc: Global, code: DocCode) -> DocFault
 
 /// The document that a value denotes, or its first refusal.
 fn tree_of(alloc: Global, schema: &Schema, value: &Value) -> Result<Tree, DocFault>
-    ensures { Gives tree_view result
+    ensures { Gives tree_view told_by result
         (tree_or_refusal (schema_view.view schema.now) (json.view value.now)) }
 {
     let Value::Object(members) = value else {
@@ -57,6 +58,28 @@ fn tree_of(alloc: Global, schema: &Schema, value: &Value) -> Result<Tree, DocFau
     match visit_members(alloc, schema, None, members, &mut place) {
         Ok(()) => Ok(Tree::new(rows_of(alloc, schema, None, schema.roots(), members)?)),
         Err(fault) => Err(fault),
+    }
+}
+
+/// The stored node that a value denotes at a node of the schema, or its first refusal, whose place leads from there;
+/// nothing where the schema has no such node.
+pub fn read_node(
+    alloc: Global,
+    schema: &Schema,
+    id: SchemaId,
+    value: &Value,
+) -> Result<Option<Stored>, DocFault>
+    ensures refused { Judges result (refused_at (schema_view.view schema.now) id.0 [] (json.view value.now)) }
+    ensures node { IfOk result (λ s. option_map view s ≡ denoted_at (schema_view.view schema.now) id.0 (json.view value.now)) }
+{
+    let mut place = Vec::new(alloc);
+    match visit_node(alloc, schema, id, value, &mut place) {
+        Ok(()) => {}
+        Err(fault) => return Err(fault),
+    }
+    match schema.kind(id) {
+        Some(node) => Ok(Some(stored(alloc, schema, id, node, schema.children(id), value)?)),
+        None => Ok(None),
     }
 }
 
@@ -85,7 +108,7 @@ fn rows_of(
 
 /// What a value denotes at a node whose children are given.
 #[cycle(rows)]
-pub(crate) fn stored(
+fn stored(
     alloc: Global,
     schema: &Schema,
     id: SchemaId,

@@ -27,7 +27,7 @@ impl Stored {
     ghost use denote.Param.Weighed.{most};
 
     /// A node of a row, in which siblings stand in the order of their schema nodes.
-    pub(crate) fn new(id: SchemaId, value: Option<Raw>, below: Vec<Stored>) -> Stored
+    pub fn new(id: SchemaId, value: Option<Raw>, below: Vec<Stored>) -> Stored
         ensures node { (view result).0 ≡ record { schema_number = id.0; value = option_map raw_of value } }
         ensures below { (view result).1 ≡ row_view below.items }
     {
@@ -75,8 +75,8 @@ impl Tree {
     ghost use Rattle.std.specs.Prelude.{◌≡◌};
     ghost use Rattle.ytree.specs.View.{row_view, tree_view};
 
-    /// The document with these top nodes.
-    pub(crate) fn new(nodes: Vec<Stored>) -> Tree
+    /// The document with these top nodes, which stand in the order of their schema nodes.
+    pub fn new(nodes: Vec<Stored>) -> Tree
         ensures { tree_view result ≡ row_view nodes.items }
     {
         Tree { nodes }

@@ -1,5 +1,5 @@
 -- What an edit does to a document, or why it is refused.
-use Rattle.std.specs.Prelude.{ℕ, ◌==◌, ◌++◌, Bool, true, false, List, [], ◌∷◌, map, Option, Some, None, is_some, option_and_then, Result, Ok, Err, if◌then◌else◌, nat_lt}
+use Rattle.std.specs.Prelude.{⊤, ℕ, ◌==◌, ◌++◌, Bool, true, false, List, [], ◌∷◌, map, Option, Some, None, is_some, option_and_then, Result, Ok, Err, if◌then◌else◌, nat_lt}
 use Rattle.std.specs.Option.{option_map_or}
 use Rattle.serde_json.specs.Data.{Data}
 use Rattle.yspec.specs.Forest.{end, node, size}
@@ -8,7 +8,7 @@ use Rattle.yspec.specs.schema.Schema.{Schema, SchemaNode, node_at, children_of, 
 use Rattle.yspec.specs.document.Document.{Stored, Tree, Step}
 use Rattle.yspec.specs.document.Reading.{node_visits, first_wrong, json_of, stored_node, stored_rows, members_of}
 use Rattle.yspec.specs.edit.Edit.{edit_at}
-use Rattle.yspec.specs.edit.EditText.{Predicate, unsaid, Path, Edit, create, replace, remove}
+use Rattle.yspec.specs.edit.EditText.{Predicate, unsaid, Path, Edit, create, replace, remove, path_of, asked_by}
 
 -- why an edit is refused: the number behind the `E`, and of a value that doesn't fit the one behind the `J`
 pub record EditRefusal : Type 0 where
@@ -25,6 +25,19 @@ infixl 10 ◌>>=◌
 abbrev pub ◌>>=◌ : {A B : Type 0} → Result A EditRefusal → (A → Result B EditRefusal) → Result B EditRefusal
 (Ok x) >>= f = f x
 (Err e) >>= f = Err e
+
+-- ---- what texts spell, or E1
+
+abbrev pub path_spelled : Text → Result Path EditRefusal
+path_spelled text = option_map_or Ok (path_of text) (refused 1)
+
+abbrev pub asked_or_refused : {A : Type 0} → Result A ⊤ → Result A EditRefusal
+asked_or_refused (Ok x) = Ok x
+asked_or_refused (Err e) = refused 1
+
+-- what a line of a script asks for, if it asks for anything
+abbrev pub edit_asked : Text → Result (Option Edit) EditRefusal
+edit_asked line = asked_or_refused (asked_by line)
 
 -- ---- what the steps of a path mean
 

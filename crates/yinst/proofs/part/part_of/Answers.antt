@@ -1,7 +1,7 @@
 use Rattle.serde_json.specs.View as json
 use Rattle.yschema.specs.View as schema_view
 use Rattle.yinst.specs.Rows.{part_view}
-use Rattle.ytree.proofs.ReadLemmas.{json_found}
+use Rattle.yspec.proofs.DocumentProofs.JsonLemmas.{json_found}
 use Rattle.yinst.proofs.EditLemmas.{answers_same, part_of_value}
 use Rattle.yinst.proofs.part.part_of.Goals as goal
 

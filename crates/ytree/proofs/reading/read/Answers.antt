@@ -3,7 +3,8 @@ use Rattle.serde_json.specs.Errors.{IsMemory}
 use Rattle.serde_json.specs.View as json
 use Rattle.yschema.specs.View as schema_view
 use Rattle.ytree.specs.View.{tree_view}
-use Rattle.ytree.proofs.ReadLemmas.{json_found, no_json, of_json, of_none, fails_by, gives_same, fits_if_read, whole_if_read}
+use Rattle.yspec.proofs.DocumentProofs.JsonLemmas.{json_found, no_json}
+use Rattle.ytree.proofs.ReadLemmas.{of_json, of_none, fails_by, gives_same, fits_if_read, whole_if_read}
 use Rattle.ytree.proofs.reading.read.Goals as goal
 
 pub returns-in-Ok-clause-answer : goal.returns-in-Ok-clause-answer

@@ -1,7 +1,7 @@
 use Rattle.std.proofs.Common.{◌≡◌, drop}
 use Rattle.yspec.specs.Forest.{join}
 use Rattle.ytree.specs.View.{row_view}
-use Rattle.ytree.proofs.copying.push_copies.Given as goal
+use Rattle.yinst.proofs.rows.push_copies.Given as goal
 
 abbrev pub invariant-loop-stored : goal.invariant-loop-stored
 invariant-loop-stored l = join (row_view l.nodes.items) (row_view (drop l.stored-index l.row)) ≡ join (row_view l.fn.nodes.items) (row_view l.row)

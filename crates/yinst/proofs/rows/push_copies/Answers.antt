@@ -2,9 +2,9 @@ use Rattle.std.proofs.Common.{◌+◌, drop, slice_index_or, ap, sym, ◌∙◌}
 use Rattle.std.proofs.lemmas.List.{at_drop_more, at_drop_all}
 use Rattle.yspec.specs.Forest.{join}
 use Rattle.ytree.specs.View.{view, row_view}
-use Rattle.ytree.proofs.RowLemmas.{join_end}
+use Rattle.yspec.proofs.ForestLemmas.{join_end}
 use Rattle.yinst.proofs.RowChangeLemmas.{one_more}
-use Rattle.ytree.proofs.copying.push_copies.Goals as goal
+use Rattle.yinst.proofs.rows.push_copies.Goals as goal
 
 pub loop-stored-preserved : goal.loop-stored-preserved
 loop-stored-preserved c =

@@ -1,0 +1,16 @@
+//! Documents: reading them under a schema, and writing them (RFC 7951).
+#![tactic(auto)]
+
+mod copying;
+mod fault;
+mod names;
+mod reading;
+mod tree;
+mod values;
+mod visits;
+mod writing;
+
+pub use fault::{DocCode, DocFault};
+pub use reading::{read, read_node};
+pub use tree::{Step, Stored, Tree};
+pub use writing::write;
