@@ -98,6 +98,7 @@ pub enum EditFault {
 }
 
 /// Why a value doesn't fit, as it stands behind an edit's code.
+#[derive(Clone, Copy)]
 struct Because(Option<DocCode>);
 
 impl fmt::Display for Because {

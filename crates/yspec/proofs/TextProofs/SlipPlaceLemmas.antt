@@ -7,7 +7,7 @@ use Rattle.yspec.specs.text.Text.{Text, line_after, backslash}
 use Rattle.yspec.specs.text.Token.{Lexeme, Token, word, single, double, semi, close_block, finish, at, escape, tokens_of}
 use Rattle.yspec.specs.text.Statement.{Statement, Slip, begins_quoted, is_plus, top_statement}
 use Rattle.yspec.specs.text.Spelling.{TokensSpell}
-use Rattle.yspec.specs.text.Slips.{State, at_keyword, behind_keyword, behind_word, behind_quoted, behind_plus, behind_top, behind_statement, next, fits, is_unclosed, is_too_many_or_few, is_too_deep, is_unformed, cause, wrong_escapes, slips_within, slips_at, slips_from, slips, first, IsBeginning, IsFirstWrong}
+use Rattle.yspec.specs.text.Slips.{State, at_keyword, behind_keyword, behind_word, behind_quoted, behind_plus, behind_top, behind_statement, next, fits, is_unclosed, is_too_many_or_few, is_too_deep, is_unformed, cause, wrong_escapes, slips_within, slips_at, state_behind, state_after, slips_from, slips, first, IsBeginning, IsFirstWrong}
 use Rattle.yspec.proofs.TextProofs.SpellingTokenLemmas.{from_ending}
 use Rattle.yspec.proofs.TextProofs.SpellingCutLemmas.{is_ending}
 use Rattle.yspec.proofs.TextProofs.SpellingRowLemmas.{Ends, top_found, top_only, row_keeps}
@@ -50,18 +50,9 @@ fits_if_right s t f h = go (is_unclosed t.lexeme) (fits s t.lexeme f) _ h
     go false true rest h = refl
     go false false rest h = absurd cc
 
--- the state behind a token
-abbrev step : State → Token → List Token → State
-step s t f = if fits s t.lexeme f then next s t.lexeme else s
-
--- the state behind some tokens, before others
-abbrev walk : State → List Token → List Token → State
-walk s [] f = s
-walk s (t ∷ ts) f = walk (step s t (ts ++ f)) ts f
-
 NoSlips : State → List Token → List Token → Type 0
 NoSlips s [] f = Unit
-NoSlips s (t ∷ ts) f = (slips_at s t (ts ++ f) ≡ []) × NoSlips (step s t (ts ++ f)) ts f
+NoSlips s (t ∷ ts) f = (slips_at s t (ts ++ f) ≡ []) × NoSlips (state_behind s t (ts ++ f)) ts f
 
 -- behind a `+` there a quoted string begins here
 abbrev Joins : State → List Token → List Token → Type 0
@@ -89,19 +80,19 @@ fits_again behind_top semi f g h j = h
 fits_again behind_top _ f g h j = h
 
 one_step : (s : State) (t : Token) (f g : List Token) → slips_at s t f ≡ []
-    → fits s t.lexeme f ≡ fits s t.lexeme g → slips_from s (t ∷ g) ≡ slips_from (step s t f) g
+    → fits s t.lexeme f ≡ fits s t.lexeme g → slips_from s (t ∷ g) ≡ slips_from (state_behind s t f) g
 unfolding slips_from slips_with
 one_step s t f g h e =
     ap (λ (b : Bool). slips_with b s t ++ slips_from (if b then next s t.lexeme else s) g) (sym e)
-    ∙ ap (λ (l : List Slip). l ++ slips_from (step s t f) g) h
+    ∙ ap (λ (l : List Slip). l ++ slips_from (state_behind s t f) g) h
 
-joins_next : (s : State) (t : Token) (f g : List Token) → fits s t.lexeme f ≡ true → Joins (step s t f) f g
+joins_next : (s : State) (t : Token) (f g : List Token) → fits s t.lexeme f ≡ true → Joins (state_behind s t f) f g
     → Joins (next s t.lexeme) f g
 joins_next s t f g h j = subst (λ (b : Bool). Joins (if b then next s t.lexeme else s) f g) h j
 
 -- what is right before others is right before these too
-same_walk : (s : State) (before f g : List Token) → NoSlips s before f → Joins (walk s before f) f g
-    → slips_from s (before ++ g) ≡ slips_from (walk s before f) g
+same_walk : (s : State) (before f g : List Token) → NoSlips s before f → Joins (state_after s before f) f g
+    → slips_from s (before ++ g) ≡ slips_from (state_after s before f) g
 unfolding NoSlips
 same_walk s [] f g n j = refl
 same_walk s (t ∷ []) f g n j =
@@ -109,7 +100,7 @@ same_walk s (t ∷ []) f g n j =
     one_step s t f g n.0 (h ∙ sym (fits_again s t.lexeme f g h (joins_next s t f g h j)))
 same_walk s (t ∷ u ∷ us) f g n j =
     one_step s t ((u ∷ us) ++ f) ((u ∷ us) ++ g) n.0 (fits_same s t.lexeme ((u ∷ us) ++ f) ((u ∷ us) ++ g) refl)
-    ∙ same_walk (step s t ((u ∷ us) ++ f)) (u ∷ us) f g n.1 j
+    ∙ same_walk (state_behind s t ((u ∷ us) ++ f)) (u ∷ us) f g n.1 j
 
 -- ---- each state can be brought to an end
 
@@ -172,10 +163,10 @@ record Found (s : State) (ts : List Token) (slip : Slip) : Type 0 where
   after : List Token
   whole : ts ≡ before ++ (token ∷ after)
   clean : NoSlips s before (token ∷ after)
-  told : first (slips_at (walk s before (token ∷ after)) token after) ≡ Some slip
+  told : first (slips_at (state_after s before (token ∷ after)) token after) ≡ Some slip
 
 found_later : (s : State) (t : Token) (ts : List Token) (slip : Slip) → slips_at s t ts ≡ []
-    → Found (step s t ts) ts slip → Found s (t ∷ ts) slip
+    → Found (state_behind s t ts) ts slip → Found s (t ∷ ts) slip
 unfolding NoSlips
 found_later s t ts slip h f = record {
   before = t ∷ f.before;
@@ -185,19 +176,19 @@ found_later s t ts slip h f = record {
   clean = (
     subst (λ (us : List Token). slips_at s t us ≡ []) f.whole h,
     subst
-        (λ (us : List Token). NoSlips (step s t us) f.before (f.token ∷ f.after)) f.whole f.clean,
+        (λ (us : List Token). NoSlips (state_behind s t us) f.before (f.token ∷ f.after)) f.whole f.clean,
   );
-  told = subst (λ (us : List Token). first (slips_at (walk (step s t us) f.before (f.token ∷ f.after)) f.token
+  told = subst (λ (us : List Token). first (slips_at (state_after (state_behind s t us) f.before (f.token ∷ f.after)) f.token
       f.after) ≡ Some slip) f.whole f.told;
 }
 
 find : (s : State) (ts : List Token) (slip : Slip) → first (slips_from s ts) ≡ Some slip → Found s ts slip
 unfolding slips_from NoSlips
 find s [] slip h = absurd cc
-find s (t ∷ ts) slip h = go (slips_at s t ts) refl h (find (step s t ts) ts slip)
+find s (t ∷ ts) slip h = go (slips_at s t ts) refl h (find (state_behind s t ts) ts slip)
   where
-    go : (l : List Slip) → slips_at s t ts ≡ l → first (l ++ slips_from (step s t ts) ts) ≡ Some slip
-        → (first (slips_from (step s t ts) ts) ≡ Some slip → Found (step s t ts) ts slip) → Found s (t ∷ ts) slip
+    go : (l : List Slip) → slips_at s t ts ≡ l → first (l ++ slips_from (state_behind s t ts) ts) ≡ Some slip
+        → (first (slips_from (state_behind s t ts) ts) ≡ Some slip → Found (state_behind s t ts) ts slip) → Found s (t ∷ ts) slip
     go [] e h below = found_later s t ts slip e (below h)
     go (x ∷ xs) e h below = record {
       before = [];
@@ -284,7 +275,7 @@ first_wrong ts slip h e = go (find (at_keyword 0) ts slip e)
   where
     begins : (f : Found (at_keyword 0) ts slip) → IsBeginning f.before
     begins f =
-        let s = walk (at_keyword 0) f.before (f.token ∷ f.after) in
+        let s = state_after (at_keyword 0) f.before (f.token ∷ f.after) in
         let ends = no_ending_before f.before f.token (at h.0 h.1) f.after (complete s)
         (ap (λ (us : List Token). from_ending us) (sym f.whole) ∙ h.3) ∙ complete_ends s in
         let p = spelled_if_right (f.before ++ complete s) (1, finish, refl, ends)
@@ -295,11 +286,11 @@ first_wrong ts slip h e = go (find (at_keyword 0) ts slip e)
     wrong : (f : Found (at_keyword 0) ts slip) (more : List Token) (top : Forest Statement)
         → begins_quoted more ≡ begins_quoted f.after → TokensSpell (f.before ++ (f.token ∷ more)) top → ⊥
     wrong f more top q t =
-        let s = walk (at_keyword 0) f.before (f.token ∷ f.after) in
+        let s = state_after (at_keyword 0) f.before (f.token ∷ f.after) in
         let same = same_walk (at_keyword 0) f.before (f.token ∷ f.after) (f.token ∷ more) f.clean (λ level z b. b) in
         let here = ap (λ (l : List Slip). first l)
         (slips_same s f.token more f.after (fits_same s f.token.lexeme more f.after q)) ∙ f.told in
-        let told = first_append (slips_at s f.token more) (slips_from (step s f.token more) more) slip here in
+        let told = first_append (slips_at s f.token more) (slips_from (state_behind s f.token more) more) slip here in
         absurd (cc (sym (right_if_spelled (f.before ++ (f.token ∷ more)) top t) ∙ ap (λ (l : List Slip). first l)
         same ∙ told))
 
@@ -311,7 +302,8 @@ first_wrong ts slip h e = go (find (at_keyword 0) ts slip e)
       place = f.whole;
       right_before = begins f;
       wrong = wrong f;
-      line = slip_line (walk (at_keyword 0) f.before (f.token ∷ f.after)) f.token f.after slip f.told;
+      cause = f.told;
+      line = slip_line (state_after (at_keyword 0) f.before (f.token ∷ f.after)) f.token f.after slip f.told;
     }
 
 pub first_slip_place : (text : Text) (slip : Slip) → first (slips text) ≡ Some slip → IsFirstWrong (tokens_of text) slip

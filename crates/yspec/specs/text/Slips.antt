@@ -128,11 +128,19 @@ slips_at state t following = cause (is_unclosed t.lexeme) 3 t.line
     ++ (cause (is_unformed state t.lexeme) 8 t.line
     ++ slips_within t.line t.lexeme))))
 
--- from a state on; a token that doesn't fit is passed over
+-- the state behind a token, before others; a token that doesn't fit is passed over
+abbrev pub state_behind : State → Token → List Token → State
+state_behind state t following = if fits state t.lexeme following then next state t.lexeme else state
+
+-- the state behind some tokens, before others
+abbrev pub state_after : State → List Token → List Token → State
+state_after state [] following = state
+state_after state (t ∷ ts) following = state_after (state_behind state t (ts ++ following)) ts following
+
+-- from a state on
 unfoldable pub slips_from : State → List Token → List Slip
 slips_from state [] = []
-slips_from state (t ∷ ts) =
-    slips_at state t ts ++ slips_from (if fits state t.lexeme ts then next state t.lexeme else state) ts
+slips_from state (t ∷ ts) = slips_at state t ts ++ slips_from (state_behind state t ts) ts
 
 abbrev pub slips : Text → List Slip
 slips text = slips_from (at_keyword 0) (tokens_of text)
@@ -160,7 +168,8 @@ abbrev pub IsBeginning : List Token → Type 0
 IsBeginning before = (more : List Token) × (top : Forest Statement) × TokensSpell (before ++ more) top
 
 -- The token of the first slip: what stands before it is right so far, and it isn't, whatever follows it; of `+` it
--- counts whether a quoted string follows. A wrong escape bears the line of its backslash, and each other slip the token's.
+-- counts whether a quoted string follows. The slip is the first of the causes at that token, where those before it have
+-- led: so its code and its line are said. A wrong escape bears the line of its backslash, and each other slip the token's.
 pub record IsFirstWrong (tokens : List Token) (slip : Slip) : Type 0 where
   pub before : List Token
   pub token : Token
@@ -169,4 +178,5 @@ pub record IsFirstWrong (tokens : List Token) (slip : Slip) : Type 0 where
   pub right_before : IsBeginning before
   pub wrong : (more : List Token) (top : Forest Statement) → begins_quoted more ≡ begins_quoted following
       → TokensSpell (before ++ (token ∷ more)) top → ⊥
+  pub cause : first (slips_at (state_after (at_keyword 0) before (token ∷ following)) token following) ≡ Some slip
   pub line : (slip.line ≡ token.line) ⊎ (slip.code ≡ 4)
