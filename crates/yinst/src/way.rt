@@ -68,14 +68,30 @@ pub(crate) fn refused(code: EditCode) -> EditFault
     EditFault::Refused { code, doc: None }
 }
 
+/// What a path means: E1 for one that no text spells, then its names, then its predicates.
 fn meant(alloc: Global, schema: &Schema, steps: &[NamedStep]) -> Result<Way, EditFault>
     ensures { Gives way_view told_by result (spec.meant (schema_view.view schema.now) (steps_view steps.now)) }
 {
+    if has_zero(steps) {
+        return Err(refused(EditCode::E1));
+    }
     match way_of(alloc, schema, steps) {
         Ok(_) if says_which(steps) => Err(refused(EditCode::E3)),
         Ok(way) => Ok(way),
         Err(fault) => Err(fault),
     }
+}
+
+/// Whether a step bears the position 0; positions count from 1.
+fn has_zero(steps: &[NamedStep]) -> bool
+    ensures { result ≡ spec.has_zero (steps_view steps.now) }
+{
+    for step in steps {
+        if matches!(step.predicate, Predicate::Position(0)) {
+            return true;
+        }
+    }
+    false
 }
 
 /// The way by the names of some steps.

@@ -1,2 +1,3 @@
 pub mod LeastLemmas
 pub mod CompiledLemmas
+pub mod NumberLemmas

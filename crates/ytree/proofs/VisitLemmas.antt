@@ -13,6 +13,7 @@ use Rattle.yspec.specs.schema.Schema.{Schema, SchemaNode, container, leaf, node_
 use Rattle.yspec.specs.document.Document.{Step}
 use Rattle.yspec.specs.document.Reading.{Refusal, Visit, right, wrong, named, at_named, below_place, value_visit, member_visits, node_visits, first_wrong, Named, child}
 use Rattle.yspec.proofs.DocumentProofs.VisitLemmas.{passes, other_value}
+use Rattle.yspec.proofs.SchemaProofs.NumberLemmas.{number_at}
 use Rattle.ytree.specs.Told.{Tells, Judges, code_number, refused_at}
 use Rattle.ytree.specs.View.{place_view}
 use Rattle.ytree.specs.declared.fault.DocFault.{DocFault}
@@ -103,19 +104,6 @@ other_visit s n below place v h = other_value s n below place (json.view v) (no_
 pub as_before : {X A : Type 0} (r : Result X DocFault) (x : A) → OnOk r (x ≡ x)
 as_before (Ok y) x = refl
 as_before (Err e) x = tt
-
--- ---- a node by its number
-
-number_at : (f : Forest SchemaNode) (i : ℕ) (n : SchemaNode) → find_label (λ n. n.number == i) f ≡ Some n → n.number ≡ i
-number_at end i n e = absurd cc
-number_at (node l below after) i n e = by (l.number == i) refl (find_label (λ n. n.number == i) below) refl e (number_at below i n) (number_at after i n)
-  where
-    by : (b : Bool) → (l.number == i) ≡ b → (o : Option SchemaNode) → find_label (λ n. n.number == i) below ≡ o
-        → cond b (Some l) (first_of o (find_label (λ n. n.number == i) after)) ≡ Some n
-        → (find_label (λ n. n.number == i) below ≡ Some n → n.number ≡ i) → (find_label (λ n. n.number == i) after ≡ Some n → n.number ≡ i) → n.number ≡ i
-    by true here o is e inner rest = ap (λ (o : Option SchemaNode). (unwrap_or o n).number) (sym e) ∙ (Decides-eqb l.number i).0 here
-    by false here (Some m) is e inner rest = inner (is ∙ e)
-    by false here None is e inner rest = rest e
 
 -- what is refused at the child that a name means
 pub refused_child : (s : Schema) (i : ℕ) (place : List Step) (d : Data) (read : Named) → option_map (λ n. child n (children_of s i)) (node_at s i) ≡ Some read

@@ -10,7 +10,7 @@ use Rattle.yspec.specs.document.Document.{Stored, Tree}
 use Rattle.yspec.specs.document.Reading.{Refusal, node_visits, first_wrong, members_of, value_of, stored_node, stored_rows, json_of}
 use Rattle.yspec.specs.edit.Edit.{change_below, edit_at}
 use Rattle.yspec.specs.edit.EditText.{Path, Edit, create, replace, remove}
-use Rattle.yspec.specs.edit.Editing.{EditRefusal, refused, value_refused, ◌>>=◌, Way, way_on, way, says_which, meant, row_under, Target, target_in, target, step_to, with_row, Part, part, fitting_part, part_of, with_part, without, node_limit, within_limit, with_value, created, replaced, removed, target_of, applied, tree_or, after}
+use Rattle.yspec.specs.edit.Editing.{EditRefusal, refused, value_refused, ◌>>=◌, Way, way_on, way, says_which, meant, way_meant, has_zero, row_under, Target, target_in, target, step_to, with_row, Part, part, fitting_part, part_of, with_part, without, node_limit, within_limit, with_value, created, replaced, removed, target_of, applied, tree_or, after}
 use Rattle.yspec.specs.document.Fitting.{IsNumbered, IsBare, LeafsAreBare, FitsBy, Fits, at_end, not_stored, is_stored}
 use Rattle.yspec.specs.document.Writing.{NamesDiffer, HasForm, IsDocument}
 use Rattle.yspec.proofs.DocumentProofs.FittingLemmas.{eqb_other, no_node_in, no_row_in}
@@ -312,11 +312,18 @@ way_leads schema (s ∷ steps) w numbered e =
     way_on_leads schema [] step.0 steps w numbered
     (record { row_there = schema.nodes; leads = stay; there = found_child (is_written schema None s.name) schema.nodes step.0 step.1 }) step.2
 
-meant_leads : (schema : Schema) (path : Path) (w : Way) → IsNumbered 0 schema.nodes → meant schema path ≡ Ok w → Leads schema w.above w.last
-meant_leads schema path w numbered e =
+way_meant_leads : (schema : Schema) (path : Path) (w : Way) → IsNumbered 0 schema.nodes → way_meant schema path ≡ Ok w → Leads schema w.above w.last
+way_meant_leads schema path w numbered e =
     let step = bind_ok (way schema path) (λ v. cond (says_which path) (refused 3) (Ok v)) w e in
     let same = ok_is step.0 w (unless_refused (says_which path) 3 (Ok step.0) w step.2) in
     subst (λ (v : Way). Leads schema v.above v.last) same (way_leads schema path step.0 numbered step.1)
+
+meant_leads : (schema : Schema) (path : Path) (w : Way) → IsNumbered 0 schema.nodes → meant schema path ≡ Ok w → Leads schema w.above w.last
+meant_leads schema path w numbered e = by (has_zero path) e
+  where
+    by : (b : Bool) → cond b (refused 1) (way_meant schema path) ≡ Ok w → Leads schema w.above w.last
+    by true e = absurd cc
+    by false e = way_meant_leads schema path w numbered e
 
 target_leads : (schema : Schema) (tree : Tree) (path : Path) (t : Target) → IsNumbered 0 schema.nodes → target_of schema tree path ≡ Ok t
     → Leads schema t.above t.schema_number

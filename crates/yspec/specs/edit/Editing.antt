@@ -8,7 +8,7 @@ use Rattle.yspec.specs.schema.Schema.{Schema, SchemaNode, node_at, children_of, 
 use Rattle.yspec.specs.document.Document.{Stored, Tree, Step}
 use Rattle.yspec.specs.document.Reading.{node_visits, first_wrong, json_of, stored_node, stored_rows, members_of}
 use Rattle.yspec.specs.edit.Edit.{edit_at}
-use Rattle.yspec.specs.edit.EditText.{Predicate, unsaid, Path, Edit, create, replace, remove, path_of, asked_by}
+use Rattle.yspec.specs.edit.EditText.{Predicate, unsaid, at_position, Path, Edit, create, replace, remove, path_of, asked_by}
 
 -- why an edit is refused: the number behind the `E`, and of a value that doesn't fit the one behind the `J`
 pub record EditRefusal : Type 0 where
@@ -65,9 +65,22 @@ abbrev pub says_which : Path → Bool
 says_which [] = false
 says_which (s ∷ steps) = if says_nothing s.predicate then says_which steps else true
 
+-- positions count from 1, so no text spells a path with a position 0
+abbrev pub is_zero : Predicate → Bool
+is_zero (at_position n) = n == 0
+is_zero _ = false
+
+abbrev pub has_zero : Path → Bool
+has_zero [] = false
+has_zero (s ∷ steps) = if is_zero s.predicate then true else has_zero steps
+
 -- E3: a container and a leaf have one instance, so no step of today says which
+abbrev pub way_meant : Schema → Path → Result Way EditRefusal
+way_meant schema path = way schema path >>= (λ w. if says_which path then refused 3 else Ok w)
+
+-- E1: a path that no text spells, though it can be made as a value: without steps, or with a position 0
 abbrev pub meant : Schema → Path → Result Way EditRefusal
-meant schema path = way schema path >>= (λ w. if says_which path then refused 3 else Ok w)
+meant schema path = if has_zero path then refused 1 else way_meant schema path
 
 -- ---- where an edit stands
 
