@@ -1,2 +1,4 @@
 pub mod LeastLemmas
 pub mod CompiledLemmas
+pub mod CompiledShapeLemmas
+pub mod CompiledNameLemmas
