@@ -5,6 +5,7 @@ use Rattle.std.proofs.lemmas.Bool.{eq-eqb, ne_eqb, ltb-true, ltb-false}
 use Rattle.std.proofs.lemmas.Bool.Decides.{Decides-eqb, nat_tests}
 use Rattle.yspec.specs.Forest.{Forest, node, end, size, row, first_of, find_below, joined_below}
 use Rattle.yspec.specs.schema.Schema.{SchemaNode, row_at, first_in_row}
+use Rattle.yspec.specs.document.Fitting.{IsNumbered}
 use Rattle.yschema.specs.declared.children.Row.{Row}
 use Rattle.yschema.specs.declared.schema.SchemaModule.{SchemaModule}
 use Rattle.yschema.specs.Layout.{Place, places, laid, forest_of, schema_view, IsLaidOut}
@@ -12,11 +13,6 @@ use Rattle.yschema.specs.Lookup.{first_below}
 use Rattle.yschema.proofs.LayoutLemmas.{laid_parts, length-laid, length-places}
 use Rattle.yschema.proofs.QueryLemmas.{map_cond}
 use Rattle.yschema.proofs.FindLemmas.{same_number}
-
--- numbered in preorder, from a number on
-abbrev pub IsNumbered : ℕ → Forest SchemaNode → Type 0
-IsNumbered k end = Unit {0}
-IsNumbered k (node l below after) = (l.number ≡ k) × IsNumbered (k + 1) below × IsNumbered (k + 1 + size below) after
 
 pub numbered_laid : (f : Forest SchemaNode) (p : Option ℕ) (k : ℕ) (rows : List Row) → laid k rows ≡ places p f → IsNumbered k f
 numbered_laid end p k rows e = tt

@@ -10,3 +10,4 @@ pub mod ChildLemmas
 pub mod NodeLemmas
 pub mod IndexLemmas
 pub mod FindLemmas
+pub mod CallerLemmas

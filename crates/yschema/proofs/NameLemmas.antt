@@ -11,7 +11,7 @@ use Rattle.yspec.specs.Forest.{Forest, node, end}
 use Rattle.yspec.specs.text.Text.{Text, is_text}
 use Rattle.yspec.specs.text.Statement.{Statement}
 use Rattle.yspec.specs.schema.Schema.{argument_text, is_data_definition}
-use Rattle.yspec.specs.schema.Breaks.{Break, broken, when, least_from, doubled, name_breaks, by_body}
+use Rattle.yspec.specs.schema.Breaks.{Break, broken, when, least_from, doubled, module_breaks, name_breaks, by_body}
 use Rattle.yspec.proofs.SchemaProofs.LeastLemmas.{least_of_both}
 use Rattle.yschema.proofs.ModuleLemmas.{modules_view_at}
 
@@ -28,6 +28,13 @@ name_breaks-alike m bs cs (node s below after) same =
     (ap₂ (λ w z. when w (broken 13 m s.line) ++ (name_breaks m [] below ++ z)) (same a)
     (name_breaks-alike m (a ∷ bs) (a ∷ cs) after (λ t. ap (λ b. is_text t a || b) (same t))))
     (name_breaks-alike m bs cs after same)
+
+pub module_breaks-alike : (m : ℕ) (bs cs : List Text) (f : Forest Statement) → HaveSame bs cs → module_breaks m bs f ≡ module_breaks m cs f
+module_breaks-alike m bs cs end same = refl
+module_breaks-alike m bs cs (node s below after) same =
+    let a = argument_text s in
+    ap₂ (λ w z. when w (broken 7 m s.line) ++ z) (same a)
+    (module_breaks-alike (m + 1) (a ∷ bs) (a ∷ cs) after (λ t. ap (λ b. is_text t a || b) (same t)))
 
 -- ---- what a set of names holds after one more
 
@@ -87,6 +94,16 @@ passed_over m before ss i s told whole within is other so =
     let now : name_breaks m before (row_view (drop i ss)) ≡ name_breaks m before (row_view (drop (i + 1) ss)) = ap (name_breaks m before) (row_view_at ss i s within is) ∙ rw other refl in
     sym (ap (least_from told) now) ∙ so
 
+not_not : (b : Bool) → not (not b) ≡ b
+not_not true = refl
+not_not false = refl
+
+told_if_doubled : (code m : ℕ) (before : List Text) (s : Statement) (is_new : Bool) (told alone : Option Break)
+    → is_new ≡ not (list_any (is_text (argument_text s)) before) → alone ≡ least_from told (when (not is_new) (broken code m s.line))
+    → alone ≡ least_from told (doubled code m before s)
+told_if_doubled code m before s is_new told alone fresh first =
+    first ∙ ap (λ b. least_from told (when b (broken code m s.line))) (ap not fresh ∙ not_not (list_any (is_text (argument_text s)) before))
+
 pub judged_name : (m : ℕ) (before after : List Text) (ss : List Stmt) (i : ℕ) (s : Stmt) (below : Forest Statement) (is_new : Bool) (told alone result whole : Option Break)
     → i < length ss → s ≡ get_or ss i s → is_data_definition (view s).0.keyword ≡ true
     → is_new ≡ not (list_any (is_text (argument_text (view s).0)) before)
@@ -99,21 +116,17 @@ unfolding name_breaks
 judged_name m before after ss i s below is_new told alone result whole within is stands fresh has under first second so =
     let label = (view s).0 in
     let rest = row_view (drop (i + 1) ss) in
-    let own = doubled m before label in
+    let own = doubled 13 m before label in
     let inner = name_breaks m [] (view s).1 in
     let others = name_breaks m (argument_text label ∷ before) rest in
     let here : name_breaks m before (row_view (drop i ss)) ≡ own ++ (inner ++ others) = ap (name_breaks m before) (row_view_at ss i s within is) ∙ rw stands refl in
-    let same : alone ≡ least_from told own = first ∙ ap (λ b. least_from told (when b (broken 13 m label.line))) (ap not fresh ∙ not_not (list_any (is_text (argument_text label)) before)) in
+    let same = told_if_doubled 13 m before label is_new told alone fresh first in
     let both : result ≡ least_from (least_from told own) inner = second ∙ (ap (λ f. least_from alone (name_breaks m [] f)) under ∙ ap (λ t. least_from t inner) same) in
     ap (λ t. least_from t (name_breaks m after rest)) both
     ∙ (ap (least_from (least_from (least_from told own) inner)) (name_breaks-alike m after (argument_text label ∷ before) rest has)
     ∙ (sym (least_of_both (least_from told own) inner others)
     ∙ (sym (least_of_both told own (inner ++ others))
     ∙ (sym (ap (least_from told) here) ∙ so))))
-  where
-    not_not : (b : Bool) → not (not b) ≡ b
-    not_not true = refl
-    not_not false = refl
 
 -- one module of a set, and the others
 pub judged_names : (ms : List Module) (i : ℕ) (m : Module) (below : Forest Statement) (told result whole : Option Break)
@@ -127,3 +140,19 @@ judged_names ms i m below told result whole within is under judged so =
     ap (λ t. least_from t others) (judged ∙ ap (λ f. least_from told (name_breaks i [] f)) under)
     ∙ (sym (least_of_both told own others)
     ∙ (ap (λ f. least_from told (by_body (λ m s. name_breaks m [] s) i f)) (sym (modules_view_at ms i m within is)) ∙ so))
+
+-- one module's own name
+pub judged_module_name : (before after : List Text) (ms : List Module) (i : ℕ) (m : Module) (is_new : Bool) (told result whole : Option Break)
+    → i < length ms → m ≡ get_or ms i m
+    → is_new ≡ not (list_any (is_text (argument_text (view m.top).0)) before)
+    → HaveSame after (argument_text (view m.top).0 ∷ before)
+    → result ≡ least_from told (when (not is_new) (broken 7 i (view m.top).0.line))
+    → least_from told (module_breaks i before (modules_view (drop i ms))) ≡ whole
+    → least_from result (module_breaks (i + 1) after (modules_view (drop (i + 1) ms))) ≡ whole
+judged_module_name before after ms i m is_new told result whole within is fresh has judged so =
+    let label = (view m.top).0 in
+    let rest = modules_view (drop (i + 1) ms) in
+    let others = module_breaks (i + 1) (argument_text label ∷ before) rest in
+    ap₂ least_from (told_if_doubled 7 i before label is_new told result fresh judged) (module_breaks-alike (i + 1) after (argument_text label ∷ before) rest has)
+    ∙ (sym (least_of_both told (doubled 7 i before label) others)
+    ∙ (ap (λ f. least_from told (module_breaks i before f)) (sym (modules_view_at ms i m within is)) ∙ so))

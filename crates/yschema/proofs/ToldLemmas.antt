@@ -8,38 +8,43 @@ use Rattle.ytext.specs.declared.statement.Module.{Module}
 use Rattle.yspec.specs.Forest.{Forest, node, end}
 use Rattle.yspec.specs.text.Statement.{Statement}
 use Rattle.yspec.specs.schema.Schema.{schema_of}
-use Rattle.yspec.specs.schema.Breaks.{Break, broken, when, lesser, least_from, or_told, told, phases, last_module, limit_breaks, data_size_of_all, data_levels_of_all, level_limit, by_module, by_body, at_top, grammar_breaks, name_breaks, compiled}
+use Rattle.yspec.specs.schema.Breaks.{Break, broken, when, least_from, or_told, first_broken, last_module, limit_breaks, grammar_phase, module_phase, size_phase, name_phase, level_phase, phases, compiled}
+use Rattle.yspec.proofs.SchemaProofs.CompiledShapeLemmas.{some_told}
 
--- where there is one so far, there is a least one
-least_some : (a : Break) (bs : List Break) → (b : Break) × (least_from (Some a) bs ≡ Some b)
-least_some a [] = (a, refl)
-least_some a (b ∷ bs) = least_some (lesser (Some a) b) bs
+-- the first phase that has one tells it
+told_here : (phase : List Break) (later : Option Break) (b : Break) → Some b ≡ least_from None phase → Some b ≡ or_told phase later
+told_here [] later b e = absurd cc
+told_here (x ∷ xs) later b e = e
 
-or_told_some : (phase : List Break) (later : Option Break) (b : Break) → Some b ≡ least_from None phase → Some b ≡ or_told phase later
-or_told_some [] later b e = absurd cc
-or_told_some (x ∷ xs) later b e = e
+told_later : (phase : List Break) (later t : Option Break) → None ≡ least_from None phase → t ≡ later → t ≡ or_told phase later
+told_later [] later t none e = e
+told_later (x ∷ xs) later t none e = absurd (some_told xs x (sym none))
 
-or_told_none : (phase : List Break) (later : Option Break) → None ≡ least_from None phase → later ≡ or_told phase later
-or_told_none [] later e = refl
-or_told_none (x ∷ xs) later e = let some = least_some x xs in absurd (let f : None ≡ Some some.0 = e ∙ some.1 in cc)
+told_last : (phase : List Break) (t : Option Break) → t ≡ least_from None phase → t ≡ or_told phase None
+told_last [] t e = e
+told_last (x ∷ xs) t e = e
 
-or_told_last : (phase : List Break) → least_from None phase ≡ or_told phase None
-or_told_last [] = refl
-or_told_last (x ∷ xs) = refl
+module _ (f : Forest Statement) where
+  -- what is told by each phase, where those before it have nothing
+  pub told_second : (b : Break) → None ≡ least_from None (grammar_phase f) → Some b ≡ least_from None (module_phase f) → Some b ≡ first_broken (phases f)
+  told_second b first e = told_later (grammar_phase f) _ (Some b) first (told_here (module_phase f) _ b e)
 
-pub told_second : (p q : List Break) (later : Option Break) (b : Break)
-    → None ≡ least_from None p → Some b ≡ least_from None q → Some b ≡ or_told p (or_told q later)
-told_second p q later b none some = or_told_some q later b some ∙ or_told_none p (or_told q later) none
+  pub told_third : (b : Break) → None ≡ least_from None (grammar_phase f) → None ≡ least_from None (module_phase f)
+      → Some b ≡ least_from None (size_phase f) → Some b ≡ first_broken (phases f)
+  told_third b first second e =
+      told_later (grammar_phase f) _ (Some b) first (told_later (module_phase f) _ (Some b) second (told_here (size_phase f) _ b e))
 
-pub told_third : (p q r : List Break) (later : Option Break) (b : Break)
-    → None ≡ least_from None p → None ≡ least_from None q → Some b ≡ least_from None r → Some b ≡ or_told p (or_told q (or_told r later))
-told_third p q r later b none none' some = told_second q r later b none' some ∙ or_told_none p (or_told q (or_told r later)) none
+  pub told_fourth : (b : Break) → None ≡ least_from None (grammar_phase f) → None ≡ least_from None (module_phase f)
+      → None ≡ least_from None (size_phase f) → Some b ≡ least_from None (name_phase f) → Some b ≡ first_broken (phases f)
+  told_fourth b first second third e =
+      told_later (grammar_phase f) _ (Some b) first (told_later (module_phase f) _ (Some b) second
+      (told_later (size_phase f) _ (Some b) third (told_here (name_phase f) _ b e)))
 
-pub told_fourth : (p q r s : List Break) (t : Option Break)
-    → None ≡ least_from None p → None ≡ least_from None q → None ≡ least_from None r → t ≡ least_from None s
-    → t ≡ or_told p (or_told q (or_told r (or_told s None)))
-told_fourth p q r s t none none' none'' is =
-    is ∙ (or_told_last s ∙ (or_told_none r (or_told s None) none'' ∙ (or_told_none q (or_told r (or_told s None)) none' ∙ or_told_none p (or_told q (or_told r (or_told s None))) none)))
+  pub told_fifth : (t : Option Break) → None ≡ least_from None (grammar_phase f) → None ≡ least_from None (module_phase f)
+      → None ≡ least_from None (size_phase f) → None ≡ least_from None (name_phase f) → t ≡ least_from None (level_phase f) → t ≡ first_broken (phases f)
+  told_fifth t first second third fourth e =
+      told_later (grammar_phase f) _ t first (told_later (module_phase f) _ t second
+      (told_later (size_phase f) _ t third (told_later (name_phase f) _ t fourth (told_last (level_phase f) t e))))
 
 -- ---- limits
 
@@ -63,32 +68,10 @@ passed ms m is_passed b some is true_is b_is =
     ap Some b_is ∙ sym (ap₂ (λ c x. least_from None (when c (option_map_or (λ last. broken 18 last.0 last.1) x []))) true_is
     (found ∙ ap (λ n. Some (n, (view m.top).0.line)) place))
 
-last_some : (k : ℕ) (s : Statement) (below after : Forest Statement) → (x : ℕ × ℕ) × (last_module k (node s below after) ≡ Some x)
-last_some k s below end = ((k, s.line), refl)
-last_some k s below (node t inner after) = last_some (k + 1) t inner after
-
--- ---- where nothing is told
-
-nothing_told : (phase : List Break) (later : Option Break) → None ≡ or_told phase later → (phase ≡ []) × (None ≡ later)
-nothing_told [] later e = (refl, e)
-nothing_told (x ∷ xs) later e = let some = least_some x xs in absurd (let f : None ≡ Some some.0 = e ∙ some.1 in cc)
-
-is_within : (n : ℕ) (f : Forest Statement) (b : Bool) → nat_lt n (data_size_of_all f) ≡ b → limit_breaks b f ≡ [] → data_size_of_all f ≤ n
-is_within n f false e h = ltb-false n (data_size_of_all f) e
-is_within n end true e h = omega arith
-is_within n (node s below after) true e h =
-    let some = last_some 0 s below after in
-    absurd (let f : broken 18 some.0.0 some.0.1 ≡ [] = sym (ap (λ x. option_map_or (λ last. broken 18 last.0 last.1) x []) some.1) ∙ h in cc)
-
-pub few_nodes : (f : Forest Statement) → None ≡ told (phases f) → data_size_of_all f ≤ 65535
-few_nodes f e =
-    let levels = limit_breaks (nat_lt level_limit (data_levels_of_all f)) f in
-    let names = or_told (by_body (λ m s. name_breaks m [] s) 0 f) (or_told levels None) in
-    let size = limit_breaks (nat_lt 65535 (data_size_of_all f)) f in
-    let first = nothing_told (by_module (λ m s. grammar_breaks m at_top s) 0 f) (or_told size names) e in
-    let second = nothing_told size names first.1 in
-    is_within 65535 f (nat_lt 65535 (data_size_of_all f)) refl second.0
-
-pub refused_as : (f : Forest Statement) (b : Break) → Some b ≡ told (phases f) → compiled f ≡ Err b
+pub refused_as : (f : Forest Statement) (b : Break) → Some b ≡ first_broken (phases f) → compiled f ≡ Err b
 unfolding compiled
 refused_as f b e = ap (λ t. option_map_or Err t (Ok (schema_of f))) (sym e)
+
+pub passes : (f : Forest Statement) → None ≡ first_broken (phases f) → compiled f ≡ Ok (schema_of f)
+unfolding compiled
+passes f e = ap (λ t. option_map_or Err t (Ok (schema_of f))) (sym e)

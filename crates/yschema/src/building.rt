@@ -1,14 +1,18 @@
 //! From modules to their schema.
 
-ghost use Rattle.std.specs.Prelude.{◌≡◌, ◌+◌, ◌≤◌, ◌++◌, ◌∷◌, [], ℕ, suc, Some, None, IfOk, OnOk, unwrap_or, length};
+ghost use Rattle.std.specs.Prelude.{◌≡◌, ◌+◌, ◌≤◌, ◌++◌, ◌∷◌, [], ℕ, suc, Some, None, Ok, IfOk, OnOk, unwrap_or, length};
+ghost use Rattle.yspec.specs.Forest.{levels};
 ghost use Rattle.yspec.specs.schema.Schema as spec;
 ghost use Rattle.yspec.specs.schema.Schema.{data_size, schema_node, nodes_from, schema_of};
 ghost use Rattle.yspec.specs.types.Types.{built_in, string_type};
-ghost use Rattle.yspec.specs.schema.Breaks.{told, phases, limit_breaks, least_from, compiled, data_size_of_all};
+ghost use Rattle.yspec.specs.schema.Breaks.{first_broken, phases, limit_breaks, least_from, level_limit, compiled};
+ghost use Rattle.yspec.specs.document.Fitting.{LeafsAreBare};
+ghost use Rattle.yspec.specs.document.Writing.{NamesDiffer};
 ghost use Rattle.ytext.specs.View as text;
 ghost use Rattle.ytext.specs.View.{row_view, modules_view};
 ghost use Rattle.yschema.specs.Layout.{kind_view, node_view, number_of, places, laid};
-ghost use Rattle.yschema.specs.Told.{seen, Gives};
+ghost use Rattle.yspec.specs.Results.{Gives};
+ghost use Rattle.yschema.specs.Told.{seen, told};
 ghost use Rattle.yschema.specs.View.{view, module_view};
 
 use crate::children::Row;
@@ -16,7 +20,7 @@ use crate::fault::{Break, CompileCode, CompileFault};
 use crate::grammar::{broken, judge_modules};
 use crate::index::Index;
 use crate::limits::{count_nodes, has_too_many_levels, has_too_many_nodes, is_data_node};
-use crate::names::{name_of, repeated_name};
+use crate::names::{name_of, repeated_module, repeated_name};
 use crate::node::{Kind, SchemaId, SchemaNode, Status};
 use crate::schema::{Schema, SchemaModule};
 use std::alloc::{AllocError, Global};
@@ -24,10 +28,13 @@ use ytext::{Module, Stmt};
 use ytype::YType;
 
 /// The schema of a set of modules, or the least broken rule, by module, line and number, of the first phase that has one.
-/// Phases: the statement table; the number of nodes; names; levels. Of no modules it is a schema without nodes.
+/// Phases: the statement table; names of modules; the number of nodes; names of siblings; levels. Of no modules it is a schema without nodes.
 #[tactic(auto, unfolding(yspec::specs::schema::Breaks::compiled))]
 pub fn compile(alloc: Global, modules: &[Module]) -> Result<Schema, CompileFault>
-    ensures { Gives view result (compiled (modules_view modules.now)) }
+    ensures exact { Gives view told result (compiled (modules_view modules.now)) }
+    ensures names { IfOk result (λ schema. NamesDiffer (view schema) None (view schema).nodes) }
+    ensures bare { IfOk result (λ schema. LeafsAreBare (view schema).nodes) }
+    ensures within { IfOk result (λ schema. levels (view schema).nodes ≤ level_limit) }
 {
     match first_broken(alloc, modules)? {
         Some(found) => Err(CompileFault::from(found)),
@@ -37,9 +44,12 @@ pub fn compile(alloc: Global, modules: &[Module]) -> Result<Schema, CompileFault
 
 /// The least broken rule of the first phase that has one.
 fn first_broken(alloc: Global, modules: &[Module]) -> Result<Option<Break>, AllocError>
-    ensures { IfOk result (λ found. seen found ≡ told (phases (modules_view modules.now))) }
+    ensures { IfOk result (λ found. seen found ≡ first_broken (phases (modules_view modules.now))) }
 {
     if let Some(found) = judge_modules(modules) {
+        return Ok(Some(found));
+    }
+    if let Some(found) = repeated_module(alloc, modules)? {
         return Ok(Some(found));
     }
     if let Some(found) = at_last(modules, has_too_many_nodes(modules)) {
@@ -62,7 +72,7 @@ fn at_last(modules: &[Module], is_passed: bool) -> Option<Break>
 }
 
 fn build(alloc: Global, modules: &[Module]) -> Result<Schema, AllocError>
-    requires { data_size_of_all (modules_view modules.now) ≤ 65535 }
+    requires { compiled (modules_view modules.now) ≡ Ok (schema_of (modules_view modules.now)) }
     ensures { IfOk result (λ schema. view schema ≡ schema_of (modules_view modules.now)) }
 {
     let mut set = Vec::new(alloc);

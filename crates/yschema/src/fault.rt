@@ -3,8 +3,9 @@
 ghost use Rattle.std.specs.Prelude.{◌≡◌};
 ghost use Rattle.yschema.specs.declared.fault.CompileFault.TheVariants.{Memory, Refused};
 
-use std::alloc::{AllocError, AllocFailed};
-use ytype::NarrowFault;
+use std::alloc::AllocError;
+use std::fmt::{self, Display, Formatter, Write};
+use thiserror::Error;
 
 /// Which rule a module breaks.
 #[derive(Clone, Copy, Debug, PartialEq, Eq, PartialOrd, Ord)]
@@ -17,6 +18,8 @@ pub enum CompileCode {
     C3 = 3,
     /// `yang-version` is missing or not `1.1`.
     C4 = 4,
+    /// Two modules of one name.
+    C7 = 7,
     /// Two children of one name.
     C13 = 13,
     /// A limit is passed: 65,535 schema nodes, 60 levels.
@@ -24,14 +27,34 @@ pub enum CompileCode {
 }
 
 /// Why a set of modules isn't compiled: the rule, the module by its place in the set, and the line, counted from 1.
-#[derive(Clone, Copy, Debug, PartialEq, Eq)]
+#[derive(Clone, Copy, Debug, PartialEq, Eq, Error)]
 pub enum CompileFault {
+    #[error("{code}")]
     Refused {
         code: CompileCode,
         module: usize,
         line: u32,
     },
+    #[error("memory")]
     Memory,
+}
+
+impl CompileCode {
+    ghost use Rattle.std.specs.Prelude.{◌≡◌};
+    ghost use Rattle.yschema.specs.Told.{code_number};
+
+    /// The number behind the `C`.
+    pub fn number(self) -> u8
+        ensures { result ≡ code_number self }
+    {
+        self as u8
+    }
+}
+
+impl Display for CompileCode {
+    fn fmt<W: Write>(&self, f: &mut Formatter<W>) -> fmt::Result {
+        write!(f, "C{}", self.number())
+    }
 }
 
 impl From<AllocError> for CompileFault {
@@ -42,29 +65,12 @@ impl From<AllocError> for CompileFault {
     }
 }
 
-impl<T: Drop> From<AllocFailed<T>> for CompileFault {
-    ghost from_gives = { λ _ e. e ≡ Memory };
-
-    fn from(_e: AllocFailed<T>) -> CompileFault {
-        CompileFault::Memory
-    }
-}
-
 /// A broken rule. The order is that in which one is told before another: by module, line and number.
 #[derive(Clone, Copy, Debug, PartialEq, Eq, PartialOrd, Ord)]
 pub(crate) struct Break {
     pub module: usize,
     pub line: u32,
     pub code: CompileCode,
-}
-
-// A built-in type of this stage is refused for want of memory alone.
-impl From<NarrowFault> for CompileFault {
-    ghost from_gives = { λ _ e. e ≡ Memory };
-
-    fn from(_fault: NarrowFault) -> CompileFault {
-        CompileFault::Memory
-    }
 }
 
 impl From<Break> for CompileFault {

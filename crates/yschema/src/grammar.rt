@@ -7,7 +7,7 @@ ghost use Rattle.yspec.specs.Forest.{row};
 ghost use Rattle.yspec.specs.schema.Grammar as spec;
 ghost use Rattle.yspec.specs.schema.Schema.{argument_text};
 ghost use Rattle.yspec.specs.types.Types.{built_in};
-ghost use Rattle.yspec.specs.schema.Breaks.{least_from, is_known_substatement, occurrences, is_miscounted, is_current_version, is_unknown_type, is_unversioned, argument_breaks, statement_breaks, breaks_at, substatements_of, grammar_breaks, at_top, by_module};
+ghost use Rattle.yspec.specs.schema.Breaks.{least_from, is_known_substatement, occurrences, is_miscounted, is_current_version, is_unknown_type, is_unversioned, argument_breaks, statement_breaks, breaks_at, substatements_of, grammar_breaks, grammar_phase};
 ghost use Rattle.ytext.specs.View.{view, row_view, modules_view};
 ghost use Rattle.yschema.specs.Table.{form_view, count_view, allowed_view, allowed_views, rule_view};
 ghost use Rattle.yschema.specs.Told.{seen};
@@ -306,7 +306,7 @@ fn judge_row(
 
 /// The least rule of the table that modules break.
 pub(crate) fn judge_modules(modules: &[Module]) -> Option<Break>
-    ensures { seen result ≡ least_from None (by_module (λ m s. grammar_breaks m at_top s) 0 (modules_view modules.now)) }
+    ensures { seen result ≡ least_from None (grammar_phase (modules_view modules.now)) }
 {
     let mut told = None;
     for (module, text) in modules.iter().enumerate() {

@@ -2,6 +2,7 @@
 
 ghost use Rattle.std.specs.Prelude.{◌≡◌, ◌+◌, ◌<◌, ◌^◌, length, vec_len, position, string_bytes};
 ghost use Rattle.yspec.specs.text.Text.{is_text};
+ghost use Rattle.yspec.specs.schema.Breaks.{IsCompiled};
 ghost use Rattle.yschema.specs.Layout.{laid, schema_view, IsLaidOut};
 ghost use Rattle.yschema.specs.Lookup.{FindsNamed, FindsWritten};
 
@@ -28,6 +29,7 @@ pub struct Schema {
     ghost laid_out: { IsLaidOut rows.items },
     ghost named: { FindsNamed index (laid 0 rows.items) },
     ghost written: { FindsWritten index (schema_view modules.items rows.items) (laid 0 rows.items) },
+    ghost compiled: { ∥ IsCompiled (schema_view modules.items rows.items) ∥₁ },
 }
 
 impl Schema {
@@ -43,6 +45,7 @@ impl Schema {
         requires laid_out { IsLaidOut rows.items }
         requires named { FindsNamed index (laid 0 rows.items) }
         requires written { FindsWritten index (schema_view modules.items rows.items) (laid 0 rows.items) }
+        requires compiled { IsCompiled (schema_view modules.items rows.items) }
         ensures { view result ≡ schema_view modules.items rows.items }
     {
         Schema {

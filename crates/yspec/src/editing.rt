@@ -1,10 +1,7 @@
 //! Laws and worked examples of edits, from their lines to what comes of a document.
 
 ghost use Rattle.std.specs.Prelude.{◌≡◌, List, [], ◌∷◌, codes, Some, None, Err};
-ghost use Rattle.yspec.specs.Forest.{Forest};
-ghost use Rattle.yspec.specs.text.Statement.{Statement};
 ghost use Rattle.yspec.specs.schema.Schema.{Schema};
-ghost use Rattle.yspec.specs.schema.Breaks.{compiled};
 ghost use Rattle.yspec.specs.document.Document.{Tree};
 ghost use Rattle.yspec.specs.document.Fitting.{IsNumbered, LeafsAreBare, Fits};
 ghost use Rattle.yspec.specs.document.Writing.{NamesDiffer, IsDocument};
@@ -23,12 +20,6 @@ pub fn edited_documents_fit()
 pub fn edited_documents_are_whole()
     ensures { (schema : Schema) (tree : Tree) (edits : List Edit) → IsNumbered 0 schema.nodes → LeafsAreBare schema.nodes
         → NamesDiffer schema None schema.nodes → IsDocument schema.nodes tree → IsDocument schema.nodes (after schema tree edits) }
-{}
-
-/// The nodes of a schema that compiles are numbered in preorder, and its leafs have no children.
-pub fn compiled_schemas()
-    ensures numbered { (modules : Forest Statement) (schema : Schema) → compiled modules ≡ Ok schema → IsNumbered 0 schema.nodes }
-    ensures bare { (modules : Forest Statement) (schema : Schema) → compiled modules ≡ Ok schema → LeafsAreBare schema.nodes }
 {}
 
 /// What texts of paths spell: names, positions and keys; and texts that spell none.

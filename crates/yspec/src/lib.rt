@@ -4,6 +4,7 @@
 #![tactic(auto)]
 
 pub mod checking;
+pub mod compiling;
 pub mod editing;
 pub mod examples;
 pub mod reading;

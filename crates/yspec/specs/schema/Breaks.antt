@@ -1,5 +1,5 @@
 -- The rules that a set of modules breaks, phase by phase, and which one is told.
-use Rattle.std.specs.Prelude.{ℕ, ◌+◌, ◌==◌, ◌&&◌, ◌||◌, Bool, false, not, List, [], ◌∷◌, ◌++◌, codes, Option, Some, None, is_some, Result, Ok, Err, if◌then◌else◌, nat_lt, max, count_by}
+use Rattle.std.specs.Prelude.{◌≡◌, ℕ, ◌+◌, ◌==◌, ◌&&◌, ◌||◌, Bool, false, not, List, [], ◌∷◌, ◌++◌, codes, Option, Some, None, is_some, Result, Ok, Err, if◌then◌else◌, nat_lt, max, count_by}
 use Rattle.std.specs.List.{list_any}
 use Rattle.std.specs.Option.{option_map_or}
 use Rattle.yspec.specs.Forest.{Forest, end, node, row}
@@ -41,9 +41,9 @@ or_told [] later = later
 or_told (b ∷ bs) later = least_from (Some b) bs
 
 -- the least of the first phase that has one
-abbrev pub told : List (List Break) → Option Break
-told [] = None
-told (phase ∷ phases) = or_told phase (told phases)
+abbrev pub first_broken : List (List Break) → Option Break
+first_broken [] = None
+first_broken (phase ∷ phases) = or_told phase (first_broken phases)
 
 -- ---- C1 to C4: statements and their arguments
 
@@ -115,16 +115,27 @@ grammar_breaks m allowed (node s below after) =
 abbrev pub at_top : List Allowed
 at_top = record { keyword = codes "module"; count = any_number } ∷ []
 
--- ---- C13: two children of one name
+-- ---- names that come twice
 
-abbrev pub doubled : ℕ → List Text → Statement → List Break
-doubled m before s = when (list_any (is_text (argument_text s)) before) (broken 13 m s.line)
+-- a statement whose name is among those before it
+abbrev pub doubled : ℕ → ℕ → List Text → Statement → List Break
+doubled code m before s = when (list_any (is_text (argument_text s)) before) (broken code m s.line)
+
+-- ---- C7: two modules of one name (RFC 7950, 5.1 and 7.1)
+
+-- each `module` statement whose name an earlier one has
+abbrev pub module_breaks : ℕ → List Text → Forest Statement → List Break
+module_breaks m before end = []
+module_breaks m before (node s below after) =
+    doubled 7 m before s ++ module_breaks (m + 1) (argument_text s ∷ before) after
+
+-- ---- C13: two children of one name (RFC 7950, 6.2.1)
 
 -- each data node whose name one before it in its row has, and so on below
 unfoldable pub name_breaks : ℕ → List Text → Forest Statement → List Break
 name_breaks m before end = []
 name_breaks m before (node s below after) = if is_data_definition s.keyword
-    then doubled m before s ++ (name_breaks m [] below ++ name_breaks m (argument_text s ∷ before) after)
+    then doubled 13 m before s ++ (name_breaks m [] below ++ name_breaks m (argument_text s ∷ before) after)
     else name_breaks m before after
 
 -- ---- C18: limits, told at the last module
@@ -164,14 +175,29 @@ abbrev pub by_body : (ℕ → Forest Statement → List Break) → ℕ → Fores
 by_body breaks m end = []
 by_body breaks m (node s below after) = breaks m below ++ by_body breaks (m + 1) after
 
+abbrev pub grammar_phase : Forest Statement → List Break
+grammar_phase modules = by_module (λ m s. grammar_breaks m at_top s) 0 modules
+
+abbrev pub module_phase : Forest Statement → List Break
+module_phase modules = module_breaks 0 [] modules
+
+abbrev pub size_phase : Forest Statement → List Break
+size_phase modules = limit_breaks (nat_lt node_limit (data_size_of_all modules)) modules
+
+abbrev pub name_phase : Forest Statement → List Break
+name_phase modules = by_body (λ m s. name_breaks m [] s) 0 modules
+
+abbrev pub level_phase : Forest Statement → List Break
+level_phase modules = limit_breaks (nat_lt level_limit (data_levels_of_all modules)) modules
+
 -- The rules broken in each phase, of the row of `module` statements. A code is told only where no earlier phase has one.
 abbrev pub phases : Forest Statement → List (List Break)
-phases modules = by_module (λ m s. grammar_breaks m at_top s) 0 modules
-    ∷ limit_breaks (nat_lt node_limit (data_size_of_all modules)) modules
-    ∷ by_body (λ m s. name_breaks m [] s) 0 modules
-    ∷ limit_breaks (nat_lt level_limit (data_levels_of_all modules)) modules
-    ∷ []
+phases modules = grammar_phase modules ∷ module_phase modules ∷ size_phase modules ∷ name_phase modules ∷ level_phase modules ∷ []
 
 -- the schema of a set of modules, or what is told
 unfoldable pub compiled : Forest Statement → Result Schema Break
-compiled modules = option_map_or Err (told (phases modules)) (Ok (schema_of modules))
+compiled modules = option_map_or Err (first_broken (phases modules)) (Ok (schema_of modules))
+
+-- the schema of some set of modules
+abbrev pub IsCompiled : Schema → Type 0
+IsCompiled schema = (modules : Forest Statement) × (compiled modules ≡ Ok schema)

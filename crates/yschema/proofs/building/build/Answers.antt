@@ -1,10 +1,14 @@
-use Rattle.std.proofs.Common.{◌+◌, ◌++◌, drop, ap, ap₂, None, ◌∙◌, map, arith, subst, sym}
+use Rattle.std.proofs.Common.{◌≡◌, ℕ, ◌+◌, ◌≤◌, ◌++◌, List, length, drop, ap, ap₂, None, Ok, ◌∙◌, map, arith, rules, subst, sym}
 use Rattle.std.proofs.lemmas.List.{map_push}
-use Rattle.yspec.specs.schema.Schema.{data_size, modules_of, all_nodes}
+use Rattle.yspec.specs.schema.Schema.{data_size, modules_of, all_nodes, schema_of}
+use Rattle.yspec.proofs.SchemaProofs.CompiledShapeLemmas.{few_nodes}
+use Rattle.ytext.specs.declared.statement.Module.{Module}
+use Rattle.yschema.specs.declared.children.Row.{Row}
+use Rattle.yschema.specs.declared.schema.SchemaModule.{SchemaModule}
 use Rattle.ytext.specs.View.{row_view, modules_view}
 use Rattle.yschema.specs.View.{module_view}
 use Rattle.yschema.proofs.LayoutLemmas.{laid_module, length_module, named_module, size_at_module, forest_of-laid, laid_as, whole_laid, whole_set}
-use Rattle.yschema.specs.Layout.{IsLaidOut}
+use Rattle.yschema.specs.Layout.{places, laid, schema_view, IsLaidOut}
 use Rattle.yschema.proofs.building.build.Goals as goal
 
 pub loop-module-preserved : goal.loop-module-preserved
@@ -27,13 +31,25 @@ loop-module-preserved c =
           c.loop-module.invariant.so_far;
     }
 
+-- the set and the rows that the loop has made are the schema of the modules
+made : (ms : List Module) (m : ℕ) (set : List SchemaModule) (rows : List Row) → length ms ≤ m
+    → map module_view set ++ modules_of (modules_view (drop m ms)) ≡ modules_of (modules_view ms)
+    → laid 0 rows ++ places None (all_nodes m (length rows) (modules_view (drop m ms))) ≡ places None (all_nodes 0 0 (modules_view ms))
+    → schema_view set rows ≡ schema_of (modules_view ms)
+made ms m set rows end named so_far =
+    ap₂ (λ set nodes. record { modules = set; nodes = nodes })
+    (whole_set ms m (map module_view set) end named)
+    (forest_of-laid (all_nodes 0 0 (modules_view ms)) None 0 rows (whole_laid ms m rows end so_far))
+
+pub loop-module-init : goal.loop-module-init
+loop-module-init c =
+    let few = few_nodes (modules_view c.args.modules.now) _ c.requires in
+    let empty = ap length c.new-rows.ensures.items in
+    record { room = omega (arith, few, empty); named = search rules; so_far = search rules }
+
 pub returns : goal.returns
 returns c =
-    let ms = c.args.modules.now in
-    c.new.ensures ∙ ap₂ (λ set nodes. record { modules = set; nodes = nodes })
-    (whole_set ms c.loop-module.module (map module_view c.loop-module.set.items) (omega arith) c.loop-module.invariant.named)
-    (forest_of-laid (all_nodes 0 0 (modules_view ms)) None 0 c.loop-module.rows.items
-    (whole_laid ms c.loop-module.module c.loop-module.rows.items (omega arith) c.loop-module.invariant.so_far))
+    c.new.ensures ∙ made c.args.modules.now c.loop-module.module c.loop-module.set.items c.loop-module.rows.items (omega arith) c.loop-module.invariant.named c.loop-module.invariant.so_far
 
 pub of-requires-clause-laid_out : goal.of-requires-clause-laid_out
 of-requires-clause-laid_out c =
@@ -41,6 +57,13 @@ of-requires-clause-laid_out c =
     let rows = c.loop-module.rows.items in
     subst IsLaidOut (sym c.deref-2.ensures.value)
     (laid_as (all_nodes 0 0 (modules_view ms)) rows (whole_laid ms c.loop-module.module rows (omega arith) c.loop-module.invariant.so_far))
+
+pub new-requires-clause-compiled : goal.new-requires-clause-compiled
+new-requires-clause-compiled c = (
+  modules_view c.args.modules.now,
+  c.requires ∙ ap (λ s. Ok s) (sym (made c.args.modules.now c.loop-module.module c.loop-module.set.items c.loop-module.rows.items (omega arith)
+      c.loop-module.invariant.named c.loop-module.invariant.so_far)),
+)
 
 pub new-requires-clause-laid_out : goal.new-requires-clause-laid_out
 new-requires-clause-laid_out c =

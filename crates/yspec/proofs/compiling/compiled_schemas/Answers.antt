@@ -1,0 +1,6 @@
+use Rattle.yspec.proofs.SchemaProofs.CompiledShapeLemmas.{compiled_numbered, compiled_bare}
+use Rattle.yspec.proofs.SchemaProofs.CompiledNameLemmas.{compiled_names, compiled_levels}
+use Rattle.yspec.proofs.compiling.compiled_schemas.Goals as goal
+
+pub returns : goal.returns
+returns c = record { numbered = compiled_numbered; bare = compiled_bare; names = compiled_names; within = compiled_levels }
