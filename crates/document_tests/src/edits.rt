@@ -61,7 +61,7 @@ fn is_path(alloc: Global, row: &str) -> Option<bool> {
     let (text, told) = row.split_once(" => ")?;
     match Path::parse(alloc, text) {
         Ok(path) => is_text(path_text(alloc, &path), told),
-        Err(fault) => is_refusal(fault, told),
+        Err(fault) => is_refusal(alloc, fault, told),
     }
 }
 
@@ -100,7 +100,7 @@ fn is_edit(alloc: Global, row: &str) -> Option<bool> {
     match Edit::parse(alloc, text) {
         Ok(Some(edit)) => is_text(edit_text(alloc, &edit), told),
         Ok(None) => Some(told == "passed over"),
-        Err(fault) => is_refusal(fault, told),
+        Err(fault) => is_refusal(alloc, fault, told),
     }
 }
 

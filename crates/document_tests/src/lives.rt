@@ -1,10 +1,12 @@
 //! Live documents: edits one after the other, lists of edits, and what is refused before any edit.
 
 use crate::building::{MODULE, live_of, module_text, modules_of};
-use crate::telling::{have_lines, is_code, is_refusal, is_refusal_of_modules, is_text, number_of};
+use crate::telling::{
+    have_lines, is_refusal, is_refusal_of_document, is_refusal_of_modules, is_text, number_of,
+};
 use std::alloc::Global;
 use ycheck::Fault;
-use yinst::{DocCode, DocFault, Edit, write};
+use yinst::{Edit, EditFault, NamedStep, Path, Predicate, write};
 use ylive::{Applied, CheckFault, Live, Outcome, Refused, check_edits};
 
 /// A document with one fault.
@@ -16,7 +18,7 @@ pub(crate) const INVALID: &str = "V1 invalid-value - /p:c/id -|";
 /// Edits of it, and what comes of each.
 pub(crate) const EDITS: &str = "replace /p:c/id 7 => accepted
 replace /p:c/zz 1 => E2
-replace /p:c/note {} => E10:J5
+replace /p:c/note {} => E10 J5
 remove /p:c/note => accepted";
 
 fn is_stored(alloc: Global, live: &Live, text: &str) -> Option<bool> {
@@ -51,19 +53,19 @@ fn are_counts(applied: Applied, told: &str) -> Option<bool> {
 }
 
 // Whether this comes of an edit: its counts, or the codes of its refusal.
-fn comes_of(live: &mut Live, edit: &Edit, told: &str) -> Option<bool> {
+fn comes_of(alloc: Global, live: &mut Live, edit: &Edit, told: &str) -> Option<bool> {
     match live.edit(edit) {
         Ok(applied) => are_counts(applied, told),
-        Err(Refused::Edit(fault)) => is_refusal(fault, told),
+        Err(Refused::Edit(fault)) => is_refusal(alloc, fault, told),
         Err(_) => None,
     }
 }
 
 fn comes_of_line(alloc: Global, live: &mut Live, line: &str, told: &str) -> Option<bool> {
     match Edit::parse(alloc, line) {
-        Ok(Some(edit)) => comes_of(live, &edit, told),
+        Ok(Some(edit)) => comes_of(alloc, live, &edit, told),
         Ok(None) => Some(told == "passed over"),
-        Err(fault) => is_refusal(fault, told),
+        Err(fault) => is_refusal(alloc, fault, told),
     }
 }
 
@@ -95,8 +97,8 @@ pub(crate) const REPLACEMENTS: &str =
     r#"# opened => passed over => {"p:c":{"id":256,"note":"x"}} => V1 invalid-value - /p:c/id -|
 replace /p:c/id 7 => 1 to 0 => {"p:c":{"id":7,"note":"x"}} => none
 replace /p:c/id 300 => 0 to 1 => {"p:c":{"id":300,"note":"x"}} => V1 invalid-value - /p:c/id -|
-replace /p:c/note {} => E10:J5 => {"p:c":{"id":300,"note":"x"}} => V1 invalid-value - /p:c/id -|
-replace /p:c/id 1.5 => E10:J6 => {"p:c":{"id":300,"note":"x"}} => V1 invalid-value - /p:c/id -|
+replace /p:c/note {} => E10 J5 => {"p:c":{"id":300,"note":"x"}} => V1 invalid-value - /p:c/id -|
+replace /p:c/id 1.5 => E10 J6 => {"p:c":{"id":300,"note":"x"}} => V1 invalid-value - /p:c/id -|
 replace /p:c/id x => E9 => {"p:c":{"id":300,"note":"x"}} => V1 invalid-value - /p:c/id -|
 replace /p:c/id => E1 => {"p:c":{"id":300,"note":"x"}} => V1 invalid-value - /p:c/id -|
 replace /p:c/zz 1 => E2 => {"p:c":{"id":300,"note":"x"}} => V1 invalid-value - /p:c/id -|
@@ -143,6 +145,29 @@ fn creations(rt: HostRuntime) {
     assert_eq!(rt; first_wrong(rt.alloc(), "{}", CREATIONS), None);
 }
 
+// An edit that removes what a path of one step leads to, which bears a position.
+fn removal(alloc: Global, position: u32) -> Option<Edit> {
+    let mut steps = Vec::new(alloc);
+    let name = String::from_str(alloc, "p:c").ok()?;
+    let predicate = Predicate::Position(position);
+    steps.push(NamedStep { name, predicate }).ok()?;
+    let path = Path { steps };
+    Some(Edit::Remove { path })
+}
+
+// Whether the removal of a container at a position is refused so.
+fn is_removal_refused(alloc: Global, position: u32, told: &str) -> Option<bool> {
+    let edit = removal(alloc, position)?;
+    let mut live = live_of(alloc, FAULTY)?;
+    comes_of(alloc, &mut live, &edit, told)
+}
+
+#[test]
+fn paths_that_no_text_spells(rt: HostRuntime) {
+    assert!(rt; is_removal_refused(rt.alloc(), 0, "E1") == Some(true));
+    assert!(rt; is_removal_refused(rt.alloc(), 1, "E3") == Some(true));
+}
+
 // The edits of rows `line => what comes of it`.
 fn edits_of(alloc: Global, rows: &str) -> Option<Vec<Edit>> {
     let mut edits = Vec::new(alloc);
@@ -154,35 +179,37 @@ fn edits_of(alloc: Global, rows: &str) -> Option<Vec<Edit>> {
     Some(edits)
 }
 
-fn is_outcome(outcome: &Outcome, row: &str) -> bool {
-    match (outcome, row.split_once(" => ")) {
-        (Outcome::Accepted, Some((_, told))) => told == "accepted",
-        (Outcome::Refused { code, doc }, Some((_, told))) => is_code(*code, *doc, told),
-        (_, None) => false,
+fn is_outcome(alloc: Global, outcome: &Outcome, row: &str) -> Option<bool> {
+    let (_, told) = row.split_once(" => ")?;
+    match outcome {
+        Outcome::Accepted => Some(told == "accepted"),
+        Outcome::Refused { code, doc } => {
+            let (code, doc) = (*code, *doc);
+            is_refusal(alloc, EditFault::Refused { code, doc }, told)
+        }
     }
 }
 
 // Whether there are so many outcomes as rows, and each is its row's.
-fn are_outcomes(outcomes: &[Outcome], rows: &str) -> bool {
+fn are_outcomes(alloc: Global, outcomes: &[Outcome], rows: &str) -> Option<bool> {
     let mut rest = rows.lines();
     for outcome in outcomes {
-        match rest.next() {
-            Some(row) if is_outcome(outcome, row) => {}
-            _ => return false,
+        if !is_outcome(alloc, outcome, rest.next()?)? {
+            return Some(false);
         }
     }
-    rest.next().is_none()
+    Some(rest.next().is_none())
 }
 
-fn has_outcomes(live: &mut Live, edits: &[Edit]) -> Option<bool> {
+fn has_outcomes(alloc: Global, live: &mut Live, edits: &[Edit]) -> Option<bool> {
     match live.run(edits) {
-        Ok(outcomes) => Some(are_outcomes(&outcomes, EDITS)),
+        Ok(outcomes) => are_outcomes(alloc, &outcomes, EDITS),
         Err(_) => None,
     }
 }
 
 fn runs_in(alloc: Global, live: &mut Live, edits: &[Edit]) -> Option<bool> {
-    let has_run = has_outcomes(live, edits)?;
+    let has_run = has_outcomes(alloc, live, edits)?;
     Some(has_run && stands(alloc, live, r#"{"p:c":{"id":7}}"#, "none")?)
 }
 
@@ -209,7 +236,9 @@ pub(crate) fn are_checked(alloc: Global) -> Option<bool> {
     let modules = modules_of(alloc, &[MODULE])?;
     let edits = edits_of(alloc, EDITS)?;
     match check_edits(alloc, &modules, FAULTY.as_bytes(), &edits) {
-        Ok(checked) => { Some(checked.faults.is_empty() && are_outcomes(&checked.outcomes, EDITS)) }
+        Ok(checked) => {
+            Some(checked.faults.is_empty() && are_outcomes(alloc, &checked.outcomes, EDITS)?)
+        }
         Err(CheckFault::Memory) => None,
         Err(_) => Some(false),
     }
@@ -220,10 +249,8 @@ pub(crate) fn are_checked(alloc: Global) -> Option<bool> {
 fn is_refused(alloc: Global, module: &str, told: &str) -> Option<bool> {
     let modules = modules_of(alloc, &[module])?;
     match check_edits(alloc, &modules, b"[]", &[]) {
-        Err(CheckFault::Modules(fault)) => is_refusal_of_modules(fault, told),
-        Err(CheckFault::Document(DocFault::Refused { code, place })) => {
-            Some(told == "J2" && code == DocCode::J2 && place.is_empty())
-        }
+        Err(CheckFault::Modules(fault)) => is_refusal_of_modules(alloc, fault, 0, told),
+        Err(CheckFault::Document(fault)) => is_refusal_of_document(alloc, &fault, told),
         Err(_) => None,
         Ok(_) => Some(false),
     }

@@ -164,7 +164,7 @@ fn is_compiled(alloc: Global, statements: &str, told: &str) -> Option<bool> {
     let modules = modules_of(alloc, &[text.as_str()])?;
     match compile(alloc, &modules) {
         Ok(_) => Some(told == "none"),
-        Err(fault) => is_refusal_of_modules(fault, told),
+        Err(fault) => is_refusal_of_modules(alloc, fault, 0, told),
     }
 }
 
@@ -190,6 +190,32 @@ C1:5/ yang-version 1.1;| container c;| list l;
 none/ yang-version 1.1;| container c;";
     for row in rows.lines() {
         assert!(rt; is_told(rt.alloc(), row) == Some(true), "{row:?}");
+    }
+}
+
+// Whether two modules, the second in its second line, are refused at the second.
+fn is_second_refused(alloc: Global, second: &str, told: &str) -> Option<bool> {
+    let modules = modules_of(alloc, &[FIRST, second])?;
+    match compile(alloc, &modules) {
+        Ok(_) => Some(told == "none"),
+        Err(fault) => is_refusal_of_modules(alloc, fault, 1, told),
+    }
+}
+
+// `CODE:LINE/module`
+fn is_second_told(alloc: Global, row: &str) -> Option<bool> {
+    let (told, module) = row.split_once('/')?;
+    let text = with_line_feeds(alloc, module).ok()?;
+    is_second_refused(alloc, text.as_str(), told)
+}
+
+#[test]
+fn names_of_modules(rt: HostRuntime) {
+    let rows = "C7:2/|module a { yang-version 1.1; namespace 'urn:b'; prefix pb; }
+C4:2/|module a { namespace 'urn:b'; prefix pb; }
+none/|module A { yang-version 1.1; namespace 'urn:a'; prefix pa; }";
+    for row in rows.lines() {
+        assert!(rt; is_second_told(rt.alloc(), row) == Some(true), "{row:?}");
     }
 }
 

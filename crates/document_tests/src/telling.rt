@@ -2,7 +2,7 @@
 
 use std::alloc::{AllocError, Global};
 use ycheck::{Fault, write_line};
-use yinst::{DocCode, EditCode, EditFault};
+use yinst::{DocFault, EditFault};
 use yschema::{CompileFault, Schema};
 use ytext::Cut;
 
@@ -15,42 +15,39 @@ pub(crate) fn is_text(made: Result<String, AllocError>, wanted: &str) -> Option<
     Some(made.ok()?.as_str() == wanted)
 }
 
-/// Whether a text is a letter and this number.
-fn is_numbered(text: &str, letter: char, number: u32) -> bool {
-    match text.strip_prefix(letter) {
-        Some(digits) => number_of(digits) == Some(number),
-        None => false,
-    }
-}
-
-/// Whether the first of some modules is refused so, as in `C4:1`: the code and the line. Nothing for want of memory.
-pub(crate) fn is_refusal_of_modules(fault: CompileFault, told: &str) -> Option<bool> {
+/// Whether the module at a place in the set is refused so, as in `C4:1`: the code and the line. Nothing for want of
+/// memory.
+pub(crate) fn is_refusal_of_modules(
+    alloc: Global,
+    fault: CompileFault,
+    place: usize,
+    told: &str,
+) -> Option<bool> {
     match fault {
         CompileFault::Memory => None,
-        CompileFault::Refused { code, module, line } => {
+        CompileFault::Refused { module, line, .. } => {
             let (rule, at) = told.split_once(':')?;
-            let is_line = number_of(at)? == line;
-            Some(module == 0 && is_line && is_numbered(rule, 'C', code as u32))
+            let is_there = module == place && number_of(at)? == line;
+            Some(is_there && is_text(format!(in alloc; "{fault}"), rule)?)
         }
     }
 }
 
-/// Whether a code of an edit, and with it one of its value, is told so, as in `E9` or `E10:J5`.
-pub(crate) fn is_code(code: EditCode, doc: Option<DocCode>, told: &str) -> bool {
-    match (doc, told.split_once(':')) {
-        (None, _) => is_numbered(told, 'E', code as u32),
-        (Some(doc), Some((edit, value))) => {
-            is_numbered(edit, 'E', code as u32) && is_numbered(value, 'J', doc as u32)
+/// Whether a document is refused so at its root. Nothing for want of memory.
+pub(crate) fn is_refusal_of_document(alloc: Global, fault: &DocFault, told: &str) -> Option<bool> {
+    match fault {
+        DocFault::Memory => None,
+        DocFault::Refused { place, .. } => {
+            Some(place.is_empty() && is_text(format!(in alloc; "{fault}"), told)?)
         }
-        (Some(_), None) => false,
     }
 }
 
-/// Whether an edit is refused so. Nothing for want of memory.
-pub(crate) fn is_refusal(fault: EditFault, told: &str) -> Option<bool> {
+/// Whether an edit is refused so, as in `E9` or `E10 J5`. Nothing for want of memory.
+pub(crate) fn is_refusal(alloc: Global, fault: EditFault, told: &str) -> Option<bool> {
     match fault {
         EditFault::Memory => None,
-        EditFault::Refused { code, doc } => Some(is_code(code, doc, told)),
+        EditFault::Refused { .. } => is_text(format!(in alloc; "{fault}"), told),
     }
 }
 

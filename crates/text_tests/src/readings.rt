@@ -20,7 +20,7 @@ fn is_read(alloc: Global, text: &[u8], wanted: &str) -> Option<bool> {
             Some(statement) => Some(has_argument(statement, wanted)),
             None => Some(has_argument(&module.top, wanted)),
         },
-        Err(fault) => is_fault(fault, wanted),
+        Err(fault) => is_fault(alloc, fault, wanted),
     }
 }
 
@@ -45,6 +45,10 @@ module 'a' + b; => L5 1
 module 'a''b'; => L5 1
 module a; */ => L5 1
 module \"a\\x\"; => L4 1
+module \"a\\\"b\"; => 'a\"b
+module \u{c}x; => L2 1
+module \u{fffe}x; => L2 1
+module /*é*/\"x¶              y\"; => 'x¶ y
 module \rx; => L2 1
  => L6 1
 module a { prefix \"x => L3 1

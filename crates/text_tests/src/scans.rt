@@ -51,13 +51,13 @@ semi 22 23 ;";
 }
 
 // Whether this fault comes behind so many tokens, and nothing follows it.
-fn is_fault_behind(text: &str, count: usize, wanted: &str) -> Option<bool> {
+fn is_fault_behind(alloc: Global, text: &str, count: usize, wanted: &str) -> Option<bool> {
     let mut found = tokens(text);
     for _ in 0..count {
         found.next()?.ok()?;
     }
     let fault = found.next()?.err()?;
-    Some(is_fault(fault, wanted)? && found.next().is_none())
+    Some(is_fault(alloc, fault, wanted)? && found.next().is_none())
 }
 
 // Whether a row holds: a text, how many tokens it has in front of its first fault, and that fault.
@@ -65,7 +65,7 @@ fn holds(alloc: Global, row: &str) -> Option<bool> {
     let row = unmarked(alloc, row).ok()?;
     let (text, rest) = row.as_str().split_once(" => ")?;
     let (count, wanted) = rest.split_once(" then ")?;
-    is_fault_behind(text, count.parse::<usize>().ok()?, wanted)
+    is_fault_behind(alloc, text, count.parse::<usize>().ok()?, wanted)
 }
 
 #[test]

@@ -17,8 +17,14 @@ fn is_written(
     Some(is_answer && sink.bytes() == taken && sink.calls() == calls)
 }
 
+fn shows(alloc: Global, wanted: &str) -> Option<bool> {
+    let text = format!(in alloc; "{SinkFault}").ok()?;
+    Some(text.as_str() == wanted)
+}
+
 #[test]
 fn cut_sink(rt: HostRuntime) {
     assert!(rt; is_written(rt.alloc(), None, Ok(()), b"abcdefgh", 3) == Some(true));
     assert!(rt; is_written(rt.alloc(), Some(2), Err(SinkFault), b"abc", 2) == Some(true));
+    assert!(rt; shows(rt.alloc(), "write failed") == Some(true));
 }

@@ -12,15 +12,12 @@ pub(crate) fn unmarked(alloc: Global, row: &str) -> Result<String, AllocError> {
     Ok(text)
 }
 
-/// Whether a fault is the one that a row spells, as `L5 1`: its code and its line. None where the row spells no fault,
-/// and where memory ran out.
-pub(crate) fn is_fault(fault: TextFault, wanted: &str) -> Option<bool> {
-    let (code_number, line_number) = wanted.strip_prefix('L')?.split_once(' ')?;
-    let code_number = code_number.parse::<u8>().ok()?;
-    let line_number = line_number.parse::<u32>().ok()?;
+/// Whether a fault is the one that a row spells, as `L5 1`: its code and its line. None where memory ran out.
+pub(crate) fn is_fault(alloc: Global, fault: TextFault, wanted: &str) -> Option<bool> {
     match fault {
-        TextFault::Refused { code, line } => {
-            Some(code as u8 == code_number && line == line_number)
+        TextFault::Refused { line, .. } => {
+            let told = format!(in alloc; "{fault} {line}").ok()?;
+            Some(told.as_str() == wanted)
         }
         TextFault::Memory => None,
     }

@@ -1,8 +1,8 @@
 //! What an edit makes of a document.
 
 ghost use Rattle.std.specs.Prelude.{◌≡◌, None, IfOk};
-ghost use Rattle.yspec.specs.document.Fitting.{Fits, LeafsAreBare};
-ghost use Rattle.yspec.specs.document.Writing.{NamesDiffer, IsDocument};
+ghost use Rattle.yspec.specs.document.Fitting.{Fits};
+ghost use Rattle.yspec.specs.document.Writing.{IsDocument};
 ghost use Rattle.yspec.specs.edit.Editing as spec;
 ghost use Rattle.yschema.specs.View as schema_view;
 ghost use Rattle.ytree.specs.View.{tree_view};
@@ -29,9 +29,9 @@ pub fn apply(alloc: Global, schema: &Schema, tree: &Tree, edit: &Edit) -> Result
     ensures answer { Gives tree_view told_by result (spec.applied (schema_view.view schema.now) (tree_view tree.now) (edit_view edit.now)) }
     // of a document that fits its schema, as one that is read under it does
     ensures fitting { let s = schema_view.view schema.now in Fits s.nodes (tree_view tree.now) → IfOk result (λ t. Fits s.nodes (tree_view t)) }
-    // where no two siblings are written with one name, and no leaf has children
-    ensures whole { let s = schema_view.view schema.now in NamesDiffer s None s.nodes → LeafsAreBare s.nodes
-        → IsDocument s.nodes (tree_view tree.now) → IfOk result (λ t. IsDocument s.nodes (tree_view t)) }
+    // in values as in shape
+    ensures whole { let s = schema_view.view schema.now in
+        IsDocument s.nodes (tree_view tree.now) → IfOk result (λ t. IsDocument s.nodes (tree_view t)) }
 {
     edited(alloc, schema, tree, edit)
 }

@@ -23,6 +23,6 @@ abbrev pub seen : Option Break → Option spec.Break
 seen = option_map view
 
 -- the refusal that a fault tells; none of want of memory
-abbrev pub told : CompileFault → Option spec.Break
-told (Refused code at line) = Some (record { code = code_number code; module_number = at; line = line })
-told Memory = None
+abbrev pub told_by : CompileFault → Option spec.Break
+told_by (Refused code at line) = Some (record { code = code_number code; module_number = at; line = line })
+told_by Memory = None

@@ -12,7 +12,7 @@ ghost use Rattle.ytext.specs.View as text;
 ghost use Rattle.ytext.specs.View.{row_view, modules_view};
 ghost use Rattle.yschema.specs.Layout.{kind_view, node_view, number_of, places, laid};
 ghost use Rattle.yspec.specs.Results.{Gives};
-ghost use Rattle.yschema.specs.Told.{seen, told};
+ghost use Rattle.yschema.specs.Told.{seen, told_by};
 ghost use Rattle.yschema.specs.View.{view, module_view};
 
 use crate::children::Row;
@@ -31,7 +31,7 @@ use ytype::YType;
 /// Phases: the statement table; names of modules; the number of nodes; names of siblings; levels. Of no modules it is a schema without nodes.
 #[tactic(auto, unfolding(yspec::specs::schema::Breaks::compiled))]
 pub fn compile(alloc: Global, modules: &[Module]) -> Result<Schema, CompileFault>
-    ensures exact { Gives view told result (compiled (modules_view modules.now)) }
+    ensures exact { Gives view told_by result (compiled (modules_view modules.now)) }
     ensures names { IfOk result (λ schema. NamesDiffer (view schema) None (view schema).nodes) }
     ensures bare { IfOk result (λ schema. LeafsAreBare (view schema).nodes) }
     ensures within { IfOk result (λ schema. levels (view schema).nodes ≤ level_limit) }

@@ -1,5 +1,4 @@
 pub mod NameLemmas
-pub mod NumberedLemmas
 pub mod ReadLemmas
 pub mod RowLemmas
 pub mod ValueLemmas

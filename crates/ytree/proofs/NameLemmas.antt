@@ -9,8 +9,7 @@ use Rattle.yspec.specs.schema.Schema.{SchemaNode, written_name, other_name, is_w
 use Rattle.yspec.specs.document.Reading.{child, other_form, unknown, named, other_or}
 use Rattle.yschema.specs.View.{view}
 use Rattle.yschema.specs.declared.schema.Schema.{Schema}
-use Rattle.yschema.proofs.QueryLemmas.{Found}
-use Rattle.yschema.proofs.NodeLemmas.{first_found, first_in_row-is, row_node}
+use Rattle.yschema.proofs.CallerLemmas.{Found, first_found, first_in_row-is, row_node}
 
 named_child : (s : spec.Schema) (m : Option ℕ) (name : Text) (f : Forest SchemaNode) (x : Found)
     → first_found (λ n. is_text name (written_name s m n)) f ≡ Some x → named s m name f ≡ child x.0 x.1

@@ -42,7 +42,7 @@ pub fits_if_read : (given : Result tree.Tree DocFault) (s : Schema) (bytes : Lis
 fits_if_read (Ok t) s bytes is = read_fits s bytes (tree_view t) is
 fits_if_read (Err f) s bytes is = tt
 
-pub whole_if_read : (given : Result tree.Tree DocFault) (s : Schema) (bytes : List ℕ) → Gives tree_view told_by given (document_of s bytes)
-    → IfOk given (λ t. NamesDiffer s None s.nodes → IsDocument s.nodes (tree_view t))
-whole_if_read (Ok t) s bytes is = λ differ. read_whole s bytes (tree_view t) differ is
-whole_if_read (Err f) s bytes is = tt
+pub whole_if_read : (given : Result tree.Tree DocFault) (s : Schema) (bytes : List ℕ) → NamesDiffer s None s.nodes
+    → Gives tree_view told_by given (document_of s bytes) → IfOk given (λ t. IsDocument s.nodes (tree_view t))
+whole_if_read (Ok t) s bytes differ is = read_whole s bytes (tree_view t) differ is
+whole_if_read (Err f) s bytes differ is = tt

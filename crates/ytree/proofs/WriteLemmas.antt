@@ -7,6 +7,7 @@ use Rattle.serde_json.specs.Read.{read, max_depth}
 use Rattle.serde_json.specs.Written.{has_float, compact_text}
 use Rattle.yspec.specs.Forest.{levels}
 use Rattle.yspec.specs.schema.Schema.{Schema, node_at}
+use Rattle.yspec.specs.schema.Breaks.{level_limit}
 use Rattle.yspec.specs.document.Document.{Tree}
 use Rattle.yspec.specs.document.Reading.{document_of}
 use Rattle.yspec.specs.document.Fitting.{IsNumbered}
@@ -35,7 +36,7 @@ pub text_of : (s : Schema) (t : Tree) (d : Data) (text : List ℕ) → d ≡ wri
 text_of s t d text is so = so (ap has_float is ∙ no_fractions s t) ∙ ap compact_text is
 
 pub text_read : (s : Schema) (t : Tree) (d : Data) (text : List ℕ) → IsNumbered 0 s.nodes → d ≡ written_value s t → IsUtf8 text → (depth d ≤ max_depth → read text ≡ Some d)
-    → NamesDiffer s None s.nodes → levels s.nodes < max_depth → IsDocument s.nodes t → document_of s text ≡ Ok t
+    → NamesDiffer s None s.nodes → levels s.nodes ≤ level_limit → IsDocument s.nodes t → document_of s text ≡ Ok t
 text_read s t d text numbered is utf8 reads differ few fits =
     let lower = levels_fit s.nodes t fits in
     let deep = written_depth s t (levels s.nodes) lower in

@@ -4,7 +4,7 @@ ghost use Rattle.std.specs.Prelude.{◌≡◌, [], IfOk, None, Some, option_map}
 ghost use Rattle.serde_json.specs.View as json;
 ghost use Rattle.yspec.specs.document.Reading.{stored_rows, stored_node, members_of, value_of, tree_or_refusal, document_of};
 ghost use Rattle.yspec.specs.document.Fitting.{Fits};
-ghost use Rattle.yspec.specs.document.Writing.{NamesDiffer, IsDocument};
+ghost use Rattle.yspec.specs.document.Writing.{IsDocument};
 ghost use Rattle.ytype.specs.View.{raw_of};
 ghost use Rattle.yschema.specs.View as schema_view;
 ghost use Rattle.ytree.specs.View.{view, row_view, tree_view};
@@ -26,9 +26,7 @@ use ytype::Raw;
 pub fn read(alloc: Global, schema: &Schema, bytes: &[u8]) -> Result<Tree, DocFault>
     ensures answer { Gives tree_view told_by result (document_of (schema_view.view schema.now) bytes.now) }
     ensures fitting { IfOk result (λ tree. Fits (schema_view.view schema.now).nodes (tree_view tree)) }
-    // where no two siblings are written with one name
-    ensures whole { let s = schema_view.view schema.now in
-        IfOk result (λ tree. NamesDiffer s None s.nodes → IsDocument s.nodes (tree_view tree)) }
+    ensures whole { IfOk result (λ tree. IsDocument (schema_view.view schema.now).nodes (tree_view tree)) }
 {
     match Value::from_slice(alloc, bytes) {
         Ok(value) => tree_of(alloc, schema, &value),

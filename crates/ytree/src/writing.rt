@@ -2,12 +2,10 @@
 
 ghost use Rattle.std.specs.Prelude.{◌≡◌, ◌<◌, IfOk, OnOk, None, Some, Ok, option_map, string_bytes};
 ghost use Rattle.serde_json.specs.Data.{no_members, put};
-ghost use Rattle.serde_json.specs.Read.{max_depth};
 ghost use Rattle.serde_json.specs.View as json;
-ghost use Rattle.yspec.specs.Forest.{levels};
 ghost use Rattle.yspec.specs.schema.Schema.{node_at};
 ghost use Rattle.yspec.specs.document.Reading.{document_of};
-ghost use Rattle.yspec.specs.document.Writing.{whole_number, data_of, leaf_data, written_node, with_node, row_members, written_value, written_text, NamesDiffer, IsDocument};
+ghost use Rattle.yspec.specs.document.Writing.{whole_number, data_of, leaf_data, written_node, with_node, row_members, written_value, written_text, IsDocument};
 ghost use Rattle.ytype.specs.View as held;
 ghost use Rattle.yschema.specs.View as schema_view;
 ghost use Rattle.ytree.specs.View.{view, row_view, tree_view};
@@ -23,9 +21,9 @@ use ytype::Raw;
 /// document again.
 pub fn write(alloc: Global, schema: &Schema, tree: &Tree) -> Result<String, AllocError>
     ensures text { IfOk result (λ text. string_bytes text ≡ written_text (schema_view.view schema.now) (tree_view tree.now)) }
-    // of a document that was read under a schema whose siblings have names of their own and which isn't too deep for JSON
-    ensures reads_back { let s = schema_view.view schema.now in let t = tree_view tree.now in IfOk result
-        (λ text. NamesDiffer s None s.nodes → levels s.nodes < max_depth → IsDocument s.nodes t → document_of s (string_bytes text) ≡ Ok t) }
+    // of a document that was read under the schema, or made by edits
+    ensures reads_back { let s = schema_view.view schema.now in let t = tree_view tree.now in
+        IfOk result (λ text. IsDocument s.nodes t → document_of s (string_bytes text) ≡ Ok t) }
 {
     value_of_tree(alloc, schema, tree)?.to_string(alloc)
 }

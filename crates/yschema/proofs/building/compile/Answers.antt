@@ -2,7 +2,7 @@ use Rattle.std.proofs.Common.{ap, subst, sym, ◌∙◌}
 use Rattle.ytext.specs.View.{modules_view}
 use Rattle.yspec.specs.schema.Breaks.{compiled}
 use Rattle.yspec.specs.Results.{Fails}
-use Rattle.yschema.specs.Told.{seen, view, told}
+use Rattle.yschema.specs.Told.{seen, told_by, view}
 use Rattle.yschema.proofs.CallerLemmas.{names_differ, leafs_are_bare, not_deep}
 use Rattle.yschema.proofs.ToldLemmas.{passes, refused_as}
 use Rattle.yschema.proofs.building.compile.Goals as goal
@@ -12,7 +12,7 @@ build-requires c = passes (modules_view c.args.modules.now) (sym (ap seen c.in-N
 
 pub returns-in-Some-clause-exact : goal.returns-in-Some-clause-exact
 returns-in-Some-clause-exact c =
-    subst (λ fault. Fails (told fault) (compiled (modules_view c.args.modules.now))) (sym c.from.ensures)
+    subst (λ fault. Fails (told_by fault) (compiled (modules_view c.args.modules.now))) (sym c.from.ensures)
     (refused_as (modules_view c.args.modules.now) (view c.in-Some.found) (sym (ap seen c.in-Some.is) ∙ c.in_ok-found.ensures))
 
 pub returns-in_ok-build-in-None-clause-names : goal.returns-in_ok-build-in-None-clause-names

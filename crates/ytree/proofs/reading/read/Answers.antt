@@ -4,6 +4,7 @@ use Rattle.serde_json.specs.View as json
 use Rattle.yschema.specs.View as schema_view
 use Rattle.ytree.specs.View.{tree_view}
 use Rattle.yspec.proofs.DocumentProofs.JsonLemmas.{json_found, no_json}
+use Rattle.yschema.proofs.CallerLemmas.{names_differ}
 use Rattle.ytree.proofs.ReadLemmas.{of_json, of_none, fails_by, gives_same, fits_if_read, whole_if_read}
 use Rattle.ytree.proofs.reading.read.Goals as goal
 
@@ -23,4 +24,4 @@ pub returns-in-Ok-clause-fitting : goal.returns-in-Ok-clause-fitting
 returns-in-Ok-clause-fitting c = fits_if_read c.tree_of.result (schema_view.view c.args.schema.now) c.args.bytes.now (returns-in-Ok-clause-answer c)
 
 pub returns-in-Ok-clause-whole : goal.returns-in-Ok-clause-whole
-returns-in-Ok-clause-whole c = whole_if_read c.tree_of.result (schema_view.view c.args.schema.now) c.args.bytes.now (returns-in-Ok-clause-answer c)
+returns-in-Ok-clause-whole c = whole_if_read c.tree_of.result (schema_view.view c.args.schema.now) c.args.bytes.now (names_differ c.args.schema.now) (returns-in-Ok-clause-answer c)

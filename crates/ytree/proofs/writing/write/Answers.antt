@@ -4,7 +4,7 @@ use Rattle.std.proofs.lemmas.Str.{IsUtf8-string_bytes}
 use Rattle.serde_json.specs.View as json
 use Rattle.yschema.specs.View as schema_view
 use Rattle.ytree.specs.View.{tree_view}
-use Rattle.ytree.proofs.NumberedLemmas.{numbered}
+use Rattle.yschema.proofs.CallerLemmas.{numbered, names_differ, not_deep}
 use Rattle.ytree.proofs.WriteLemmas.{text_of, text_read}
 use Rattle.ytree.proofs.writing.write.Goals as goal
 
@@ -15,6 +15,6 @@ returns-clause-text c =
 
 pub returns-clause-reads_back : goal.returns-clause-reads_back
 returns-clause-reads_back c =
-    IfOk-weaker c.to_string.result _ _ (λ text. text_read (schema_view.view c.args.schema.now) (tree_view c.args.tree.now) (json.view c.in_ok-value_of_tree.field-0) (string_bytes text)
-    (numbered 0 _) c.in_ok-value_of_tree.ensures (IsUtf8-string_bytes text))
+    IfOk-weaker c.to_string.result _ _ (λ text reads. text_read (schema_view.view c.args.schema.now) (tree_view c.args.tree.now) (json.view c.in_ok-value_of_tree.field-0) (string_bytes text)
+    (numbered c.args.schema.now) c.in_ok-value_of_tree.ensures (IsUtf8-string_bytes text) reads (names_differ c.args.schema.now) (not_deep c.args.schema.now))
     c.to_string.ensures.reads_back
