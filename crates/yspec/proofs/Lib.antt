@@ -1,3 +1,5 @@
+pub mod NodeLemmas
+pub mod MeaningLemmas
 pub mod DocumentProofs
 pub mod EditProofs
 pub mod LiteralLemmas
