@@ -1,6 +1,6 @@
 -- The first row below a node is the first of the node's children: each number stands once.
 use Rattle.std.proofs.Common.{◌≡◌, ℕ, ◌+◌, ◌<◌, ◌≤◌, Bool, true, false, cond, ◌&&◌, List, [], ◌∷◌, ◌++◌, length, take, drop, Option, Some, None, refl, sym, ap, ap₂, ◌∙◌, arith}
-use Rattle.std.specs.Prelude.{◌==◌, option_map, unwrap_or, find, nat_lt}
+use Rattle.std.specs.Prelude.{◌==◌, unwrap_or, find, nat_lt}
 use Rattle.std.proofs.lemmas.Bool.{eq-eqb, ne_eqb, ltb-true, ltb-false}
 use Rattle.std.proofs.lemmas.Bool.Decides.{Decides-eqb, nat_tests}
 use Rattle.yspec.specs.Forest.{Forest, node, end, size, row, first_of, find_below, joined_below}
@@ -11,7 +11,7 @@ use Rattle.yschema.specs.declared.schema.SchemaModule.{SchemaModule}
 use Rattle.yschema.specs.Layout.{Place, places, laid, forest_of, schema_view, IsLaidOut}
 use Rattle.yschema.specs.Lookup.{first_below}
 use Rattle.yschema.proofs.LayoutLemmas.{laid_parts, length-laid, length-places}
-use Rattle.yschema.proofs.QueryLemmas.{map_cond}
+use Rattle.yspec.proofs.SchemaProofs.NodeLemmas.{map_cond}
 use Rattle.yschema.proofs.FindLemmas.{same_number}
 
 pub numbered_laid : (f : Forest SchemaNode) (p : Option ℕ) (k : ℕ) (rows : List Row) → laid k rows ≡ places p f → IsNumbered k f

@@ -7,7 +7,6 @@ pub mod RowLemmas
 pub mod ToldLemmas
 pub mod KindLemmas
 pub mod ChildLemmas
-pub mod NodeLemmas
 pub mod IndexLemmas
 pub mod FindLemmas
 pub mod CallerLemmas

@@ -5,61 +5,15 @@ use Rattle.std.specs.List.{position_or_len}
 use Rattle.std.proofs.lemmas.Bool.{eq-eqb, ne_eqb, le-leb, leb-true}
 use Rattle.std.proofs.lemmas.List.{take-append-drop, take_min, length-map}
 use Rattle.std.proofs.lemmas.Option.{slice_get_past}
-use Rattle.yspec.specs.Forest.{Forest, node, end, size, find_label, first_of, find_below, joined_below}
+use Rattle.yspec.specs.Forest.{Forest, node, end, size, find_label, find_below}
 use Rattle.yspec.specs.schema.Schema.{SchemaNode, module_at}
+use Rattle.yspec.proofs.SchemaProofs.NodeLemmas.{Found, all_below, find_label-is, find_below-is}
 use Rattle.yschema.specs.declared.children.Row.{Row}
 use Rattle.yschema.specs.Layout.{node_view, places, laid, fits_within, schema_view, IsLaidOut}
 use Rattle.yschema.specs.declared.schema.SchemaModule.{SchemaModule}
 use Rattle.yschema.specs.View.{forest_within, forest_of}
 use Rattle.yschema.proofs.RowLemmas.{forest_of-cons, no_node}
 use Rattle.yschema.proofs.LayoutLemmas.{laid_parts}
-
-abbrev pub Found : Type 0
-Found = SchemaNode × Forest SchemaNode
-
--- ---- labels with what stands below them, in preorder
-
-unfoldable pub all_below : Forest SchemaNode → List Found
-all_below end = []
-all_below (node l below after) = (l, below) ∷ (all_below below ++ all_below after)
-
-find-append : {X : Type 0} (p : X → Bool) (xs ys : List X) → find p (xs ++ ys) ≡ first_of (find p xs) (find p ys)
-find-append p [] ys = refl
-find-append p (x ∷ xs) ys = by (p x) (find-append p xs ys)
-  where
-    by : (b : Bool) → find p (xs ++ ys) ≡ first_of (find p xs) (find p ys) → cond b (Some x) (find p (xs ++ ys)) ≡ first_of (cond b (Some x) (find p xs)) (find p ys)
-    by true e = refl
-    by false e = e
-
-label_of_first : (a b : Option Found) → option_map (λ p. p.0) (first_of a b) ≡ first_of (option_map (λ p. p.0) a) (option_map (λ p. p.0) b)
-label_of_first (Some x) b = refl
-label_of_first None b = refl
-
-below_of_first : (a b : Option Found) → option_map (λ p. p.1) (first_of a b) ≡ joined_below (option_map (λ p. p.1) a) (option_map (λ p. p.1) b)
-below_of_first (Some x) b = refl
-below_of_first None b = refl
-
-pub map_cond : {X Y : Type 0} (f : X → Y) (b : Bool) (x y : Option X) → option_map f (cond b x y) ≡ cond b (option_map f x) (option_map f y)
-map_cond f true x y = refl
-map_cond f false x y = refl
-
-pub find_label-is : (test : SchemaNode → Bool) (f : Forest SchemaNode) → find_label test f ≡ option_map (λ p. p.0) (find (λ p. test p.0) (all_below f))
-unfolding all_below
-find_label-is test end = refl
-find_label-is test (node l below after) =
-    ap (cond (test l) (Some l)) (ap₂ first_of (find_label-is test below) (find_label-is test after)
-    ∙ (sym (label_of_first (find (λ p. test p.0) (all_below below)) (find (λ p. test p.0) (all_below after)))
-    ∙ ap (option_map (λ p. p.0)) (sym (find-append (λ p. test p.0) (all_below below) (all_below after)))))
-    ∙ sym (map_cond (λ p. p.0) (test l) (Some (l, below)) (find (λ p. test p.0) (all_below below ++ all_below after)))
-
-pub find_below-is : (test : SchemaNode → Bool) (f : Forest SchemaNode) → find_below test f ≡ option_map (λ p. p.1) (find (λ p. test p.0) (all_below f))
-unfolding all_below
-find_below-is test end = refl
-find_below-is test (node l below after) =
-    ap (cond (test l) (Some below)) (ap₂ joined_below (find_below-is test below) (find_below-is test after)
-    ∙ (sym (below_of_first (find (λ p. test p.0) (all_below below)) (find (λ p. test p.0) (all_below after)))
-    ∙ ap (option_map (λ p. p.1)) (sym (find-append (λ p. test p.0) (all_below below) (all_below after)))))
-    ∙ sym (map_cond (λ p. p.1) (test l) (Some (l, below)) (find (λ p. test p.0) (all_below below ++ all_below after)))
 
 -- ---- the same, row by row
 

@@ -8,3 +8,4 @@ pub mod WrittenNameLemmas
 pub mod WrittenShapeLemmas
 pub mod ReadWholeLemmas
 pub mod JsonLemmas
+pub mod MeaningLemmas

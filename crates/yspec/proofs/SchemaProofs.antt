@@ -3,3 +3,4 @@ pub mod NumberLemmas
 pub mod CompiledLemmas
 pub mod CompiledShapeLemmas
 pub mod CompiledNameLemmas
+pub mod NodeLemmas

@@ -3,6 +3,7 @@
 ghost use Rattle.std.specs.Prelude.{◌≡◌, List, [], ◌∷◌, codes, Some, None, Err};
 ghost use Rattle.yspec.specs.schema.Schema.{Schema};
 ghost use Rattle.yspec.specs.document.Document.{Tree};
+ghost use Rattle.yspec.specs.FaultCode.{V1, V3};
 ghost use Rattle.yspec.specs.document.Fitting.{IsNumbered, LeafsAreBare, Fits};
 ghost use Rattle.yspec.specs.document.Writing.{NamesDiffer, IsDocument};
 ghost use Rattle.yspec.specs.edit.Editing.{after};
@@ -95,10 +96,10 @@ pub fn creations_and_removals()
 pub fn edits_checked()
     ensures mended { checked_lines module_p (codes "{\"p:c\":{\"id\":256}}") (codes "replace /p:c/id 7" ∷ []) ≡ checked_as (None ∷ []) [] }
     ensures spoiled { checked_lines module_p (codes "{\"p:c\":{\"id\":7}}") (codes "replace /p:c/id 300" ∷ codes "replace /p:c {}" ∷ codes "replace /p:c/id {}" ∷ [])
-        ≡ checked_as (None ∷ None ∷ Some (record { code = 7; document_code = None }) ∷ []) (at_id 3 ∷ []) }
+        ≡ checked_as (None ∷ None ∷ Some (record { code = 7; document_code = None }) ∷ []) (at_id V3 ∷ []) }
     ensures refused_value { checked_lines module_p (codes "{\"p:c\":{\"id\":256}}") (codes "replace /p:c/id {}" ∷ [])
-        ≡ checked_as (Some (record { code = 10; document_code = Some 5 }) ∷ []) (at_id 1 ∷ []) }
-    ensures no_edits { checked_lines module_p (codes "{}") [] ≡ checked_as [] (at_id 3 ∷ []) }
+        ≡ checked_as (Some (record { code = 10; document_code = Some 5 }) ∷ []) (at_id V1 ∷ []) }
+    ensures no_edits { checked_lines module_p (codes "{}") [] ≡ checked_as [] (at_id V3 ∷ []) }
     ensures refused_document { checked_lines module_p (codes "[]") [] ≡ Some (Err (of_document (record { code = 2; place = [] }))) }
     ensures refused_module { checked_lines (module_text (codes "p") (codes "  leaf x;\n")) (codes "[]") []
         ≡ Some (Err (of_modules (record { code = 2; module_number = 0; line = 5 }))) }

@@ -2,7 +2,7 @@
 
 ghost use Rattle.std.specs.Prelude.{◌≡◌, ◌++◌, [], ◌∷◌, codes, Some, None};
 ghost use Rattle.yspec.specs.program.Output.{found, failed, validate, outcome};
-ghost use Rattle.yspec.specs.program.Examples.{shown, shown_by_p, compiled_alone, without_faults, module_p, nested_module, container_module, rewritten};
+ghost use Rattle.yspec.specs.program.Examples.{shown, shown_of_two, shown_by_p, module_text, compiled_alone, without_faults, module_p, nested_module, container_module, rewritten};
 
 /// A missing mandatory leaf, a number out of range, a good document, and a container that is in play though it isn't stored.
 pub fn documents_of_a_container()
@@ -70,6 +70,18 @@ pub fn refused_modules()
     ensures least_line { compiled_alone (codes "  leaf a;\n  leaf a { type int8; }\n")
         ≡ failed 2 (codes "m.yang:5: C2") }
     ensures text { shown [] (codes "{}") ≡ failed 2 (codes "m.yang:1: L6") }
+{}
+
+/// Two modules of different names, and two of one name, which is told at the second.
+pub fn sets_of_modules()
+    ensures two { shown_of_two module_p nested_module (codes "{}")
+        ≡ found 1 (codes "V3 data-missing - /p:c/id -\nV3 data-missing - /q:a/b/c -\n2 faults\n") }
+    ensures one_name { shown_of_two module_p (codes "\n\n" ++ module_text (codes "p") []) (codes "{}")
+        ≡ failed 2 (codes "n.yang:3: C7") }
+    ensures before_names_of_siblings { shown_of_two (module_text (codes "p") (codes "  container c;\n  container c;\n")) module_p (codes "{}")
+        ≡ failed 2 (codes "n.yang:1: C7") }
+    ensures after_statements { shown_of_two module_p (module_text (codes "p") (codes "  container;\n")) (codes "{}")
+        ≡ failed 2 (codes "n.yang:5: C3") }
 {}
 
 /// The first file that can't be read is told, and nothing else.

@@ -19,6 +19,12 @@ pub fn stripped_lines()
     ensures ends_of_lines { module_of (codes "module \"a  \t\n b\";") ≡ with_argument (codes "a\nb") }
     ensures carriage_return { module_of (codes "module \"a\r\n  b\";") ≡ with_argument (codes "a\nb") }
     ensures single_quotes { module_of (codes "module 'a \r\n b';") ≡ with_argument (codes "a \n b") }
+    ensures escaped_quote { module_of (codes "module \"a\\\"b\";") ≡ with_argument (codes "a\"b") }
+    // the quote stands in column 13, though 14 bytes lead to it
+    ensures wide_character { module_of (codes "/*" ++ (195 ∷ 169 ∷ codes "*/module \"a\n              b\";")) ≡ with_argument (codes "a\n b") }
+    // the quote stands in column 16, of which the tab takes eight
+    ensures tab_before_the_quote { module_of (codes "\tmodule \"a\n                 b\";") ≡ with_argument (codes "a\n b") }
+    ensures tab_within_the_gap { module_of (codes "module\t\"a\n                b\";") ≡ with_argument (codes "a\n b") }
 {}
 
 /// Where tokens end.
@@ -48,6 +54,8 @@ pub fn refused_texts()
     ensures brace_without_statement { module_of (codes "module a;\n}") ≡ slip 6 2 }
     ensures second_top { module_of (codes "module a;\n1b;") ≡ slip 6 2 }
     ensures ends_within { module_of (codes "module a {\n\n") ≡ slip 6 3 }
+    ensures noncharacter { module_of (codes "module a;\n//" ++ (239 ∷ 191 ∷ 190 ∷ [])) ≡ slip 2 2 }
+    ensures form_feed { module_of (codes "module a\n\n" ++ (12 ∷ codes ";")) ≡ slip 2 3 }
     ensures no_keyword { module_of (codes "module a {\n1b; }") ≡ slip 8 2 }
 {}
 

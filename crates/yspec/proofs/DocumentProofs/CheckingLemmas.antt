@@ -8,11 +8,11 @@ use Rattle.std.specs.Option.{option_map_or}
 use Rattle.yspec.specs.Forest.{Forest, end, node, size, first_of, joined_below, find_below}
 use Rattle.yspec.specs.types.Types.{Raw}
 use Rattle.yspec.specs.schema.Schema.{Schema, SchemaNode, Kind, container, leaf, node_in, row_below}
-use Rattle.yspec.specs.document.Document.{Stored, Tree, Step, instances_in}
-use Rattle.yspec.specs.document.Play.{Item, in_use, visit, absent_items, step_below, items_in_play}
+use Rattle.yspec.specs.document.Document.{Stored, Tree, Step, step_to, below_place, instances_in}
+use Rattle.yspec.specs.document.Play.{Item, in_use, visit, absent_items, items_in_play}
 use Rattle.yspec.specs.document.Faults.{Fault, Answers, Told, kind_faults, under, item_faults, faults_of_instances, woven, told_in, faults_by}
 use Rattle.yspec.specs.document.Fitting.{IsNumbered, Fits, at_end, not_stored, is_stored}
-use Rattle.yspec.specs.document.RowFaults.{step_at, prefixed, stored_own, absent_own, stored_faults, absent_faults, row_faults}
+use Rattle.yspec.specs.document.RowFaults.{prefixed, stored_own, absent_own, stored_faults, absent_faults, row_faults}
 use Rattle.yspec.proofs.DocumentProofs.FittingLemmas.{eqb_other, no_node_in, no_row_in, instances-cons, first_is_other, none_of_others, none_before}
 
 -- ---- instances by number
@@ -45,10 +45,10 @@ woven_default false n tolds = refl
 
 -- what is in play of it, where `inside` is what is in play of its children
 woven_absent : (kind : Kind) (n : SchemaNode) (above : List Step) (inside : List Item) (found : List Fault) (tolds : List Told)
-    → woven inside tolds ≡ map (prefixed (step_below above n)) found
-    → woven (absent_items kind n (step_below above n) inside) tolds ≡ map (prefixed above) (map (under (step_at n.number)) (absent_own kind found))
+    → woven inside tolds ≡ map (prefixed (below_place above n)) found
+    → woven (absent_items kind n (below_place above n) inside) tolds ≡ map (prefixed above) (map (under (step_to n.number)) (absent_own kind found))
 woven_absent (container true) n above inside found tolds so = refl
-woven_absent (container false) n above inside found tolds so = so ∙ prefixed_twice above (step_at n.number) found
+woven_absent (container false) n above inside found tolds so = so ∙ prefixed_twice above (step_to n.number) found
 woven_absent (leaf type default_value true) n above inside found tolds so = refl
 woven_absent (leaf type default_value false) n above inside found tolds so =
     woven_default (option_map_or (λ _. true) default_value false) n tolds
@@ -96,16 +96,16 @@ module _ (answers : Answers) where
       (eq-eqb s.schema_number n.number same)
 
   items_absent : (stored : ℕ → ℕ) (above : List Step) (n : SchemaNode) (below after : Forest SchemaNode) → stored n.number ≡ 0
-      → items_in_play stored above (node n below after) ≡ absent_items n.kind n (step_below above n) (items_in_play stored (step_below above n) below) ++ items_in_play stored above after
+      → items_in_play stored above (node n below after) ≡ absent_items n.kind n (below_place above n) (items_in_play stored (below_place above n) below) ++ items_in_play stored above after
   unfolding items_in_play
   items_absent stored above n below after none =
-      ap (λ c. cond (ltb 0 c) (visit n.number ∷ []) (absent_items n.kind n (step_below above n) (items_in_play stored (step_below above n) below)) ++ items_in_play stored above after) none
+      ap (λ c. cond (ltb 0 c) (visit n.number ∷ []) (absent_items n.kind n (below_place above n) (items_in_play stored (below_place above n) below)) ++ items_in_play stored above after) none
 
   items_stored : (stored : ℕ → ℕ) (above : List Step) (n : SchemaNode) (below after : Forest SchemaNode) → 0 < stored n.number
       → items_in_play stored above (node n below after) ≡ visit n.number ∷ items_in_play stored above after
   unfolding items_in_play
   items_stored stored above n below after some =
-      ap (λ c. cond c (visit n.number ∷ []) (absent_items n.kind n (step_below above n) (items_in_play stored (step_below above n) below)) ++ items_in_play stored above after)
+      ap (λ c. cond c (visit n.number ∷ []) (absent_items n.kind n (below_place above n) (items_in_play stored (below_place above n) below)) ++ items_in_play stored above after)
       (lt-ltb 0 (stored n.number) some)
 
   own_is : (kind : Kind) (value : Option Raw) → kind_faults answers kind value ≡ stored_own kind value
@@ -120,7 +120,7 @@ module _ (answers : Answers) where
   unfolding told_in
   node_told whole n below after s b a same found children none inner =
       told_first _ (told_in answers whole a) n.number (eq-eqb s.schema_number n.number same)
-      ∙ (ap₂ ◌++◌ (ap₂ (λ (k : ℕ) (fs : List Fault). map (under (step_at k)) fs) same
+      ∙ (ap₂ ◌++◌ (ap₂ (λ (k : ℕ) (fs : List Fault). map (under (step_to k)) fs) same
       (ap₂ ◌++◌ (ap (λ (k : ℕ). option_map_or (λ (x : SchemaNode). kind_faults answers x.kind s.value) (node_in whole k) []) same
       ∙ (ap (λ (o : Option SchemaNode). option_map_or (λ (x : SchemaNode). kind_faults answers x.kind s.value) o []) found ∙ own_is n.kind s.value))
       (ap (λ (k : ℕ). woven (items_in_play (instances_in b) [] (row_below whole k)) (told_in answers (row_below whole k) b)) same
@@ -146,7 +146,7 @@ module _ (answers : Answers) where
       let behind : k + 1 + size below ≤ k + 1 + size below = omega arith in
       let before = λ (m : ℕ) (lower : m < k + 1 + size below). none_before after (k + 1 + size below) t m numbered.2 fits lower in
       let none : instances_in t n.number ≡ 0 = before n.number (omega (arith, numbered.0)) in
-      let inner = woven_rows below (k + 1) end below (step_below above n) stored tolds numbered.1 (nothing_fits below) (record {
+      let inner = woven_rows below (k + 1) end below (below_place above n) stored tolds numbered.1 (nothing_fits below) (record {
         nodes = λ m _. refl;
         rows = λ m _. refl;
         counts = λ m from to. sees.counts m (omega arith) (omega arith) ∙ before m (omega arith);
@@ -159,8 +159,8 @@ module _ (answers : Answers) where
         tellings = λ m from to. sees.tellings m (omega arith) (omega arith);
       }) in
       ap (λ items. woven items tolds) (items_absent stored above n below after (sees.counts n.number here (omega (arith, numbered.0)) ∙ none))
-      ∙ (flat_map-append (item_faults tolds) (absent_items n.kind n (step_below above n) (items_in_play stored (step_below above n) below)) (items_in_play stored above after)
-      ∙ (ap₂ ◌++◌ (woven_absent n.kind n above (items_in_play stored (step_below above n) below) (row_faults below end) tolds inner) others
+      ∙ (flat_map-append (item_faults tolds) (absent_items n.kind n (below_place above n) (items_in_play stored (below_place above n) below)) (items_in_play stored above after)
+      ∙ (ap₂ ◌++◌ (woven_absent n.kind n above (items_in_play stored (below_place above n) below) (row_faults below end) tolds inner) others
       ∙ (sym (map-append (prefixed above) (absent_faults n (row_faults below end)) (row_faults after t))
       ∙ ap (map (prefixed above)) (sym (absent_row n below after t none)))))
   woven_rows (node n below after) k (node s b a) whole above stored tolds numbered (is_stored same value fits_below fits) sees =

@@ -12,8 +12,8 @@ use Rattle.yspec.specs.text.Text.{Text}
 use Rattle.yspec.specs.types.Ranges.{lies_in}
 use Rattle.yspec.specs.types.Types.{Raw, int}
 use Rattle.yspec.specs.schema.Schema.{Schema, SchemaNode, Kind, container, leaf, written_name}
-use Rattle.yspec.specs.document.Document.{Tree, Step}
-use Rattle.yspec.specs.document.Reading.{whole_numbers, raw_number, raw_array, raw_of, refused_value, Visit, right, wrong, at_named, below_place, value_visit, object_visit, member_visits, node_visits, first_wrong, verdict, members_of, value_of, stored_rows, document_of}
+use Rattle.yspec.specs.document.Document.{Tree, Step, below_place}
+use Rattle.yspec.specs.document.Reading.{whole_numbers, raw_number, raw_array, raw_of, refused_value, Visit, right, wrong, at_named, value_visit, object_visit, member_visits, node_visits, first_wrong, verdict, members_of, value_of, stored_rows, document_of}
 use Rattle.yspec.specs.document.Fitting.{at_end, not_stored, is_stored}
 use Rattle.yspec.specs.document.Writing.{NamesDiffer, HasText, HasForm, IsDocument}
 use Rattle.yspec.proofs.DocumentProofs.FittingReadLemmas.{was_read}

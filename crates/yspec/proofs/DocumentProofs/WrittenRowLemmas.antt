@@ -14,8 +14,8 @@ use Rattle.yspec.specs.text.Text.{Text, is_text}
 use Rattle.yspec.specs.types.Ranges.{lies_in}
 use Rattle.yspec.specs.types.Types.{Raw, text, int, bool, empty}
 use Rattle.yspec.specs.schema.Schema.{Schema, SchemaNode, Kind, container, leaf, node_in, node_at, written_name, other_name}
-use Rattle.yspec.specs.document.Document.{Stored, Tree, Step}
-use Rattle.yspec.specs.document.Reading.{whole_numbers, raw_integer, Visit, right, wrong, refused_value, raw_of, child, named, other_or, at_named, below_place, value_visit, member_visits, node_visits, first_wrong, members_of, value_of, placed, stored_rows}
+use Rattle.yspec.specs.document.Document.{Stored, Tree, Step, below_place}
+use Rattle.yspec.specs.document.Reading.{whole_numbers, raw_integer, Visit, right, wrong, refused_value, raw_of, child, named, other_or, at_named, value_visit, member_visits, node_visits, first_wrong, members_of, value_of, placed, stored_rows}
 use Rattle.yspec.specs.document.Fitting.{IsNumbered, at_end, not_stored, is_stored}
 use Rattle.yspec.specs.document.Writing.{data_of, written_node, with_node, row_members, IsNew, NamesDiffer, HasText, HasForm, IsDocument}
 use Rattle.yspec.proofs.DocumentProofs.FittingLemmas.{eqb_other, no_node_before}

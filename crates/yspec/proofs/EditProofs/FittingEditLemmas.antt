@@ -6,11 +6,11 @@ use Rattle.yspec.specs.Forest.{Forest, end, node, size, row, first_of, joined_be
 use Rattle.yspec.specs.text.Text.{Text}
 use Rattle.yspec.specs.types.Types.{Raw}
 use Rattle.yspec.specs.schema.Schema.{Schema, SchemaNode, Kind, container, leaf, node_in, node_at, children_of, first_in_row, is_written, child_written}
-use Rattle.yspec.specs.document.Document.{Stored, Tree}
+use Rattle.yspec.specs.document.Document.{Stored, Tree, step_to}
 use Rattle.yspec.specs.document.Reading.{Refusal, node_visits, first_wrong, members_of, value_of, stored_node, stored_rows, json_of}
 use Rattle.yspec.specs.edit.Edit.{change_below, edit_at}
 use Rattle.yspec.specs.edit.EditText.{Path, Edit, create, replace, remove}
-use Rattle.yspec.specs.edit.Editing.{EditRefusal, refused, value_refused, ◌>>=◌, Way, way_on, way, says_which, meant, way_meant, has_zero, row_under, Target, target_in, target, step_to, with_row, Part, part, fitting_part, part_of, with_part, without, node_limit, within_limit, with_value, created, replaced, removed, target_of, applied, tree_or, after}
+use Rattle.yspec.specs.edit.Editing.{EditRefusal, refused, value_refused, ◌>>=◌, Way, way_on, way, says_which, meant, way_meant, has_zero, row_under, Target, target_in, target, with_row, Part, part, fitting_part, part_of, with_part, without, node_limit, within_limit, with_value, created, replaced, removed, target_of, applied, tree_or, after}
 use Rattle.yspec.specs.document.Fitting.{IsNumbered, IsBare, LeafsAreBare, FitsBy, Fits, at_end, not_stored, is_stored}
 use Rattle.yspec.specs.document.Writing.{NamesDiffer, HasForm, IsDocument}
 use Rattle.yspec.proofs.DocumentProofs.FittingLemmas.{eqb_other, no_node_in, no_row_in}

@@ -6,7 +6,8 @@ use Rattle.yspec.specs.Forest.{Forest, end, node}
 use Rattle.yspec.specs.text.Text.{Text}
 use Rattle.yspec.specs.types.Types.{Raw, Val, YangType, taken, app_tag_of}
 use Rattle.yspec.specs.schema.Schema.{Schema, SchemaNode, Kind, container, leaf, node_in, row_below}
-use Rattle.yspec.specs.document.Document.{Stored, Tree, Step, instances_in}
+use Rattle.yspec.specs.document.Document.{Stored, Tree, Step, step_to, instances_in}
+use Rattle.yspec.specs.FaultCode.{FaultCode, V1, fault_number, tag_of, own_app_tag}
 use Rattle.yspec.specs.document.Play.{Item, tell, in_use, visit, items_in_play}
 use Rattle.yspec.specs.document.Path.{path_text}
 
@@ -16,21 +17,21 @@ pub data Info : Type 0 where
   choice_name : Text → Info
   unique_number : ℕ → Info
 
--- a fault: the number behind the `V`, the error-tag, perhaps an error-app-tag, the steps to its place, and its info
+-- a fault: its code, the error-tag, perhaps an error-app-tag, the steps to its place, and its info
 pub record Fault : Type 0 where
-  pub code : ℕ
+  pub code : FaultCode
   pub tag : Text
   pub app_tag : Option Text
   pub steps : List Step
   pub info : Info
 
--- the error-tag of each fault (RFC 7950, 15)
-abbrev pub tag_of : ℕ → Text
-tag_of code = if code == 1 then codes "invalid-value" else codes "data-missing"
-
-abbrev pub fault : ℕ → Option Text → List Step → Fault
+-- a fault with an error-app-tag that is given, or with its own
+abbrev pub fault : FaultCode → Option Text → List Step → Fault
 fault code app_tag steps =
     record { code = code; tag = tag_of code; app_tag = app_tag; steps = steps; info = no_info }
+
+abbrev pub plain_fault : FaultCode → List Step → Fault
+plain_fault code steps = fault code (own_app_tag code) steps
 
 -- ---- questions to the whole document
 
@@ -44,7 +45,7 @@ Answers = Question → ℕ
 -- ---- the faults at one stored node
 
 abbrev pub value_faults : YangType → Raw → List Fault
-value_faults type raw = if is_some (taken type raw) then [] else fault 1 (app_tag_of type raw) [] ∷ []
+value_faults type raw = if is_some (taken type raw) then [] else fault V1 (app_tag_of type raw) [] ∷ []
 
 -- no type of today asks a question
 abbrev pub kind_faults : Answers → Kind → Option Raw → List Fault
@@ -71,7 +72,7 @@ faults_of_instances instances number =
     flat_map (λ t. t.faults) (filter (λ t. t.schema_number == number) instances)
 
 abbrev pub item_faults : List Told → Item → List Fault
-item_faults instances (tell code steps) = fault code None steps ∷ []
+item_faults instances (tell code steps) = plain_fault code steps ∷ []
 item_faults instances (in_use number) = []
 item_faults instances (visit number) = faults_of_instances instances number
 
@@ -79,11 +80,8 @@ item_faults instances (visit number) = faults_of_instances instances number
 abbrev pub woven : List Item → List Told → List Fault
 woven items instances = flat_map (item_faults instances) items
 
-abbrev pub step_to : Stored → Step
-step_to s = record { schema_number = s.schema_number; position = None }
-
 abbrev pub told : Stored → List Fault → Told
-told s faults = record { schema_number = s.schema_number; faults = map (under (step_to s)) faults }
+told s faults = record { schema_number = s.schema_number; faults = map (under (step_to s.schema_number)) faults }
 
 -- each node of a row with its faults and those below it; `schema_row` holds the schema nodes of the row
 unfoldable pub told_in : Answers → Forest SchemaNode → Tree → List Told
@@ -123,6 +121,6 @@ printed_tag t = map (λ x. if nat_le x 32 then 95 else x) t
 
 -- the code, the error-tag, the error-app-tag, the path and the info, with `-` for none
 abbrev pub line_of : Schema → Fault → Text
-line_of schema f = codes "V" ++ (decimal f.code ++ (codes " " ++ (f.tag ++ (codes " "
+line_of schema f = codes "V" ++ (decimal (fault_number f.code) ++ (codes " " ++ (f.tag ++ (codes " "
     ++ (or_dash (printed_tag (unwrap_or f.app_tag [])) ++ (codes " " ++ (path_text schema f.steps ++ (codes " "
     ++ (or_dash (info_text f.info) ++ codes "\n")))))))))

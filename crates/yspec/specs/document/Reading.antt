@@ -10,7 +10,7 @@ use Rattle.yspec.specs.text.Text.{Text, is_text}
 use Rattle.yspec.specs.types.Ranges.{Part, lies_in}
 use Rattle.yspec.specs.types.Types.{Raw, text, int, bool, empty}
 use Rattle.yspec.specs.schema.Schema.{Schema, SchemaNode, Kind, container, leaf, written_name, other_name}
-use Rattle.yspec.specs.document.Document.{Stored, Tree, Step}
+use Rattle.yspec.specs.document.Document.{Stored, Tree, Step, below_place}
 
 -- why a document isn't read: the number behind the `J`, and the place
 pub record Refusal : Type 0 where
@@ -78,9 +78,6 @@ at_named other_form place visits = wrong 4 place ∷ []
 at_named unknown place visits = wrong 3 place ∷ []
 
 -- ---- visits
-
-abbrev pub below_place : List Step → SchemaNode → List Step
-below_place place n = place ++ record { schema_number = n.number; position = None } ∷ []
 
 abbrev pub leaf_visit : List Step → Data → List Visit
 leaf_visit place d = option_map_or (λ _. right place ∷ []) (raw_of d) (wrong (refused_value d) place ∷ [])

@@ -5,11 +5,9 @@ use Rattle.std.specs.Option.{option_map_or}
 use Rattle.yspec.specs.Forest.{Forest, end, node}
 use Rattle.yspec.specs.types.Types.{Raw}
 use Rattle.yspec.specs.schema.Schema.{SchemaNode, Kind, container, leaf}
-use Rattle.yspec.specs.document.Document.{Tree, Step}
-use Rattle.yspec.specs.document.Faults.{Fault, fault, value_faults, under}
-
-abbrev pub step_at : ℕ → Step
-step_at number = record { schema_number = number; position = None }
+use Rattle.yspec.specs.document.Document.{Tree, Step, step_to}
+use Rattle.yspec.specs.FaultCode.{V3}
+use Rattle.yspec.specs.document.Faults.{Fault, plain_fault, value_faults, under}
 
 -- the steps to a node in front of those that lead on from it
 abbrev pub prefixed : List Step → Fault → Fault
@@ -23,13 +21,13 @@ stored_own (leaf type default_value mandatory) value = option_map_or (value_faul
 -- of a node that isn't stored; `inside` are those of its children
 abbrev pub absent_own : Kind → List Fault → List Fault
 absent_own (container presence) inside = if presence then [] else inside
-absent_own (leaf type default_value mandatory) inside = if mandatory then fault 3 None [] ∷ [] else []
+absent_own (leaf type default_value mandatory) inside = if mandatory then plain_fault V3 [] ∷ [] else []
 
 abbrev pub stored_faults : SchemaNode → Option Raw → List Fault → List Fault
-stored_faults n value inside = map (under (step_at n.number)) (stored_own n.kind value ++ inside)
+stored_faults n value inside = map (under (step_to n.number)) (stored_own n.kind value ++ inside)
 
 abbrev pub absent_faults : SchemaNode → List Fault → List Fault
-absent_faults n inside = map (under (step_at n.number)) (absent_own n.kind inside)
+absent_faults n inside = map (under (step_to n.number)) (absent_own n.kind inside)
 
 -- whether a stored row begins with an instance of a schema node
 abbrev pub begins_with : ℕ → Tree → Bool

@@ -5,7 +5,7 @@ use Rattle.serde_json.specs.Data.{Data}
 use Rattle.yspec.specs.Forest.{end, node, size}
 use Rattle.yspec.specs.text.Text.{Text}
 use Rattle.yspec.specs.schema.Schema.{Schema, SchemaNode, node_at, children_of, child_written}
-use Rattle.yspec.specs.document.Document.{Stored, Tree, Step}
+use Rattle.yspec.specs.document.Document.{Stored, Tree, Step, step_to}
 use Rattle.yspec.specs.document.Reading.{node_visits, first_wrong, json_of, stored_node, stored_rows, members_of}
 use Rattle.yspec.specs.edit.Edit.{edit_at}
 use Rattle.yspec.specs.edit.EditText.{Predicate, unsaid, at_position, Path, Edit, create, replace, remove, path_of, asked_by}
@@ -106,9 +106,6 @@ target_in w row = record { above = w.above; schema_number = w.last; is_stored = 
 -- E4: a container before the last step isn't stored
 abbrev pub target : Tree → Way → Result Target EditRefusal
 target tree w = option_map_or (λ row. Ok (target_in w row)) (row_under tree w.above) (refused 4)
-
-abbrev pub step_to : ℕ → Step
-step_to number = record { schema_number = number; position = None }
 
 -- the tree, with the row in which the target stands, or would stand, changed
 abbrev pub with_row : Target → (Tree → Tree) → Tree → Tree

@@ -7,10 +7,11 @@ use Rattle.yspec.specs.schema.Schema.{Schema, schema_of}
 use Rattle.yspec.specs.document.Reading.{document_of}
 use Rattle.yspec.specs.document.Writing.{written_text}
 use Rattle.yspec.specs.program.Output.{Outcome, validate, outcome, found}
-use Rattle.yspec.specs.document.Document.{Tree}
+use Rattle.yspec.specs.document.Document.{Tree, step_to}
 use Rattle.yspec.specs.edit.EditText.{Edit, edit_of}
-use Rattle.yspec.specs.edit.Editing.{Decision, after, decisions, step_to}
-use Rattle.yspec.specs.document.Faults.{Fault, fault}
+use Rattle.yspec.specs.edit.Editing.{Decision, after, decisions}
+use Rattle.yspec.specs.document.Faults.{Fault, plain_fault}
+use Rattle.yspec.specs.FaultCode.{FaultCode}
 use Rattle.yspec.specs.edit.Live.{Checked, CheckRefusal, checked}
 
 -- a module of a name, of which these lines stand from line 5 on
@@ -36,7 +37,12 @@ abbrev pub shown : Text → Text → Outcome
 shown module_bytes document =
     outcome (validate (codes "d.json") (codes "m.yang" ∷ [])) (Some module_bytes ∷ Some document ∷ [])
 
--- the same of module p
+-- the same of two modules' texts
+abbrev pub shown_of_two : Text → Text → Text → Outcome
+shown_of_two first second document =
+    outcome (validate (codes "d.json") (codes "m.yang" ∷ codes "n.yang" ∷ [])) (Some first ∷ Some second ∷ Some document ∷ [])
+
+-- what one prints under module p
 abbrev pub shown_by_p : Text → Outcome
 shown_by_p document = shown module_p document
 
@@ -95,5 +101,5 @@ abbrev pub checked_as : List Decision → List Fault → Option (Result Checked 
 checked_as decisions faults = Some (Ok (record { decisions = decisions; faults = faults }))
 
 -- a fault of module p's number
-abbrev pub at_id : ℕ → Fault
-at_id code = fault code None (step_to 0 ∷ step_to 1 ∷ [])
+abbrev pub at_id : FaultCode → Fault
+at_id code = plain_fault code (step_to 0 ∷ step_to 1 ∷ [])

@@ -1,10 +1,8 @@
-use Rattle.std.proofs.Common.{◌≡◌, ◌∷◌, ap, map, sym, ◌∙◌, arith, rules, not}
+use Rattle.std.proofs.Common.{◌≡◌, ◌∷◌, ap, map, ◌∙◌, arith, rules, not}
 use Rattle.std.specs.List.{list_any}
-use Rattle.std.proofs.lemmas.List.{at_drop_all}
 use Rattle.yspec.specs.text.Text.{is_text}
 use Rattle.yspec.specs.schema.Schema.{argument_text}
-use Rattle.yspec.specs.schema.Breaks.{least_from, module_breaks}
-use Rattle.ytext.specs.View.{view, modules_view}
+use Rattle.ytext.specs.View.{view}
 use Rattle.yschema.specs.Told.{seen}
 use Rattle.yschema.proofs.NameLemmas.{HaveSame, judged_module_name, insert_key-has, contains-texts}
 use Rattle.yschema.proofs.names.repeated_module.Goals as goal

@@ -1,14 +1,58 @@
--- A node of a row of a schema is the node of its number, and so is what stands below it.
-use Rattle.std.proofs.Common.{◌≡◌, ◌⊎◌, inl, inr, ℕ, ◌+◌, ◌≤◌, Bool, true, false, cond, List, [], ◌∷◌, ◌++◌, length, Option, Some, None, refl, sym, ap, ap₂, ◌∙◌, subst, arith}
+-- A node of a row of a schema whose nodes are numbered in preorder is the node of its number, and so is what stands below it.
+use Rattle.std.proofs.Common.{◌≡◌, ◌⊎◌, inl, inr, ℕ, ◌+◌, ◌≤◌, Bool, true, false, cond, List, [], ◌∷◌, ◌++◌, length, Option, Some, None, refl, sym, ap, ap₂, ◌∙◌, subst, arith, length-append}
 use Rattle.std.specs.Prelude.{◌==◌, option_map, unwrap_or, find}
 use Rattle.std.proofs.lemmas.Bool.{eq-eqb, ne_eqb}
-use Rattle.yspec.specs.Forest.{Forest, node, end, row, find_below}
-use Rattle.yspec.specs.schema.Schema.{SchemaNode, row_at, node_at, children_of, first_in_row}
-use Rattle.yschema.specs.declared.children.Row.{Row}
-use Rattle.yschema.specs.declared.schema.Schema.{Schema}
-use Rattle.yschema.specs.Layout.{forest_of}
-use Rattle.yschema.specs.View.{view}
-use Rattle.yschema.proofs.QueryLemmas.{Found, all_below, find_label-is, find_below-is, all_below-forest, pairs, map_cond, laid_out_fits}
+use Rattle.yspec.specs.Forest.{Forest, node, end, size, row, find_label, first_of, find_below, joined_below}
+use Rattle.yspec.specs.schema.Schema.{Schema, SchemaNode, row_at, node_at, children_of, first_in_row}
+use Rattle.yspec.specs.document.Fitting.{IsNumbered}
+
+-- a node with what stands below it
+abbrev pub Found : Type 0
+Found = SchemaNode × Forest SchemaNode
+
+-- ---- labels with what stands below them, in preorder
+
+unfoldable pub all_below : Forest SchemaNode → List Found
+all_below end = []
+all_below (node l below after) = (l, below) ∷ (all_below below ++ all_below after)
+
+find-append : {X : Type 0} (p : X → Bool) (xs ys : List X) → find p (xs ++ ys) ≡ first_of (find p xs) (find p ys)
+find-append p [] ys = refl
+find-append p (x ∷ xs) ys = by (p x) (find-append p xs ys)
+  where
+    by : (b : Bool) → find p (xs ++ ys) ≡ first_of (find p xs) (find p ys) → cond b (Some x) (find p (xs ++ ys)) ≡ first_of (cond b (Some x) (find p xs)) (find p ys)
+    by true e = refl
+    by false e = e
+
+label_of_first : (a b : Option Found) → option_map (λ p. p.0) (first_of a b) ≡ first_of (option_map (λ p. p.0) a) (option_map (λ p. p.0) b)
+label_of_first (Some x) b = refl
+label_of_first None b = refl
+
+below_of_first : (a b : Option Found) → option_map (λ p. p.1) (first_of a b) ≡ joined_below (option_map (λ p. p.1) a) (option_map (λ p. p.1) b)
+below_of_first (Some x) b = refl
+below_of_first None b = refl
+
+pub map_cond : {X Y : Type 0} (f : X → Y) (b : Bool) (x y : Option X) → option_map f (cond b x y) ≡ cond b (option_map f x) (option_map f y)
+map_cond f true x y = refl
+map_cond f false x y = refl
+
+pub find_label-is : (test : SchemaNode → Bool) (f : Forest SchemaNode) → find_label test f ≡ option_map (λ p. p.0) (find (λ p. test p.0) (all_below f))
+unfolding all_below
+find_label-is test end = refl
+find_label-is test (node l below after) =
+    ap (cond (test l) (Some l)) (ap₂ first_of (find_label-is test below) (find_label-is test after)
+    ∙ (sym (label_of_first (find (λ p. test p.0) (all_below below)) (find (λ p. test p.0) (all_below after)))
+    ∙ ap (option_map (λ p. p.0)) (sym (find-append (λ p. test p.0) (all_below below) (all_below after)))))
+    ∙ sym (map_cond (λ p. p.0) (test l) (Some (l, below)) (find (λ p. test p.0) (all_below below ++ all_below after)))
+
+pub find_below-is : (test : SchemaNode → Bool) (f : Forest SchemaNode) → find_below test f ≡ option_map (λ p. p.1) (find (λ p. test p.0) (all_below f))
+unfolding all_below
+find_below-is test end = refl
+find_below-is test (node l below after) =
+    ap (cond (test l) (Some below)) (ap₂ joined_below (find_below-is test below) (find_below-is test after)
+    ∙ (sym (below_of_first (find (λ p. test p.0) (all_below below)) (find (λ p. test p.0) (all_below after)))
+    ∙ ap (option_map (λ p. p.1)) (sym (find-append (λ p. test p.0) (all_below below) (all_below after)))))
+    ∙ sym (map_cond (λ p. p.1) (test l) (Some (l, below)) (find (λ p. test p.0) (all_below below ++ all_below after)))
 
 -- the first node of a row that passes a test, with what stands below it
 abbrev pub first_found : (SchemaNode → Bool) → Forest SchemaNode → Option Found
@@ -81,10 +125,24 @@ abbrev Counts : ℕ → List Found → Type 0
 Counts k [] = Unit {0}
 Counts k (x ∷ xs) = (x.0.number ≡ k) × Counts (k + 1) xs
 
-pairs_count : (k : ℕ) (rows : List Row) → Counts k (pairs k rows)
-unfolding pairs
-pairs_count k [] = tt
-pairs_count k (r ∷ rows) = (refl, pairs_count (k + 1) rows)
+counts_joined : (k : ℕ) (xs ys : List Found) → Counts k xs → Counts (k + length xs) ys → Counts k (xs ++ ys)
+counts_joined k [] ys first second = subst (λ j. Counts j ys) (omega arith) second
+counts_joined k (x ∷ xs) ys first second = (first.0, counts_joined (k + 1) xs ys first.1 (subst (λ j. Counts j ys) (omega arith) second))
+
+length_below : (f : Forest SchemaNode) → length (all_below f) ≡ size f
+unfolding all_below
+length_below end = refl
+length_below (node l below after) =
+    let inner = length_below below in let rest = length_below after in omega (arith, inner, rest, length-append (all_below below) (all_below after))
+
+counts_below : (k : ℕ) (f : Forest SchemaNode) → IsNumbered k f → Counts k (all_below f)
+unfolding all_below
+counts_below k end numbered = tt
+counts_below k (node l below after) numbered = (
+  numbered.0,
+  counts_joined (k + 1) (all_below below) (all_below after) (counts_below (k + 1) below numbered.1)
+      (subst (λ j. Counts (k + 1 + j) (all_below after)) (sym (length_below below)) (counts_below (k + 1 + size below) after numbered.2)),
+)
 
 at_least : (k : ℕ) (xs : List Found) (x : Found) → Counts k xs → Has x xs → k ≤ x.0.number
 at_least k [] x counts h = absurd h
@@ -111,17 +169,14 @@ in_schema f p test x e = by (find (λ q. q.0.number == p) (all_below f)) refl
     by None is e = absurd cc
     by (Some y) is e = in_rows_below f y x (found_there (λ q. q.0.number == p) (all_below f) y is) (in_row test y.1 x e)
 
-pub row_node : (s : Schema) (p : Option ℕ) (test : SchemaNode → Bool) (x : Found) → first_found test (row_at (view s) p) ≡ Some x
-    → (node_at (view s) x.0.number ≡ Some x.0) × (children_of (view s) x.0.number ≡ x.1)
-row_node s p test x e =
-    let rows = s.rows.items in
-    let f = forest_of 0 rows in
-    let all = all_below-forest (length rows) 0 rows (omega arith) (laid_out_fits rows s.laid_out) in
-    let itself : find (λ q. q.0.number == x.0.number) (all_below f) ≡ Some x = found_itself 0 (all_below f) x (subst (Counts 0) (sym all) (pairs_count 0 rows)) (there p e) in (
-      find_label-is (λ n. n.number == x.0.number) f ∙ ap (option_map (λ q. q.0)) itself,
-      ap (λ o. unwrap_or o end) (find_below-is (λ n. n.number == x.0.number) f ∙ ap (option_map (λ q. q.1)) itself),
+pub row_node : (s : Schema) (p : Option ℕ) (test : SchemaNode → Bool) (x : Found) → IsNumbered 0 s.nodes → first_found test (row_at s p) ≡ Some x
+    → (node_at s x.0.number ≡ Some x.0) × (children_of s x.0.number ≡ x.1)
+row_node s p test x numbered e =
+    let itself : find (λ q. q.0.number == x.0.number) (all_below s.nodes) ≡ Some x = found_itself 0 (all_below s.nodes) x (counts_below 0 s.nodes numbered) (there p e) in (
+      find_label-is (λ n. n.number == x.0.number) s.nodes ∙ ap (option_map (λ q. q.0)) itself,
+      ap (λ o. unwrap_or o end) (find_below-is (λ n. n.number == x.0.number) s.nodes ∙ ap (option_map (λ q. q.1)) itself),
     )
   where
-    there : (p : Option ℕ) → first_found test (row_at (view s) p) ≡ Some x → Has x (all_below (forest_of 0 s.rows.items))
-    there None e = in_row test (forest_of 0 s.rows.items) x e
-    there (Some j) e = in_schema (forest_of 0 s.rows.items) j test x e
+    there : (p : Option ℕ) → first_found test (row_at s p) ≡ Some x → Has x (all_below s.nodes)
+    there None e = in_row test s.nodes x e
+    there (Some j) e = in_schema s.nodes j test x e
