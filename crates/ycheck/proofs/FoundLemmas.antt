@@ -4,9 +4,9 @@ use Rattle.std.proofs.lemmas.List.{append-nil, map-append, map-id, take_at}
 use Rattle.yspec.specs.Forest.{Forest, end, node}
 use Rattle.yspec.specs.types.Types.{Raw}
 use Rattle.yspec.specs.schema.Schema.{Schema, SchemaNode, Kind}
-use Rattle.yspec.specs.document.Document.{Stored, Tree, Step}
+use Rattle.yspec.specs.document.Document.{Stored, Tree, Step, step_to}
 use Rattle.yspec.specs.document.Faults.{Fault, under, faults_of, answers_of}
-use Rattle.yspec.specs.document.RowFaults.{step_at, prefixed, begins_with, stored_own, stored_faults, absent_faults, row_faults}
+use Rattle.yspec.specs.document.RowFaults.{prefixed, begins_with, stored_own, stored_faults, absent_faults, row_faults}
 use Rattle.yspec.specs.document.Fitting.{IsNumbered, Fits}
 use Rattle.yspec.proofs.DocumentProofs.CheckingLemmas.{prefixed_twice, rows_are_faults}
 use Rattle.yschema.specs.declared.node.SchemaId.{SchemaId}
@@ -74,18 +74,18 @@ left_again place step inner outer is out =
 
 -- the place of a node that is gone down to
 entered : (steps inner : List inst.Step) (id : SchemaId) (number : ℕ) → inner ≡ steps ++ record { id = id; position = None } ∷ [] → id.0 ≡ number
-    → place_view inner ≡ place_view steps ++ step_at number ∷ []
+    → place_view inner ≡ place_view steps ++ step_to number ∷ []
 entered steps inner id number is same =
     ap place_view is ∙ (map-append step_view steps (record { id = id; position = None } ∷ [])
-    ∙ ap (λ (k : ℕ). place_view steps ++ step_at k ∷ []) same)
+    ∙ ap (λ (k : ℕ). place_view steps ++ step_to k ∷ []) same)
 
 -- what is found between going down to a node and leaving it
 pub left_below : (steps inner : List inst.Step) (id : SchemaId) (number : ℕ) (old down found new : List check.Fault) (faults : List Fault)
     → inner ≡ steps ++ record { id = id; position = None } ∷ [] → id.0 ≡ number → down ≡ old
     → views found ≡ views down ++ map (prefixed (place_view inner)) faults → new ≡ found
-    → views new ≡ views old ++ map (prefixed (place_view steps)) (map (under (step_at number)) faults)
+    → views new ≡ views old ++ map (prefixed (place_view steps)) (map (under (step_to number)) faults)
 left_below steps inner id number old down found new faults is same as_before more as_found =
-    found_below (place_view steps) (step_at number) (place_view inner) (views old) (views new) faults (entered steps inner id number is same)
+    found_below (place_view steps) (step_to number) (place_view inner) (views old) (views new) faults (entered steps inner id number is same)
     (ap views as_found ∙ (more ∙ ap (λ fs. views fs ++ map (prefixed (place_view inner)) faults) as_before))
 
 -- the same of a stored node

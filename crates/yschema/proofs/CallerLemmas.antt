@@ -1,7 +1,5 @@
 -- What every schema has, for those who use one.
 use Rattle.std.proofs.Common.{◌≤◌, None}
-pub use Rattle.yschema.proofs.QueryLemmas.{Found}
-pub use Rattle.yschema.proofs.NodeLemmas.{first_found, first_in_row-is, row_node}
 use Rattle.yspec.specs.Forest.{levels}
 use Rattle.yspec.specs.schema.Breaks.{level_limit}
 use Rattle.yspec.specs.document.Fitting.{IsNumbered, LeafsAreBare}

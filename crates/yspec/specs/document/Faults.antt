@@ -7,7 +7,7 @@ use Rattle.yspec.specs.text.Text.{Text}
 use Rattle.yspec.specs.types.Types.{Raw, Val, YangType, taken, app_tag_of}
 use Rattle.yspec.specs.schema.Schema.{Schema, SchemaNode, Kind, container, leaf, node_in, row_below}
 use Rattle.yspec.specs.document.Document.{Stored, Tree, Step, step_to, instances_in}
-use Rattle.yspec.specs.FaultCode.{FaultCode, V1, fault_number, tag_of, own_app_tag}
+use Rattle.yspec.specs.document.FaultCode.{FaultCode, V1, fault_number, tag_of, own_app_tag}
 use Rattle.yspec.specs.document.Play.{Item, tell, in_use, visit, items_in_play}
 use Rattle.yspec.specs.document.Path.{path_text}
 
