@@ -10,9 +10,9 @@ ghost use Rattle.ytype.specs.View.{raw_of};
 ghost use Rattle.yschema.specs.View as schema_view;
 ghost use Rattle.ytree.specs.View as document_view;
 ghost use Rattle.ytree.specs.View.{place_view};
-ghost use Rattle.ycheck.specs.View.{code_number, tag_name, views};
+ghost use Rattle.ycheck.specs.View.{code_view, views};
 
-use crate::fault::{ErrorTag, Fault, FaultCode, Info};
+use crate::fault::{Fault, FaultCode, Info};
 use std::alloc::{AllocError, Global};
 use yschema::{Child, Children, Kind, Schema, SchemaId, SchemaNode};
 use ytree::{Step, Stored, Tree};
@@ -43,26 +43,15 @@ impl Findings {
     }
 
     /// Tells a fault of the node at hand.
-    fn tell(
-        &mut self,
-        code: FaultCode,
-        tag: ErrorTag,
-        app_tag: Option<String>,
-    ) -> Result<(), AllocError>
+    fn tell(&mut self, code: FaultCode, app_tag: Option<String>) -> Result<(), AllocError>
         ensures found { OnOk result (views self.new.faults.items ≡ views self.old.faults.items
-            ++ record {
-              code = code_number code;
-              tag = tag_name tag;
-              app_tag = option_map string_bytes app_tag;
-              steps = place_view self.old.steps.items;
-              info = no_info;
-            } ∷ []) }
+            ++ fault (code_view code) (option_map string_bytes app_tag) (place_view self.old.steps.items) ∷ []) }
         ensures place { OnOk result (self.new.steps.items ≡ self.old.steps.items) }
     {
         let steps = Vec::from_slice(self.alloc, &self.steps)?;
         self.faults.push(Fault {
             code,
-            tag,
+            tag: code.tag(),
             app_tag,
             steps,
             info: Info::None,
@@ -191,9 +180,7 @@ fn check_value(leaf_type: &YType, raw: &Raw, findings: &mut Findings) -> Result<
 {
     match leaf_type.check(findings.alloc, raw) {
         Ok(_) => Ok(()),
-        Err(BadValue::Refused { app_tag }) => {
-            findings.tell(FaultCode::V1, ErrorTag::InvalidValue, app_tag)
-        }
+        Err(BadValue::Refused { app_tag }) => findings.tell(FaultCode::V1, app_tag),
         Err(BadValue::Memory) => Err(AllocError),
     }
 }
@@ -226,7 +213,7 @@ fn check_missing(child: Child<'_>, findings: &mut Findings) -> Result<(), AllocE
         Kind::Leaf {
             mandatory: true,
             ..
-        } => findings.tell(FaultCode::V3, ErrorTag::DataMissing, None),
+        } => findings.tell(FaultCode::V3, None),
         Kind::Leaf {
             mandatory: false,
             ..

@@ -14,13 +14,24 @@ pub enum FaultCode {
 
 impl FaultCode {
     ghost use Rattle.std.specs.Prelude.{◌≡◌};
-    ghost use Rattle.ycheck.specs.View.{code_number};
+    ghost use Rattle.yspec.specs.document.FaultCode.{fault_number, tag_of};
+    ghost use Rattle.ycheck.specs.View.{code_view, tag_name};
 
     /// The number behind the `V`.
     pub fn number(self) -> u8
-        ensures { result ≡ code_number self }
+        ensures { result ≡ fault_number (code_view self) }
     {
         self as u8
+    }
+
+    /// Its error-tag.
+    pub fn tag(self) -> ErrorTag
+        ensures { tag_name result ≡ tag_of (code_view self) }
+    {
+        match self {
+            FaultCode::V1 => ErrorTag::InvalidValue,
+            FaultCode::V3 => ErrorTag::DataMissing,
+        }
     }
 }
 

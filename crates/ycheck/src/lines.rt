@@ -2,6 +2,7 @@
 
 ghost use Rattle.std.specs.Prelude.{◌≡◌, ◌++◌, [], codes, decimal, option_map, string_bytes, unwrap_or, if◌then◌else◌, nat_le};
 ghost use Rattle.std.specs.List.{flat_map};
+ghost use Rattle.yspec.specs.document.FaultCode.{fault_number};
 ghost use Rattle.yspec.specs.document.Faults.{line_of, or_dash, printed_tag};
 ghost use Rattle.yspec.specs.document.Path as path;
 ghost use Rattle.yspec.specs.document.Path.{path_text};
@@ -10,7 +11,7 @@ ghost use Rattle.youtput.specs.Writing.{Writes, side};
 ghost use Rattle.yschema.specs.View as schema_view;
 ghost use Rattle.yschema.specs.View.{node_view};
 ghost use Rattle.ytree.specs.View.{place_view, step_view};
-ghost use Rattle.ycheck.specs.View.{code_number, tag_name, view};
+ghost use Rattle.ycheck.specs.View.{code_view, tag_name, view};
 
 use crate::fault::{ErrorTag, Fault, FaultCode};
 use itoa::Buffer;
@@ -123,7 +124,7 @@ fn write_position<W: Sink>(position: Option<u32>, sink: &mut W) -> Result<(), Li
 }
 
 fn code_text(code: FaultCode) -> &'static str
-    ensures { result.now ≡ codes "V" ++ (decimal (code_number code) ++ codes " ") }
+    ensures { result.now ≡ codes "V" ++ (decimal (fault_number (code_view code)) ++ codes " ") }
 {
     match code {
         FaultCode::V1 => "V1 ",

@@ -2,12 +2,13 @@ use Rattle.std.proofs.Common.{ap, sym, ◌∙◌, cond}
 use Rattle.yspec.specs.document.Reading.{other_form, unknown}
 use Rattle.yschema.specs.Layout.{number_of}
 use Rattle.yschema.specs.View.{view}
-use Rattle.ytree.proofs.NameLemmas.{means_child, means_none}
+use Rattle.yspec.proofs.DocumentProofs.MeaningLemmas.{means_child, means_none}
+use Rattle.yschema.proofs.CallerLemmas.{numbered}
 use Rattle.ytree.proofs.names.meaning_of.Goals as goal
 
 pub returns-in-Some : goal.returns-in-Some
 returns-in-Some c =
-    means_child c.args.schema.now (number_of c.args.parent) c.args.name.now c.in-Some.id.0 (sym (ap number_of c.in-Some.is) ∙ c.child_written.ensures)
+    means_child (view c.args.schema.now) (number_of c.args.parent) c.args.name.now c.in-Some.id.0 (numbered c.args.schema.now) (sym (ap number_of c.in-Some.is) ∙ c.child_written.ensures)
 
 pub returns-in-None : goal.returns-in-None
 returns-in-None c =
