@@ -1,3 +1,4 @@
 pub mod DecimalLemmas
-pub mod NameLemmas
 pub mod NumeralLemmas
+pub mod TableLemmas
+pub mod WordLemmas

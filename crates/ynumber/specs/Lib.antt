@@ -1,3 +1,4 @@
 pub mod View
 pub mod Words
 pub mod Digits
+pub mod Tables

@@ -1,5 +1,5 @@
 -- Words of the crate's contracts.
-use Rattle.std.specs.Prelude.{◌≡◌, ℕ, ℤ, List, map, pos, negsuc, ◌-◌, ◌^◌, ◌≤ℤ◌, min, Option, Some, None, option_map, option_and_then, Result, Ok, Err, if◌then◌else◌}
+use Rattle.std.specs.Prelude.{ℕ, ℤ, List, map, pos, negsuc, ◌-◌, ◌^◌, ◌≤ℤ◌, min, Option, Some, None, option_map, option_and_then, if◌then◌else◌}
 use Rattle.std.specs.Borrow.{Bor}
 use Rattle.std.specs.Global.{Vec}
 use Rattle.yspec.specs.text.Text.{Text}
@@ -8,12 +8,10 @@ use Rattle.yspec.specs.types.Ranges.{Part, lies_in}
 use Rattle.ynumber.specs.declared.fault.NarrowFault.{NarrowFault}
 use Rattle.ynumber.specs.declared.fault.NarrowFault.TheVariants as narrow_fault
 
--- What a call answers where a definition gives something, and that it refuses where it gives nothing; nothing is said
--- where memory ran out.
-abbrev pub Narrows : {A B : Type 0} → (A → B) → Result A NarrowFault → Option B → Type 0
-Narrows view (Ok x) given = given ≡ Some (view x)
-Narrows view (Err narrow_fault.Refused) given = given ≡ None
-Narrows view (Err narrow_fault.Memory) given = Unit {0}
+-- that a definition gives nothing is all that a fault tells; want of memory tells not even that
+abbrev pub narrow_refusal : NarrowFault → Option (Unit {0})
+narrow_refusal narrow_fault.Refused = Some tt
+narrow_refusal narrow_fault.Memory = None
 
 -- where a value stands for itself
 abbrev pub same : {A : Type 0} → A → A

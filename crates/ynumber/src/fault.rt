@@ -4,11 +4,14 @@ ghost use Rattle.std.specs.Prelude.{◌≡◌};
 ghost use Rattle.ynumber.specs.declared.fault.NarrowFault.TheVariants as narrow_fault;
 
 use std::alloc::{AllocError, AllocFailed};
+use thiserror::Error;
 
 /// Why there is no such type.
-#[derive(Clone, Copy, Debug, PartialEq, Eq)]
+#[derive(Clone, Copy, Debug, PartialEq, Eq, Error)]
 pub enum NarrowFault {
+    #[error("no such type")]
     Refused,
+    #[error("memory")]
     Memory,
 }
 

@@ -1,18 +1,22 @@
 //! Numbers of types: their texts, the ranges and lengths that restrict them, and the names that stand for them.
 #![tactic(auto)]
 
+mod bits;
 mod decimal;
 mod digits;
 mod fault;
 mod name;
+mod names;
 mod numeral;
 mod range;
 mod restriction;
 
+pub use bits::positions_in;
 pub use decimal::{decimal_text, integer_text};
 pub use digits::FractionDigits;
 pub use fault::NarrowFault;
-pub use name::{Assigned, Naming, bit_names, enum_names, number_named, positions_in};
+pub use name::{Naming, bit_names, enum_names};
+pub use names::Names;
 pub use numeral::{decimal_in, default_integer_in, integer_in};
 pub use range::{Part, Range};
 pub use restriction::{Bound, Restriction, Span, restricted};

@@ -2,7 +2,6 @@
 
 ghost use Rattle.std.specs.Prelude.{◌≡◌, ◌≤◌, ◌^◌, ◌&&◌, pos, ◌*ℤ◌, int_le, IfOk};
 ghost use Rattle.yspec.specs.types.Ranges.{lies_in, holds, is_near, bound_in, part_in, parts_in, is_ascending_from, is_covered, lies_within, ends_of, last_high, restricted, restricting};
-ghost use Rattle.ynumber.specs.Words.{Narrows};
 
 use crate::fault::NarrowFault;
 use std::alloc::{AllocError, Global};

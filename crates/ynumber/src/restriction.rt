@@ -1,9 +1,10 @@
 //! Restrictions as a module writes them, and the sets of numbers that they leave.
 
-ghost use Rattle.std.specs.Prelude.{◌≡◌, ◌≤◌, ◌<◌, ◌^◌, pos, Some, None};
+ghost use Rattle.std.specs.Prelude.{◌≡◌, ◌≤◌, ◌<◌, ◌^◌, pos, Some, None, ok_or};
 ghost use Rattle.yspec.specs.types.Ranges.{is_above, is_near, bound_in, part_in, parts_in, is_ascending_from, is_covered, lies_within, ends_of, last_high, is_restriction, restricted, restricting};
 ghost use Rattle.ynumber.specs.View.{bound_of};
-ghost use Rattle.ynumber.specs.Words.{Narrows, same};
+ghost use Rattle.yspec.specs.Results.{Gives};
+ghost use Rattle.ynumber.specs.Words.{narrow_refusal, same};
 
 use crate::fault::NarrowFault;
 use crate::range::{Part, Range};
@@ -115,7 +116,7 @@ fn parts_in(
     spans: &[Span],
 ) -> Result<Vec<Part>, NarrowFault>
     requires { digits ≤ 18 }
-    ensures { Narrows (λ parts. parts.items) result (parts_in ends.now digits spans.now) }
+    ensures { Gives (λ parts. parts.items) narrow_refusal result (ok_or (parts_in ends.now digits spans.now) tt) }
 {
     let mut parts = Vec::new(alloc);
     'spans: for span in spans {
@@ -198,7 +199,7 @@ pub fn restricted(
     spans: &[Span],
 ) -> Result<Range, NarrowFault>
     requires { digits ≤ 18 }
-    ensures { Narrows same result (restricted outer.now digits spans.now) }
+    ensures { Gives same narrow_refusal result (ok_or (restricted outer.now digits spans.now) tt) }
 {
     let outer = outer.parts();
     match parts_in(alloc, &ends_of(outer), digits, spans) {

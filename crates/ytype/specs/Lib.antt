@@ -1,5 +1,5 @@
 pub mod View
 pub mod Founds
 pub mod Shapes
-pub mod Checks
+pub mod Refusals
 pub mod Laws

@@ -13,8 +13,7 @@ use crate::raw::Raw;
 use crate::val::Content;
 use std::alloc::{AllocError, Global};
 use ynumber::{
-    Assigned, FractionDigits, Part, decimal_in, default_integer_in, integer_in, number_named,
-    positions_in,
+    FractionDigits, Names, Part, decimal_in, default_integer_in, integer_in, positions_in,
 };
 
 /// The integer types.
@@ -126,8 +125,8 @@ pub(crate) enum Base {
     Text,
     Boolean,
     Empty,
-    Enumeration(Vec<Assigned>),
-    Bits(Vec<Assigned>),
+    Enumeration(Names),
+    Bits(Names),
 }
 
 impl Clone for Base {
@@ -189,10 +188,10 @@ fn number_found<'a>(number: Option<i128>) -> Option<Found<'a>>
     }
 }
 
-fn enum_found<'a>(names: &[Assigned], text: &str) -> Option<Found<'a>>
+fn enum_found<'a>(names: &Names, text: &str) -> Option<Found<'a>>
     ensures { founds result ≡ enum_taken names.now text.now }
 {
-    match number_named(names, text) {
+    match names.number_of(text) {
         None => None,
         Some(number) => Some(Found::Number(i128::from(number))),
     }
@@ -217,11 +216,7 @@ fn string_found(text: &str) -> Option<Found<'_>>
     }
 }
 
-fn bits_found<'a>(
-    alloc: Global,
-    names: &[Assigned],
-    text: &str,
-) -> Result<Option<Found<'a>>, AllocError>
+fn bits_found<'a>(alloc: Global, names: &Names, text: &str) -> Result<Option<Found<'a>>, AllocError>
     ensures { IfOk result (λ found. founds found ≡ bits_taken names.now (words_of text.now)) }
 {
     match positions_in(alloc, names, text)? {

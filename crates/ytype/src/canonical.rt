@@ -11,17 +11,15 @@ ghost use Rattle.ytype.specs.View.{base_of, content_of};
 use crate::base::Base;
 use crate::val::Content;
 use std::alloc::{AllocError, Global};
-use ynumber::{Assigned, decimal_text, integer_text};
+use ynumber::{Names, decimal_text, integer_text};
 
-fn name_of_number(alloc: Global, names: &[Assigned], number: i128) -> Result<String, AllocError>
+fn name_of_number(alloc: Global, names: &Names, number: i128) -> Result<String, AllocError>
     ensures { IfOk result (λ text. string_bytes text ≡ name_of_number names.now number) }
 {
-    'names: for name in names {
-        if i128::from(name.number()) == number {
-            return String::from_str(alloc, name.name());
-        }
+    match names.name_of(number) {
+        None => Ok(String::new(alloc)),
+        Some(name) => String::from_str(alloc, name),
     }
-    Ok(String::new(alloc))
 }
 
 fn is_position(positions: &[i64], number: i64) -> bool
@@ -41,14 +39,14 @@ fn push_name(text: &mut String, name: &str, first: bool) -> Result<(), AllocErro
     Ok(())
 }
 
-fn bits_text(alloc: Global, names: &[Assigned], positions: &[i64]) -> Result<String, AllocError>
+fn bits_text(alloc: Global, names: &Names, positions: &[i64]) -> Result<String, AllocError>
     ensures { IfOk result (λ text. string_bytes text ≡ spaced_from true (names_at positions.now names.now)) }
 {
     let mut text = String::new(alloc);
     let mut first = true;
-    'names: for name in names {
-        if is_position(positions, name.number()) {
-            push_name(&mut text, name.name(), first)?;
+    for (number, name) in names.rows() {
+        if is_position(positions, *number) {
+            push_name(&mut text, name.as_str(), first)?;
             first = false;
         }
     }

@@ -1,6 +1,6 @@
 //! Types that are no unions: a built-in type with its restrictions.
 
-ghost use Rattle.std.specs.Prelude.{◌≡◌, ◌++◌, ◌∷◌, [], option_map, option_and_then, ◌≤◌, IfOk, IfSome};
+ghost use Rattle.std.specs.Prelude.{◌≡◌, ◌++◌, ◌∷◌, [], option_map, option_and_then, ok_or, ◌≤◌, IfOk, IfSome};
 ghost use Rattle.std.specs.Option.{ForSome};
 ghost use Rattle.std.specs.String.{string_bytes};
 ghost use Rattle.yspec.specs.types.Ranges.{holds};
@@ -8,7 +8,8 @@ ghost use Rattle.yspec.specs.types.Types.{excluding, limited, simple_taken, simp
 ghost use Rattle.yspec.specs.types.Values.{simple_read, content_text};
 ghost use Rattle.yspec.specs.types.Restriction.{left_by, left_after, limited_by, with_limit, range_base, length_base, lengths, narrowed_simple};
 ghost use Rattle.ynumber.specs.View.{text_of, restriction_of};
-ghost use Rattle.ynumber.specs.Words.{Narrows, same};
+ghost use Rattle.yspec.specs.Results.{Gives};
+ghost use Rattle.ynumber.specs.Words.{narrow_refusal, same};
 ghost use Rattle.ytype.specs.View.{raw_of, base_of, content_of};
 ghost use Rattle.ytype.specs.Founds.{founds, contents, now_of};
 
@@ -227,7 +228,7 @@ impl SimpleType {
         bounds: (Part, u32),
     ) -> Result<SimpleType, NarrowFault>
         requires { bounds.1 ≤ 18 }
-        ensures { Narrows same result (limited_by self.now spans.now (text_of app_tag.now) bounds) }
+        ensures { Gives same narrow_refusal result (ok_or (limited_by self.now spans.now (text_of app_tag.now) bounds) tt) }
     {
         let outer = left_by(alloc, bounds.0, &self.limits)?;
         match restricted(alloc, &outer, bounds.1, spans) {
@@ -256,8 +257,8 @@ impl SimpleType {
         bounds: Option<(Part, u32)>,
     ) -> Result<SimpleType, NarrowFault>
         requires { ForSome bounds (λ b. b.1 ≤ 18) }
-        ensures { Narrows same result
-            (option_and_then (limited_by self.now spans.now (text_of app_tag.now)) bounds) }
+        ensures { Gives same narrow_refusal result
+            (ok_or (option_and_then (limited_by self.now spans.now (text_of app_tag.now)) bounds) tt) }
     {
         match bounds {
             None => Err(NarrowFault::Refused),
@@ -271,7 +272,7 @@ impl SimpleType {
         alloc: Global,
         restriction: &Restriction,
     ) -> Result<SimpleType, NarrowFault>
-        ensures { Narrows same result (narrowed_simple self.now (restriction_of restriction.now)) }
+        ensures { Gives same narrow_refusal result (ok_or (narrowed_simple self.now (restriction_of restriction.now)) tt) }
     {
         match restriction {
             Restriction::Range { spans, app_tag } => {

@@ -1,16 +1,17 @@
 //! Types.
 
-ghost use Rattle.std.specs.Prelude.{◌≡◌, ◌++◌, [], ◌∷◌, Ok, IfOk, OnOk, Some, None, option_map};
+ghost use Rattle.std.specs.Prelude.{◌≡◌, ◌++◌, [], ◌∷◌, Ok, IfOk, OnOk, Some, None, option_map, ok_or};
 ghost use Rattle.yspec.specs.types.Types.{taken, app_tag_of, simple_taken, first_value, plain, integer_type, string_type, uint8_type, int8, int16, int32, int64, uint8, uint16, uint32, uint64, string_base, boolean_base, empty_base, decimal_base, enumeration_base, bits_base};
 ghost use Rattle.yspec.specs.types.Values.{value_of_text, simple_read, taker};
 ghost use Rattle.yspec.specs.types.Names as names;
 ghost use Rattle.yspec.specs.types.Restriction.{members_of, all_members, union_type, leafref_type, narrowed};
 ghost use Rattle.ynumber.specs.View.{restriction_of};
-ghost use Rattle.ynumber.specs.Words.{Narrows, same};
+ghost use Rattle.yspec.specs.Results.{Gives};
+ghost use Rattle.ynumber.specs.Words.{narrow_refusal, same};
 ghost use Rattle.ytype.specs.View.{raw_of, base_of, integer_of};
 ghost use Rattle.ytype.specs.Founds.{now_of};
 ghost use Rattle.ytype.specs.Shapes.{shape_of};
-ghost use Rattle.ytype.specs.Checks.{Checks, Reads};
+ghost use Rattle.ytype.specs.Refusals.{value_refusal};
 
 use crate::base::{Base, Integer};
 use crate::fault::BadValue;
@@ -178,7 +179,8 @@ impl YType {
     /// The names of enums in their order (9.6). Refused where a name or a number comes twice, a name is empty or has
     /// white space at an end, or a number doesn't lie between -2147483648 and 2147483647.
     pub fn enumeration(alloc: Global, namings: &[Naming]) -> Result<YType, NarrowFault>
-        ensures { Narrows same result (option_map (λ ns. plain (enumeration_base ns)) (names.enum_names namings.now)) }
+        ensures { Gives same narrow_refusal result
+            (ok_or (option_map (λ ns. plain (enumeration_base ns)) (names.enum_names namings.now)) tt) }
     {
         match enum_names(alloc, namings) {
             Err(fault) => Err(fault),
@@ -189,7 +191,8 @@ impl YType {
     /// The names of bits in their order (9.7). Refused where a name or a position comes twice, or a position doesn't
     /// lie between 0 and 4294967295.
     pub fn bits(alloc: Global, namings: &[Naming]) -> Result<YType, NarrowFault>
-        ensures { Narrows same result (option_map (λ ns. plain (bits_base ns)) (names.bit_names namings.now)) }
+        ensures { Gives same narrow_refusal result
+            (ok_or (option_map (λ ns. plain (bits_base ns)) (names.bit_names namings.now)) tt) }
     {
         match bit_names(alloc, namings) {
             Err(fault) => Err(fault),
@@ -199,7 +202,7 @@ impl YType {
 
     /// What one of its members takes (9.12).
     pub fn union(alloc: Global, types: &[YType]) -> Result<YType, NarrowFault>
-        ensures { Narrows same result (Some (union_type types.now)) }
+        ensures { Gives same narrow_refusal result (Ok (union_type types.now)) }
     {
         let mut members = Vec::new(alloc);
         'types: for member in types {
@@ -213,7 +216,7 @@ impl YType {
 
     /// The values of its target's type; it requires an instance unless that is said (9.9).
     pub fn leafref(_alloc: Global, target: &YType) -> Result<YType, NarrowFault>
-        ensures { Narrows same result (Some (leafref_type target.now)) }
+        ensures { Gives same narrow_refusal result (Ok (leafref_type target.now)) }
     {
         Ok(YType {
             shape: target.shape.clone()?,
@@ -285,7 +288,7 @@ impl YType {
     /// is above its second, parts aren't disjoint and ascending, a bound has too many digits after its point, or the
     /// numbers don't all lie within those of the type.
     pub fn narrow(&self, alloc: Global, restriction: &Restriction) -> Result<YType, NarrowFault>
-        ensures { Narrows same result (narrowed self.now (restriction_of restriction.now)) }
+        ensures { Gives same narrow_refusal result (ok_or (narrowed self.now (restriction_of restriction.now)) tt) }
     {
         match (self.requires_instance, &self.shape) {
             (None, Shape::Single(simple)) => match simple.narrow(alloc, restriction) {
@@ -309,7 +312,8 @@ impl YType {
     /// The value that the type takes from what a document has at a leaf. A refusal bears the error-app-tag of the first
     /// restriction, from the built-in type outwards, that excludes it; a union gives none.
     pub fn check(&self, alloc: Global, raw: &Raw) -> Result<Val, BadValue>
-        ensures { Checks result (taken self.now (raw_of raw.now)) (app_tag_of self.now (raw_of raw.now)) }
+        ensures { Gives same value_refusal result
+            (ok_or (taken self.now (raw_of raw.now)) (app_tag_of self.now (raw_of raw.now))) }
     {
         match &self.shape {
             Shape::Single(simple) => match simple.taken(alloc, raw)? {
@@ -328,7 +332,7 @@ impl YType {
 
     /// The value of a text of a module, as a default is one. A refusal bears no error-app-tag.
     pub fn from_text(&self, alloc: Global, text: &str) -> Result<Val, BadValue>
-        ensures { Reads result (value_of_text self.now text.now) }
+        ensures { Gives same value_refusal result (ok_or (value_of_text self.now text.now) None) }
     {
         match &self.shape {
             Shape::Single(simple) => match simple.read(alloc, text)? {
