@@ -1,16 +1,18 @@
 -- What clap's answers come to.
-use Rattle.std.proofs.Common.{◌≡◌, ◌⊎◌, inl, inr, List, [], ◌∷◌, Option, Some, None, Bor, map, true, refl, sym, subst, ap}
-use Rattle.std.specs.Prelude.{Result, Ok, Err, IsErrAnd, option_map, unwrap_or}
-use Rattle.yspec.specs.program.Output.{validate}
+use Rattle.std.proofs.Common.{◌≡◌, ◌⊎◌, inl, inr, List, [], ◌∷◌, ℕ, Bool, Option, Some, None, Bor, map, false, true, refl, sym, subst, ap, ◌∙◌}
+use Rattle.std.specs.Prelude.{Result, Ok, Err, IsErrAnd, option_map, unwrap_or, if◌then◌else◌}
+use Rattle.yspec.specs.program.Output.{found, validate}
 use Rattle.clap.specs.Words.{Kinds, IsAmong, Row, Text, is_simple, is_simple_and_free}
 use Rattle.clap.specs.declared.error.kind.ErrorKind.{ErrorKind}
 use Rattle.clap.specs.declared.error.kind.ErrorKind.TheVariants.{OutOfMemory}
 use Rattle.clap.proofs.OnLiterals.{clap_on_literals}
 use Rattle.yapp.specs.Application.{yanglive}
-use Rattle.yapp.specs.Command.{Answers, Asks, Explains, asked_by, validation_of}
+use Rattle.yapp.specs.Command.{Declines, Explains, Understands, asked_by, asks_help, is_help, validation_of}
+use Rattle.yapp.specs.Running.{refused, with_text}
 use Rattle.yapp.specs.declared.command.Request.{Request}
 use Rattle.yapp.specs.declared.command.NoRequest.{NoRequest}
 use Rattle.yapp.specs.declared.command.NoRequest.TheVariants as none
+use Rattle.yapp.proofs.HelpAlone.{Alike, said_by}
 
 -- clap says exactly which words the program takes
 pub is_free : is_simple_and_free yanglive ≡ true
@@ -38,17 +40,28 @@ pub asked_none : (o : Option (Text × List Row)) → None ≡ option_map (λ p. 
 asked_none None e = refl
 asked_none (Some p) e = cc
 
-pub answered : (kinds : Kinds) (kind : ErrorKind) (a : NoRequest) → (kind ≡ OutOfMemory) ⊎ IsAmong kind kinds → Explains kind a → Answers kinds a
-answered kinds kind (none.Help text) (inl e) is = cc
-answered kinds kind (none.Help text) (inr among) is = subst (λ k. IsAmong k kinds) is among
-answered kinds kind (none.Refused text) (inl e) is = absurd (is.1 e)
-answered kinds kind (none.Refused text) (inr among) is = (kind, is.0, among)
-answered kinds kind none.Memory among is = tt
+out_of_memory : (kind : ErrorKind) → kind ≡ OutOfMemory → is_help kind ≡ true → ⊥
+out_of_memory kind e is = let P : ErrorKind → Type 0 = λ k. is_help k ≡ true in let none : false ≡ true = subst P e is in cc
 
-pub asks_memory : (words : List Text) (r : Result Request NoRequest) → IsErrAnd r (λ e. e ≡ none.Memory) → Asks words r
-asks_memory words (Ok x) e = absurd e
-asks_memory words (Err a) e = subst (λ b. Asks words (Err b)) (sym e) tt
+some_cause : (kinds : Kinds) (kind : ErrorKind) → IsAmong kind kinds → kinds ≡ [] → ⊥
+some_cause [] kind among e = among
+some_cause (k ∷ ks) kind among e = cc
 
-pub refused_words : (kinds : Kinds) (kind : ErrorKind) → IsAmong kind kinds → kinds ≡ [] → ⊥
-refused_words [] kind among e = among
-refused_words (k ∷ ks) kind among e = cc
+pub declined : (kinds : Kinds) (kind : ErrorKind) (a : NoRequest) → Alike kinds → (kind ≡ OutOfMemory) ⊎ IsAmong kind kinds → Explains kind a → Declines kinds a
+declined kinds kind (none.Help text) like (inl e) is = absurd (out_of_memory kind e is)
+declined kinds kind (none.Help text) like (inr among) is = said_by kind kinds like among ∙ is
+declined kinds kind (none.Refused text) like (inl e) is = absurd (is.1 e)
+declined kinds kind (none.Refused text) like (inr among) is = (some_cause kinds kind among, said_by kind kinds like among ∙ is.0)
+declined kinds kind none.Memory like among is = tt
+
+pub declined_by_memory : (words : List Text) (r : Result Request NoRequest) → IsErrAnd r (λ e. e ≡ none.Memory) → Understands words r
+declined_by_memory words (Ok x) e = absurd e
+declined_by_memory words (Err a) e = subst (λ b. Understands words (Err b)) (sym e) tt
+
+-- help and refusals come of words that aren't taken, with clap's text on their side
+pub asked_help : (kinds : Kinds) → asks_help kinds ≡ true → kinds ≡ [] → ⊥
+asked_help [] is e = cc
+asked_help (k ∷ ks) is e = cc
+
+pub text_is : (kinds : Kinds) (help : Bool) (text : List ℕ) → asks_help kinds ≡ help → (if help then found 0 text else refused text) ≡ with_text kinds text
+text_is kinds help text is = ap (λ (b : Bool). if b then found 0 text else refused text) (sym is)

@@ -1,3 +1,4 @@
+pub mod HelpAlone
 pub mod CommandLemmas
 pub mod RunningLemmas
 pub mod ValidationLemmas

@@ -3,7 +3,7 @@ use Rattle.std.proofs.Common.{◌≡◌, ◌⊎◌, inl, inr, ℕ, ◌+◌, List
 use Rattle.std.proofs.Common.{Vec, Global, length}
 use Rattle.std.specs.Borrow.{Bor}
 use Rattle.std.specs.Prelude.{Result, Ok, Err, IsErrAnd}
-use Rattle.std.proofs.lemmas.List.{append-nil, map-append}
+use Rattle.std.proofs.lemmas.List.{append-nil, length-append, length-map, map-append}
 use Rattle.yspec.specs.Forest.{Forest, end, node, join}
 use Rattle.yspec.specs.text.Statement.{Statement, Slip, module_of}
 use Rattle.yspec.specs.text.Text.{Text}
@@ -11,7 +11,7 @@ use Rattle.yspec.specs.program.Output.{Outcome, Request, files_of, outcome, vali
 use Rattle.ytext.specs.View.{view, modules_view}
 use Rattle.ytext.specs.declared.statement.Module.{Module}
 use Rattle.yapp.specs.Failing.{FailsWith, FromFile, LeadsTo, outcome_of, reported}
-use Rattle.yapp.specs.Files.{Answered, Answers, Contents, IsOutcome, Reads, Tells, came_to, failed_reads, unread_in}
+use Rattle.yapp.specs.Files.{Answered, Contents, FileAnswers, IsOutcome, IsTold, ReadsAll, Store, WereRead, came_to, failed_reads, unread_in}
 use Rattle.yapp.specs.declared.failure.Failure.{Failure}
 use Rattle.yapp.specs.declared.failure.Failure.TheVariants as failures
 use Rattle.yapp.specs.declared.files.FileFault.{FileFault}
@@ -31,7 +31,7 @@ no_name = record { ref_ptr = (0, 0); now = [] }
 
 -- ---- files
 
-with_files_same : (names : List Text) (answers : Answers) (f g : List (List ℕ) → Outcome) → ((texts : List (List ℕ)) → f texts ≡ g texts)
+with_files_same : (names : List Text) (answers : FileAnswers) (f g : List (List ℕ) → Outcome) → ((texts : List (List ℕ)) → f texts ≡ g texts)
     → with_files names answers f ≡ with_files names answers g
 with_files_same [] answers f g same = same []
 with_files_same (name ∷ names) [] f g same = refl
@@ -41,21 +41,21 @@ with_files_same (name ∷ names) (Some bytes ∷ answers) f g same =
 
 -- so much is read of the files of some names, and these names are left
 pub record ReadSoFar (contents : Contents) (names left : List Text) (texts : List (List ℕ)) : Type 0 where
-  pub answered : (rest : Answers) → Answered contents left rest → Answered contents names (map Some texts ++ rest)
-  pub goes_on : (rest : Answers) (next : List (List ℕ) → Outcome)
+  pub answered : (rest : FileAnswers) → Answered contents left rest → Answered contents names (map Some texts ++ rest)
+  pub goes_on : (rest : FileAnswers) (next : List (List ℕ) → Outcome)
       → with_files names (map Some texts ++ rest) next ≡ with_files left rest (λ more. next (texts ++ more))
 
 pub none_read : (contents : Contents) (names : List Text) → ReadSoFar contents names names []
 none_read contents names = record { answered = λ rest a. a; goes_on = λ rest next. refl }
 
-behind : (texts : List (List ℕ)) (text : List ℕ) (rest : Answers) → map Some texts ++ (Some text ∷ rest) ≡ map Some (texts ++ text ∷ []) ++ rest
-behind texts text rest = sym (append_assoc (map Some texts) (Some text ∷ []) rest) ∙ ap (λ (xs : Answers). xs ++ rest) (sym (map-append Some texts (text ∷ [])))
+behind : (texts : List (List ℕ)) (text : List ℕ) (rest : FileAnswers) → map Some texts ++ (Some text ∷ rest) ≡ map Some (texts ++ text ∷ []) ++ rest
+behind texts text rest = sym (append_assoc (map Some texts) (Some text ∷ []) rest) ∙ ap (λ (xs : FileAnswers). xs ++ rest) (sym (map-append Some texts (text ∷ [])))
 
 pub one_read : (contents : Contents) (names left : List Text) (texts : List (List ℕ)) (name : Text) (text : List ℕ)
-    → Tells (contents name) text → ReadSoFar contents names (name ∷ left) texts → ReadSoFar contents names left (texts ++ text ∷ [])
+    → IsTold (contents name) text → ReadSoFar contents names (name ∷ left) texts → ReadSoFar contents names left (texts ++ text ∷ [])
 one_read contents names left texts name text tells so_far = record {
   answered = λ rest a. subst (Answered contents names) (behind texts text rest) (so_far.answered (Some text ∷ rest) (tells, a));
-  goes_on = λ rest next. ap (λ (answers : Answers). with_files names answers next) (sym (behind texts text rest))
+  goes_on = λ rest next. ap (λ (answers : FileAnswers). with_files names answers next) (sym (behind texts text rest))
       ∙ so_far.goes_on (Some text ∷ rest) next
       ∙ with_files_same left rest (λ more. next (texts ++ (text ∷ more))) (λ more. next ((texts ++ text ∷ []) ++ more))
       (λ more. ap next (sym (append_assoc texts (text ∷ []) more)));
@@ -75,6 +75,9 @@ with_all_read contents [] [] next a = refl
 with_all_read contents [] (text ∷ texts) next a = absurd a
 with_all_read contents (name ∷ names) [] next a = absurd a
 with_all_read contents (name ∷ names) (text ∷ texts) next a = with_all_read contents names texts (λ rest. next (text ∷ rest)) a.1
+
+length_behind : (texts : List (List ℕ)) → length (map Some texts ++ None ∷ []) ≡ length texts + 1
+length_behind texts = omega (arith, length-append (map (λ (t : List ℕ). Some t) texts) (None ∷ []), length-map texts (λ (t : List ℕ). Some t))
 
 unread_behind : (texts : List (List ℕ)) → unread_in (map Some texts ++ None ∷ []) ≡ 1
 unread_behind [] = refl
@@ -152,60 +155,72 @@ parsing_fails names left_names texts left_texts name text ms f so_far refused ne
 
 -- ---- what a call answers
 
--- the file at hand couldn't be read, or there was no memory for it
-pub reading_fails : (X : Type 0) (contents : Contents) (names left : List Text) (texts : List (List ℕ)) (name : Text) (fault : FileFault) (f : Failure) (before now after : ℕ)
-    → ReadSoFar contents names (name ∷ left) texts → now ≡ before → after ≡ now + failed_reads {X = X} (Err fault) → FromFile name fault f
-    → ((answers : Answers) × Answered contents names answers × (after ≡ before + unread_in answers)
+-- all files were read
+pub were_read : (before after : Store) (names : List Text) (texts : List (List ℕ)) → ReadSoFar before.contents names [] texts
+    → after.reads ≡ before.reads + length texts → after.failures ≡ before.failures → WereRead before after names (map Some texts)
+were_read before after names texts so_far reads same = record {
+  answered = all_read before.contents names texts so_far;
+  reads = omega (arith, reads, length-map texts (λ (t : List ℕ). Some t));
+  failures = omega (arith, same, none_unread texts);
+}
+
+-- one couldn't be read, whatever is to be made of the files; or memory was wanting
+abbrev pub ReadsNot : Store → Store → List Text → Failure → Type 0
+ReadsNot before after names f = ((answers : FileAnswers) × WereRead before after names answers
     × ((next : List (List ℕ) → Outcome) → with_files names answers next ≡ outcome_of f))
-    ⊎ ((after ≡ before) × (f ≡ failures.Memory))
-reading_fails X contents names left texts name faults.Unread f before now after so_far same counted is = inl (
+    ⊎ ((after.failures ≡ before.failures) × (f ≡ failures.Memory))
+
+-- the file at hand couldn't be read, or there was no memory for it
+pub reading_fails : (X : Type 0) (before now after : Store) (names left : List Text) (texts : List (List ℕ)) (name : Text) (fault : FileFault) (f : Failure)
+    → ReadSoFar before.contents names (name ∷ left) texts → now.reads ≡ before.reads + length texts → now.failures ≡ before.failures
+    → after.reads ≡ now.reads + 1 → after.failures ≡ now.failures + failed_reads {X = X} (Err fault) → FromFile name fault f
+    → ReadsNot before after names f
+reading_fails X before now after names left texts name faults.Unread f so_far reads same one_more counted is = inl (
   map Some texts ++ None ∷ [],
-  so_far.answered (None ∷ []) refl,
-  counted ∙ ap (λ (n : ℕ). n + 1) same ∙ ap (λ (n : ℕ). before + n) (sym (unread_behind texts)),
+  record {
+    answered = so_far.answered (None ∷ []) refl;
+    reads = omega (arith, one_more, reads, length_behind texts);
+    failures = omega (arith, counted, same, unread_behind texts);
+  },
   λ next. so_far.goes_on (None ∷ []) next ∙ sym is,
 )
-reading_fails X contents names left texts name faults.Memory f before now after so_far same counted is =
+reading_fails X before now after names left texts name faults.Memory f so_far reads same one_more counted is =
     inr (omega (arith, counted, same), is)
 
-pub memory_reads : {X : Type 0} (see : X → List (List ℕ)) (contents : Contents) (before after : ℕ) (names : List Text) (r : Result X Failure)
-    → IsErrAnd r (λ e. e ≡ failures.Memory) → after ≡ before → Reads see contents before after names r
-memory_reads see contents before after names (Ok x) e same = absurd e
-memory_reads see contents before after names (Err f) e same = inr (same, e)
+pub memory_reads : {X : Type 0} (see : X → List (List ℕ)) (before after : Store) (names : List Text) (r : Result X Failure)
+    → IsErrAnd r (λ e. e ≡ failures.Memory) → after.failures ≡ before.failures → ReadsAll see before after names r
+memory_reads see before after names (Ok x) e same = absurd e
+memory_reads see before after names (Err f) e same = inr (same, e)
 
 -- what is returned is the outcome, or there was no memory
-came_of_answer : (contents : Contents) (before after : ℕ) (request : Request) (answers : Answers) (r : Result Report Failure)
-    → Answered contents (files_of request) answers → after ≡ before + unread_in answers → after ≡ before → LeadsTo (outcome request answers) reported r
-    → IsOutcome contents before after request (came_to r)
-came_of_answer contents before after request answers (Ok report) answered counted same is = inl (answers, answered, counted, sym is)
-came_of_answer contents before after request answers (Err (failures.Unread name)) answered counted same is = inl (answers, answered, counted, sym is)
-came_of_answer contents before after request answers (Err (failures.Text name code line)) answered counted same is = inl (answers, answered, counted, sym is)
-came_of_answer contents before after request answers (Err (failures.Compile name code line)) answered counted same is = inl (answers, answered, counted, sym is)
-came_of_answer contents before after request answers (Err (failures.Document name schema code place)) answered counted same is =
-    inl (answers, answered, counted, sym is)
-came_of_answer contents before after request answers (Err failures.Memory) answered counted same is = inr (same, refl)
+came_of_answer : (before after : Store) (request : Request) (answers : FileAnswers) (r : Result Report Failure)
+    → WereRead before after (files_of request) answers → after.failures ≡ before.failures → LeadsTo (outcome request answers) reported r
+    → IsOutcome before after request (came_to r)
+came_of_answer before after request answers (Ok report) read same is = inl (answers, read, sym is)
+came_of_answer before after request answers (Err (failures.Unread name)) read same is = inl (answers, read, sym is)
+came_of_answer before after request answers (Err (failures.Text name code line)) read same is = inl (answers, read, sym is)
+came_of_answer before after request answers (Err (failures.Compile name code line)) read same is = inl (answers, read, sym is)
+came_of_answer before after request answers (Err (failures.Document name schema code place)) read same is = inl (answers, read, sym is)
+came_of_answer before after request answers (Err failures.Memory) read same is = inr (same, refl)
 
 -- a validation after its files were read
-pub came_of_texts : (contents : Contents) (before after : ℕ) (document : Text) (names files : List Text) (texts : List (List ℕ)) (r : Result Report Failure)
-    → files ≡ names ++ document ∷ [] → Answered contents files (map Some texts) → after ≡ before → LeadsTo (validation document names texts) reported r
-    → IsOutcome contents before after (validate document names) (came_to r)
+pub came_of_texts : (before after : Store) (document : Text) (names files : List Text) (texts : List (List ℕ)) (r : Result Report Failure)
+    → files ≡ names ++ document ∷ [] → WereRead before after files (map Some texts) → LeadsTo (validation document names texts) reported r
+    → IsOutcome before after (validate document names) (came_to r)
 unfolding outcome
-came_of_texts contents before after document names files texts r e answered same is =
-    let told : Answered contents (names ++ document ∷ []) (map Some texts) = subst (λ ns. Answered contents ns (map Some texts)) e answered in
-    let none : after ≡ before + unread_in (map Some texts) = omega (arith, same, none_unread texts) in
-    let read = with_all_read contents (names ++ document ∷ []) texts (validation document names) told in
-    came_of_answer contents before after (validate document names) (map Some texts) r told none same (subst (λ o. LeadsTo o reported r) (sym read) is)
+came_of_texts before after document names files texts r e read is =
+    let told : WereRead before after (names ++ document ∷ []) (map Some texts) = subst (λ ns. WereRead before after ns (map Some texts)) e read in
+    let none : after.failures ≡ before.failures = omega (arith, read.failures, none_unread texts) in
+    let goes_on = with_all_read before.contents (names ++ document ∷ []) texts (validation document names) told.answered in
+    came_of_answer before after (validate document names) (map Some texts) r told none (subst (λ o. LeadsTo o reported r) (sym goes_on) is)
 
 -- a validation whose files couldn't all be read
-pub came_of_reading : (contents : Contents) (before after : ℕ) (document : Text) (names files : List Text) (f : Failure) → files ≡ names ++ document ∷ []
-    → ((answers : Answers) × Answered contents files answers × (after ≡ before + unread_in answers)
-    × ((next : List (List ℕ) → Outcome) → with_files files answers next ≡ outcome_of f))
-    ⊎ ((after ≡ before) × (f ≡ failures.Memory))
-    → IsOutcome contents before after (validate document names) (outcome_of f)
+pub came_of_reading : (before after : Store) (document : Text) (names files : List Text) (f : Failure) → files ≡ names ++ document ∷ []
+    → ReadsNot before after files f → IsOutcome before after (validate document names) (outcome_of f)
 unfolding outcome
-came_of_reading contents before after document names files f e (inl read) = inl (
+came_of_reading before after document names files f e (inl read) = inl (
   read.0,
-  subst (λ ns. Answered contents ns read.0) e read.1,
-  read.2,
-  sym (subst (λ ns. with_files ns read.0 (validation document names) ≡ outcome_of f) e (read.3 (validation document names))),
+  subst (λ ns. WereRead before after ns read.0) e read.1,
+  sym (subst (λ ns. with_files ns read.0 (validation document names) ≡ outcome_of f) e (read.2 (validation document names))),
 )
-came_of_reading contents before after document names files f e (inr none) = inr (none.0, ap outcome_of none.1)
+came_of_reading before after document names files f e (inr none) = inr (none.0, ap outcome_of none.1)

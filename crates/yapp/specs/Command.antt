@@ -1,8 +1,8 @@
 -- What the words of a command line ask for, by clap's own definition of what it takes.
-use Rattle.std.specs.Prelude.{◌≡◌, List, [], map, codes, Option, Some, None, unwrap_or, Result, Ok, Err}
+use Rattle.std.specs.Prelude.{◌≡◌, Bool, true, false, List, [], ◌∷◌, map, codes, Option, Some, None, unwrap_or, Result, Ok, Err}
 use Rattle.yspec.specs.program.Output as spec
 use Rattle.yspec.specs.program.Output.{validate}
-use Rattle.clap.specs.Words.{Kinds, IsAmong, Row, Text, all_of, fault_of, first_of, subcommand_of}
+use Rattle.clap.specs.Words.{Kinds, Row, Text, all_of, fault_of, first_of, subcommand_of}
 use Rattle.clap.specs.declared.error.kind.ErrorKind.{ErrorKind}
 use Rattle.clap.specs.declared.error.kind.ErrorKind.TheVariants.{DisplayHelp, OutOfMemory}
 use Rattle.yapp.specs.Application.{yanglive}
@@ -36,18 +36,30 @@ request_of words = asked_by (subcommand_of yanglive words)
 abbrev pub view : Request → spec.Request
 view (requests.Validate document modules) = validate document.now (map (λ name. name.now) modules.items)
 
+-- ---- what comes in place of a request
+
+abbrev pub is_help : ErrorKind → Bool
+is_help DisplayHelp = true
+is_help _ = false
+
+-- whether words that aren't taken ask for help: clap's first cause says it
+abbrev pub asks_help : Kinds → Bool
+asks_help [] = false
+asks_help (kind ∷ others) = is_help kind
+
 -- what an error of clap's comes to
 abbrev pub Explains : ErrorKind → NoRequest → Type 0
-Explains kind (none.Help text) = kind ≡ DisplayHelp
-Explains kind (none.Refused text) = (kind ≡ DisplayHelp → ⊥) × (kind ≡ OutOfMemory → ⊥)
+Explains kind (none.Help text) = is_help kind ≡ true
+Explains kind (none.Refused text) = (is_help kind ≡ false) × (kind ≡ OutOfMemory → ⊥)
 Explains kind none.Memory = Unit {0}
 
--- an answer in place of a request comes only where clap has that cause for it, or where there is no memory
-abbrev pub Answers : Kinds → NoRequest → Type 0
-Answers kinds (none.Help text) = IsAmong DisplayHelp kinds
-Answers kinds (none.Refused text) = (kind : ErrorKind) × (kind ≡ DisplayHelp → ⊥) × IsAmong kind kinds
-Answers kinds none.Memory = Unit {0}
+-- help where it is asked for, a refusal for any other cause, or there is no memory
+abbrev pub Declines : Kinds → NoRequest → Type 0
+Declines kinds (none.Help text) = asks_help kinds ≡ true
+Declines kinds (none.Refused text) = (kinds ≡ [] → ⊥) × (asks_help kinds ≡ false)
+Declines kinds none.Memory = Unit {0}
 
-abbrev pub Asks : List Text → Result Request NoRequest → Type 0
-Asks words (Ok request) = (refusals words ≡ []) × (view request ≡ request_of words)
-Asks words (Err answer) = Answers (refusals words) answer
+-- words are taken exactly where clap takes them, and then their request is the definition's
+abbrev pub Understands : List Text → Result Request NoRequest → Type 0
+Understands words (Ok request) = (refusals words ≡ []) × (view request ≡ request_of words)
+Understands words (Err answer) = Declines (refusals words) answer

@@ -1,7 +1,6 @@
 -- What a report or a failure comes to, as the outcome that it prints.
 use Rattle.std.specs.Prelude.{◌≡◌, ℕ, ◌++◌, ◌==◌, List, length, codes, decimal, Result, Ok, Err, if◌then◌else◌}
-use Rattle.ytext.specs.declared.fault.TextCode.{TextCode}
-use Rattle.ytext.specs.declared.fault.TextCode.TheVariants.{L1, L2, L3, L4, L5, L6, L7, L8}
+use Rattle.ytext.specs.Gives.{number_of}
 use Rattle.yschema.specs.Told.{code_number}
 use Rattle.yschema.specs.View as schema_view
 use Rattle.ytree.specs.Told as document
@@ -16,23 +15,13 @@ use Rattle.yapp.specs.declared.files.FileFault.{FileFault}
 use Rattle.yapp.specs.declared.files.FileFault.TheVariants.{Unread, Memory}
 use Rattle.yapp.specs.declared.report.Report.{Report}
 
-abbrev pub text_code_number : TextCode → ℕ
-text_code_number L1 = 1
-text_code_number L2 = 2
-text_code_number L3 = 3
-text_code_number L4 = 4
-text_code_number L5 = 5
-text_code_number L6 = 6
-text_code_number L7 = 7
-text_code_number L8 = 8
-
 -- a file's name, a line of it, and a code: what a module's refusal prints
 abbrev pub refusal_in : Text → ℕ → Text → ℕ → List ℕ
 refusal_in name line kind code = name ++ (codes ":" ++ (decimal line ++ (kind ++ decimal code)))
 
 abbrev pub outcome_of : Failure → Outcome
 outcome_of (failures.Unread name) = unread name.now
-outcome_of (failures.Text name code line) = failed 2 (refusal_in name.now line (codes ": L") (text_code_number code))
+outcome_of (failures.Text name code line) = failed 2 (refusal_in name.now line (codes ": L") (number_of code))
 outcome_of (failures.Compile name code line) = failed 2 (refusal_in name.now line (codes ": C") (code_number code))
 outcome_of (failures.Document name schema code place) = failed 2 (refusal_line (schema_view.view schema) name.now
     (record { code = document.code_number code; place = place_view place.items }))

@@ -1,9 +1,9 @@
 -- What a run comes to: an outcome, and what of it goes out on the two sides.
-use Rattle.std.specs.Prelude.{◌≡◌, ◌⊎◌, ℕ, List, [], codes, take}
-use Rattle.clap.specs.Words.{Kinds, IsAmong}
-use Rattle.clap.specs.declared.error.kind.ErrorKind.TheVariants.{DisplayHelp}
+use Rattle.std.specs.Prelude.{◌≡◌, ◌⊎◌, ℕ, List, [], codes, take, if◌then◌else◌}
+use Rattle.clap.specs.Words.{Kinds}
 use Rattle.yspec.specs.program.Output.{Outcome, failed, found}
 use Rattle.youtput.specs.Writing.{Side, Wrote, Broke}
+use Rattle.yapp.specs.Command.{asks_help}
 
 -- the status where a file, a stream or memory failed
 abbrev pub failure : ℕ
@@ -42,8 +42,10 @@ without_memory = failed failure (codes "memory")
 abbrev pub refused : List ℕ → Outcome
 refused text = record { output = []; errors = text; status = 3 }
 
--- memory is wanting, help is asked for, or the words are refused; the texts are clap's
+-- clap's text: as help, or as a refusal
+abbrev pub with_text : Kinds → List ℕ → Outcome
+with_text kinds text = if asks_help kinds then found 0 text else refused text
+
+-- words that aren't taken come to a text of clap's, or memory is wanting
 abbrev pub AnswersWords : Kinds → Outcome → Type 0
-AnswersWords kinds o = (o ≡ without_memory)
-    ⊎ (((text : List ℕ) × (o ≡ found 0 text) × IsAmong DisplayHelp kinds)
-    ⊎ ((text : List ℕ) × (o ≡ refused text) × (kinds ≡ [] → ⊥)))
+AnswersWords kinds o = (o ≡ without_memory) ⊎ ((text : List ℕ) × (o ≡ with_text kinds text))

@@ -3,12 +3,13 @@
 ghost use Rattle.std.specs.Prelude.{◌≡◌, map, string_bytes, IfOk};
 ghost use Rattle.clap.specs.Words.{app_of, found_of, kind_of, rows_of, subcommand_rows_of};
 ghost use Rattle.yapp.specs.Application.{yanglive};
-ghost use Rattle.yapp.specs.Command.{Asks, Explains, asked_by, validation_of, view};
+ghost use Rattle.yapp.specs.Command.{Explains, Understands, asked_by, validation_of, view};
 ghost use Rattle.yapp.specs.declared.command.NoRequest.TheVariants.{Memory};
 
 use clap::error::ErrorKind;
 use clap::{Arg, ArgMatches, Command, Error};
 use std::alloc::{AllocError, Global};
+use thiserror::Error;
 
 /// What a command line asks for. Files are named by the words that were given.
 #[derive(Debug, Drop)]
@@ -21,12 +22,15 @@ pub enum Request<'a> {
 }
 
 /// Why a command line asks for nothing, with the text that says so.
-#[derive(Debug, Drop)]
+#[derive(Debug, Drop, Error)]
 pub enum NoRequest {
     /// It asks for help.
+    #[error("{0}")]
     Help(String),
     /// It isn't one that the program takes.
+    #[error("{0}")]
     Refused(String),
+    #[error("memory")]
     Memory,
 }
 
@@ -99,7 +103,7 @@ fn without_request(alloc: Global, error: &Error) -> NoRequest
 
 /// What a command line asks for. Its first word is the program's name.
 pub fn read_request<'a>(alloc: Global, words: &'a [String]) -> Result<Request<'a>, NoRequest>
-    ensures { Asks (map string_bytes words.entry.now) result }
+    ensures { Understands (map string_bytes words.entry.now) result }
 {
     match application(alloc)?.try_get_matches_from(words) {
         Ok(matches) => Ok(request_in(alloc, &matches)?),

@@ -2,50 +2,64 @@
 
 ghost use Rattle.std.specs.Prelude.{◌≡◌, ◌++◌, codes, decimal};
 ghost use Rattle.yspec.specs.program.Output.{refusal_line};
+ghost use Rattle.ytext.specs.Gives.{number_of};
 ghost use Rattle.youtput.specs.Writing.{Writes, side};
 ghost use Rattle.yschema.specs.Told.{code_number};
 ghost use Rattle.yschema.specs.View as schema_view;
 ghost use Rattle.ytree.specs.Told as document;
 ghost use Rattle.ytree.specs.View.{place_view};
-ghost use Rattle.yapp.specs.Failing.{FromFile, outcome_of, refusal_in, text_code_number};
+ghost use Rattle.yapp.specs.Failing.{FromFile, outcome_of, refusal_in};
 ghost use Rattle.yapp.specs.declared.failure.Failure.TheVariants.{Memory};
 
 use crate::files::FileFault;
 use crate::status::{FAILED, REFUSED};
 use itoa::Buffer;
 use std::alloc::{AllocError, AllocFailed};
+use std::fmt;
+use thiserror::Error;
 use ycheck::write_path;
 use yinst::{DocCode, Step};
 use yschema::{CompileCode, Schema};
 use ytext::{Sink, SinkFault, TextCode, write_texts};
 
 /// Why a command gives no report. Files are named by the words that were given.
-#[derive(Drop)]
+#[derive(Drop, Error)]
 pub enum Failure<'a> {
     /// A file couldn't be read.
+    #[error("cannot read {name}")]
     Unread {
         name: &'a str,
     },
     /// A module's text is refused in a line.
+    #[error("{name}:{line}: L{}", *.code as u8)]
     Text {
         name: &'a str,
         code: TextCode,
         line: u32,
     },
     /// A module is refused in a line.
+    #[error("{name}:{line}: C{}", *.code as u8)]
     Compile {
         name: &'a str,
         code: CompileCode,
         line: u32,
     },
     /// A document is refused at a node of a schema.
+    #[error("{name}: J{}", *.code as u8)]
     Document {
         name: &'a str,
         schema: Schema,
         code: DocCode,
         place: Vec<Step>,
     },
+    #[error("memory")]
     Memory,
+}
+
+impl fmt::Debug for Failure<'_> {
+    fn fmt<W: fmt::Write>(&self, f: &mut fmt::Formatter<W>) -> fmt::Result {
+        write!(f, "{self}")
+    }
 }
 
 impl<'a> From<AllocError> for Failure<'a> {
@@ -111,7 +125,7 @@ impl<'a> Failure<'a> {
 
 /// The number of a text's code.
 fn text_number(code: TextCode) -> u8
-    ensures { result ≡ text_code_number code }
+    ensures { result ≡ number_of code }
 {
     code as u8
 }

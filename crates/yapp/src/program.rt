@@ -1,10 +1,10 @@
 //! A run of the program.
 
-ghost use Rattle.std.specs.Prelude.{◌≡◌, ◌⊎◌, [], codes, is_ok, if◌then◌else◌, map, string_bytes};
+ghost use Rattle.std.specs.Prelude.{◌≡◌, [], codes, is_ok, if◌then◌else◌, map, string_bytes};
 ghost use Rattle.yspec.specs.program.Output as spec;
 ghost use Rattle.yspec.specs.program.Output.{Outcome};
 ghost use Rattle.yapp.specs.Command.{refusals, request_of, view};
-ghost use Rattle.yapp.specs.Files.{IsOutcome};
+ghost use Rattle.yapp.specs.Files.{IsOutcome, store};
 ghost use Rattle.yapp.specs.Running.{AnswersWords, Brings, Ends, refused, without_memory};
 ghost use Rattle.youtput.specs.Writing.{side};
 
@@ -57,7 +57,7 @@ fn perform<F: Files, O: Sink, E: Sink>(
     output: &mut O,
     errors: &mut E,
 ) -> u8
-    ensures { (o : Outcome) × IsOutcome (F.contents files.old) (F.failures files.old) (F.failures files.new) (view request.now) o
+    ensures { (o : Outcome) × IsOutcome (store F.contents F.reads F.failures files.old) (store F.contents F.reads F.failures files.new) (view request.now) o
         × Brings (side O.taken O.failures output.old) (side O.taken O.failures output.new)
         (side E.taken E.failures errors.old) (side E.taken E.failures errors.new) o result }
 {
@@ -77,7 +77,7 @@ fn tell_faults<F: Files, O: Sink, E: Sink>(
     output: &mut O,
     errors: &mut E,
 ) -> u8
-    ensures { (o : Outcome) × IsOutcome (F.contents files.old) (F.failures files.old) (F.failures files.new)
+    ensures { (o : Outcome) × IsOutcome (store F.contents F.reads F.failures files.old) (store F.contents F.reads F.failures files.new)
         (spec.validate document.now (map (λ n. n.now) modules.now)) o
         × Brings (side O.taken O.failures output.old) (side O.taken O.failures output.new)
         (side E.taken E.failures errors.old) (side E.taken E.failures errors.new) o result }
@@ -104,13 +104,14 @@ pub fn run<F: Files, O: Sink, E: Sink>(
     errors: &mut E,
 ) -> u8
     ensures taken { (refusals (map string_bytes words.now) ≡ []) → (o : Outcome)
-        × IsOutcome (F.contents files.old) (F.failures files.old) (F.failures files.new) (request_of (map string_bytes words.now)) o
+        × IsOutcome (store F.contents F.reads F.failures files.old) (store F.contents F.reads F.failures files.new) (request_of (map string_bytes words.now)) o
         × Brings (side O.taken O.failures output.old) (side O.taken O.failures output.new)
         (side E.taken E.failures errors.old) (side E.taken E.failures errors.new) o result }
-    ensures words { (refusals (map string_bytes words.now) ≡ [])
-        ⊎ ((o : Outcome) × AnswersWords (refusals (map string_bytes words.now)) o
+    ensures words { ¬ (refusals (map string_bytes words.now) ≡ []) → (o : Outcome)
+        × AnswersWords (refusals (map string_bytes words.now)) o
         × Brings (side O.taken O.failures output.old) (side O.taken O.failures output.new)
-        (side E.taken E.failures errors.old) (side E.taken E.failures errors.new) o result) }
+        (side E.taken E.failures errors.old) (side E.taken E.failures errors.new) o result }
+    ensures untouched { ¬ (refusals (map string_bytes words.now) ≡ []) → files.new ≡ files.old }
 {
     match read_request(alloc, words) {
         Ok(request) => perform(alloc, &request, files, output, errors),

@@ -11,7 +11,7 @@ ghost use Rattle.yspec.specs.text.Statement.{Statement, module_of};
 ghost use Rattle.ytext.specs.View.{modules_view};
 ghost use Rattle.yschema.specs.View as schema_view;
 ghost use Rattle.yapp.specs.Failing.{LeadsTo, reported};
-ghost use Rattle.yapp.specs.Files.{IsOutcome, Reads, came_to};
+ghost use Rattle.yapp.specs.Files.{IsOutcome, ReadsAll, came_to, store};
 
 use crate::failure::Failure;
 use crate::files::Files;
@@ -28,8 +28,8 @@ fn read_files<'a, F: Files>(
     names: &[&'a str],
     files: &mut F,
 ) -> Result<Vec<Vec<u8>>, Failure<'a>>
-    ensures { Reads (λ texts. map (λ text. text.items) texts.items) (F.contents files.old)
-        (F.failures files.old) (F.failures files.new) (map (λ n. n.now) names.now) result }
+    ensures { ReadsAll (λ texts. map (λ text. text.items) texts.items) (store F.contents F.reads F.failures files.old)
+        (store F.contents F.reads F.failures files.new) (map (λ n. n.now) names.now) result }
 {
     let mut contents = Vec::new(alloc);
     for name in names {
@@ -162,7 +162,7 @@ pub fn validate<'a, F: Files>(
     modules: &[&'a str],
     files: &mut F,
 ) -> Result<Report, Failure<'a>>
-    ensures { IsOutcome (F.contents files.old) (F.failures files.old) (F.failures files.new)
+    ensures { IsOutcome (store F.contents F.reads F.failures files.old) (store F.contents F.reads F.failures files.new)
         (spec.validate document.entry.now (map (λ n. n.now) modules.now)) (came_to result) }
 {
     match names_of(alloc, document, modules) {

@@ -1,5 +1,5 @@
 -- What calls on a live document answer, and what they leave of it, by cases.
-use Rattle.std.specs.Prelude.{◌≡◌, ℕ, ◌≤◌, true, false, List, length, take, Option, Some, None, Result, Ok, Err, Vec, if◌then◌else◌}
+use Rattle.std.specs.Prelude.{◌≡◌, ℕ, ◌<◌, true, false, List, length, take, Option, Some, None, Result, Ok, Err, Vec, if◌then◌else◌}
 use Rattle.yspec.specs.document.Document.{Tree}
 use Rattle.yspec.specs.edit.EditText as text
 use Rattle.yspec.specs.edit.Editing as editing
@@ -62,9 +62,14 @@ Decides before e (Ok outcome) after = (outcome_view outcome ≡ decision (answer
     × (after ≡ with_tree (tree_or (answer_to e before) before.tree) before)
 Decides before e (Err fault) after = after ≡ made_stale before
 
--- E12: memory ran out after so many edits, which were decided; E13: the document was stale
+-- the number behind the `E`
+abbrev pub stop_number : StopCode → ℕ
+stop_number E12 = 12
+stop_number E13 = 13
+
+-- E12: memory ran out after so many edits, which were decided, and not all of them were; E13: the document was stale
 abbrev pub Stops : StopCode → ℕ → spec.Live → List text.Edit → spec.Live → Type 0
-Stops E12 done before edits after = (before.is_stale ≡ false) × (done ≤ length edits) × (after ≡ made_stale (after_edits (take done edits) before))
+Stops E12 done before edits after = (before.is_stale ≡ false) × (done < length edits) × (after ≡ made_stale (after_edits (take done edits) before))
 Stops E13 done before edits after = (before.is_stale ≡ true) × (done ≡ 0) × (after ≡ before)
 
 -- what comes of each edit, in order

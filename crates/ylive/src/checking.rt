@@ -1,13 +1,14 @@
 //! From modules and a document to what comes of edits, and the faults that are left.
 
-ghost use Rattle.std.specs.Prelude.{◌≡◌, IfOk, Ok};
+ghost use Rattle.std.specs.Prelude.{◌≡◌, IfErr, IfOk, Ok};
 ghost use Rattle.yspec.specs.edit.Live.{checked, checked_from};
 ghost use Rattle.yspec.specs.document.Reading.{document_of};
+ghost use Rattle.yspec.specs.Results.{Gives};
 ghost use Rattle.ytext.specs.View.{modules_view};
 ghost use Rattle.yschema.specs.View as schema_view;
 ghost use Rattle.ylive.specs.View.{edits_view};
 ghost use Rattle.ylive.specs.View as live_view;
-ghost use Rattle.ylive.specs.Checking.{Gives, checked_view};
+ghost use Rattle.ylive.specs.Checking.{TellsOrMemory, checked_view, told_by};
 
 use crate::live::Live;
 use crate::outcome::Outcome;
@@ -43,7 +44,8 @@ pub fn check_edits(
     document: &[u8],
     edits: &[Edit],
 ) -> Result<Checked, CheckFault>
-    ensures { Gives result (checked (modules_view modules.now) document.now (edits_view edits.now)) }
+    ensures answer { Gives checked_view told_by result (checked (modules_view modules.now) document.now (edits_view edits.now)) }
+    ensures memory { IfErr result TellsOrMemory }
 {
     match compile(alloc, modules) {
         Ok(schema) => check_under(alloc, schema, document, edits),
@@ -59,7 +61,9 @@ fn check_under(
     document: &[u8],
     edits: &[Edit],
 ) -> Result<Checked, CheckFault>
-    ensures { let s = schema_view.view schema in Gives result (checked_from s (edits_view edits.now) (document_of s document.now)) }
+    ensures answer { let s = schema_view.view schema in
+        Gives checked_view told_by result (checked_from s (edits_view edits.now) (document_of s document.now)) }
+    ensures memory { IfErr result TellsOrMemory }
 {
     match read(alloc, &schema, document) {
         Ok(tree) => match Live::open(alloc, schema, tree) {

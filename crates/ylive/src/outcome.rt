@@ -1,5 +1,10 @@
 //! What comes of edits of a live document, and why a call on one gives nothing.
 
+ghost use Rattle.std.specs.Prelude.{◌≡◌};
+ghost use Rattle.ylive.specs.Answers.{stop_number};
+
+use std::fmt;
+use thiserror::Error;
 use yinst::{DocCode, EditCode, EditFault};
 
 /// How many faults the document had before an edit, and how many it has after it.
@@ -40,18 +45,36 @@ pub enum StopCode {
     E13 = 13,
 }
 
+impl StopCode {
+    /// The number behind the `E`.
+    pub fn number(self) -> u8
+        ensures { result ≡ stop_number self }
+    {
+        self as u8
+    }
+}
+
+impl fmt::Display for StopCode {
+    fn fmt<W: fmt::Write>(&self, f: &mut fmt::Formatter<W>) -> fmt::Result {
+        write!(f, "E{}", self.number())
+    }
+}
+
 /// Why a list of edits ended early, and how many of its edits were decided.
-#[derive(Clone, Copy, Debug, PartialEq, Eq)]
+#[derive(Clone, Copy, Debug, PartialEq, Eq, Error)]
+#[error("{code}")]
 pub struct Stopped {
     pub code: StopCode,
     pub done: usize,
 }
 
 /// Why there is no list of faults.
-#[derive(Clone, Copy, Debug, PartialEq, Eq)]
+#[derive(Clone, Copy, Debug, PartialEq, Eq, Error)]
 pub enum ListFault {
     /// The document is stale.
+    #[error("E13")]
     Stale,
     /// Memory ran out; the document stays as it was.
+    #[error("memory")]
     Memory,
 }

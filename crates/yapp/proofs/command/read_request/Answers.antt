@@ -1,14 +1,15 @@
 use Rattle.std.proofs.Common.{map, string_bytes, ap, sym, ◌∙◌}
 use Rattle.clap.specs.Words.{App, fault_of, is_simple, is_simple_and_free, subcommand_of}
 use Rattle.yapp.specs.Command.{asked_by, refusals}
-use Rattle.yapp.proofs.CommandLemmas.{answered, asks_memory, is_free, is_plain}
+use Rattle.yapp.proofs.CommandLemmas.{declined, declined_by_memory, is_free, is_plain}
+use Rattle.yapp.proofs.HelpAlone.{refusals_alike}
 use Rattle.yapp.proofs.command.read_request.Goals as goal
 
 pub returns-in_err-application : goal.returns-in_err-application
-returns-in_err-application c = asks_memory (map string_bytes c.args.words.now) c.from_residual.result c.from_residual.ensures.1
+returns-in_err-application c = declined_by_memory (map string_bytes c.args.words.now) c.from_residual.result c.from_residual.ensures.1
 
 pub returns-in_err-request_in-in-Ok : goal.returns-in_err-request_in-in-Ok
-returns-in_err-request_in-in-Ok c = asks_memory (map string_bytes c.args.words.now) c.from_residual-in_err-request_in-in-Ok.result c.from_residual-in_err-request_in-in-Ok.ensures.1
+returns-in_err-request_in-in-Ok c = declined_by_memory (map string_bytes c.args.words.now) c.from_residual-in_err-request_in-in-Ok.result c.from_residual-in_err-request_in-in-Ok.ensures.1
 
 pub returns-in_ok-request_in-in-Ok : goal.returns-in_ok-request_in-in-Ok
 returns-in_ok-request_in-in-Ok c =
@@ -22,5 +23,5 @@ pub returns-in-Err : goal.returns-in-Err
 returns-in-Err c =
     let app = c.in_ok-application.ensures in
     let words = map string_bytes c.args.words.now in
-    answered (refusals words) _ c.without_request.result
+    declined (refusals words) _ c.without_request.result (refusals_alike words)
     (rw (← ap (λ (a : App). fault_of a words) app) (c.in-Err.ensures.kinds (ap is_simple_and_free app ∙ is_free))) c.without_request.ensures
