@@ -8,6 +8,7 @@ use Rattle.yspec.specs.Forest.{Forest, end, node, join}
 use Rattle.yspec.specs.text.Statement.{Statement, Slip, module_of}
 use Rattle.yspec.specs.text.Text.{Text}
 use Rattle.yspec.specs.program.Output.{Outcome, Request, files_of, outcome, validate, validation, with_files, with_module, with_modules}
+use Rattle.yspec.proofs.ForestLemmas.{join_end, join_assoc}
 use Rattle.ytext.specs.View.{view, modules_view}
 use Rattle.ytext.specs.declared.statement.Module.{Module}
 use Rattle.yapp.specs.Failing.{FailsWith, FromFile, LeadsTo, outcome_of, reported}
@@ -97,14 +98,6 @@ with_modules_same (name ∷ names) [] f g same = same end []
 with_modules_same (name ∷ names) (text ∷ texts) f g same = with_module_same name (module_of text)
     (λ top. with_modules names texts (λ rest. f (join top rest))) (λ top. with_modules names texts (λ rest. g (join top rest)))
     (λ top. with_modules_same names texts (λ rest. f (join top rest)) (λ rest. g (join top rest)) (λ rest files. same (join top rest) files))
-
-join_end : (f : Forest Statement) → join f end ≡ f
-join_end end = refl
-join_end (node s below after) = ap (node s below) (join_end after)
-
-join_assoc : (f g h : Forest Statement) → join (join f g) h ≡ join f (join g h)
-join_assoc end g h = refl
-join_assoc (node s below after) g h = ap (node s below) (join_assoc after g h)
 
 modules_behind : (ms : List Module) (m : Module) → modules_view (ms ++ m ∷ []) ≡ join (modules_view ms) (modules_view (m ∷ []))
 modules_behind [] m = refl

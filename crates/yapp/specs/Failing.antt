@@ -1,6 +1,6 @@
 -- What a report or a failure comes to, as the outcome that it prints.
 use Rattle.std.specs.Prelude.{◌≡◌, ℕ, ◌++◌, ◌==◌, List, length, codes, decimal, Result, Ok, Err, if◌then◌else◌}
-use Rattle.ytext.specs.Gives.{number_of}
+use Rattle.ytext.specs.Told.{number_of}
 use Rattle.yschema.specs.Told.{code_number}
 use Rattle.yschema.specs.View as schema_view
 use Rattle.ytree.specs.Told as document

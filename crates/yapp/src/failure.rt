@@ -2,11 +2,8 @@
 
 ghost use Rattle.std.specs.Prelude.{◌≡◌, ◌++◌, codes, decimal};
 ghost use Rattle.yspec.specs.program.Output.{refusal_line};
-ghost use Rattle.ytext.specs.Gives.{number_of};
 ghost use Rattle.youtput.specs.Writing.{Writes, side};
-ghost use Rattle.yschema.specs.Told.{code_number};
 ghost use Rattle.yschema.specs.View as schema_view;
-ghost use Rattle.ytree.specs.Told as document;
 ghost use Rattle.ytree.specs.View.{place_view};
 ghost use Rattle.yapp.specs.Failing.{FromFile, outcome_of, refusal_in};
 ghost use Rattle.yapp.specs.declared.failure.Failure.TheVariants.{Memory};
@@ -18,9 +15,10 @@ use std::alloc::{AllocError, AllocFailed};
 use std::fmt;
 use thiserror::Error;
 use ycheck::write_path;
-use yinst::{DocCode, Step};
+use youtput::{Sink, SinkFault, write_texts};
 use yschema::{CompileCode, Schema};
-use ytext::{Sink, SinkFault, TextCode, write_texts};
+use ytext::TextCode;
+use ytree::{DocCode, Step};
 
 /// Why a command gives no report. Files are named by the words that were given.
 #[derive(Drop, Error)]
@@ -31,21 +29,21 @@ pub enum Failure<'a> {
         name: &'a str,
     },
     /// A module's text is refused in a line.
-    #[error("{name}:{line}: L{}", *.code as u8)]
+    #[error("{name}:{line}: {code}")]
     Text {
         name: &'a str,
         code: TextCode,
         line: u32,
     },
     /// A module is refused in a line.
-    #[error("{name}:{line}: C{}", *.code as u8)]
+    #[error("{name}:{line}: {code}")]
     Compile {
         name: &'a str,
         code: CompileCode,
         line: u32,
     },
     /// A document is refused at a node of a schema.
-    #[error("{name}: J{}", *.code as u8)]
+    #[error("{name}: {code}")]
     Document {
         name: &'a str,
         schema: Schema,
@@ -107,41 +105,20 @@ impl<'a> Failure<'a> {
         match self {
             Failure::Unread { name } => write_texts(sink, &["cannot read ", *name, "\n"]),
             Failure::Text { name, code, line } => {
-                write_refusal(*name, *line, ": L", text_number(*code), sink)
+                write_refusal(*name, *line, ": L", code.number(), sink)
             }
             Failure::Compile { name, code, line } => {
-                write_refusal(*name, *line, ": C", rule_number(*code), sink)
+                write_refusal(*name, *line, ": C", code.number(), sink)
             }
             Failure::Document {
                 name,
                 schema,
                 code,
                 place,
-            } => write_document_refusal(*name, schema, document_number(*code), place, sink),
+            } => write_document_refusal(*name, schema, code.number(), place, sink),
             Failure::Memory => write_texts(sink, &["memory\n"]),
         }
     }
-}
-
-/// The number of a text's code.
-fn text_number(code: TextCode) -> u8
-    ensures { result ≡ number_of code }
-{
-    code as u8
-}
-
-/// The number of the code of a module's rule.
-fn rule_number(code: CompileCode) -> u8
-    ensures { result ≡ code_number code }
-{
-    code as u8
-}
-
-/// The number of the code of a document's refusal.
-fn document_number(code: DocCode) -> u8
-    ensures { result ≡ document.code_number code }
-{
-    code as u8
 }
 
 /// Writes the line of a module's refusal: `FILE:LINE: CODE`.

@@ -13,7 +13,7 @@ use crate::files::Files;
 use crate::status::{FAILED, GOOD, MISUSED};
 use crate::validation::validate;
 use std::alloc::Global;
-use ytext::{Sink, SinkFault, write_texts};
+use youtput::{Sink, SinkFault, write_texts};
 
 /// The exit status after something was to be written: another one where a write failed.
 fn status_after(written: Result<(), SinkFault>, status: u8) -> u8

@@ -11,8 +11,8 @@ ghost use Rattle.yapp.specs.Failing.{reported};
 use crate::status::{FAULTY, GOOD};
 use itoa::Buffer;
 use ycheck::{Fault, write_line};
+use youtput::{Sink, SinkFault, write_texts};
 use yschema::Schema;
-use ytext::{Sink, SinkFault, write_texts};
 
 /// The faults of a document under its schema, in order.
 #[derive(Drop)]

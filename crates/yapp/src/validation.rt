@@ -18,9 +18,9 @@ use crate::files::Files;
 use crate::report::Report;
 use std::alloc::{AllocError, Global};
 use ycheck::faults;
-use yinst::{DocFault, Tree, read};
 use yschema::{CompileFault, Schema, compile};
 use ytext::{Module, TextFault, parse};
+use ytree::{DocFault, Tree, read};
 
 /// The contents of the files of some names, in order, up to the first that can't be read.
 fn read_files<'a, F: Files>(

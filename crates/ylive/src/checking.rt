@@ -13,6 +13,7 @@ ghost use Rattle.ylive.specs.Checking.{TellsOrMemory, checked_view, told_by};
 use crate::live::Live;
 use crate::outcome::Outcome;
 use std::alloc::{AllocError, Global};
+use thiserror::Error;
 use ycheck::Fault;
 use yinst::{DocFault, Edit, read};
 use yschema::{CompileFault, Schema, compile};
@@ -26,12 +27,15 @@ pub struct Checked {
 }
 
 /// Why no edit is looked at.
-#[derive(Debug, Drop)]
+#[derive(Debug, Drop, Error)]
 pub enum CheckFault {
     /// The modules are refused. It is never `CompileFault::Memory`.
+    #[error(transparent)]
     Modules(CompileFault),
     /// The document is refused. It is never `DocFault::Memory`.
+    #[error(transparent)]
     Document(DocFault),
+    #[error("memory")]
     Memory,
 }
 

@@ -15,13 +15,16 @@ pub struct Applied {
 }
 
 /// Why an edit isn't done.
-#[derive(Clone, Copy, Debug, PartialEq, Eq)]
+#[derive(Clone, Copy, Debug, PartialEq, Eq, Error)]
 pub enum Refused {
     /// The edit is refused, and the document stays as it was. It is never `EditFault::Memory`.
+    #[error(transparent)]
     Edit(EditFault),
     /// E12: memory ran out, so the document is stale from now on.
+    #[error("E12")]
     Memory,
     /// E13: the document is stale, and stays as it was.
+    #[error("E13")]
     Stale,
 }
 

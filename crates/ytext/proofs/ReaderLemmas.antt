@@ -18,7 +18,8 @@ use Rattle.ytext.specs.declared.fault.TextFault.{TextFault}
 use Rattle.ytext.specs.declared.fault.TextFault.TheVariants.{Refused, Memory}
 use Rattle.ytext.specs.declared.reader.Reader.{Reader}
 use Rattle.ytext.specs.declared.statement.Stmt.{Stmt}
-use Rattle.ytext.proofs.RowLemmas.{rows_by, rows_agree, statement_same, with_front, front_ok, front_err, join_end}
+use Rattle.ytext.proofs.RowLemmas.{rows_by, rows_agree, statement_same, with_front, front_ok, front_err}
+use Rattle.yspec.proofs.ForestLemmas.{join_end}
 
 pub word_ahead : (r : Reader) (w : Bor (List ℕ)) → r.token.lexeme ≡ Word w → tokens_ahead r ≡ at r.token.line (word w.now) ∷ left r.cursor
 word_ahead r w e = ap (λ (l : Lexeme). at r.token.line (lexeme_of l) ∷ cond (ends_text l) [] (left r.cursor)) e

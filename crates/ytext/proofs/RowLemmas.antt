@@ -7,6 +7,7 @@ use Rattle.yspec.specs.text.Statement.{Slip, slip, ◌>>=◌, Statement, Row, pi
 use Rattle.yspec.specs.Forest.{join}
 use Rattle.yspec.specs.text.Token.{at}
 use Rattle.yspec.specs.Results.{Fails}
+use Rattle.yspec.proofs.ForestLemmas.{join_assoc}
 use Rattle.ytext.specs.Told.{told_by}
 use Rattle.ytext.specs.Reading.{rows}
 use Rattle.ytext.specs.View.{view, row_view}
@@ -245,16 +246,12 @@ rows_by level t ts =
 
 -- ---- rows that the code has read so far
 
-pub join_again : (f g h : Forest Statement) → join (join f g) h ≡ join f (join g h)
-join_again end g h = refl
-join_again (node l below after) g h = ap (λ (r : Forest Statement). node l below r) (join_again after g h)
-
 pub with_front : Forest Statement → Result Row Slip → Result Row Slip
 with_front front read = read >>= (λ x. Ok (join front x.0, x.1))
 
 pub front_again : (f g : Forest Statement) (read : Result Row Slip) → with_front f (with_front g read) ≡ with_front (join f g) read
 unfolding with_front
-front_again f g (Ok x) = ap (λ (r : Forest Statement). Ok (r, x.1)) (sym (join_again f g x.0))
+front_again f g (Ok x) = ap (λ (r : Forest Statement). Ok (r, x.1)) (sym (join_assoc f g x.0))
 front_again f g (Err s) = refl
 
 pub front_nothing : (read : Result Row Slip) → with_front end read ≡ read
@@ -269,10 +266,6 @@ front_ok f g ts = refl
 pub front_err : (f : Forest Statement) (s : Slip) → with_front f (Err s) ≡ Err s
 unfolding with_front
 front_err f s = refl
-
-pub join_end : (f : Forest Statement) → join f end ≡ f
-join_end end = refl
-join_end (node l below after) = ap (λ (r : Forest Statement). node l below r) (join_end after)
 
 pub row_view_push : (ss : List Stmt) (s : Stmt) → row_view (ss ++ s ∷ []) ≡ join (row_view ss) (row_view (s ∷ []))
 row_view_push [] s = refl
