@@ -10,17 +10,9 @@ use Rattle.yspec.specs.text.Token.{joined_breaks, trimmed_ends, stripped_starts,
 use Rattle.yspec.specs.text.Statement.{slip}
 use Rattle.ytext.specs.Quoted.{said, reading, all_blank, is_solid, is_break, is_plain, blank_width}
 use Rattle.ytext.proofs.ScanLemmas.{drop_at}
-use Rattle.ytext.proofs.TokenLemmas.{nothing_between}
+use Rattle.ytext.proofs.TokenLemmas.{nothing_between, stretched}
 
 -- ---- stretches of a text
-
-pub stretched : (text : List ℕ) (i j : ℕ) → i ≤ j → j < length text → slice_range text i (j + 1) ≡ slice_range text i j ++ get_or text j 0 ∷ []
-stretched text i j h l =
-    let more : (j + 1) - i ≡ (j - i) + 1 = omega arith in
-    let within : j - i < length (drop i text) = omega (arith, length-drop i text) in
-    let there : i + (j - i) ≡ j = omega arith in
-    ap (λ (n : ℕ). take n (drop i text)) more ∙ take_more (drop i text) (j - i) 0 within
-    ∙ ap (λ (x : ℕ). take (j - i) (drop i text) ++ x ∷ []) (get_or-drop i text (j - i) 0 ∙ ap (λ (k : ℕ). get_or text k 0) there)
 
 -- a text from a place on is the stretch to a later place, and what follows
 pub cut_at : (text : List ℕ) (i j : ℕ) → i ≤ j → drop i text ≡ slice_range text i j ++ drop j text

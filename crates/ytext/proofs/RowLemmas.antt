@@ -8,16 +8,13 @@ use Rattle.yspec.specs.Forest.{join}
 use Rattle.yspec.specs.text.Token.{at}
 use Rattle.yspec.specs.Results.{Fails}
 use Rattle.yspec.proofs.ForestLemmas.{join_assoc}
+use Rattle.yspec.proofs.TextProofs.SpellingRowLemmas.{bind_ok}
 use Rattle.ytext.specs.Told.{told_by}
 use Rattle.ytext.specs.Reading.{rows}
 use Rattle.ytext.specs.View.{view, row_view}
 use Rattle.ytext.specs.declared.statement.Stmt.{Stmt}
 use Rattle.ytext.specs.declared.fault.TextFault.{TextFault}
 use Rattle.ytext.specs.declared.fault.TextFault.TheVariants.{Refused, Memory}
-
-bind_ok : {A B : Type 0} (r : Result A Slip) (f : A → Result B Slip) (y : B) → (r >>= f) ≡ Ok y → (x : A) × (r ≡ Ok x) × (f x ≡ Ok y)
-bind_ok (Ok x) f y e = (x, refl, e)
-bind_ok (Err s) f y e = cc
 
 -- ---- nothing reads more than there is
 

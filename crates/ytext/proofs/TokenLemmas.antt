@@ -50,7 +50,7 @@ column_over column [] ys = refl
 column_over column (x ∷ xs) ys = column_over (column_after x column) xs ys
 
 -- a stretch of a text with the next byte
-stretched : (text : List ℕ) (i j : ℕ) → i ≤ j → j < length text → slice_range text i (j + 1) ≡ slice_range text i j ++ get_or text j 0 ∷ []
+pub stretched : (text : List ℕ) (i j : ℕ) → i ≤ j → j < length text → slice_range text i (j + 1) ≡ slice_range text i j ++ get_or text j 0 ∷ []
 stretched text i j h l =
     let more : (j + 1) - i ≡ (j - i) + 1 = omega arith in
     let within : j - i < length (drop i text) = omega (arith, length-drop i text) in
