@@ -1,3 +1,4 @@
+pub mod MeaningLemmas
 pub mod CheckingLemmas
 pub mod FittingLemmas
 pub mod FittingReadLemmas

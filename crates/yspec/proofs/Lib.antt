@@ -1,5 +1,6 @@
-pub mod NodeLemmas
-pub mod MeaningLemmas
+pub mod BasicLemmas
+pub mod MemberLemmas
+pub mod CountLemmas
 pub mod DocumentProofs
 pub mod EditProofs
 pub mod LiteralLemmas

@@ -1,3 +1,4 @@
+pub mod NodeLemmas
 pub mod LeastLemmas
 pub mod CompiledLemmas
 pub mod CompiledShapeLemmas

@@ -1,6 +1,5 @@
 pub mod Results
 pub mod Forest
-pub mod FaultCode
 pub mod document
 pub mod edit
 pub mod program

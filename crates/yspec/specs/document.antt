@@ -1,4 +1,5 @@
 -- Documents: reading, writing, what is in play, and faults.
+pub mod FaultCode
 pub mod Document
 pub mod Path
 pub mod Reading

@@ -5,7 +5,7 @@ use Rattle.std.specs.Option.{option_map_or}
 use Rattle.yspec.specs.Forest.{Forest, end, node}
 use Rattle.yspec.specs.schema.Schema.{SchemaNode, Kind, container, leaf}
 use Rattle.yspec.specs.document.Document.{Step, below_place}
-use Rattle.yspec.specs.FaultCode.{FaultCode, V3}
+use Rattle.yspec.specs.document.FaultCode.{FaultCode, V3}
 
 -- Steps lead down from that node, through containers that are implied.
 pub data Item : Type 0 where

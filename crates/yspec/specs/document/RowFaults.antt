@@ -6,7 +6,7 @@ use Rattle.yspec.specs.Forest.{Forest, end, node}
 use Rattle.yspec.specs.types.Types.{Raw}
 use Rattle.yspec.specs.schema.Schema.{SchemaNode, Kind, container, leaf}
 use Rattle.yspec.specs.document.Document.{Tree, Step, step_to}
-use Rattle.yspec.specs.FaultCode.{V3}
+use Rattle.yspec.specs.document.FaultCode.{V3}
 use Rattle.yspec.specs.document.Faults.{Fault, plain_fault, value_faults, under}
 
 -- the steps to a node in front of those that lead on from it

@@ -11,7 +11,7 @@ use Rattle.yspec.specs.document.Document.{Tree, step_to}
 use Rattle.yspec.specs.edit.EditText.{Edit, edit_of}
 use Rattle.yspec.specs.edit.Editing.{Decision, after, decisions}
 use Rattle.yspec.specs.document.Faults.{Fault, plain_fault}
-use Rattle.yspec.specs.FaultCode.{FaultCode}
+use Rattle.yspec.specs.document.FaultCode.{FaultCode}
 use Rattle.yspec.specs.edit.Live.{Checked, CheckRefusal, checked}
 
 -- a module of a name, of which these lines stand from line 5 on

@@ -7,7 +7,7 @@ use Rattle.yspec.specs.text.Text.{Text, is_text}
 use Rattle.yspec.specs.schema.Schema.{Schema, SchemaNode, written_name, other_name, is_written, row_at, module_at, node_at, children_of, child_written}
 use Rattle.yspec.specs.document.Reading.{child, other_form, unknown, named, other_or}
 use Rattle.yspec.specs.document.Fitting.{IsNumbered}
-use Rattle.yspec.proofs.NodeLemmas.{Found, first_found, first_in_row-is, row_node}
+use Rattle.yspec.proofs.SchemaProofs.NodeLemmas.{Found, first_found, first_in_row-is, row_node}
 
 named_child : (s : Schema) (m : Option ℕ) (name : Text) (f : Forest SchemaNode) (x : Found)
     → first_found (λ n. is_text name (written_name s m n)) f ≡ Some x → named s m name f ≡ child x.0 x.1
