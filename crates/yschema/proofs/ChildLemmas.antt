@@ -13,6 +13,7 @@ use Rattle.yschema.specs.Lookup.{first_below}
 use Rattle.yschema.proofs.LayoutLemmas.{laid_parts, length-laid, length-places}
 use Rattle.yspec.proofs.SchemaProofs.NodeLemmas.{map_cond}
 use Rattle.yschema.proofs.FindLemmas.{same_number}
+use Rattle.yspec.proofs.BasicLemmas.{first_of_none}
 
 pub numbered_laid : (f : Forest SchemaNode) (p : Option ℕ) (k : ℕ) (rows : List Row) → laid k rows ≡ places p f → IsNumbered k f
 numbered_laid end p k rows e = tt
@@ -90,10 +91,6 @@ no_below j (node l below after) avoids =
 
 abbrev below_or_none : ℕ → Forest SchemaNode → Forest SchemaNode
 below_or_none j f = unwrap_or (find_below (λ n. n.number == j) f) end
-
-first_of_none : {X : Type 0} (o : Option X) → first_of o None ≡ o
-first_of_none (Some x) = refl
-first_of_none None = refl
 
 joined_none : {X : Type 0} (o : Option (Forest X)) → joined_below o None ≡ o
 joined_none (Some x) = refl

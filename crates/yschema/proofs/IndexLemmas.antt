@@ -2,7 +2,7 @@
 use Rattle.std.proofs.Common.{◌≡◌, ℕ, suc, ◌+◌, ◌<◌, ◌≤◌, Bool, true, false, cond, not, ◌&&◌, ◌||◌, List, [], ◌∷◌, ◌++◌, length, map, Option, Some, None, Result, Ok, Err, OnOk, OnErr, refl, sym, ap, ◌∙◌, arith}
 use Rattle.std.specs.Prelude.{◌==◌, option_map, option_and_then, unwrap_or, is_some, position, nat_lt}
 use Rattle.std.specs.Map.{lookup}
-use Rattle.std.proofs.lemmas.Bool.{eq-eqb, ne_eqb, lt-ltb}
+use Rattle.std.proofs.lemmas.Bool.{eq-eqb, ne_eqb, lt-ltb, and_parts}
 use Rattle.std.proofs.lemmas.Bool.Decides.{Decides-eqb, nat_tests}
 use Rattle.std.proofs.lemmas.List.{length-map}
 use Rattle.std.specs.List.{list_any, position_or_len}
@@ -14,7 +14,6 @@ use Rattle.yschema.specs.Keys.{same_parent, same_module, same_key}
 use Rattle.yschema.specs.Lookup.{key}
 use Rattle.yschema.specs.declared.node.SchemaId.{SchemaId}
 use Rattle.yschema.specs.declared.index.Key.{Key}
-use Rattle.yschema.proofs.QueryLemmas.{and_is}
 
 next_less : (n m : ℕ) → nat_lt (1 + n) (suc m) ≡ nat_lt n m
 next_less n m = grind (arith, nat_tests)
@@ -191,8 +190,8 @@ same_module-is (Some a) (Some b) e = ap Some ((Decides-eqb a b).0 e)
 
 same_key-is : (a b : Key) → same_key a b ≡ true → a ≡ b
 same_key-is a b e =
-    let parts = and_is (same_parent a.parent b.parent) (same_module a.«module» b.«module» && a.text == b.text) e in
-    let inner = and_is (same_module a.«module» b.«module») (a.text == b.text) parts.1 in
+    let parts = and_parts (same_parent a.parent b.parent) (same_module a.«module» b.«module» && a.text == b.text) e in
+    let inner = and_parts (same_module a.«module» b.«module») (a.text == b.text) parts.1 in
     let parent = same_parent-is a.parent b.parent parts.0 in
     let owner = same_module-is a.«module» b.«module» inner.0 in
     let text = (Decides-eqb a.text b.text).0 inner.1 in

@@ -14,6 +14,7 @@ use Rattle.yschema.specs.Layout.{node_view, Place, place_of, places, laid, IsLai
 use Rattle.yschema.specs.View.{forest_of}
 use Rattle.yschema.proofs.RowLemmas.{forest_of-cons, no_node}
 use Rattle.yschema.proofs.ModuleLemmas.{modules_view_at}
+use Rattle.yspec.proofs.SchemaProofs.CompiledShapeLemmas.{size_from}
 
 -- ---- lengths
 
@@ -25,19 +26,6 @@ pub length-places : (p : Option ℕ) (f : Forest SchemaNode) → length (places 
 length-places p end = refl
 length-places p (node l below after) = ap suc (length-append (places (Some l.number) below) (places p after)
     ∙ ap₂ (λ a b. a + b) (length-places (Some l.number) below) (length-places p after))
-
-size_cond : (b : Bool) (f g : Forest SchemaNode) → size (cond b f g) ≡ cond b (size f) (size g)
-size_cond true f g = refl
-size_cond false f g = refl
-
-pub size-nodes_from : (m k : ℕ) (f : Forest Statement) → size (nodes_from m k f) ≡ data_size f
-unfolding nodes_from data_size
-size-nodes_from m k end = refl
-size-nodes_from m k (node s below after) =
-    size_cond (is_data_definition s.keyword) (node (schema_node m k s below) (nodes_from m (k + 1) below) (nodes_from m (k + 1 + data_size below) after)) (nodes_from m k after)
-    ∙ ap₂ (λ x y. cond (is_data_definition s.keyword) (suc x) y)
-    (ap₂ (λ a b. a + b) (size-nodes_from m (k + 1) below) (size-nodes_from m (k + 1 + data_size below) after))
-    (size-nodes_from m k after)
 
 -- ---- parts of what is laid
 
@@ -120,7 +108,7 @@ pub length_after : (old new : List Row) (here : Place) (m k : ℕ) (below : Fore
     → length new ≡ length old + 1 + data_size below
 length_after old new here m k below new_is =
     let whole : length (laid 0 new) ≡ length (laid 0 old) + suc (length (places (Some k) (nodes_from m (k + 1) below))) = ap length new_is ∙ length-append (laid 0 old) (here ∷ places (Some k) (nodes_from m (k + 1) below)) in
-    let inner : length (places (Some k) (nodes_from m (k + 1) below)) ≡ data_size below = length-places (Some k) (nodes_from m (k + 1) below) ∙ size-nodes_from m (k + 1) below in
+    let inner : length (places (Some k) (nodes_from m (k + 1) below)) ≡ data_size below = length-places (Some k) (nodes_from m (k + 1) below) ∙ size_from m (k + 1) below in
     omega (arith, whole, inner, length-laid 0 new, length-laid 0 old)
 
 pub laid_row : (m : ℕ) (ss : List Stmt) (i : ℕ) (s : Stmt) (old new : List Row) (p : Option ℕ) (whole : List Place)
@@ -138,7 +126,7 @@ laid_row m ss i s old new p whole within is stands added so =
     let after = nodes_from m (length old + 1 + data_size (view s).1) rest in
     let split : nodes_from m (length old) (row_view (drop i ss)) ≡ node label below after = ap (nodes_from m (length old)) (row_view_at ss i s within is) ∙ rw stands refl in
     let sized : places p (node label below after) ≡ here ∷ (places (Some (length old)) below ++ places p after) =
-    ap (λ n. record { parent = p; label = label; below = n } ∷ (places (Some (length old)) below ++ places p after)) (size-nodes_from m (length old + 1) (view s).1) in
+    ap (λ n. record { parent = p; label = label; below = n } ∷ (places (Some (length old)) below ++ places p after)) (size_from m (length old + 1) (view s).1) in
     let count : length new ≡ length old + 1 + data_size (view s).1 = length_after old new here m (length old) (view s).1 added in
     ap₂ (λ a n. a ++ places p (nodes_from m n rest)) added count
     ∙ (regrouped (laid 0 old) here (places (Some (length old)) below) (places p after)
@@ -177,7 +165,7 @@ pub length_module : (old new : List Row) (m : ℕ) (f : Forest Statement)
     → laid 0 new ≡ laid 0 old ++ places None (nodes_from m (length old) f) → length new ≡ length old + data_size f
 length_module old new m f added =
     let whole : length (laid 0 new) ≡ length (laid 0 old) + length (places None (nodes_from m (length old) f)) = ap length added ∙ length-append (laid 0 old) (places None (nodes_from m (length old) f)) in
-    let inner : length (places None (nodes_from m (length old) f)) ≡ data_size f = length-places None (nodes_from m (length old) f) ∙ size-nodes_from m (length old) f in
+    let inner : length (places None (nodes_from m (length old) f)) ≡ data_size f = length-places None (nodes_from m (length old) f) ∙ size_from m (length old) f in
     omega (arith, whole, inner, length-laid 0 new, length-laid 0 old)
 
 pub laid_module : (ms : List Module) (i : ℕ) (m : Module) (f : Forest Statement) (old new : List Row) (whole : List Place)

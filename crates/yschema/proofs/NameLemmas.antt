@@ -14,6 +14,8 @@ use Rattle.yspec.specs.schema.Schema.{argument_text, is_data_definition}
 use Rattle.yspec.specs.schema.Breaks.{Break, broken, when, least_from, doubled, module_breaks, name_breaks, by_body}
 use Rattle.yspec.proofs.SchemaProofs.LeastLemmas.{least_of_both}
 use Rattle.yschema.proofs.ModuleLemmas.{modules_view_at}
+use Rattle.std.proofs.Math.Bool.{or_comm, or-false}
+use Rattle.std.proofs.lemmas.List.Folds.{list_any-append}
 
 -- the same names are among both
 abbrev pub HaveSame : List Text → List Text → Type 0
@@ -38,31 +40,13 @@ module_breaks-alike m bs cs (node s below after) same =
 
 -- ---- what a set of names holds after one more
 
-or_comm : (a b : Bool) → (a || b) ≡ (b || a)
-or_comm true true = refl
-or_comm true false = refl
-or_comm false true = refl
-or_comm false false = refl
-
 or_true : (a b : Bool) → (a ≡ true → b ≡ true) → b ≡ (a || b)
 or_true true b h = h refl
 or_true false b h = refl
 
-or_assoc : (a b c : Bool) → (a || (b || c)) ≡ ((a || b) || c)
-or_assoc true b c = refl
-or_assoc false b c = refl
-
-list_any-append : {X : Type 0} (p : X → Bool) (xs ys : List X) → list_any p (xs ++ ys) ≡ (list_any p xs || list_any p ys)
-list_any-append p [] ys = refl
-list_any-append p (x ∷ xs) ys = ap (λ b. p x || b) (list_any-append p xs ys) ∙ or_assoc (p x) (list_any p xs) (list_any p ys)
-
 list_any-map : {X Y : Type 0} (p : Y → Bool) (f : X → Y) (xs : List X) → list_any p (map f xs) ≡ list_any (λ x. p (f x)) xs
 list_any-map p f [] = refl
 list_any-map p f (x ∷ xs) = ap (λ b. p (f x) || b) (list_any-map p f xs)
-
-or_false : (b : Bool) → (b || false) ≡ b
-or_false true = refl
-or_false false = refl
 
 module _ {X : Type 0} (now : X → Text) where
   inserted_has : (b : Bool) (ks : List X) (x : X) (t : Text) → list_any (λ k. is_text (now x) (now k)) ks ≡ b
@@ -71,7 +55,7 @@ module _ {X : Type 0} (now : X → Text) where
       (λ e. subst (λ a. list_any (λ k. is_text a (now k)) ks ≡ true) (sym ((bytes_eq-Decides t (now x)).0 e)) had)
   inserted_has false ks x t had = list_any-append (λ k. is_text t (now k)) ks (x ∷ [])
       ∙ (or_comm (list_any (λ k. is_text t (now k)) ks) (is_text t (now x) || false)
-      ∙ ap (λ b. b || list_any (λ k. is_text t (now k)) ks) (or_false (is_text t (now x))))
+      ∙ ap (λ b. b || list_any (λ k. is_text t (now k)) ks) (or-false (is_text t (now x))))
 
   pub insert_key-has : (ks : List X) (x : X) → HaveSame (map now (insert_key (λ a b. is_text (now a) (now b)) ks x)) (now x ∷ map now ks)
   insert_key-has ks x t =

@@ -2,7 +2,7 @@
 use Rattle.std.proofs.Common.{◌≡◌, ℕ, zero, suc, ◌+◌, ◌-◌, ◌≤◌, ◌≢◌, Bool, true, false, cond, not, ◌&&◌, min, List, [], ◌∷◌, ◌++◌, length, take, drop, map, Option, Some, None, refl, sym, ap, ap₂, ◌∙◌, arith, length-append, length-take, length-drop}
 use Rattle.std.specs.Prelude.{◌==◌, option_map, find, slice_get, nat_le, nat_lt, position}
 use Rattle.std.specs.List.{position_or_len}
-use Rattle.std.proofs.lemmas.Bool.{eq-eqb, ne_eqb, le-leb, leb-true}
+use Rattle.std.proofs.lemmas.Bool.{eq-eqb, ne_eqb, le-leb, leb-true, and_parts, and_from}
 use Rattle.std.proofs.lemmas.List.{take-append-drop, take_min, length-map}
 use Rattle.std.proofs.lemmas.Option.{slice_get_past}
 use Rattle.yspec.specs.Forest.{Forest, node, end, size, find_label, find_below}
@@ -26,20 +26,12 @@ is_short : List Row → Bool
 is_short [] = true
 is_short (r ∷ rows) = nat_le r.below (length rows) && is_short rows
 
-pub and_is : (a b : Bool) → (a && b) ≡ true → (a ≡ true) × (b ≡ true)
-and_is true b e = (refl, e)
-and_is false b e = absurd cc
-
-is_and : (a b : Bool) → a ≡ true → b ≡ true → (a && b) ≡ true
-is_and true b e f = f
-is_and false b e f = absurd cc
-
 is_short-append : (xs ys : List Row) → is_short xs ≡ true → is_short ys ≡ true → is_short (xs ++ ys) ≡ true
 unfolding is_short
 is_short-append [] ys e f = f
 is_short-append (x ∷ xs) ys e f =
-    let parts = and_is (nat_le x.below (length xs)) (is_short xs) e in
-    is_and (nat_le x.below (length (xs ++ ys))) (is_short (xs ++ ys))
+    let parts = and_parts (nat_le x.below (length xs)) (is_short xs) e in
+    and_from (nat_le x.below (length (xs ++ ys))) (is_short (xs ++ ys))
     (le-leb x.below (length (xs ++ ys)) (omega (arith, leb-true x.below (length xs) parts.0, length-append xs ys)))
     (is_short-append xs ys parts.1 f)
 
@@ -49,9 +41,9 @@ is_short-fits zero [] h e = refl
 is_short-fits zero (r ∷ rows) h e = absurd (omega arith)
 is_short-fits (suc n) [] h e = refl
 is_short-fits (suc n) (r ∷ rows) h e =
-    let parts = and_is (nat_le r.below (length rows)) (fits_within n (take r.below rows) && fits_within n (drop r.below rows)) e in
-    let inner = and_is (fits_within n (take r.below rows)) (fits_within n (drop r.below rows)) parts.1 in
-    is_and (nat_le r.below (length rows)) (is_short rows) parts.0
+    let parts = and_parts (nat_le r.below (length rows)) (fits_within n (take r.below rows) && fits_within n (drop r.below rows)) e in
+    let inner = and_parts (fits_within n (take r.below rows)) (fits_within n (drop r.below rows)) parts.1 in
+    and_from (nat_le r.below (length rows)) (is_short rows) parts.0
     (ap is_short (sym (take-append-drop r.below rows))
     ∙ is_short-append (take r.below rows) (drop r.below rows)
     (is_short-fits n (take r.below rows) (omega (arith, length-take r.below rows)) inner.0)
@@ -66,7 +58,7 @@ pairs-append : (k : ℕ) (xs ys : List Row) → is_short xs ≡ true → pairs k
 unfolding pairs is_short
 pairs-append k [] ys e = ap (λ n. pairs n ys) (omega arith)
 pairs-append k (x ∷ xs) ys e =
-    let parts = and_is (nat_le x.below (length xs)) (is_short xs) e in
+    let parts = and_parts (nat_le x.below (length xs)) (is_short xs) e in
     let here : k + 1 + length xs ≡ k + suc (length xs) = omega arith in
     ap₂ (λ inner rest. (node_view k x.node, forest_of (k + 1) inner) ∷ rest)
     (take-append-within x.below xs ys (leb-true x.below (length xs) parts.0))
@@ -78,8 +70,8 @@ all_below-forest zero k [] h e = ap all_below (no_node k [] refl)
 all_below-forest zero k (r ∷ rows) h e = absurd (omega arith)
 all_below-forest (suc n) k [] h e = ap all_below (no_node k [] refl)
 all_below-forest (suc n) k (r ∷ rows) h e =
-    let parts = and_is (nat_le r.below (length rows)) (fits_within n (take r.below rows) && fits_within n (drop r.below rows)) e in
-    let inner = and_is (fits_within n (take r.below rows)) (fits_within n (drop r.below rows)) parts.1 in
+    let parts = and_parts (nat_le r.below (length rows)) (fits_within n (take r.below rows) && fits_within n (drop r.below rows)) e in
+    let inner = and_parts (fits_within n (take r.below rows)) (fits_within n (drop r.below rows)) parts.1 in
     let front : length (take r.below rows) ≤ n = omega (arith, length-take r.below rows) in
     let back : length (drop r.below rows) ≤ n = omega (arith, length-drop r.below rows) in
     ap all_below (forest_of-cons k r rows)
@@ -145,9 +137,9 @@ fits_laid f p (suc n) k [] h e = refl
 fits_laid end p (suc n) k (r ∷ rows) h e = absurd cc
 fits_laid (node l below after) p (suc n) k (r ∷ rows) h e =
     let parts = laid_parts l below after p k r rows e in
-    is_and (nat_le r.below (length rows)) (fits_within n (take r.below rows) && fits_within n (drop r.below rows))
+    and_from (nat_le r.below (length rows)) (fits_within n (take r.below rows) && fits_within n (drop r.below rows))
     (le-leb r.below (length rows) parts.2)
-    (is_and (fits_within n (take r.below rows)) (fits_within n (drop r.below rows))
+    (and_from (fits_within n (take r.below rows)) (fits_within n (drop r.below rows))
     (fits_laid below (Some l.number) n (k + 1) (take r.below rows) (omega (arith, length-take r.below rows)) parts.0)
     (fits_laid after p n (k + 1 + length (take r.below rows)) (drop r.below rows) (omega (arith, length-drop r.below rows)) parts.1))
 

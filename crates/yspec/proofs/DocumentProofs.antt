@@ -1,3 +1,4 @@
+pub mod MeaningLemmas
 pub mod CheckingLemmas
 pub mod FittingLemmas
 pub mod FittingReadLemmas
@@ -8,4 +9,5 @@ pub mod WrittenNameLemmas
 pub mod WrittenShapeLemmas
 pub mod ReadWholeLemmas
 pub mod JsonLemmas
-pub mod MeaningLemmas
+pub mod MemberLemmas
+pub mod CountLemmas

@@ -1,4 +1,5 @@
 pub mod ForestLemmas
+pub mod BasicLemmas
 pub mod DocumentProofs
 pub mod EditProofs
 pub mod LiteralLemmas

@@ -1,6 +1,12 @@
 -- What a fallible call answers, against what a definition gives: one relation for all of them.
 use Rattle.std.specs.Prelude.{◌≡◌, Option, Some, None, Result, Ok, Err}
 
+infixl 10 ◌>>=◌
+-- goes on from what was answered; a refusal stays
+abbrev pub ◌>>=◌ : {A B R : Type 0} → Result A R → (A → Result B R) → Result B R
+(Ok x) >>= f = f x
+(Err e) >>= f = Err e
+
 -- the definition refuses so; a fault that tells no refusal is want of memory, of which nothing is said
 abbrev pub Fails : {Y R : Type 0} → Option R → Result Y R → Type 0
 Fails (Some refusal) answer = answer ≡ Err refusal

@@ -1,6 +1,6 @@
 -- Documents: reading, writing, what is in play, and faults.
-pub mod Document
 pub mod FaultCode
+pub mod Document
 pub mod Path
 pub mod Reading
 pub mod Play

@@ -6,7 +6,7 @@ ghost use Rattle.yspec.specs.text.Text.{Text};
 ghost use Rattle.yspec.specs.text.Token.{Token, tokens_of};
 ghost use Rattle.yspec.specs.text.Statement.{Statement, Slip, text_limit, module_of};
 ghost use Rattle.yspec.specs.text.Spelling.{start, Cut, Spells};
-ghost use Rattle.yspec.specs.text.Slips.{slips, first, told, IsFirstWrong};
+ghost use Rattle.yspec.specs.text.Slips.{slips, first, told_slip, IsFirstWrong};
 ghost use Rattle.yspec.specs.text.SpellingExamples.{labelled, module_named, slip_of, nested};
 
 /// Each text is cut into its tokens, and in no other way.
@@ -37,10 +37,10 @@ pub fn refusals()
 /// A text is refused with what is told of it: that it is too long, no UTF-8 or has a character that isn't allowed, and
 /// else the first of its slips. Nothing is told of a text exactly where it spells a statement.
 pub fn first_slip()
-    ensures refused { (text : Text) (slip : Slip) → module_of text ≡ Err slip → told text ≡ Some slip }
-    ensures told_alone { (text : Text) (slip : Slip) → told text ≡ Some slip → module_of text ≡ Err slip }
-    ensures spelled { (text : Text) (top : Forest Statement) → Spells text top → told text ≡ None }
-    ensures else_spelled { (text : Text) → told text ≡ None → (top : Forest Statement) × Spells text top }
+    ensures refused { (text : Text) (slip : Slip) → module_of text ≡ Err slip → told_slip text ≡ Some slip }
+    ensures told_alone { (text : Text) (slip : Slip) → told_slip text ≡ Some slip → module_of text ≡ Err slip }
+    ensures spelled { (text : Text) (top : Forest Statement) → Spells text top → told_slip text ≡ None }
+    ensures else_spelled { (text : Text) → told_slip text ≡ None → (top : Forest Statement) × Spells text top }
 {}
 
 /// What stands before the token of the first slip is the beginning of tokens that spell a statement, and with that token
@@ -61,20 +61,20 @@ pub fn spelled_texts()
 
 /// Of several slips the first place is told, and at one place the lower number.
 pub fn first_places()
-    ensures comment_end { told (codes "module a; */") ≡ slip_of 5 1 }
-    ensures string_behind_plus { told (codes "a 'b' +\n\"c") ≡ slip_of 3 2 }
-    ensures comment_behind_plus { told (codes "a 'b' +\n/* c") ≡ slip_of 5 1 }
-    ensures quoted_keyword { told (codes "\n\"\\x\" b;") ≡ slip_of 5 2 }
-    ensures open_keyword { told (codes "\n\"\\x b;") ≡ slip_of 3 2 }
-    ensures end_lacking { told (codes "a b\n}") ≡ slip_of 5 2 }
-    ensures unformed_second { told (codes "a;\n1;") ≡ slip_of 6 2 }
-    ensures escape_before_the_end { told (codes "a \"b\\") ≡ slip_of 3 1 }
-    ensures escape_before_a_line_break { told (codes "a \"b\n\\\n\";") ≡ slip_of 4 2 }
+    ensures comment_end { told_slip (codes "module a; */") ≡ slip_of 5 1 }
+    ensures string_behind_plus { told_slip (codes "a 'b' +\n\"c") ≡ slip_of 3 2 }
+    ensures comment_behind_plus { told_slip (codes "a 'b' +\n/* c") ≡ slip_of 5 1 }
+    ensures quoted_keyword { told_slip (codes "\n\"\\x\" b;") ≡ slip_of 5 2 }
+    ensures open_keyword { told_slip (codes "\n\"\\x b;") ≡ slip_of 3 2 }
+    ensures end_lacking { told_slip (codes "a b\n}") ≡ slip_of 5 2 }
+    ensures unformed_second { told_slip (codes "a;\n1;") ≡ slip_of 6 2 }
+    ensures escape_before_the_end { told_slip (codes "a \"b\\") ≡ slip_of 3 1 }
+    ensures escape_before_a_line_break { told_slip (codes "a \"b\n\\\n\";") ≡ slip_of 4 2 }
 {}
 
 /// The limits at their edges.
 pub fn limits()
-    ensures deepest { told (nested 64 []) ≡ None }
-    ensures too_deep { told (nested 64 (codes "a\n{}")) ≡ slip_of 7 66 }
-    ensures too_long { (text : Text) → text_limit < length text → told text ≡ slip_of 7 1 }
+    ensures deepest { told_slip (nested 64 []) ≡ None }
+    ensures too_deep { told_slip (nested 64 (codes "a\n{}")) ≡ slip_of 7 66 }
+    ensures too_long { (text : Text) → text_limit < length text → told_slip text ≡ slip_of 7 1 }
 {}

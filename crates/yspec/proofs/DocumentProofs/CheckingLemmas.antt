@@ -10,7 +10,7 @@ use Rattle.yspec.specs.types.Types.{Raw}
 use Rattle.yspec.specs.schema.Schema.{Schema, SchemaNode, Kind, container, leaf, node_in, row_below}
 use Rattle.yspec.specs.document.Document.{Stored, Tree, Step, step_to, below_place, instances_in}
 use Rattle.yspec.specs.document.Play.{Item, in_use, visit, absent_items, items_in_play}
-use Rattle.yspec.specs.document.Faults.{Fault, Answers, Told, kind_faults, under, item_faults, faults_of_instances, woven, told_in, faults_by}
+use Rattle.yspec.specs.document.Faults.{Fault, Counting, Told, kind_faults, under, item_faults, faults_of_instances, woven, told_in, faults_by}
 use Rattle.yspec.specs.document.Fitting.{IsNumbered, Fits, at_end, not_stored, is_stored}
 use Rattle.yspec.specs.document.RowFaults.{prefixed, stored_own, absent_own, stored_faults, absent_faults, row_faults}
 use Rattle.yspec.proofs.DocumentProofs.FittingLemmas.{eqb_other, no_node_in, no_row_in, instances-cons, first_is_other, none_of_others, none_before}
@@ -24,7 +24,7 @@ told_first : (t : Told) (ts : List Told) (m : ℕ) → eqb t.schema_number m ≡
 told_first t ts m same = ap (λ b. flat_map (λ (x : Told). x.faults) (cond b (t ∷ filter (λ (x : Told). eqb x.schema_number m) ts) (filter (λ (x : Told). eqb x.schema_number m) ts))) same
 
 -- what isn't stored tells nothing
-none_told : (answers : Answers) (whole : Forest SchemaNode) (t : Tree) (m : ℕ) → instances_in t m ≡ 0 → faults_of_instances (told_in answers whole t) m ≡ []
+none_told : (answers : Counting) (whole : Forest SchemaNode) (t : Tree) (m : ℕ) → instances_in t m ≡ 0 → faults_of_instances (told_in answers whole t) m ≡ []
 unfolding told_in
 none_told answers whole end m none = refl
 none_told answers whole (node s b a) m none =
@@ -56,7 +56,7 @@ woven_absent (leaf type default_value false) n above inside found tolds so =
 -- ---- the rows
 
 -- `whole` has the nodes of the rest of a row from a number on; `stored` and `tolds` answer as the rest of the stored row
-record Sees (answers : Answers) (f : Forest SchemaNode) (k : ℕ) (t : Tree) (whole : Forest SchemaNode) (above : List Step) (stored : ℕ → ℕ) (tolds : List Told) : Type 0 where
+record Sees (answers : Counting) (f : Forest SchemaNode) (k : ℕ) (t : Tree) (whole : Forest SchemaNode) (above : List Step) (stored : ℕ → ℕ) (tolds : List Told) : Type 0 where
   nodes : (m : ℕ) → k ≤ m → node_in whole m ≡ node_in f m
   rows : (m : ℕ) → k ≤ m → row_below whole m ≡ row_below f m
   counts : (m : ℕ) → k ≤ m → m < k + size f → stored m ≡ instances_in t m
@@ -79,7 +79,7 @@ nothing_fits : (f : Forest SchemaNode) → Fits f end
 nothing_fits end = at_end
 nothing_fits (node n below after) = not_stored (nothing_fits after)
 
-module _ (answers : Answers) where
+module _ (answers : Counting) where
   absent_row : (n : SchemaNode) (below after : Forest SchemaNode) (t : Tree) → instances_in t n.number ≡ 0
       → row_faults (node n below after) t ≡ absent_faults n (row_faults below end) ++ row_faults after t
   unfolding row_faults

@@ -6,11 +6,11 @@ use Rattle.serde_json.specs.Find.{get_member}
 use Rattle.yspec.specs.Forest.{Forest, end, node}
 use Rattle.yspec.specs.schema.Schema.{Schema, SchemaNode, written_name}
 use Rattle.yspec.specs.document.Document.{Tree}
-use Rattle.yspec.specs.document.Reading.{Refusal, tree_or_refusal, members_of, placed, stored_rows, denoted, json_of, verdict, document_of}
+use Rattle.yspec.specs.document.Reading.{Refusal, tree_or_refusal, members_of, with_stored, stored_rows, denoted, json_of, verdict, document_of}
 use Rattle.yspec.specs.document.Fitting.{Fits, at_end, not_stored, is_stored}
 
 pub placed_fits : (n : SchemaNode) (below after : Forest SchemaNode) (found : Option Data) (inner : Data → Tree) (rest : Tree)
-    → ((d : Data) → Fits below (inner d)) → Fits after rest → Fits (node n below after) (placed n found inner rest)
+    → ((d : Data) → Fits below (inner d)) → Fits after rest → Fits (node n below after) (with_stored n found inner rest)
 placed_fits n below after None inner rest fits_inner fits = not_stored fits
 placed_fits n below after (Some d) inner rest fits_inner fits = is_stored refl tt (fits_inner d) fits
 

@@ -15,12 +15,13 @@ use Rattle.yspec.specs.types.Ranges.{lies_in}
 use Rattle.yspec.specs.types.Types.{Raw, text, int, bool, empty}
 use Rattle.yspec.specs.schema.Schema.{Schema, SchemaNode, Kind, container, leaf, node_in, node_at, written_name, other_name}
 use Rattle.yspec.specs.document.Document.{Stored, Tree, Step, below_place}
-use Rattle.yspec.specs.document.Reading.{whole_numbers, raw_integer, Visit, right, wrong, refused_value, raw_of, child, named, other_or, at_named, value_visit, member_visits, node_visits, first_wrong, members_of, value_of, placed, stored_rows}
+use Rattle.yspec.specs.document.Reading.{whole_numbers, raw_integer, Visit, right, wrong, refused_value, raw_of, child, named, other_or, at_named, value_visit, member_visits, node_visits, first_wrong, members_of, value_of, with_stored, stored_rows}
 use Rattle.yspec.specs.document.Fitting.{IsNumbered, at_end, not_stored, is_stored}
 use Rattle.yspec.specs.document.Writing.{data_of, written_node, with_node, row_members, IsNew, NamesDiffer, HasText, HasForm, IsDocument}
 use Rattle.yspec.proofs.DocumentProofs.FittingLemmas.{eqb_other, no_node_before}
 use Rattle.yspec.proofs.DocumentProofs.CheckingLemmas.{skips_node}
 use Rattle.yspec.proofs.DocumentProofs.VisitLemmas.{passes, first_part, other_part, other_value}
+use Rattle.yspec.proofs.BasicLemmas.{first_of_none, same_text, other_text}
 
 -- ---- nodes by number
 
@@ -28,15 +29,11 @@ use Rattle.yspec.proofs.DocumentProofs.VisitLemmas.{passes, first_part, other_pa
 abbrev Finds : Forest SchemaNode → Forest SchemaNode → ℕ → Type 0
 Finds whole f k = (m : ℕ) → k ≤ m → m < k + size f → node_in whole m ≡ node_in f m
 
-none_later : (o : Option SchemaNode) → first_of o None ≡ o
-none_later None = refl
-none_later (Some n) = refl
-
 within_below : (n : SchemaNode) (below after : Forest SchemaNode) (k m : ℕ) → IsNumbered k (node n below after) → k + 1 ≤ m → m < k + 1 + size below
     → node_in (node n below after) m ≡ node_in below m
 within_below n below after k m numbered from to =
     ap (λ t. cond t (Some n) (first_of (node_in below m) (node_in after m))) (eqb_other n.number m (λ e. absurd (omega (arith, numbered.0, e))))
-    ∙ (ap (first_of (node_in below m)) (no_node_before after (k + 1 + size below) m numbered.2 to) ∙ none_later (node_in below m))
+    ∙ (ap (first_of (node_in below m)) (no_node_before after (k + 1 + size below) m numbered.2 to) ∙ first_of_none (node_in below m))
 
 finds_first : (whole : Forest SchemaNode) (n : SchemaNode) (below after : Forest SchemaNode) (k m : ℕ) → IsNumbered k (node n below after) → Finds whole (node n below after) k
     → m ≡ n.number → node_in whole m ≡ Some n
@@ -94,16 +91,6 @@ abbrev pub AreMeant : Schema → Option ℕ → Forest SchemaNode → Forest Sch
 AreMeant s parent children end = Unit {0}
 AreMeant s parent children (node n below after) = (named s parent (written_name s parent n) children ≡ child n below) × AreMeant s parent children after
 
-text_same : (a : Text) → is_text a a ≡ true
-text_same a = (bytes_eq-Decides a a).1 refl
-
-differ_by : (a b : Text) (t : Bool) → is_text a b ≡ t → a ≢ b → t ≡ false
-differ_by a b true is other = absurd (other ((bytes_eq-Decides a b).0 is))
-differ_by a b false is other = refl
-
-text_other : (a b : Text) → a ≢ b → is_text a b ≡ false
-text_other a b other = differ_by a b (is_text a b) refl other
-
 -- with one more child in front, which has another name
 meant_later : (s : Schema) (parent : Option ℕ) (n : SchemaNode) (below after f : Forest SchemaNode) → IsNew s parent (written_name s parent n) f
     → AreMeant s parent after f → AreMeant s parent (node n below after) f
@@ -111,7 +98,7 @@ meant_later s parent n below after end new meant = tt
 meant_later s parent n below after (node m inner f) new meant =
     let name = written_name s parent m in
     let apart : name ≢ written_name s parent n = λ e. new.0 (sym e) in (
-      ap (λ b. cond b (child n below) (other_or (is_text name (other_name s parent n)) (named s parent name after))) (text_other name (written_name s parent n) apart)
+      ap (λ b. cond b (child n below) (other_or (is_text name (other_name s parent n)) (named s parent name after))) (other_text name (written_name s parent n) apart)
           ∙ ap (other_or (is_text name (other_name s parent n))) meant.0,
       meant_later s parent n below after f new.1 meant.1,
     )
@@ -120,7 +107,7 @@ pub meant_all : (s : Schema) (parent : Option ℕ) (f : Forest SchemaNode) → N
 meant_all s parent end differ = tt
 meant_all s parent (node n below after) differ =
     let name = written_name s parent n in (
-      ap (λ b. cond b (child n below) (other_or (is_text name (other_name s parent n)) (named s parent name after))) (text_same name),
+      ap (λ b. cond b (child n below) (other_or (is_text name (other_name s parent n)) (named s parent name after))) (same_text name),
       meant_later s parent n below after after differ.0 (meant_all s parent after differ.2),
     )
 
@@ -224,10 +211,10 @@ module _ (s : Schema) where
 
   -- a row whose first node has a value, or none
   pub rows_with : (parent : Option ℕ) (n : SchemaNode) (below after : Forest SchemaNode) (ms : Members) (found : Option Data) → get_member (written_name s parent n) ms ≡ found
-      → stored_rows s parent (node n below after) ms ≡ placed n found (λ d. stored_rows s (Some n.module_number) below (members_of d)) (stored_rows s parent after ms)
+      → stored_rows s parent (node n below after) ms ≡ with_stored n found (λ d. stored_rows s (Some n.module_number) below (members_of d)) (stored_rows s parent after ms)
   unfolding stored_rows
   rows_with parent n below after ms found is =
-      ap (λ (o : Option Data). placed n o (λ d. stored_rows s (Some n.module_number) below (members_of d)) (stored_rows s parent after ms)) is
+      ap (λ (o : Option Data). with_stored n o (λ d. stored_rows s (Some n.module_number) below (members_of d)) (stored_rows s parent after ms)) is
 
   -- a node's value and what stands below it, from what is written of it
   value_back : (kind : Kind) (value : Option Raw) (b : Tree) (inner : Members) → HasForm kind value b → value_of kind (written_node kind value inner) ≡ value

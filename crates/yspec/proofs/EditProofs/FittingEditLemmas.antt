@@ -10,12 +10,14 @@ use Rattle.yspec.specs.document.Document.{Stored, Tree, step_to}
 use Rattle.yspec.specs.document.Reading.{Refusal, node_visits, first_wrong, members_of, value_of, stored_node, stored_rows, json_of}
 use Rattle.yspec.specs.edit.Edit.{change_below, edit_at}
 use Rattle.yspec.specs.edit.EditText.{Path, Edit, create, replace, remove}
-use Rattle.yspec.specs.edit.Editing.{EditRefusal, refused, value_refused, ◌>>=◌, Way, way_on, way, says_which, meant, way_meant, has_zero, row_under, Target, target_in, target, with_row, Part, part, fitting_part, part_of, with_part, without, node_limit, within_limit, with_value, created, replaced, removed, target_of, applied, tree_or, after}
+use Rattle.yspec.specs.edit.Editing.{EditRefusal, refused, value_refused, Way, way_on, way, says_which, meant, way_meant, has_zero, row_under, Target, target_in, target, with_row, Branch, branch, fitting_branch, branch_of, with_branch, without, document_limit, within_limit, with_value, created, replaced, removed, target_of, applied, tree_or, after}
 use Rattle.yspec.specs.document.Fitting.{IsNumbered, IsBare, LeafsAreBare, FitsBy, Fits, at_end, not_stored, is_stored}
 use Rattle.yspec.specs.document.Writing.{NamesDiffer, HasForm, IsDocument}
 use Rattle.yspec.proofs.DocumentProofs.FittingLemmas.{eqb_other, no_node_in, no_row_in}
 use Rattle.yspec.proofs.DocumentProofs.FittingReadLemmas.{rows_fit}
 use Rattle.yspec.proofs.DocumentProofs.ReadWholeLemmas.{value_held}
+use Rattle.yspec.specs.Results.{◌>>=◌}
+use Rattle.yspec.proofs.BasicLemmas.{bind_ok}
 
 -- ---- where the nodes of a schema stand
 
@@ -128,22 +130,22 @@ only_one P number n below f k numbered (later {m = m} {inner = inner} {after = a
 
 -- ---- changes of a row, whatever is held
 
-with_part-same : (p : Part) (s : Stored) (b a : Tree) → s.schema_number ≡ p.label.schema_number → with_part p (node s b a) ≡ node p.label p.below a
-with_part-same p s b a same =
-    ap (λ t. cond t (node p.label p.below a) (cond (ltb p.label.schema_number s.schema_number) (node p.label p.below (node s b a)) (node s b (with_part p a))))
+with_branch-same : (p : Branch) (s : Stored) (b a : Tree) → s.schema_number ≡ p.label.schema_number → with_branch p (node s b a) ≡ node p.label p.below a
+with_branch-same p s b a same =
+    ap (λ t. cond t (node p.label p.below a) (cond (ltb p.label.schema_number s.schema_number) (node p.label p.below (node s b a)) (node s b (with_branch p a))))
     (eq-eqb s.schema_number p.label.schema_number same)
 
-with_part-before : (p : Part) (s : Stored) (b a : Tree) → p.label.schema_number < s.schema_number → with_part p (node s b a) ≡ node p.label p.below (node s b a)
-with_part-before p s b a before =
-    ap (λ t. cond t (node p.label p.below a) (cond (ltb p.label.schema_number s.schema_number) (node p.label p.below (node s b a)) (node s b (with_part p a))))
+with_branch-before : (p : Branch) (s : Stored) (b a : Tree) → p.label.schema_number < s.schema_number → with_branch p (node s b a) ≡ node p.label p.below (node s b a)
+with_branch-before p s b a before =
+    ap (λ t. cond t (node p.label p.below a) (cond (ltb p.label.schema_number s.schema_number) (node p.label p.below (node s b a)) (node s b (with_branch p a))))
     (eqb_other s.schema_number p.label.schema_number (λ e. absurd (omega (arith, e, before))))
-    ∙ ap (λ t. cond t (node p.label p.below (node s b a)) (node s b (with_part p a))) (lt-ltb p.label.schema_number s.schema_number before)
+    ∙ ap (λ t. cond t (node p.label p.below (node s b a)) (node s b (with_branch p a))) (lt-ltb p.label.schema_number s.schema_number before)
 
-with_part-after : (p : Part) (s : Stored) (b a : Tree) → s.schema_number < p.label.schema_number → with_part p (node s b a) ≡ node s b (with_part p a)
-with_part-after p s b a less =
-    ap (λ t. cond t (node p.label p.below a) (cond (ltb p.label.schema_number s.schema_number) (node p.label p.below (node s b a)) (node s b (with_part p a))))
+with_branch-after : (p : Branch) (s : Stored) (b a : Tree) → s.schema_number < p.label.schema_number → with_branch p (node s b a) ≡ node s b (with_branch p a)
+with_branch-after p s b a less =
+    ap (λ t. cond t (node p.label p.below a) (cond (ltb p.label.schema_number s.schema_number) (node p.label p.below (node s b a)) (node s b (with_branch p a))))
     (eqb_other s.schema_number p.label.schema_number (λ e. absurd (omega (arith, e, less))))
-    ∙ ap (λ t. cond t (node p.label p.below (node s b a)) (node s b (with_part p a))) (le-ltb p.label.schema_number s.schema_number (omega (arith, less)))
+    ∙ ap (λ t. cond t (node p.label p.below (node s b a)) (node s b (with_branch p a))) (le-ltb p.label.schema_number s.schema_number (omega (arith, less)))
 
 module _ (Held : SchemaNode → Option Raw → Tree → Type 0) where
   -- what a node holds is right with anything below it that fits
@@ -203,32 +205,28 @@ module _ (Held : SchemaNode → Option Raw → Tree → Type 0) where
       let h = fits_from after (k + 1 + size below) s b a numbered.2 fits in omega (arith, h)
   fits_from f k s b a numbered (is_stored same held inner fits) = omega (arith, numbered.0, same)
 
-  put_first : (n : SchemaNode) (below after : Forest SchemaNode) (k : ℕ) (p : Part) (t : Tree) → IsNumbered k (node n below after)
+  put_first : (n : SchemaNode) (below after : Forest SchemaNode) (k : ℕ) (p : Branch) (t : Tree) → IsNumbered k (node n below after)
       → p.label.schema_number ≡ n.number → Held n p.label.value p.below → FitsBy Held below p.below → FitsBy Held after t
-      → FitsBy Held (node n below after) (with_part p t)
+      → FitsBy Held (node n below after) (with_branch p t)
   put_first n below after k p end numbered same held inner fits = is_stored same held inner fits
   put_first n below after k p (node s b a) numbered same held inner fits =
       let from = fits_from after (k + 1 + size below) s b a numbered.2 fits in
-      subst (λ (u : Tree). FitsBy Held (node n below after) u) (sym (with_part-before p s b a (omega (arith, numbered.0, same, from))))
+      subst (λ (u : Tree). FitsBy Held (node n below after) u) (sym (with_branch-before p s b a (omega (arith, numbered.0, same, from))))
       (is_stored same held inner fits)
 
-  with_part_fits : (n : SchemaNode) (below : Forest SchemaNode) (p : Part) (f : Forest SchemaNode) (k : ℕ) (t : Tree) → IsNumbered k f → InRow n below f
-      → p.label.schema_number ≡ n.number → Held n p.label.value p.below → FitsBy Held below p.below → FitsBy Held f t → FitsBy Held f (with_part p t)
-  with_part_fits n below p f k t numbered (first {after = after}) same held inner (not_stored fits) = put_first n below after k p t numbered same held inner fits
-  with_part_fits n below p f k t numbered (first {after = after}) same held inner (is_stored {s = s} {stored_below = b} {stored_after = a} own was lower fits) =
-      subst (λ (u : Tree). FitsBy Held (node n below after) u) (sym (with_part-same p s b a (own ∙ sym same))) (is_stored same held inner fits)
-  with_part_fits n below p f k t numbered (later {inner = other} {after = after} c) same held inner (not_stored fits) =
-      not_stored (with_part_fits n below p after (k + 1 + size other) t numbered.2 c same held inner fits)
-  with_part_fits n below p f k t numbered (later {m = m} {inner = other} {after = after} c) same held inner (is_stored {s = s} {stored_below = b} {stored_after = a} own was lower fits) =
+  with_branch_fits : (n : SchemaNode) (below : Forest SchemaNode) (p : Branch) (f : Forest SchemaNode) (k : ℕ) (t : Tree) → IsNumbered k f → InRow n below f
+      → p.label.schema_number ≡ n.number → Held n p.label.value p.below → FitsBy Held below p.below → FitsBy Held f t → FitsBy Held f (with_branch p t)
+  with_branch_fits n below p f k t numbered (first {after = after}) same held inner (not_stored fits) = put_first n below after k p t numbered same held inner fits
+  with_branch_fits n below p f k t numbered (first {after = after}) same held inner (is_stored {s = s} {stored_below = b} {stored_after = a} own was lower fits) =
+      subst (λ (u : Tree). FitsBy Held (node n below after) u) (sym (with_branch-same p s b a (own ∙ sym same))) (is_stored same held inner fits)
+  with_branch_fits n below p f k t numbered (later {inner = other} {after = after} c) same held inner (not_stored fits) =
+      not_stored (with_branch_fits n below p after (k + 1 + size other) t numbered.2 c same held inner fits)
+  with_branch_fits n below p f k t numbered (later {m = m} {inner = other} {after = after} c) same held inner (is_stored {s = s} {stored_below = b} {stored_after = a} own was lower fits) =
       let from = within_from n below after (k + 1 + size other) numbered.2 (in_row n below after c) in
-      subst (λ (u : Tree). FitsBy Held (node m other after) u) (sym (with_part-after p s b a (omega (arith, numbered.0, same, own, from))))
-      (is_stored own was lower (with_part_fits n below p after (k + 1 + size other) a numbered.2 c same held inner fits))
+      subst (λ (u : Tree). FitsBy Held (node m other after) u) (sym (with_branch-after p s b a (omega (arith, numbered.0, same, own, from))))
+      (is_stored own was lower (with_branch_fits n below p after (k + 1 + size other) a numbered.2 c same held inner fits))
 
 -- ---- steps that were not refused
-
-bind_ok : {A B : Type 0} (r : Result A EditRefusal) (f : A → Result B EditRefusal) (y : B) → (r >>= f) ≡ Ok y → (x : A) × (r ≡ Ok x) × (f x ≡ Ok y)
-bind_ok (Ok x) f y e = (x, refl, e)
-bind_ok (Err d) f y e = absurd cc
 
 abbrev done : {A : Type 0} → A → Result A EditRefusal
 done x = Ok x
@@ -336,43 +334,43 @@ target_leads schema tree path t numbered e =
 
 -- ---- values
 
--- the data that a part is of
-record IsPartOf (schema : Schema) (number : ℕ) (p : Part) : Type 0 where
+-- the data that a branch is of
+record IsPartOf (schema : Schema) (number : ℕ) (p : Branch) : Type 0 where
   value : Data
   place : SchemaNode
   found : node_at schema number ≡ Some place
   right : first_wrong (node_visits schema place (children_of schema place.number) [] value) ≡ None
-  is : part schema place value ≡ p
+  is : branch schema place value ≡ p
 
-fitting_is : (schema : Schema) (number : ℕ) (p : Part) (n : SchemaNode) (d : Data) → node_at schema number ≡ Some n
-    → fitting_part schema n d ≡ Ok p → IsPartOf schema number p
+fitting_is : (schema : Schema) (number : ℕ) (p : Branch) (n : SchemaNode) (d : Data) → node_at schema number ≡ Some n
+    → fitting_branch schema n d ≡ Ok p → IsPartOf schema number p
 fitting_is schema number p n d found e = go (first_wrong (node_visits schema n (children_of schema n.number) [] d)) refl e
   where
     go : (o : Option Refusal) → first_wrong (node_visits schema n (children_of schema n.number) [] d) ≡ o
-        → option_map_or (λ r. value_refused r.code) o (Ok (part schema n d)) ≡ Ok p → IsPartOf schema number p
-    go None right e = record { value = d; place = n; found = found; right = right; is = ok_is (part schema n d) p e }
+        → option_map_or (λ r. value_refused r.code) o (Ok (branch schema n d)) ≡ Ok p → IsPartOf schema number p
+    go None right e = record { value = d; place = n; found = found; right = right; is = ok_is (branch schema n d) p e }
     go (Some r) right e = absurd cc
 
-part_is : (schema : Schema) (number : ℕ) (text : Text) (p : Part) → part_of schema number text ≡ Ok p → IsPartOf schema number p
+part_is : (schema : Schema) (number : ℕ) (text : Text) (p : Branch) → branch_of schema number text ≡ Ok p → IsPartOf schema number p
 part_is schema number text p e =
-    let read = some_ok (json_of text) 9 (λ d. option_map_or (λ n. fitting_part schema n d) (node_at schema number) (refused 2)) p e in
-    let there = some_ok (node_at schema number) 2 (λ n. fitting_part schema n read.0) p read.2 in
+    let read = some_ok (json_of text) 9 (λ d. option_map_or (λ n. fitting_branch schema n d) (node_at schema number) (refused 2)) p e in
+    let there = some_ok (node_at schema number) 2 (λ n. fitting_branch schema n read.0) p read.2 in
     fitting_is schema number p there.0 read.0 there.1 there.2
 
 same_node : (n m : SchemaNode) (o : Option SchemaNode) → o ≡ Some n → o ≡ Some m → n ≡ m
 same_node n m o one other = cc
 
--- the part that is stored for a node of a schema
-abbrev part_with : Schema → SchemaNode → Data → Forest SchemaNode → Part
+-- the branch that is stored for a node of a schema
+abbrev part_with : Schema → SchemaNode → Data → Forest SchemaNode → Branch
 part_with schema n d below = record { label = stored_node n d; below = stored_rows schema (Some n.module_number) below (members_of d) }
 
--- the data that a part of a node of a schema is of, with no refusal
-record IsPartBelow (schema : Schema) (n : SchemaNode) (below : Forest SchemaNode) (p : Part) : Type 0 where
+-- the data that a branch of a node of a schema is of, with no refusal
+record IsPartBelow (schema : Schema) (n : SchemaNode) (below : Forest SchemaNode) (p : Branch) : Type 0 where
   value : Data
   right : first_wrong (node_visits schema n below [] value) ≡ None
   is : part_with schema n value below ≡ p
 
-part_below : (schema : Schema) (number : ℕ) (p : Part) (n : SchemaNode) (below : Forest SchemaNode) → IsNumbered 0 schema.nodes
+part_below : (schema : Schema) (number : ℕ) (p : Branch) (n : SchemaNode) (below : Forest SchemaNode) → IsNumbered 0 schema.nodes
     → Within n below schema.nodes → n.number ≡ number → IsPartOf schema number p → IsPartBelow schema n below p
 part_below schema number p n below numbered w same i =
     let found = ap (node_at schema) (sym same) ∙ within_node n below schema.nodes 0 numbered w in
@@ -382,13 +380,13 @@ part_below schema number p n below numbered w same i =
       value = i.value;
       right = ap (λ (f : Forest SchemaNode). first_wrong (node_visits schema n f [] i.value)) children
           ∙ (ap (λ (m : SchemaNode). first_wrong (node_visits schema m (children_of schema m.number) [] i.value)) place ∙ i.right);
-      is = ap (part_with schema n i.value) children ∙ (ap (λ (m : SchemaNode). part schema m i.value) place ∙ i.is);
+      is = ap (part_with schema n i.value) children ∙ (ap (λ (m : SchemaNode). branch schema m i.value) place ∙ i.is);
     }
 
 -- ---- edits
 
 within_is : (t after : Tree) → within_limit t ≡ Ok after → t ≡ after
-within_is t after e = ok_is t after (unless_refused (ltb node_limit (size t)) 11 (Ok t) after e)
+within_is t after e = ok_is t after (unless_refused (ltb document_limit (size t)) 11 (Ok t) after e)
 
 module _ (Held : SchemaNode → Option Raw → Tree → Type 0) (schema : Schema) where
   -- A node of the schema holds what it held with anything else below it that fits, and it holds a value with no refusal.
@@ -399,16 +397,16 @@ module _ (Held : SchemaNode → Option Raw → Tree → Type 0) (schema : Schema
         → Held n (value_of n.kind d) (stored_rows schema (Some n.module_number) below (members_of d))
         × FitsBy Held below (stored_rows schema (Some n.module_number) below (members_of d))
 
-  -- a part fits the node that it is for
-  abbrev FitsPlace : SchemaNode → Forest SchemaNode → Part → Type 0
+  -- a branch fits the node that it is for
+  abbrev FitsPlace : SchemaNode → Forest SchemaNode → Branch → Type 0
   FitsPlace n below p = (p.label.schema_number ≡ n.number) × Held n p.label.value p.below × FitsBy Held below p.below
 
-  part_fits : (number : ℕ) (p : Part) (n : SchemaNode) (below : Forest SchemaNode) → IsSound → IsNumbered 0 schema.nodes → Within n below schema.nodes
+  branch_fits : (number : ℕ) (p : Branch) (n : SchemaNode) (below : Forest SchemaNode) → IsSound → IsNumbered 0 schema.nodes → Within n below schema.nodes
       → n.number ≡ number → IsPartOf schema number p → FitsPlace n below p
-  part_fits number p n below sound numbered w same i =
+  branch_fits number p n below sound numbered w same i =
       let q = part_below schema number p n below numbered w same i in
       let held = sound.holds n below q.value w q.right in
-      subst (λ (x : Part). FitsPlace n below x) q.is (refl, held.0, held.1)
+      subst (λ (x : Branch). FitsPlace n below x) q.is (refl, held.0, held.1)
 
   -- a change of the row of a target that keeps the fit of that row
   row_fits : (t : Target) (change : Tree → Tree) (tree : Tree) (g : Forest SchemaNode) → IsSound → IsNumbered 0 schema.nodes
@@ -420,16 +418,16 @@ module _ (Held : SchemaNode → Option Raw → Tree → Type 0) (schema : Schema
   with_value_fits : (tree after : Tree) (text : Text) (t : Target) → IsSound → IsNumbered 0 schema.nodes → FitsBy Held schema.nodes tree
       → Leads schema t.above t.schema_number → with_value schema tree text t ≡ Ok after → FitsBy Held schema.nodes after
   with_value_fits tree after text t sound numbered fits l e =
-      let step = bind_ok (part_of schema t.schema_number text) (λ p. within_limit (with_row t (with_part p) tree)) after e in
+      let step = bind_ok (branch_of schema t.schema_number text) (λ p. within_limit (with_row t (with_branch p) tree)) after e in
       let p = step.0 in
       let n = l.there.place in
       let below = l.there.below in
-      let place = part_fits t.schema_number p n below sound numbered (is_within schema t.above t.schema_number l) l.there.same
+      let place = branch_fits t.schema_number p n below sound numbered (is_within schema t.above t.schema_number l) l.there.same
       (part_is schema t.schema_number text p step.1) in
       let row = leads_numbered schema.nodes t.above l.row_there l.leads (0, numbered) in
-      subst (λ (u : Tree). FitsBy Held schema.nodes u) (within_is (with_row t (with_part p) tree) after step.2)
-      (row_fits t (with_part p) tree l.row_there sound numbered l.leads
-      (λ u fit. with_part_fits Held n below p l.row_there row.0 u row.1 l.there.child place.0 place.1 place.2 fit) fits)
+      subst (λ (u : Tree). FitsBy Held schema.nodes u) (within_is (with_row t (with_branch p) tree) after step.2)
+      (row_fits t (with_branch p) tree l.row_there sound numbered l.leads
+      (λ u fit. with_branch_fits Held n below p l.row_there row.0 u row.1 l.there.child place.0 place.1 place.2 fit) fits)
 
   removed_fits : (tree after : Tree) (t : Target) → IsSound → IsNumbered 0 schema.nodes → FitsBy Held schema.nodes tree
       → Leads schema t.above t.schema_number → removed tree t ≡ Ok after → FitsBy Held schema.nodes after

@@ -14,6 +14,7 @@ use Rattle.yspec.specs.schema.Breaks.{broken, when, doubled, is_known_substateme
 use Rattle.yspec.specs.document.Writing.{IsPlain, HasItsName, AreNamed, ModulesDiffer, NamesDiffer}
 use Rattle.yspec.proofs.SchemaProofs.CompiledShapeLemmas.{none_first, none_second, is_right, by_keyword, BreaksNothing, compiles}
 use Rattle.yspec.proofs.DocumentProofs.WrittenNameLemmas.{names_differ}
+use Rattle.yspec.proofs.BasicLemmas.{or_parts, texts_differ}
 
 -- ---- levels
 
@@ -107,13 +108,6 @@ module_takes keyword e = go (is_text (codes "module") keyword) refl e
 
 -- ---- names of siblings
 
-other_text : (t a : Text) → is_text t a ≡ false → t ≢ a
-other_text t a e same = let is : is_text t a ≡ true = (bytes_eq-Decides t a).1 same in absurd (let no : true ≡ false = sym is ∙ e in cc)
-
-or_parts : (a b : Bool) → (a || b) ≡ false → (a ≡ false) × (b ≡ false)
-or_parts true b e = absurd cc
-or_parts false b e = (refl, e)
-
 -- a name that is among those before isn't that of a node of the row
 own_name : (n : SchemaNode) (m module_number next : ℕ) (before : List Text) (f : Forest Statement)
     → ((t : Text) → list_any (is_text t) before ≡ false → n.name ≢ t) → name_breaks m before f ≡ [] → HasItsName n (nodes_from module_number next f)
@@ -165,7 +159,7 @@ named_from schema m module_number next allowed before (node s below after) withi
         let after_is = none_second (name_breaks m [] below) (name_breaks m (argument_text s ∷ before) after) more in (
           (plain_argument m s below (node_takes s.keyword is) own, within),
           own_name label m module_number (next + 1 + data_size below) (argument_text s ∷ before) after
-              (λ t o same. other_text t (argument_text s) (or_parts (is_text t (argument_text s)) (list_any (is_text t) before) o).0 (sym same)) after_is,
+              (λ t o same. texts_differ t (argument_text s) (or_parts (is_text t (argument_text s)) (list_any (is_text t) before) o).0 (sym same)) after_is,
           inner (none_first (name_breaks m [] below) (name_breaks m (argument_text s ∷ before) after) more),
           rest after_is,
         )
@@ -242,7 +236,7 @@ fresh_at m (suc i) before (node s below after) within e =
 first_apart : (m i : ℕ) (before : List Text) (s : Statement) (after : Forest Statement) → i < length (modules_of after)
     → module_breaks m (argument_text s ∷ before) after ≡ [] → name_at after i ≢ argument_text s
 first_apart m i before s after within e =
-    other_text (name_at after i) (argument_text s)
+    texts_differ (name_at after i) (argument_text s)
     (or_parts (is_text (name_at after i) (argument_text s)) (list_any (is_text (name_at after i)) before) (fresh_at m i (argument_text s ∷ before) after within e)).0
 
 apart : (m i j : ℕ) (before : List Text) (modules : Forest Statement) → i < length (modules_of modules) → j < length (modules_of modules)

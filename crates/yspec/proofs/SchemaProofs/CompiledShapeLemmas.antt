@@ -107,12 +107,12 @@ bare_joined (node n below after) g first second = (first.0, first.1, bare_joined
 
 -- ---- numbers
 
-from_size : (module_number next : ℕ) (f : Forest Statement) → size (nodes_from module_number next f) ≡ data_size f
+pub size_from : (module_number next : ℕ) (f : Forest Statement) → size (nodes_from module_number next f) ≡ data_size f
 unfolding nodes_from data_size
-from_size module_number next end = refl
-from_size module_number next (node s below after) =
-    go (is_data_definition s.keyword) (from_size module_number (next + 1) below) (from_size module_number (next + 1 + data_size below) after)
-    (from_size module_number next after)
+size_from module_number next end = refl
+size_from module_number next (node s below after) =
+    go (is_data_definition s.keyword) (size_from module_number (next + 1) below) (size_from module_number (next + 1 + data_size below) after)
+    (size_from module_number next after)
   where
     go : (b : Bool) → size (nodes_from module_number (next + 1) below) ≡ data_size below
         → size (nodes_from module_number (next + 1 + data_size below) after) ≡ data_size after
@@ -127,7 +127,7 @@ unfolding nodes_from
 numbered_from module_number next end = tt
 numbered_from module_number next (node s below after) =
     go (is_data_definition s.keyword) (numbered_from module_number (next + 1) below)
-    (subst (λ (k : ℕ). IsNumbered (next + 1 + k) (nodes_from module_number (next + 1 + data_size below) after)) (sym (from_size module_number (next + 1) below))
+    (subst (λ (k : ℕ). IsNumbered (next + 1 + k) (nodes_from module_number (next + 1 + data_size below) after)) (sym (size_from module_number (next + 1) below))
     (numbered_from module_number (next + 1 + data_size below) after))
     (numbered_from module_number next after)
   where
@@ -148,7 +148,7 @@ numbered_all : (module_number next : ℕ) (modules : Forest Statement) → IsNum
 numbered_all module_number next end = tt
 numbered_all module_number next (node s below after) =
     numbered_joined next (next + data_size below) (nodes_from module_number next below) (all_nodes (module_number + 1) (next + data_size below) after)
-    (numbered_from module_number next below) (ap (λ k. next + k) (from_size module_number next below)) (numbered_all (module_number + 1) (next + data_size below) after)
+    (numbered_from module_number next below) (ap (λ k. next + k) (size_from module_number next below)) (numbered_all (module_number + 1) (next + data_size below) after)
 
 pub schema_numbered : (modules : Forest Statement) → IsNumbered 0 (schema_of modules).nodes
 schema_numbered modules = numbered_all 0 0 modules

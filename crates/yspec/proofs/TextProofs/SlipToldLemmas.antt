@@ -9,12 +9,13 @@ use Rattle.std.proofs.lemmas.Bool.{eqb-true}
 use Rattle.yspec.specs.Forest.{Forest, end, node, join}
 use Rattle.yspec.specs.text.Text.{Text, is_name, line_after, line_feed, backslash, line_behind, forbidden_line}
 use Rattle.yspec.specs.text.Token.{Lexeme, Token, word, single, double, semi, open_block, close_block, finish, unclosed_quote, unclosed_comment, stray_end, at, bad_escape_line, double_text, escape, tokens_of}
-use Rattle.yspec.specs.text.Statement.{Statement, Slip, slip, ◌>>=◌, is_quoted, begins_quoted, is_plus, piece, appended, after_piece, pieces, some_argument, argument_at, argument, closed_at, closed, body_at, body, statement, in_row, row_at, statements, ending_at, ending, top_at, top_statement, block_limit, text_limit, module_of}
+use Rattle.yspec.specs.text.Statement.{Statement, Slip, slip, ◌>>=◌, is_quoted, begins_quoted, is_plus, piece, appended, after_piece, pieces, some_argument, argument_at, argument, closed_at, closed, body_at, body, statement, in_row, statements_at, statements, ending_at, ending, top_at, top_statement, block_limit, text_limit, module_of}
 use Rattle.yspec.specs.text.Statement as read
-use Rattle.yspec.specs.text.Slips.{State, at_keyword, behind_keyword, behind_word, behind_quoted, behind_plus, behind_top, behind_statement, wrong_escapes, slips_from, slips, first, told}
+use Rattle.yspec.specs.text.Slips.{State, at_keyword, behind_keyword, behind_word, behind_quoted, behind_plus, behind_top, behind_statement, wrong_escapes, slips_from, slips, first, told_slip}
 use Rattle.yspec.specs.text.Spelling.{Spells}
 use Rattle.yspec.proofs.TextProofs.SpellingLemmas.{text_ends, module_found, module_only}
-use Rattle.yspec.proofs.TextProofs.SpellingRowLemmas.{Ends, ends_by, not_empty, Reads, Stated, bind_ok, argument_found, argument_keeps, argument_shorter, statement_found, statements_found, stops_row, ok_is}
+use Rattle.yspec.proofs.BasicLemmas.{bind_ok}
+use Rattle.yspec.proofs.TextProofs.SpellingRowLemmas.{Ends, ends_by, not_empty, Reads, Stated, argument_found, argument_keeps, argument_shorter, statement_found, statements_found, stops_row, ok_is}
 
 abbrev pub first_from : State → List Token → Option Slip
 first_from state ts = first (slips_from state ts)
@@ -280,7 +281,7 @@ statements_stop fuel level [] x h n e = absurd (not_empty h)
 statements_stop zero level (t ∷ ts) x h n e = absurd (omega arith)
 statements_stop (suc fuel) level (t ∷ ts) x h n e = go t.line t.lexeme h e (statements_stop fuel)
   where
-    go : (line : ℕ) (lexeme : Lexeme) → Ends (at line lexeme ∷ ts) → row_at lexeme (statements fuel (level + 1))
+    go : (line : ℕ) (lexeme : Lexeme) → Ends (at line lexeme ∷ ts) → statements_at lexeme (statements fuel (level + 1))
         (statements fuel level) level (at line lexeme) ts ≡ Ok x
         → ((level : ℕ) (ts : List Token) (x : read.Row) → Ends ts → length ts ≤ fuel → statements fuel level ts ≡ Ok
         x → stops_row x.1 ≡ true) → stops_row x.1 ≡ true
@@ -311,7 +312,7 @@ statements_tell (suc fuel) level (t ∷ ts) h n = go t.line t.lexeme h (statemen
     go : (line : ℕ) (lexeme : Lexeme) → Ends (at line lexeme ∷ ts)
         → ((level : ℕ) (ts : List Token) → Ends ts → length ts ≤ fuel → Tells (statements fuel (suc level) ts)
         (first_from (at_keyword (suc level)) ts) (λ x. first_from (at_keyword (suc level)) x.1))
-        → Tells (row_at lexeme (statements fuel (suc level + 1)) (statements fuel (suc level)) (suc level)
+        → Tells (statements_at lexeme (statements fuel (suc level + 1)) (statements fuel (suc level)) (suc level)
         (at line lexeme) ts) (first_from (at_keyword (suc level)) (at line lexeme ∷ ts))
         (λ x. first_from (at_keyword (suc level)) x.1)
     go line (word w) h below =
@@ -383,8 +384,8 @@ top_tells (t ∷ ts) h = go t.line t.lexeme h
     go line unclosed_comment h = refl
     go line stray_end h = refl
 
-text_tells : (text : Text) → Tells (module_of text) (told text) (λ f. None)
-unfolding module_of told
+text_tells : (text : Text) → Tells (module_of text) (told_slip text) (λ f. None)
+unfolding module_of told_slip
 text_tells text = go (nat_lt text_limit (length text)) (is_utf8 text) (forbidden_line 1 (chars text))
   where
     go : (long utf8 : Bool) (bad : Option ℕ) → Tells
@@ -397,27 +398,27 @@ text_tells text = go (nat_lt text_limit (length text)) (is_utf8 text) (forbidden
     go false true (Some line) = refl
     go false true None = top_tells (tokens_of text) (text_ends text)
 
-pub refusal_told : (text : Text) (s : Slip) → module_of text ≡ Err s → told text ≡ Some s
-refusal_told text s e = subst (λ (r : Result (Forest Statement) Slip). Tells r (told text) (λ f. None)) e
+pub refusal_told : (text : Text) (s : Slip) → module_of text ≡ Err s → told_slip text ≡ Some s
+refusal_told text s e = subst (λ (r : Result (Forest Statement) Slip). Tells r (told_slip text) (λ f. None)) e
     (text_tells text)
 
-pub nothing_told : (text : Text) (top : Forest Statement) → module_of text ≡ Ok top → told text ≡ None
-nothing_told text top e = subst (λ (r : Result (Forest Statement) Slip). Tells r (told text) (λ f. None)) e
+pub nothing_told : (text : Text) (top : Forest Statement) → module_of text ≡ Ok top → told_slip text ≡ None
+nothing_told text top e = subst (λ (r : Result (Forest Statement) Slip). Tells r (told_slip text) (λ f. None)) e
     (text_tells text)
 
-pub told_refused : (text : Text) (s : Slip) → told text ≡ Some s → module_of text ≡ Err s
+pub told_refused : (text : Text) (s : Slip) → told_slip text ≡ Some s → module_of text ≡ Err s
 told_refused text s e = go (module_of text) refl
   where
     go : (r : Result (Forest Statement) Slip) → module_of text ≡ r → module_of text ≡ Err s
     go (Ok top) h = absurd (cc (nothing_told text top h))
     go (Err d) h = h ∙ ap (λ (x : Slip). Err x) (same_Some d s (sym (refusal_told text d h) ∙ e))
 
-pub silent_spells : (text : Text) → told text ≡ None → (top : Forest Statement) × Spells text top
+pub silent_spells : (text : Text) → told_slip text ≡ None → (top : Forest Statement) × Spells text top
 silent_spells text e = go (module_of text) refl
   where
     go : (r : Result (Forest Statement) Slip) → module_of text ≡ r → (top : Forest Statement) × Spells text top
     go (Ok top) h = (top, module_found text top h)
     go (Err d) h = absurd (cc (refusal_told text d h))
 
-pub spelled_silent : (text : Text) (top : Forest Statement) → Spells text top → told text ≡ None
+pub spelled_silent : (text : Text) (top : Forest Statement) → Spells text top → told_slip text ≡ None
 spelled_silent text top s = nothing_told text top (module_only text top s)

@@ -2,11 +2,12 @@
 use Rattle.std.proofs.Common.{◌≡◌, ℕ, suc, ◌+◌, ◌<◌, Bool, true, false, cond, [], ◌∷◌, ◌++◌, length, take, drop, Option, Some, None, refl, sym, ap, subst, ◌∙◌, append_assoc, arith, ◌⊎◌, inl, inr}
 use Rattle.std.specs.Prelude.{◌==◌, ◌&&◌, ◌||◌, option_map}
 use Rattle.std.specs.Option.{option_map_or}
-use Rattle.std.proofs.lemmas.Bool.{eqb-true}
+use Rattle.std.proofs.lemmas.Bool.{eqb-true, and_parts}
 use Rattle.std.proofs.lemmas.List.{take_at, length-append}
 use Rattle.yspec.specs.text.Text.{Text, begins, is_white, line_feed, double_quote, single_quote, star, slash, semicolon, backslash, open_brace, close_brace}
 use Rattle.yspec.specs.text.Token.{Lexeme, word, single, double, semi, open_block, close_block, finish, unclosed_quote, unclosed_comment, stray_end, Front, gap, token, last, front, slash_front, is_delimiter, other_front, single_front, double_front, comment_front, ends_word, word_length, line_comment_length, comment_rest_length, single_length, double_length}
 use Rattle.yspec.specs.text.Spelling.{HasNo, HasNoCommentEnd, EndsLine, IsWord, InDoubleQuotes, nothing, plain, escaped, IsGap, white_space, line_comment, comment, IsToken, unquoted, single_quoted, double_quoted, ends, opens, closes, IsBroken, open_single, open_double, open_escape, open_comment, lone_end}
+use Rattle.yspec.proofs.BasicLemmas.{or_parts}
 
 pub by_test : {A : Type 0} (P : A → Type 0) (b : Bool) (x y : A) → (b ≡ true → P x) → (b ≡ false → P y) → P (cond b x y)
 by_test P true x y h k = h refl
@@ -71,10 +72,6 @@ begins_is : (y : ℕ) (xs : Text) → begins y xs ≡ true → xs ≡ y ∷ drop
 begins_is y [] h = absurd cc
 begins_is y (x ∷ xs) h = ap (λ (z : ℕ). z ∷ xs) (eqb-true x y h)
 
-and_true : (a b : Bool) → (a && b) ≡ true → (a ≡ true) × (b ≡ true)
-and_true true b h = (refl, h)
-and_true false b h = absurd cc
-
 EndsComment : Text → Text → Type 0
 EndsComment bytes rest = (c : Text) × HasNoCommentEnd c × (bytes ≡ c ++ (star ∷ slash ∷ []))
 
@@ -87,7 +84,7 @@ unfolding EndsComment
 comment_split [] = tt
 comment_split (x ∷ xs) = by_test (SplitIf EndsComment HasNoCommentEnd (x ∷ xs)) (x == star && begins slash xs)
     (Some 2) (option_map suc (comment_rest_length xs))
-    (λ h. let p = and_true (x == star) (begins slash xs) h in record {
+    (λ h. let p = and_parts (x == star) (begins slash xs) h in record {
       bytes = star ∷ slash ∷ [];
       rest =
           drop 1 xs;
@@ -285,7 +282,7 @@ other_right : (column x : ℕ) (xs : Text) → is_white x ≡ false → (x == sl
     → Right column (x ∷ xs) (other_front x xs)
 unfolding Right
 other_right column x xs w s q d e o c = by_test (Right column (x ∷ xs)) (x == star && begins slash xs) _ _
-    (λ h. let p = and_true (x == star) (begins slash xs) h in subst (λ (t : Text). IsBroken t stray_end)
+    (λ h. let p = and_parts (x == star) (begins slash xs) h in subst (λ (t : Text). IsBroken t stray_end)
     (sym (ap (λ (z : ℕ). z ∷ xs) (eqb-true x star p.0) ∙ ap (λ (t : Text). star ∷ t) (begins_is slash xs p.1)))
     lone_end)
     (λ h. word_right column x xs (rw (w, s, q, d, e, o, c, h) refl))
@@ -350,28 +347,24 @@ double_long raw rest nothing = refl
 double_long raw rest (plain {x = x} {raw = xs} q b p) = rw (q, b, double_long xs rest p) refl
 double_long raw rest (escaped {x = x} {raw = xs} p) = rw (double_long xs rest p) refl
 
-or_false : (a b : Bool) → (a || b) ≡ false → (a ≡ false) × (b ≡ false)
-or_false true b h = absurd cc
-or_false false b h = (refl, h)
-
 unfoldable pub front_at : ℕ → Text → Front
 front_at column [] = last finish
 front_at column (x ∷ xs) = front column x xs
 
 slash_word : (column : ℕ) (xs : Text) → (begins slash xs || begins star xs) ≡ false → front column slash xs ≡ token
     (word (slash ∷ take (word_length xs) xs)) (suc (word_length xs))
-slash_word column xs h = let p = or_false (begins slash xs) (begins star xs) h in rw (p.0, p.1) refl
+slash_word column xs h = let p = or_parts (begins slash xs) (begins star xs) h in rw (p.0, p.1) refl
 
 word_front : (column x : ℕ) (xs : Text) → ends_word x xs ≡ false
     → front column x xs ≡ token (word (x ∷ take (word_length xs) xs)) (suc (word_length xs))
 word_front column x xs h =
-    let a = or_false (is_delimiter x) _ h in
-    let b = or_false (is_white x) _ a.0 in
-    let c = or_false (x == double_quote || x == single_quote) _ b.1 in
-    let d = or_false (x == double_quote) (x == single_quote) c.0 in
-    let e = or_false (x == semicolon) _ c.1 in
-    let f = or_false (x == open_brace) (x == close_brace) e.1 in
-    let g = or_false (x == slash && (begins slash xs || begins star xs)) (x == star && begins slash xs) a.1 in
+    let a = or_parts (is_delimiter x) _ h in
+    let b = or_parts (is_white x) _ a.0 in
+    let c = or_parts (x == double_quote || x == single_quote) _ b.1 in
+    let d = or_parts (x == double_quote) (x == single_quote) c.0 in
+    let e = or_parts (x == semicolon) _ c.1 in
+    let f = or_parts (x == open_brace) (x == close_brace) e.1 in
+    let g = or_parts (x == slash && (begins slash xs || begins star xs)) (x == star && begins slash xs) a.1 in
     go (x == slash) refl b.0 d.0 d.1 e.0 f.0 f.1 g.0 g.1
   where
     go : (s : Bool) → (x == slash) ≡ s → is_white x ≡ false → (x == double_quote) ≡ false

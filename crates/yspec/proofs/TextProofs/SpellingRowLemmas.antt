@@ -6,18 +6,14 @@ use Rattle.std.proofs.lemmas.Bool.{eqb-true, ltb-true, lt-ltb, and_parts}
 use Rattle.yspec.specs.Forest.{Forest, end, node, join}
 use Rattle.yspec.specs.text.Text.{Text, is_text, is_name, plus, line_after, backslash}
 use Rattle.yspec.specs.text.Token.{Lexeme, Token, word, single, double, semi, open_block, close_block, finish, unclosed_quote, unclosed_comment, stray_end, at, bad_escape_line, double_text, single_text, escape}
-use Rattle.yspec.specs.text.Statement.{Statement, Slip, slip, ◌>>=◌, misplaced, is_quoted, begins_quoted, is_plus, piece, appended, after_piece, pieces, some_argument, argument_at, argument, closed_at, closed, body_at, body, statement, in_row, row_at, statements, ending_at, ending, top_at, top_statement, block_limit}
+use Rattle.yspec.specs.text.Statement.{Statement, Slip, slip, ◌>>=◌, misplaced, is_quoted, begins_quoted, is_plus, piece, appended, after_piece, pieces, some_argument, argument_at, argument, closed_at, closed, body_at, body, statement, in_row, statements_at, statements, ending_at, ending, top_at, top_statement, block_limit}
 use Rattle.yspec.specs.text.Statement as read
 use Rattle.yspec.specs.text.Spelling.{Says, as_it_is, stripped, Joined, alone, with, Argument, absent, unquoted_word, quoted, Spelled, none, bare, block, IsOne, TokensSpell}
 use Rattle.yspec.proofs.TextProofs.SpellingCutLemmas.{is_ending}
 use Rattle.yspec.proofs.TextProofs.SpellingTokenLemmas.{from_ending}
+use Rattle.yspec.proofs.BasicLemmas.{bind_ok}
 
 -- ---- steps that are right
-
-pub bind_ok : {A B : Type 0} (r : Result A Slip) (f : A → Result B Slip) (y : B) → (r >>= f) ≡ Ok y
-    → (x : A) × (r ≡ Ok x) × (f x ≡ Ok y)
-bind_ok (Ok x) f y e = (x, refl, e)
-bind_ok (Err d) f y e = absurd cc
 
 pub guard_ok : {A : Type 0} (b : Bool) (r : Result A Slip) (code line : ℕ) (y : A) → cond b r (slip code line) ≡ Ok y
     → (b ≡ true) × (r ≡ Ok y)
@@ -300,7 +296,7 @@ statements_found zero level ts f us h e = rest_is (λ g vs. Spelled level ts g v
 statements_found (suc fuel) level [] f us h e = rest_is (λ g vs. Spelled level [] g vs) end [] f us e none
 statements_found (suc fuel) level (t ∷ ts) f us h e = go t.line t.lexeme h e (statements_found fuel)
   where
-    go : (line : ℕ) (lexeme : Lexeme) → Ends (at line lexeme ∷ ts) → row_at lexeme (statements fuel (level + 1))
+    go : (line : ℕ) (lexeme : Lexeme) → Ends (at line lexeme ∷ ts) → statements_at lexeme (statements fuel (level + 1))
         (statements fuel level) level (at line lexeme) ts ≡ Ok (f, us)
         → ((level : ℕ) (ts : List Token) (f : Forest Statement) (us : List Token) → Ends ts
         → statements fuel level ts ≡ Ok (f, us) → Spelled level ts f us) → Spelled level (at line lexeme ∷ ts) f
@@ -455,7 +451,7 @@ no_statement (suc fuel) level [] h = refl
 no_statement (suc fuel) level (t ∷ ts) h = go t.line t.lexeme h
   where
     go : (line : ℕ) (lexeme : Lexeme) → stops_row (at line lexeme ∷ ts) ≡ true
-        → row_at lexeme (statements fuel (level + 1)) (statements fuel level) level (at line lexeme) ts ≡ Ok
+        → statements_at lexeme (statements fuel (level + 1)) (statements fuel level) level (at line lexeme) ts ≡ Ok
         (end, at line lexeme ∷ ts)
     go line close_block h = refl
     go line finish h = refl

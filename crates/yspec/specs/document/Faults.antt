@@ -39,8 +39,8 @@ plain_fault code steps = fault code (own_app_tag code) steps
 pub data Question : Type 0 where
   instances_with : ℕ → Val → Question
 
-abbrev pub Answers : Type 0
-Answers = Question → ℕ
+abbrev pub Counting : Type 0
+Counting = Question → ℕ
 
 -- ---- the faults at one stored node
 
@@ -48,12 +48,12 @@ abbrev pub value_faults : YangType → Raw → List Fault
 value_faults type raw = if is_some (taken type raw) then [] else fault V1 (app_tag_of type raw) [] ∷ []
 
 -- no type of today asks a question
-abbrev pub kind_faults : Answers → Kind → Option Raw → List Fault
+abbrev pub kind_faults : Counting → Kind → Option Raw → List Fault
 kind_faults answers (container presence) value = []
 kind_faults answers (leaf type default_value mandatory) value = option_map_or (value_faults type) value []
 
 -- the node's own, their steps leading from itself; `schema_row` holds its schema node
-abbrev pub own_faults : Answers → Forest SchemaNode → Stored → List Fault
+abbrev pub own_faults : Counting → Forest SchemaNode → Stored → List Fault
 own_faults answers schema_row s =
     option_map_or (λ n. kind_faults answers n.kind s.value) (node_in schema_row s.schema_number) []
 
@@ -80,29 +80,29 @@ item_faults instances (visit number) = faults_of_instances instances number
 abbrev pub woven : List Item → List Told → List Fault
 woven items instances = flat_map (item_faults instances) items
 
-abbrev pub told : Stored → List Fault → Told
-told s faults = record { schema_number = s.schema_number; faults = map (under (step_to s.schema_number)) faults }
+abbrev pub told_at : Stored → List Fault → Told
+told_at s faults = record { schema_number = s.schema_number; faults = map (under (step_to s.schema_number)) faults }
 
 -- each node of a row with its faults and those below it; `schema_row` holds the schema nodes of the row
-unfoldable pub told_in : Answers → Forest SchemaNode → Tree → List Told
+unfoldable pub told_in : Counting → Forest SchemaNode → Tree → List Told
 told_in answers schema_row end = []
-told_in answers schema_row (node s below after) = told s (own_faults answers schema_row s
+told_in answers schema_row (node s below after) = told_at s (own_faults answers schema_row s
     ++ woven (items_in_play (instances_in below) [] (row_below schema_row s.schema_number))
     (told_in answers (row_below schema_row s.schema_number) below))
     ∷ told_in answers schema_row after
 
 -- the faults of a tree, where the questions to the whole document have these answers
-abbrev pub faults_by : Answers → Schema → Tree → List Fault
+abbrev pub faults_by : Counting → Schema → Tree → List Fault
 faults_by answers schema tree =
     woven (items_in_play (instances_in tree) [] schema.nodes) (told_in answers schema.nodes tree)
 
 -- no question is asked by the types of today
-abbrev pub answers_of : Schema → Tree → Answers
-answers_of schema tree question = 0
+abbrev pub counting_of : Schema → Tree → Counting
+counting_of schema tree question = 0
 
 -- all faults of a document, in order
 abbrev pub faults_of : Schema → Tree → List Fault
-faults_of schema tree = faults_by (answers_of schema tree) schema tree
+faults_of schema tree = faults_by (counting_of schema tree) schema tree
 
 -- ---- lines
 

@@ -1,5 +1,5 @@
 -- What document a JSON text denotes under a schema, or why none (RFC 7951, 4 to 6).
-use Rattle.std.specs.Prelude.{ℕ, ◌-◌, ◌^◌, ℤ, pos, negsuc, Bool, true, false, List, [], ◌∷◌, ◌++◌, Option, Some, None, Result, Ok, Err, if◌then◌else◌}
+use Rattle.std.specs.Prelude.{ℕ, suc, ◌-◌, ◌^◌, ℤ, pos, negsuc, Bool, true, false, List, [], ◌∷◌, ◌++◌, Option, Some, None, Result, Ok, Err, if◌then◌else◌}
 use Rattle.std.specs.Option.{option_map_or}
 use Rattle.std.specs.Str.{is_utf8}
 use Rattle.serde_json.specs.Data.{Num, unsigned, negative, float, Data, null, boolean, number, string, array, object, Items, no_items, item, Members, no_members, member}
@@ -117,6 +117,12 @@ first_wrong [] = None
 first_wrong (right place ∷ vs) = first_wrong vs
 first_wrong (wrong code place ∷ vs) = Some (record { code = code; place = place })
 
+-- how many nodes are right
+abbrev pub right_nodes : List Visit → ℕ
+right_nodes [] = 0
+right_nodes (right place ∷ vs) = suc (right_nodes vs)
+right_nodes (wrong code place ∷ vs) = right_nodes vs
+
 -- the first refusal, if there is one
 abbrev pub verdict : Schema → Data → Option Refusal
 verdict schema d = first_wrong (visits schema d)
@@ -135,13 +141,13 @@ abbrev pub stored_node : SchemaNode → Data → Stored
 stored_node n d = record { schema_number = n.number; value = value_of n.kind d }
 
 -- `inner` is what stands below the node, where the value is there
-abbrev pub placed : SchemaNode → Option Data → (Data → Tree) → Tree → Tree
-placed n None inner rest = rest
-placed n (Some d) inner rest = node (stored_node n d) (inner d) rest
+abbrev pub with_stored : SchemaNode → Option Data → (Data → Tree) → Tree → Tree
+with_stored n None inner rest = rest
+with_stored n (Some d) inner rest = node (stored_node n d) (inner d) rest
 
 unfoldable pub stored_rows : Schema → Option ℕ → Forest SchemaNode → Members → Tree
 stored_rows schema parent end ms = end
-stored_rows schema parent (node n below after) ms = placed n (get_member (written_name schema parent n) ms)
+stored_rows schema parent (node n below after) ms = with_stored n (get_member (written_name schema parent n) ms)
     (λ d. stored_rows schema (Some n.module_number) below (members_of d)) (stored_rows schema parent after ms)
 
 -- the tree that a value with no refusal denotes

@@ -3,6 +3,7 @@ use Rattle.std.specs.Prelude.{⊤, ℕ, ◌==◌, ◌++◌, Bool, true, false, L
 use Rattle.std.specs.Option.{option_map_or}
 use Rattle.serde_json.specs.Data.{Data}
 use Rattle.yspec.specs.Forest.{end, node, size}
+use Rattle.yspec.specs.Results.{◌>>=◌}
 use Rattle.yspec.specs.text.Text.{Text}
 use Rattle.yspec.specs.schema.Schema.{Schema, SchemaNode, node_at, children_of, child_written}
 use Rattle.yspec.specs.document.Document.{Stored, Tree, Step, step_to}
@@ -20,11 +21,6 @@ refused code = Err (record { code = code; document_code = None })
 
 abbrev pub value_refused : {A : Type 0} → ℕ → Result A EditRefusal
 value_refused document_code = Err (record { code = 10; document_code = Some document_code })
-
-infixl 10 ◌>>=◌
-abbrev pub ◌>>=◌ : {A B : Type 0} → Result A EditRefusal → (A → Result B EditRefusal) → Result B EditRefusal
-(Ok x) >>= f = f x
-(Err e) >>= f = Err e
 
 -- ---- what texts spell, or E1
 
@@ -114,37 +110,37 @@ with_row t change tree = edit_at (map step_to t.above) change tree
 -- ---- the value
 
 -- a node with what stands below it
-pub record Part : Type 0 where
+pub record Branch : Type 0 where
   pub label : Stored
   pub below : Tree
 
-abbrev pub part : Schema → SchemaNode → Data → Part
-part schema n d = record {
+abbrev pub branch : Schema → SchemaNode → Data → Branch
+branch schema n d = record {
   label = stored_node n d;
   below = stored_rows schema (Some n.module_number) (children_of schema n.number) (members_of d);
 }
 
 -- E10: a value doesn't fit its node, with the first refusal of a document
-abbrev pub fitting_part : Schema → SchemaNode → Data → Result Part EditRefusal
-fitting_part schema n d = option_map_or (λ r. value_refused r.code)
-    (first_wrong (node_visits schema n (children_of schema n.number) [] d)) (Ok (part schema n d))
+abbrev pub fitting_branch : Schema → SchemaNode → Data → Result Branch EditRefusal
+fitting_branch schema n d = option_map_or (λ r. value_refused r.code)
+    (first_wrong (node_visits schema n (children_of schema n.number) [] d)) (Ok (branch schema n d))
 
 -- a number that the schema gave has its node
-abbrev pub part_at : Schema → ℕ → Data → Result Part EditRefusal
-part_at schema number d = option_map_or (λ n. fitting_part schema n d) (node_at schema number) (refused 2)
+abbrev pub branch_at : Schema → ℕ → Data → Result Branch EditRefusal
+branch_at schema number d = option_map_or (λ n. fitting_branch schema n d) (node_at schema number) (refused 2)
 
 -- E9: the text is no JSON
-abbrev pub part_of : Schema → ℕ → Text → Result Part EditRefusal
-part_of schema number text = option_map_or (part_at schema number) (json_of text) (refused 9)
+abbrev pub branch_of : Schema → ℕ → Text → Result Branch EditRefusal
+branch_of schema number text = option_map_or (branch_at schema number) (json_of text) (refused 9)
 
 -- ---- changes of a row
 
--- with a part in its place: before the first node of a greater number, instead of one of the same
-abbrev pub with_part : Part → Tree → Tree
-with_part p end = node p.label p.below end
-with_part p (node s below after) = if s.schema_number == p.label.schema_number then node p.label p.below after
+-- with a branch in its place: before the first node of a greater number, instead of one of the same
+abbrev pub with_branch : Branch → Tree → Tree
+with_branch p end = node p.label p.below end
+with_branch p (node s below after) = if s.schema_number == p.label.schema_number then node p.label p.below after
     else (if nat_lt p.label.schema_number s.schema_number then node p.label p.below (node s below after)
-    else node s below (with_part p after))
+    else node s below (with_branch p after))
 
 abbrev pub without : ℕ → Tree → Tree
 without number end = end
@@ -153,15 +149,15 @@ without number (node s below after) = if s.schema_number == number then after el
 -- ---- edits
 
 -- a document has at most so many nodes
-abbrev pub node_limit : ℕ
-node_limit = 1000000
+abbrev pub document_limit : ℕ
+document_limit = 1000000
 
 -- E11
 abbrev pub within_limit : Tree → Result Tree EditRefusal
-within_limit tree = if nat_lt node_limit (size tree) then refused 11 else Ok tree
+within_limit tree = if nat_lt document_limit (size tree) then refused 11 else Ok tree
 
 abbrev pub with_value : Schema → Tree → Text → Target → Result Tree EditRefusal
-with_value schema tree text t = part_of schema t.schema_number text >>= (λ p. within_limit (with_row t (with_part p) tree))
+with_value schema tree text t = branch_of schema t.schema_number text >>= (λ p. within_limit (with_row t (with_branch p) tree))
 
 -- E8: what is created is there
 abbrev pub created : Schema → Tree → Text → Target → Result Tree EditRefusal

@@ -156,8 +156,8 @@ wrong code line = Some (record { code = code; line = line })
 
 -- A text that is too long is told as that, else one that isn't UTF-8, else its first character that isn't allowed, and
 -- else its first slip.
-unfoldable pub told : Text → Option Slip
-told text = if nat_lt text_limit (length text) then wrong 7 1
+unfoldable pub told_slip : Text → Option Slip
+told_slip text = if nat_lt text_limit (length text) then wrong 7 1
     else (if not (is_utf8 text) then wrong 1 (line_behind 1 (take (utf8_valid_len text) text))
     else option_map_or (λ line. wrong 2 line) (forbidden_line 1 (chars text)) (first (slips text)))
 

@@ -4,6 +4,7 @@ use Rattle.std.specs.Option.{option_map_or}
 use Rattle.std.specs.Str.{chars, is_utf8}
 use Rattle.std.specs.Str.Lossy.{utf8_valid_len}
 use Rattle.yspec.specs.Forest.{Forest, end, node, join}
+pub use Rattle.yspec.specs.Results.{◌>>=◌}
 use Rattle.yspec.specs.text.Text.{Text, is_text, is_name, plus, line_behind, forbidden_line}
 use Rattle.yspec.specs.text.Token.{Lexeme, Token, word, single, double, semi, open_block, close_block, finish, unclosed_quote, unclosed_comment, tokens_of, bad_escape_line, double_text, single_text}
 
@@ -20,11 +21,6 @@ pub record Slip : Type 0 where
 
 abbrev pub slip : {A : Type 0} → ℕ → ℕ → Result A Slip
 slip code line = Err (record { code = code; line = line })
-
-infixl 10 ◌>>=◌
-abbrev pub ◌>>=◌ : {A B : Type 0} → Result A Slip → (A → Result B Slip) → Result B Slip
-(Ok x) >>= f = f x
-(Err e) >>= f = Err e
 
 -- what is wrong where a token stands that may not stand there
 abbrev pub misplaced_code : Lexeme → ℕ
@@ -122,18 +118,18 @@ statement inner level keyword line ts = if is_name keyword
 abbrev pub in_row : Row → Row → Result Row Slip
 in_row first rest = Ok (join first.0 rest.0, rest.1)
 
-abbrev pub row_at : Lexeme → (List Token → Result Row Slip) → (List Token → Result Row Slip) → ℕ → Token → List Token
+abbrev pub statements_at : Lexeme → (List Token → Result Row Slip) → (List Token → Result Row Slip) → ℕ → Token → List Token
     → Result Row Slip
-row_at (word w) inner others level t ts = statement inner level w t.line ts >>= (λ first. others first.1 >>= in_row first)
-row_at close_block inner others level t ts = Ok (end, t ∷ ts)
-row_at finish inner others level t ts = Ok (end, t ∷ ts)
-row_at lexeme inner others level t ts = misplaced t
+statements_at (word w) inner others level t ts = statement inner level w t.line ts >>= (λ first. others first.1 >>= in_row first)
+statements_at close_block inner others level t ts = Ok (end, t ∷ ts)
+statements_at finish inner others level t ts = Ok (end, t ∷ ts)
+statements_at lexeme inner others level t ts = misplaced t
 
 -- the statements up to a `}` or the end of the text, `level` blocks being open; `fuel` is at least the number of tokens
 unfoldable pub statements : ℕ → ℕ → List Token → Result Row Slip
 statements zero level ts = Ok (end, ts)
 statements (suc fuel) level [] = Ok (end, [])
-statements (suc fuel) level (t ∷ ts) = row_at t.lexeme (statements fuel (level + 1)) (statements fuel level) level t ts
+statements (suc fuel) level (t ∷ ts) = statements_at t.lexeme (statements fuel (level + 1)) (statements fuel level) level t ts
 
 -- ---- a module's text
 
