@@ -18,10 +18,6 @@ pub first_of_none : {X : Type 0} (o : Option X) → first_of o None ≡ o
 first_of_none (Some x) = refl
 first_of_none None = refl
 
-pub join_assoc : {X : Type 0} (f g h : Forest X) → join (join f g) h ≡ join f (join g h)
-join_assoc end g h = refl
-join_assoc (node l below after) g h = ap (node l below) (join_assoc after g h)
-
 -- ---- texts
 
 pub same_text : (a : Text) → is_text a a ≡ true
