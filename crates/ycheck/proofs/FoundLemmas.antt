@@ -5,7 +5,7 @@ use Rattle.yspec.specs.Forest.{Forest, end, node}
 use Rattle.yspec.specs.types.Types.{Raw}
 use Rattle.yspec.specs.schema.Schema.{Schema, SchemaNode, Kind}
 use Rattle.yspec.specs.document.Document.{Stored, Tree, Step, step_to}
-use Rattle.yspec.specs.document.Faults.{Fault, under, faults_of, answers_of}
+use Rattle.yspec.specs.document.Faults.{Fault, under, faults_of, counting_of}
 use Rattle.yspec.specs.document.RowFaults.{prefixed, begins_with, stored_own, stored_faults, absent_faults, row_faults}
 use Rattle.yspec.specs.document.Fitting.{IsNumbered, Fits}
 use Rattle.yspec.proofs.DocumentProofs.CheckingLemmas.{prefixed_twice, rows_are_faults}
@@ -112,4 +112,4 @@ pub all_found : (schema : Schema) (tree : Tree) (f : Forest SchemaNode) (t : Tre
     → new ≡ views old ++ map (prefixed (place_view steps)) (row_faults f t) → new ≡ faults_of schema tree
 all_found schema tree f t steps old new no_step nothing f_is t_is numbered fits found =
     found ∙ (ap₂ (λ fs p. views fs ++ map (prefixed (place_view p)) (row_faults f t)) nothing no_step
-    ∙ (map-id (row_faults f t) ∙ (ap₂ row_faults f_is t_is ∙ sym (rows_are_faults (answers_of schema tree) schema tree numbered fits))))
+    ∙ (map-id (row_faults f t) ∙ (ap₂ row_faults f_is t_is ∙ sym (rows_are_faults (counting_of schema tree) schema tree numbered fits))))

@@ -6,9 +6,9 @@ use Rattle.std.proofs.lemmas.List.{at_drop_more}
 use Rattle.yspec.specs.Forest.{node, join, size}
 use Rattle.yspec.specs.document.Document.{Tree}
 use Rattle.yspec.specs.edit.Edit.{change_below}
-use Rattle.yspec.specs.edit.Editing.{Part, stored_in, with_part, without}
+use Rattle.yspec.specs.edit.Editing.{Branch, stored_in, with_branch, without}
 use Rattle.ytree.specs.View.{view, row_view}
-use Rattle.yinst.specs.Rows.{number_of, has_number, is_not_before, before_first, from_first, part_view, without_first}
+use Rattle.yinst.specs.Rows.{number_of, has_number, is_not_before, before_first, from_first, branch_view, without_first}
 use Rattle.ytree.specs.declared.tree.Stored.{Stored}
 use Rattle.yspec.proofs.ForestLemmas.{join_end}
 use Rattle.ytree.proofs.RowLemmas.{join_last}
@@ -107,8 +107,8 @@ at_most a b = by (nat_le a b) (b == a) (nat_lt a b) refl refl refl
     by false false true h i j = absurd (grind (arith, h, j))
     by false false false h i j = refl
 
-part_from : (p : Part) (xs : List Stored) → let test = is_not_before p.label.schema_number in
-    with_part p (row_view xs) ≡ join (row_view (before_first test xs)) (with_part p (row_view (from_first test xs)))
+part_from : (p : Branch) (xs : List Stored) → let test = is_not_before p.label.schema_number in
+    with_branch p (row_view xs) ≡ join (row_view (before_first test xs)) (with_branch p (row_view (from_first test xs)))
 part_from p [] = refl
 part_from p (x ∷ xs) = by (nat_le p.label.schema_number (number_of x)) refl (part_from p xs)
   where
@@ -118,30 +118,30 @@ part_from p (x ∷ xs) = by (nat_le p.label.schema_number (number_of x)) refl (p
     passed false false there here later e = refl
 
     by : (b : Bool) → nat_le p.label.schema_number (number_of x) ≡ b
-        → with_part p (row_view xs) ≡ join (row_view (before_first (is_not_before p.label.schema_number) xs)) (with_part p (row_view (from_first (is_not_before p.label.schema_number) xs)))
-        → with_part p (node (view x).0 (view x).1 (row_view xs))
-        ≡ join (row_view (cond b [] (x ∷ before_first (is_not_before p.label.schema_number) xs))) (with_part p (row_view (cond b (x ∷ xs) (from_first (is_not_before p.label.schema_number) xs))))
+        → with_branch p (row_view xs) ≡ join (row_view (before_first (is_not_before p.label.schema_number) xs)) (with_branch p (row_view (from_first (is_not_before p.label.schema_number) xs)))
+        → with_branch p (node (view x).0 (view x).1 (row_view xs))
+        ≡ join (row_view (cond b [] (x ∷ before_first (is_not_before p.label.schema_number) xs))) (with_branch p (row_view (cond b (x ∷ xs) (from_first (is_not_before p.label.schema_number) xs))))
     by true is h = refl
     by false is h = passed (number_of x == p.label.schema_number) (nat_lt p.label.schema_number (number_of x)) _ _ _
         (sym (at_most p.label.schema_number (number_of x)) ∙ is)
         ∙ ap (node (view x).0 (view x).1) h
 
--- at its place a part stands in front of what isn't of its schema node
-part_here : (p : Part) (xs : List Stored) → ((y : Stored) (ys : List Stored) → xs ≡ y ∷ ys → is_not_before p.label.schema_number y ≡ true)
-    → with_part p (row_view xs) ≡ node p.label p.below (without_first p.label.schema_number (row_view xs))
+-- at its place a branch stands in front of what isn't of its schema node
+part_here : (p : Branch) (xs : List Stored) → ((y : Stored) (ys : List Stored) → xs ≡ y ∷ ys → is_not_before p.label.schema_number y ≡ true)
+    → with_branch p (row_view xs) ≡ node p.label p.below (without_first p.label.schema_number (row_view xs))
 part_here p [] passes = refl
 part_here p (x ∷ xs) passes = by (number_of x == p.label.schema_number) (nat_lt p.label.schema_number (number_of x))
     (sym (at_most p.label.schema_number (number_of x)) ∙ passes x xs refl)
   where
     by : (same less : Bool) → (same || less) ≡ true
-        → cond same (node p.label p.below (row_view xs)) (cond less (node p.label p.below (node (view x).0 (view x).1 (row_view xs))) (node (view x).0 (view x).1 (with_part p (row_view xs))))
+        → cond same (node p.label p.below (row_view xs)) (cond less (node p.label p.below (node (view x).0 (view x).1 (row_view xs))) (node (view x).0 (view x).1 (with_branch p (row_view xs))))
         ≡ node p.label p.below (cond same (row_view xs) (node (view x).0 (view x).1 (row_view xs)))
     by true less e = refl
     by false true e = refl
     by false false e = absurd cc
 
-pub part_there : (p : Part) (xs : List Stored) → let test = is_not_before p.label.schema_number in
-    with_part p (row_view xs) ≡ join (row_view (before_first test xs)) (node p.label p.below (without_first p.label.schema_number (row_view (from_first test xs))))
+pub part_there : (p : Branch) (xs : List Stored) → let test = is_not_before p.label.schema_number in
+    with_branch p (row_view xs) ≡ join (row_view (before_first test xs)) (node p.label p.below (without_first p.label.schema_number (row_view (from_first test xs))))
 part_there p xs = let test = is_not_before p.label.schema_number in
     part_from p xs ∙ ap (join (row_view (before_first test xs))) (part_here p (from_first test xs) (λ y ys at. first_passes test xs y ys at))
 
@@ -195,14 +195,14 @@ pub same_if_ok : {X E : Type 0} (r : Result X E) (see : X → Tree) (a b : Tree)
 same_if_ok (Ok x) see a b is h = h ∙ is
 same_if_ok (Err e) see a b is h = tt
 
-pub part_put : (p : Stored) (row before from nodes after : List Stored) (i j : ℕ) → i ≡ number_of p → j ≡ number_of p
+pub branch_put : (p : Stored) (row before from nodes after : List Stored) (i j : ℕ) → i ≡ number_of p → j ≡ number_of p
     → before ≡ before_first (is_not_before i) row → from ≡ from_first (is_not_before i) row → row_view nodes ≡ row_view before
     → row_view after ≡ without_first j (row_view from)
-    → join (row_view nodes) (node (view p).0 (view p).1 (row_view after)) ≡ with_part (part_view p) (row_view row)
-part_put p row before from nodes after i j i_is j_is before_is from_is nodes_are after_is =
+    → join (row_view nodes) (node (view p).0 (view p).1 (row_view after)) ≡ with_branch (branch_view p) (row_view row)
+branch_put p row before from nodes after i j i_is j_is before_is from_is nodes_are after_is =
     ap₂ (λ t u. join t (node (view p).0 (view p).1 u)) (nodes_are ∙ ap row_view (before_is ∙ ap (λ n. before_first (is_not_before n) row) i_is))
     (after_is ∙ ap₂ (λ n f. without_first n (row_view f)) j_is (from_is ∙ ap (λ n. from_first (is_not_before n) row) i_is))
-    ∙ sym (part_there (part_view p) row)
+    ∙ sym (part_there (branch_view p) row)
 
 pub node_taken : (n : ℕ) (row before from nodes after : List Stored) → before ≡ before_first (has_number n) row → from ≡ from_first (has_number n) row
     → row_view nodes ≡ row_view before → row_view after ≡ without_first n (row_view from)

@@ -2,7 +2,7 @@
 use Rattle.std.specs.Prelude.{ℕ, ◌==◌, List, [], ◌∷◌, Bool, nat_le, if◌then◌else◌}
 use Rattle.yspec.specs.Forest.{end, node}
 use Rattle.yspec.specs.document.Document.{Tree}
-use Rattle.yspec.specs.edit.Editing.{Part, with_part, without}
+use Rattle.yspec.specs.edit.Editing.{Branch, with_branch, without}
 use Rattle.ytree.specs.View.{view}
 use Rattle.ytree.specs.declared.tree.Stored.{Stored}
 use Rattle.yinst.specs.declared.rows.Change.{Change}
@@ -26,12 +26,12 @@ abbrev pub from_first : (Stored → Bool) → List Stored → List Stored
 from_first test [] = []
 from_first test (s ∷ ss) = if test s then s ∷ ss else from_first test ss
 
-abbrev pub part_view : Stored → Part
-part_view s = record { label = (view s).0; below = (view s).1 }
+abbrev pub branch_view : Stored → Branch
+branch_view s = record { label = (view s).0; below = (view s).1 }
 
 -- what a change makes of a row
 abbrev pub change_view : Change → Tree → Tree
-change_view (Put s) row = with_part (part_view s) row
+change_view (Put s) row = with_branch (branch_view s) row
 change_view (TakeAway id) row = without id.0 row
 
 -- a row without its first node, if that is of this schema node

@@ -2,9 +2,9 @@
 #![tactic(auto)]
 
 mod applying;
+mod branch;
 mod cut;
 mod edit;
-mod part;
 mod paths;
 mod rows;
 mod way;

@@ -7,7 +7,7 @@ ghost use Rattle.yspec.specs.edit.Editing as spec;
 ghost use Rattle.yspec.specs.edit.Editing.{stored_in, step_to};
 ghost use Rattle.ytree.specs.View.{view, row_view};
 ghost use Rattle.yinst.specs.Applying.{numbers};
-ghost use Rattle.yinst.specs.Rows.{has_number, is_not_before, before_first, from_first, part_view, change_view};
+ghost use Rattle.yinst.specs.Rows.{has_number, is_not_before, before_first, from_first, branch_view, change_view};
 ghost use Rattle.yinst.specs.Rows as rows;
 
 use std::alloc::{AllocError, Global};
@@ -143,18 +143,18 @@ fn changed_here(alloc: Global, row: &[Stored], change: Change) -> Result<Vec<Sto
     ensures { IfOk result (λ nodes. row_view nodes.items ≡ change_view change (row_view row.now)) }
 {
     match change {
-        Change::Put(part) => with_part(alloc, row, part),
+        Change::Put(branch) => with_branch(alloc, row, branch),
         Change::TakeAway(id) => without(alloc, row, id),
     }
 }
 
-fn with_part(alloc: Global, row: &[Stored], part: Stored) -> Result<Vec<Stored>, AllocError>
-    ensures { IfOk result (λ nodes. row_view nodes.items ≡ spec.with_part (part_view part) (row_view row.now)) }
+fn with_branch(alloc: Global, row: &[Stored], branch: Stored) -> Result<Vec<Stored>, AllocError>
+    ensures { IfOk result (λ nodes. row_view nodes.items ≡ spec.with_branch (branch_view branch) (row_view row.now)) }
 {
-    let (before, from) = split_at_place(row, part.id());
-    let after = without_first(from, part.id());
+    let (before, from) = split_at_place(row, branch.id());
+    let after = without_first(from, branch.id());
     let nodes = copies_of(alloc, before)?;
-    with_more(nodes, part, after)
+    with_more(nodes, branch, after)
 }
 
 /// A row without its first node, if that is of this schema node.

@@ -3,7 +3,7 @@ use Rattle.std.proofs.Common.{◌≡◌, ℕ, ◌+◌, ◌-◌, ◌<◌, List, [
 use Rattle.yspec.specs.text.Text.{line_after}
 use Rattle.yspec.specs.text.Token.{Token, column_after, at, finish}
 use Rattle.yspec.specs.text.Token as token
-use Rattle.yspec.specs.text.Scanning.{Piece, piece_at, placed, pieces_from}
+use Rattle.yspec.specs.text.Scanning.{Piece, piece_at, pieces_with, pieces_from}
 use Rattle.ytext.specs.View.{front_of, lexeme_of, ends_text, GoesOn}
 use Rattle.ytext.specs.Left.{pieces_left, pieces_behind, left, column_of, stands, piece_of, with_piece, with_token}
 use Rattle.ytext.specs.declared.cursor.Cursor.{Cursor}
@@ -33,7 +33,7 @@ after_front c (Token_at lexeme later) = piece_at c.at later (at c.line (lexeme_o
 after_front c (Last lexeme) = piece_at c.at c.at (at c.line (lexeme_of lexeme)) ∷ []
 
 met_front : (c : Cursor) (f : Front) → c.at < length c.text.now → GoesOn c.text.now c.at f
-    → placed c.at c.line (front_of c.at f) (λ n. pieces_from (n - 1) (c.at + 1) (line_after (get_or c.text.now c.at 0) c.line) (column_after (get_or c.text.now c.at 0) (column_of c)) (drop (c.at + 1) c.text.now))
+    → pieces_with c.at c.line (front_of c.at f) (λ n. pieces_from (n - 1) (c.at + 1) (line_after (get_or c.text.now c.at 0) c.line) (column_after (get_or c.text.now c.at 0) (column_of c)) (drop (c.at + 1) c.text.now))
     ≡ after_front c f
 met_front c (Gap later) l goes = piece_passed c later l goes.0
 met_front c (Token_at lexeme later) l goes =
@@ -46,7 +46,7 @@ pub left_by_front : (c : Cursor) (f : Front) → c.at < length c.text.now → Go
     → pieces_left c ≡ after_front c f
 left_by_front c f l goes is =
     met_at c.line (column_of c) c.text.now c.at l
-    ∙ ap (λ (stood : token.Front). placed c.at c.line stood (λ n. pieces_from (n - 1) (c.at + 1) (line_after (get_or c.text.now c.at 0) c.line) (column_after (get_or c.text.now c.at 0) (column_of c)) (drop (c.at + 1) c.text.now))) (sym is)
+    ∙ ap (λ (stood : token.Front). pieces_with c.at c.line stood (λ n. pieces_from (n - 1) (c.at + 1) (line_after (get_or c.text.now c.at 0) c.line) (column_after (get_or c.text.now c.at 0) (column_of c)) (drop (c.at + 1) c.text.now))) (sym is)
     ∙ met_front c f l goes
 
 -- what is found, and what is behind it

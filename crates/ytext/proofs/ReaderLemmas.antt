@@ -3,7 +3,7 @@ use Rattle.std.proofs.Common.{◌≡◌, refl, ℕ, Bool, true, false, List, [],
 use Rattle.std.specs.Str.{IsCharBoundary}
 use Rattle.yspec.specs.Forest.{Forest, end}
 use Rattle.yspec.specs.text.Token.{Token, at, word}
-use Rattle.yspec.specs.text.Statement.{Statement, Slip, Row, ◌>>=◌, statement, statements, ending, top_statement, row_at}
+use Rattle.yspec.specs.text.Statement.{Statement, Slip, Row, ◌>>=◌, statement, statements, ending, top_statement, statements_at}
 use Rattle.yspec.specs.Results.{Fails}
 use Rattle.ytext.specs.Told.{told_by}
 use Rattle.ytext.specs.Left.{left}
@@ -36,13 +36,13 @@ top_fails r w (Refused code line) is h = top_of r w is ∙ ap (λ (read : Result
 
 -- the end of a row, and a token that may not stand in one
 pub row_ends : (level : ℕ) (r : Reader) (ss : List Stmt) (read : Result Row Slip) → with_front (row_view ss) (rows level (tokens_ahead r)) ≡ read
-    → row_at (lexeme_of r.token.lexeme) (rows (level + 1)) (rows level) level (first_of r) (rest_of r) ≡ Ok (end, tokens_ahead r) → read ≡ Ok (row_view ss, tokens_ahead r)
+    → statements_at (lexeme_of r.token.lexeme) (rows (level + 1)) (rows level) level (first_of r) (rest_of r) ≡ Ok (end, tokens_ahead r) → read ≡ Ok (row_view ss, tokens_ahead r)
 row_ends level r ss read rest e =
     sym rest ∙ ap (with_front (row_view ss)) (rows_by level (first_of r) (rest_of r) ∙ e) ∙ front_ok (row_view ss) end (tokens_ahead r)
     ∙ ap (λ (f : Forest Statement). Ok (f, tokens_ahead r)) (join_end (row_view ss))
 
 pub row_breaks : (level : ℕ) (r : Reader) (ss : List Stmt) (read : Result Row Slip) (e : TextFault) → with_front (row_view ss) (rows level (tokens_ahead r)) ≡ read
-    → Fails (told_by e) (row_at (lexeme_of r.token.lexeme) (rows (level + 1)) (rows level) level (first_of r) (rest_of r)) → Fails (told_by e) read
+    → Fails (told_by e) (statements_at (lexeme_of r.token.lexeme) (rows (level + 1)) (rows level) level (first_of r) (rest_of r)) → Fails (told_by e) read
 row_breaks level r ss read Memory rest h = tt
 row_breaks level r ss read (Refused code line) rest h =
     sym rest ∙ ap (with_front (row_view ss)) (rows_by level (first_of r) (rest_of r) ∙ h) ∙ front_err (row_view ss) _

@@ -3,7 +3,7 @@ use Rattle.std.proofs.Common.{◌≡◌, ℕ, zero, suc, ◌+◌, ◌≤◌, Lis
 use Rattle.yspec.specs.Forest.{Forest, end, node}
 use Rattle.yspec.specs.text.Text.{Text, is_name}
 use Rattle.yspec.specs.text.Token.{Token, Lexeme, word, single, double, semi, open_block, close_block, finish, unclosed_quote, unclosed_comment, stray_end}
-use Rattle.yspec.specs.text.Statement.{Slip, slip, ◌>>=◌, Statement, Row, piece, pieces, after_piece, appended, some_argument, argument, argument_at, is_plus, begins_quoted, body, body_at, closed, closed_at, statement, row_at, in_row, statements, block_limit}
+use Rattle.yspec.specs.text.Statement.{Slip, slip, ◌>>=◌, Statement, Row, piece, pieces, after_piece, appended, some_argument, argument, argument_at, is_plus, begins_quoted, body, body_at, closed, closed_at, statement, statements_at, in_row, statements, block_limit}
 use Rattle.yspec.specs.Forest.{join}
 use Rattle.yspec.specs.text.Token.{at}
 use Rattle.yspec.specs.Results.{Fails}
@@ -144,7 +144,7 @@ stay : (t : Token) (ts : List Token) → Shrinks {A = Forest Statement} (suc (le
 stay t ts x e = omega (arith, ap (λ (y : Row). length y.1) (ok_same (end, t ∷ ts) x e))
 
 row_at_shrinks : (l : Lexeme) (inner others : List Token → Result Row Slip) (level : ℕ) (t : Token) (ts : List Token) → AllShrink inner → AllShrink others
-    → Shrinks (suc (length ts)) (row_at l inner others level t ts)
+    → Shrinks (suc (length ts)) (statements_at l inner others level t ts)
 row_at_shrinks (word w) inner others level t ts h k x e =
     let one = bind_ok (statement inner level w t.line ts) (λ first. others first.1 >>= in_row first) x e in
     let two = bind_ok (others one.0.1) (in_row one.0) x one.2 in
@@ -199,7 +199,7 @@ statement_same f g level keyword line ts n h k =
     ap (λ (r : Result Row Slip). r >>= made keyword line a.0) (body_same f g level a.1 n h (omega (arith, short, k)))))
 
 row_at_same : (l : Lexeme) (f g others more : List Token → Result Row Slip) (level : ℕ) (t : Token) (ts : List Token) (n : ℕ) → AllShrink g → Agree n f g → Agree n others more → length ts ≤ n
-    → row_at l f others level t ts ≡ row_at l g more level t ts
+    → statements_at l f others level t ts ≡ statements_at l g more level t ts
 row_at_same (word w) f g others more level t ts n s h k m =
     ap (λ (r : Result Row Slip). r >>= (λ first. others first.1 >>= in_row first)) (statement_same f g level w t.line ts n h m)
     ∙ bind_same (statement g level w t.line ts) (λ first. others first.1 >>= in_row first) (λ first. more first.1 >>= in_row first) (λ first e.
@@ -235,7 +235,7 @@ rows_shrink : (level : ℕ) → AllShrink (rows level)
 rows_shrink level us = statements_shrink (length us) level us
 
 -- a row by its first token
-pub rows_by : (level : ℕ) (t : Token) (ts : List Token) → rows level (t ∷ ts) ≡ row_at t.lexeme (rows (level + 1)) (rows level) level t ts
+pub rows_by : (level : ℕ) (t : Token) (ts : List Token) → rows level (t ∷ ts) ≡ statements_at t.lexeme (rows (level + 1)) (rows level) level t ts
 unfolding statements
 rows_by level t ts =
     row_at_same t.lexeme (statements (length ts) (level + 1)) (rows (level + 1)) (statements (length ts) level) (rows level) level t ts (length ts) (rows_shrink (level + 1))

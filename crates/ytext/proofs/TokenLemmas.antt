@@ -5,7 +5,7 @@ use Rattle.std.proofs.lemmas.Bool.{ne_eqb}
 use Rattle.std.proofs.lemmas.List.{take_more, get_or-drop, drop-drop}
 use Rattle.std.specs.Option.{option_map_or}
 use Rattle.yspec.specs.text.Text.{line_after, begins, is_white}
-use Rattle.yspec.specs.text.Scanning.{piece_at, placed, pieces_from}
+use Rattle.yspec.specs.text.Scanning.{piece_at, pieces_with, pieces_from}
 use Rattle.yspec.specs.text.Token.{Front, column_after, column_behind, front, at, finish, token, word, word_length, gap, last, unclosed_comment, slash_front, comment_front, comment_rest_length, line_comment_length}
 use Rattle.ytext.proofs.ScanLemmas.{drop_at}
 
@@ -18,7 +18,7 @@ first_passed (suc n) start line column x xs h = let one : suc n - 1 ≡ n = omeg
     ap (λ (m : ℕ). pieces_from m (start + 1) (line_after x line) (column_after x column) xs) one
 
 pub met_at : (line column : ℕ) (text : List ℕ) (i : ℕ) → i < length text → pieces_from 0 i line column (drop i text)
-    ≡ placed i line (front column (get_or text i 0) (drop (i + 1) text)) (λ n. pieces_from (n - 1) (i + 1) (line_after (get_or text i 0) line) (column_after (get_or text i 0) column) (drop (i + 1) text))
+    ≡ pieces_with i line (front column (get_or text i 0) (drop (i + 1) text)) (λ n. pieces_from (n - 1) (i + 1) (line_after (get_or text i 0) line) (column_after (get_or text i 0) column) (drop (i + 1) text))
 unfolding pieces_from
 met_at line column text i h = ap (λ (xs : List ℕ). pieces_from 0 i line column xs) (drop_at text i h)
 
@@ -36,7 +36,7 @@ pub white_passed : (line column : ℕ) (text : List ℕ) (i : ℕ) → i < lengt
     → pieces_from 0 i line column (drop i text) ≡ pieces_from 1 i line column (drop i text)
 white_passed line column text i h e =
     met_at line column text i h
-    ∙ ap (λ (f : Front). placed i line f (λ n. pieces_from (n - 1) (i + 1) (line_after (get_or text i 0) line) (column_after (get_or text i 0) column) (drop (i + 1) text)))
+    ∙ ap (λ (f : Front). pieces_with i line f (λ n. pieces_from (n - 1) (i + 1) (line_after (get_or text i 0) line) (column_after (get_or text i 0) column) (drop (i + 1) text)))
     (front_white column (get_or text i 0) (drop (i + 1) text) e)
     ∙ sym (passed_at 0 line column text i h)
   where

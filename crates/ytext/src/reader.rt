@@ -62,7 +62,7 @@ impl<'a> Lexed<'a> {
 }
 
 impl<'a> Reader<'a> {
-    ghost use Rattle.yspec.specs.text.Statement.{Statement, piece, pieces, argument, is_quoted, body, closed, statement, ending, row_at, top_statement};
+    ghost use Rattle.yspec.specs.text.Statement.{Statement, piece, pieces, argument, is_quoted, body, closed, statement, ending, statements_at, top_statement};
     ghost use Rattle.yspec.specs.Forest.{Forest, end};
     ghost use Rattle.ytext.specs.View.{a_word, is_word};
     ghost use Rattle.ytext.specs.View.{row_view, modules_view};
@@ -257,7 +257,7 @@ impl<'a> Reader<'a> {
     fn row_end(&self) -> Result<(), TextFault>
         requires { is_word (lexeme_of self.now.token.lexeme) ≡ false }
         ensures { (level : ℕ) → Gives (λ _. (end, tokens_ahead self.now)) told_by result
-            (row_at (lexeme_of self.now.token.lexeme) (rows (level + 1)) (rows level) level (first_of self.now) (rest_of self.now)) }
+            (statements_at (lexeme_of self.now.token.lexeme) (rows (level + 1)) (rows level) level (first_of self.now) (rest_of self.now)) }
     {
         match self.token.lexeme {
             Lexeme::Close => Ok(()),

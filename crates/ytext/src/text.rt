@@ -8,7 +8,7 @@ ghost use Rattle.yspec.specs.text.Statement.{module_of, top_statement};
 ghost use Rattle.yspec.specs.Results.{Gives, Fails};
 ghost use Rattle.ytext.specs.Told.{told_by};
 ghost use Rattle.yspec.specs.text.Spelling.{Spells};
-ghost use Rattle.yspec.specs.text.Slips.{told};
+ghost use Rattle.yspec.specs.text.Slips.{told_slip};
 ghost use Rattle.yspec.specs.text.Token.{tokens_of};
 ghost use Rattle.yspec.specs.text.Scanning.{forbidden_place, scan_of};
 ghost use Rattle.ytext.specs.Characters.{is_plain, pending, pending_place};
@@ -189,7 +189,7 @@ fn checked(bytes: &[u8]) -> Result<&str, TextFault>
 pub fn parse(alloc: Global, bytes: &[u8]) -> Result<Module, TextFault>
     ensures answer { Gives (λ read. modules_view (read ∷ [])) told_by result (module_of bytes.now) }
     ensures spells { IfOk result (λ read. Spells bytes.now (modules_view (read ∷ []))) }
-    ensures told { IfErr result (λ fault. IfSome (told_by fault) (λ slip. told bytes.now ≡ Some slip)) }
+    ensures told { IfErr result (λ fault. IfSome (told_by fault) (λ slip. told_slip bytes.now ≡ Some slip)) }
 {
     read_module(alloc, bytes)
 }

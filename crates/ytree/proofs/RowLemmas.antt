@@ -7,7 +7,7 @@ use Rattle.yspec.specs.schema.Schema.{Schema, SchemaNode, written_name}
 use Rattle.yspec.specs.types.Types.{Raw}
 use Rattle.yspec.specs.document.Document as spec
 use Rattle.yspec.specs.document.Document.{Tree}
-use Rattle.yspec.specs.document.Reading.{stored_rows, stored_node, value_of, members_of, placed}
+use Rattle.yspec.specs.document.Reading.{stored_rows, stored_node, value_of, members_of, with_stored}
 use Rattle.yschema.specs.View as schema_view
 use Rattle.yschema.specs.declared.node.SchemaNode as code
 use Rattle.yspec.proofs.ForestLemmas.{join_end}
@@ -34,16 +34,16 @@ rows_at_end s parent ms = refl
 pub rows_at_first : (s : Schema) (parent : Option ℕ) (n : SchemaNode) (below after : Forest SchemaNode) (ms : Members) (found : Option Data)
     → found ≡ get_member (written_name s parent n) ms
     → stored_rows s parent (node n below after) ms
-    ≡ placed n found (λ d. stored_rows s (Some n.module_number) below (members_of d)) (stored_rows s parent after ms)
+    ≡ with_stored n found (λ d. stored_rows s (Some n.module_number) below (members_of d)) (stored_rows s parent after ms)
 unfolding stored_rows
 rows_at_first s parent n below after ms found is =
-    ap (λ (o : Option Data). placed n o (λ d. stored_rows s (Some n.module_number) below (members_of d)) (stored_rows s parent after ms)) (sym is)
+    ap (λ (o : Option Data). with_stored n o (λ d. stored_rows s (Some n.module_number) below (members_of d)) (stored_rows s parent after ms)) (sym is)
 
 -- The rest of a row with its first node: `found` is the value that this has.
 pub goes_on : (s : Schema) (parent : Option ℕ) (n : SchemaNode) (before below after : Forest SchemaNode) (ms : Members) (found : Option Data) (done : List Stored) (whole : Tree)
     → before ≡ node n below after → found ≡ get_member (written_name s parent n) ms
     → join (row_view done) (stored_rows s parent before ms) ≡ whole
-    → join (row_view done) (placed n found (λ d. stored_rows s (Some n.module_number) below (members_of d)) (stored_rows s parent after ms)) ≡ whole
+    → join (row_view done) (with_stored n found (λ d. stored_rows s (Some n.module_number) below (members_of d)) (stored_rows s parent after ms)) ≡ whole
 goes_on s parent n before below after ms found done whole is here so =
     ap (join (row_view done)) (sym (ap (λ f. stored_rows s parent f ms) is ∙ rows_at_first s parent n below after ms found here)) ∙ so
 

@@ -10,8 +10,8 @@ use Rattle.yspec.specs.Forest.{Forest, node, end, find_label, first_of}
 use Rattle.yspec.specs.text.Text.{Text}
 use Rattle.yspec.specs.types.Types.{YangType, Val}
 use Rattle.yspec.specs.schema.Schema.{Schema, SchemaNode, container, leaf, node_at, children_of}
-use Rattle.yspec.specs.document.Document.{Step}
-use Rattle.yspec.specs.document.Reading.{Refusal, Visit, right, wrong, named, at_named, below_place, value_visit, member_visits, node_visits, first_wrong, Named, child}
+use Rattle.yspec.specs.document.Document.{Step, below_place}
+use Rattle.yspec.specs.document.Reading.{Refusal, Visit, right, wrong, named, at_named, value_visit, member_visits, node_visits, first_wrong, Named, child}
 use Rattle.yspec.proofs.DocumentProofs.VisitLemmas.{passes, other_value}
 use Rattle.yspec.proofs.SchemaProofs.NumberLemmas.{number_at}
 use Rattle.ytree.specs.Told.{Tells, Judges, code_number, refused_at}

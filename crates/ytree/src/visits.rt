@@ -3,7 +3,8 @@
 ghost use Rattle.std.specs.Prelude.{◌≡◌, OnOk, Some};
 ghost use Rattle.serde_json.specs.View as json;
 ghost use Rattle.yspec.specs.schema.Schema.{module_at, row_at};
-ghost use Rattle.yspec.specs.document.Reading.{named, at_named, below_place, leaf_visit, value_visit, member_visits, node_visits, first_wrong};
+ghost use Rattle.yspec.specs.document.Document.{below_place};
+ghost use Rattle.yspec.specs.document.Reading.{named, at_named, leaf_visit, value_visit, member_visits, node_visits, first_wrong};
 ghost use Rattle.yschema.specs.Layout.{number_of};
 ghost use Rattle.yschema.specs.View.{view, kind_view};
 ghost use Rattle.ytree.specs.View.{place_view};

@@ -4,14 +4,14 @@ use Rattle.std.proofs.lemmas.List.{length-append}
 use Rattle.yspec.specs.text.Text.{Text, line_after}
 use Rattle.yspec.specs.text.Token.{Lexeme, Token, Front, gap, token, last, front, met, at, column_after, tokens_from}
 use Rattle.yspec.specs.text.Spelling.{Place, past, behind}
-use Rattle.yspec.specs.text.Scanning.{Piece, piece_at, with_piece, pieces_from, Scan, at_end, broken, after_gap, after_token}
+use Rattle.yspec.specs.text.Scanning.{Piece, piece_at, pieces_with, pieces_from, Scan, at_end, broken, after_gap, after_token}
 use Rattle.yspec.proofs.TextProofs.SpellingCutLemmas.{Right, front_at, front_right, gap_front, piece_front, gap_not_empty, piece_not_empty}
 
 abbrev tokens_in : List Piece → List Token
 tokens_in ps = map (λ (p : Piece). p.token) ps
 
 met_placed : (start line : ℕ) (f : Front) (rest : ℕ → List Piece) (others : ℕ → List Token)
-    → ((n : ℕ) → tokens_in (rest n) ≡ others n) → tokens_in (with_piece start line f rest) ≡ met line f others
+    → ((n : ℕ) → tokens_in (rest n) ≡ others n) → tokens_in (pieces_with start line f rest) ≡ met line f others
 met_placed start line (gap n) rest others e = e n
 met_placed start line (token lexeme n) rest others e = ap (λ (ts : List Token). at line lexeme ∷ ts) (e n)
 met_placed start line (last lexeme) rest others e = refl

@@ -20,17 +20,17 @@ abbrev pub piece_at : ℕ → ℕ → Token → Piece
 piece_at start end t = record { start = start; end = end; token = t }
 
 -- `rest n` are the pieces behind n bytes
-abbrev pub with_piece : ℕ → ℕ → Front → (ℕ → List Piece) → List Piece
-with_piece start line (gap n) rest = rest n
-with_piece start line (token lexeme n) rest = piece_at start (start + n) (at line lexeme) ∷ rest n
-with_piece start line (last lexeme) rest = piece_at start start (at line lexeme) ∷ []
+abbrev pub pieces_with : ℕ → ℕ → Front → (ℕ → List Piece) → List Piece
+pieces_with start line (gap n) rest = rest n
+pieces_with start line (token lexeme n) rest = piece_at start (start + n) (at line lexeme) ∷ rest n
+pieces_with start line (last lexeme) rest = piece_at start start (at line lexeme) ∷ []
 
 -- The tokens from a place on, as `tokens_from` cuts them.
 unfoldable pub pieces_from : ℕ → ℕ → ℕ → ℕ → List ℕ → List Piece
 pieces_from skip start line column [] = piece_at start start (at line finish) ∷ []
 pieces_from (suc skip) start line column (x ∷ xs) =
     pieces_from skip (start + 1) (line_after x line) (column_after x column) xs
-pieces_from zero start line column (x ∷ xs) = with_piece start line (front column x xs)
+pieces_from zero start line column (x ∷ xs) = pieces_with start line (front column x xs)
     (λ n. pieces_from (n - 1) (start + 1) (line_after x line) (column_after x column) xs)
 
 abbrev pub pieces_of : Text → List Piece

@@ -38,9 +38,9 @@ visit_member-returns-in-Ok-clause-told t c =
     let steps = place_view c.args.place.now.items in
     let d = json.view c.args.value.now in
     let read = named s (module_at s p) c.args.name.now (row_at s p) in
-    let placed = ap place_view c.in_ok-push-in-Child.ensures.items ∙ map_push step_view c.args.place.now.items (record { id = c.in-Child.id; position = None }) in
+    let with_stored = ap place_view c.in_ok-push-in-Child.ensures.items ∙ map_push step_view c.args.place.now.items (record { id = c.in-Child.id; position = None }) in
     refused_child s i steps d read (subst (λ m. Means s m read) c.in-Child.is c.in_ok-id.ensures)
-    ∙ (ap (λ q. refused_at s i q d) (sym placed) ∙ c.in-Ok.ensures.told)
+    ∙ (ap (λ q. refused_at s i q d) (sym with_stored) ∙ c.in-Ok.ensures.told)
 
 pub visit_member-returns-in-Err-clause-told : goal.visit_member-returns-in-Err-clause-told
 visit_member-returns-in-Err-clause-told t c =
@@ -50,9 +50,9 @@ visit_member-returns-in-Err-clause-told t c =
     let steps = place_view c.args.place.now.items in
     let d = json.view c.args.value.now in
     let read = named s (module_at s p) c.args.name.now (row_at s p) in
-    let placed = ap place_view c.in_ok-push-in-Child.ensures.items ∙ map_push step_view c.args.place.now.items (record { id = c.in-Child.id; position = None }) in
+    let with_stored = ap place_view c.in_ok-push-in-Child.ensures.items ∙ map_push step_view c.args.place.now.items (record { id = c.in-Child.id; position = None }) in
     told_same c.in-Err.fault _ _ (refused_child s i steps d read (subst (λ m. Means s m read) c.in-Child.is c.in_ok-id.ensures)
-    ∙ ap (λ q. refused_at s i q d) (sym placed)) c.in-Err.ensures.told
+    ∙ ap (λ q. refused_at s i q d) (sym with_stored)) c.in-Err.ensures.told
 
 pub visit_node-returns-in-Container-clause-told : goal.visit_node-returns-in-Container-clause-told
 visit_node-returns-in-Container-clause-told t c =

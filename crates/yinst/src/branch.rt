@@ -6,7 +6,7 @@ ghost use Rattle.yspec.specs.edit.Editing as spec;
 ghost use Rattle.yschema.specs.View as schema_view;
 ghost use Rattle.yspec.specs.Results.{Gives};
 ghost use Rattle.yinst.specs.Applying.{told_by};
-ghost use Rattle.yinst.specs.Rows.{part_view};
+ghost use Rattle.yinst.specs.Rows.{branch_view};
 
 use crate::edit::{EditCode, EditFault};
 use crate::way::refused;
@@ -16,24 +16,24 @@ use yschema::{Schema, SchemaId};
 use ytree::{DocFault, Stored, read_node};
 
 /// The node that a JSON text denotes at a schema node: E9, E10 with the first refusal of a document.
-pub(crate) fn part_of(
+pub(crate) fn branch_of(
     alloc: Global,
     schema: &Schema,
     id: SchemaId,
     text: &str,
 ) -> Result<Stored, EditFault>
-    ensures { Gives part_view told_by result (spec.part_of (schema_view.view schema.now) id.0 text.now) }
+    ensures { Gives branch_view told_by result (spec.branch_of (schema_view.view schema.now) id.0 text.now) }
 {
     match Value::from_slice(alloc, text.as_bytes()) {
-        Ok(value) => part_at(alloc, schema, id, &value),
+        Ok(value) => branch_at(alloc, schema, id, &value),
         Err(error) if error.is_memory() => Err(EditFault::Memory),
         Err(_) => Err(refused(EditCode::E9)),
     }
 }
 
 /// The node that a value denotes at a schema node.
-fn part_at(alloc: Global, schema: &Schema, id: SchemaId, value: &Value) -> Result<Stored, EditFault>
-    ensures { Gives part_view told_by result (spec.part_at (schema_view.view schema.now) id.0 (json.view value.now)) }
+fn branch_at(alloc: Global, schema: &Schema, id: SchemaId, value: &Value) -> Result<Stored, EditFault>
+    ensures { Gives branch_view told_by result (spec.branch_at (schema_view.view schema.now) id.0 (json.view value.now)) }
 {
     match read_node(alloc, schema, id, value) {
         Ok(Some(stored)) => Ok(stored),
