@@ -68,19 +68,31 @@ fn spans(alloc: Global, text: &str) -> Option<Vec<Span>> {
     Some(spans)
 }
 
-// A range with its app-tag, as `1..5:tag`.
+fn tag(alloc: Global, text: &str) -> Option<Option<String>> {
+    Some(Some(String::from_str(alloc, text).ok()?))
+}
+
+// A range with its app-tag, as `1..5:tag`, or without one.
 fn range(alloc: Global, text: &str) -> Option<Restriction> {
-    let (parts, app_tag) = text.split_once(':')?;
+    let (parts, app_tag) = match text.split_once(':') {
+        None => (text, None),
+        Some((parts, app_tag)) => (parts, tag(alloc, app_tag)?),
+    };
     Some(Restriction::Range {
         spans: spans(alloc, parts)?,
-        app_tag: Some(String::from_str(alloc, app_tag).ok()?),
+        app_tag,
     })
 }
 
+// A length in the same form.
 fn length(alloc: Global, text: &str) -> Option<Restriction> {
+    let (parts, app_tag) = match text.split_once(':') {
+        None => (text, None),
+        Some((parts, app_tag)) => (parts, tag(alloc, app_tag)?),
+    };
     Some(Restriction::Length {
-        spans: spans(alloc, text)?,
-        app_tag: None,
+        spans: spans(alloc, parts)?,
+        app_tag,
     })
 }
 

@@ -34,6 +34,10 @@ enumeration:a=2147483647,b=0/made
 enumeration:a=2147483647,b/refused
 enumeration:a=-2147483648,b/made
 enumeration:a=-2147483649,b/refused
+enumeration:a=-5,b,c=-4/refused
+enumeration:a=-5,b,c=0/made
+enumeration:a=5,b=2,c,d=6/refused
+enumeration:a=5,b=2,c,d=3/made
 enumeration:a,a/refused
 enumeration:a,b=0/refused
 enumeration:a,/refused
@@ -48,6 +52,35 @@ bits:a,b=0/refused";
     for row in rows.lines() {
         assert!(rt; holds(rt.alloc(), row) == Some(true), "{row:?}");
     }
+}
+
+#[test]
+fn carriage_returns_in_names(rt: HostRuntime) {
+    // White space at an end is refused, a carriage return too; lines of a table can't hold it.
+    for row in [
+        "enumeration:a,b\r/refused",
+        "enumeration:a,\rb/refused",
+        "enumeration:a,b\rc/made",
+    ] {
+        assert!(rt; holds(rt.alloc(), row) == Some(true), "{row:?}");
+    }
+}
+
+// What is told of a type's last step, if it is refused.
+fn told(alloc: Global, steps: &str) -> Option<String> {
+    match narrowed(alloc, steps)? {
+        Ok(_) => None,
+        Err(fault) => format!(in alloc; "{fault}").ok(),
+    }
+}
+
+#[test]
+fn faults_told(rt: HostRuntime) {
+    let alloc = rt.alloc();
+    assert!(rt; told(alloc, "enumeration:a,a").as_deref() == Some("no such type"));
+    assert!(rt; told(alloc, "string > range:1..5").as_deref() == Some("no such type"));
+    let fault = NarrowFault::Memory;
+    assert!(rt; format!(in alloc; "{fault}").ok().as_deref() == Some("memory"));
 }
 
 // Whether a type requires an instance: `true`, `false`, or `none` for one that is no leafref.

@@ -159,6 +159,10 @@ uint8 > range:1..10:t1 > range:2..5:t2/5/5
 uint8 > range:1..10:t1 > range:2..5:t2/7/!t2
 uint8 > range:1..10:t1 > range:2..5:t2/20/!t1
 uint8 > range:1..10:t1 > range:2..5:t2/300/!
+uint8 > range:1..10 > range:2..5:t2/7/!t2
+uint8 > range:1..10 > range:2..5:t2/20/!
+uint8 > range:1..10:t1 > range:2..5/7/!
+uint8 > range:1..10:t1 > range:2..5/20/!t1
 uint16 > range:1..1024|8080:bad-port/1024/1024
 uint16 > range:1..1024|8080:bad-port/1025/!bad-port
 uint16 > range:1..1024|8080:bad-port/8080/8080
@@ -168,6 +172,9 @@ string > length:1..3/'a/a
 string > length:1..3/'\u{1F600}\u{1F600}\u{1F600}/\u{1F600}\u{1F600}\u{1F600}
 string > length:1..3/'\u{1F600}\u{1F600}\u{1F600}\u{1F600}/!
 string > length:1..3/'abcd/!
+string > length:1..3:long/'abcd/!long
+string > length:1..3 > length:2..2:even/'abcd/!
+string > length:1..3 > length:2..2:even/'a/!even
 enumeration:a,b=5,c,d=2,e/'a/a
 enumeration:a,b=5,c,d=2,e/'b/b
 enumeration:a,b=5,c,d=2,e/'c/c
@@ -217,6 +224,18 @@ int8/+0/0
 uint64/0xFFFFFFFFFFFFFFFF/18446744073709551615
 boolean/false/false
 boolean/True/!
+decimal64:2/+007.5/7.5
+decimal64:2/-0.05/-0.05
+decimal64:2/1.234/!
+decimal64:2/0x1F/!
+bits:x=3,y,z=0/y  z/z y
+bits:x=3,y,z=0//
+bits:x=3,y,z=0/y y/!
+bits:x=3,y,z=0/w/!
+enumeration:a=-5,b/b/b
+enumeration:a=-5,b/c/!
+enumeration:a=-5,b//!
+uint8 > range:1..10 > range:2..5:t2/0x7/!
 empty//!";
     for row in rows.lines() {
         assert!(rt;
@@ -224,6 +243,24 @@ empty//!";
             "{row:?}"
         );
     }
+}
+
+// What is told of a value that a type doesn't take.
+fn told(alloc: Global, steps: &str, text: &str) -> Option<String> {
+    match described(alloc, steps)?.check(alloc, &raw(alloc, text)?) {
+        Ok(_) => None,
+        Err(fault) => format!(in alloc; "{fault}").ok(),
+    }
+}
+
+#[test]
+fn faults_told(rt: HostRuntime) {
+    let alloc = rt.alloc();
+    let steps = "uint8 > range:1..10:t1";
+    assert!(rt; told(alloc, steps, "20").as_deref() == Some("invalid-value t1"));
+    assert!(rt; told(alloc, steps, "300").as_deref() == Some("invalid-value"));
+    let fault = BadValue::Memory;
+    assert!(rt; format!(in alloc; "{fault}").ok().as_deref() == Some("memory"));
 }
 
 fn value(alloc: Global, of: &YType, text: &str) -> Option<Val> {

@@ -30,9 +30,8 @@ pub(crate) enum Integer {
 }
 
 impl Integer {
-    pub(crate) fn numbers(self) -> Part
-        ensures numbers { result ≡ numbers_of (integer_of self) }
-        ensures narrow { IsNarrow result }
+    fn bounds(self) -> Part
+        ensures { result ≡ numbers_of (integer_of self) }
     {
         match self {
             Integer::Int8 => Part::new(-0x80, 0x7F),
@@ -44,6 +43,13 @@ impl Integer {
             Integer::Uint32 => Part::new(0, 0xFFFF_FFFF),
             Integer::Uint64 => Part::new(0, 0xFFFF_FFFF_FFFF_FFFF),
         }
+    }
+
+    pub(crate) fn numbers(self) -> Part
+        ensures numbers { result ≡ numbers_of (integer_of self) }
+        ensures narrow { IsNarrow result }
+    {
+        self.bounds()
     }
 
     fn is_written_as_text(self) -> bool
