@@ -12,6 +12,7 @@ use ytext::{FailureCount, Sink, SinkFault};
 #[derive(Drop)]
 pub struct FileSystem<'a, R> {
     runtime: &'a R,
+    reads: FailureCount,
     count: FailureCount,
 }
 
@@ -20,6 +21,7 @@ impl<'a, R> FileSystem<'a, R> {
     pub fn new(runtime: &'a R) -> FileSystem<'a, R> {
         FileSystem {
             runtime,
+            reads: FailureCount::new(),
             count: FailureCount::new(),
         }
     }
@@ -28,9 +30,12 @@ impl<'a, R> FileSystem<'a, R> {
 impl<R: rt::Files + AllocGlobal> Files for FileSystem<'_, R> {
     ghost contents = { λ _ _. None };
 
+    ghost reads = { λ s. s.reads.failures };
+
     ghost failures = { λ s. s.count.failures };
 
     fn read(&mut self, _alloc: Global, name: &str) -> Result<Vec<u8>, FileFault> {
+        self.reads.rise();
         match fs::read(self.runtime, name) {
             Ok(bytes) => Ok(bytes),
             Err(error) if error.kind() == ErrorKind::OutOfMemory => Err(FileFault::Memory),

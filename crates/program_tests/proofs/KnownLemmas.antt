@@ -1,0 +1,36 @@
+-- From the run of any files to that of known ones.
+use Rattle.std.proofs.Common.{◌≡◌, inl, inr, ℕ, List, [], ◌∷◌, codes, Some, None, refl, sym, subst, ap, ◌∙◌, arith}
+use Rattle.yspec.specs.program.Output.{Outcome, Request, files_of, outcome, validate}
+use Rattle.clap.proofs.OnLiterals.{clap_on_literals}
+use Rattle.yapp.specs.Command.{refusals, request_of}
+use Rattle.yapp.specs.Files.{Answered, Contents, FileAnswers, IsOutcome, Store, WereRead, unread_in}
+use Rattle.program_tests.specs.Known.{IsKnown, pair_contents, validate_words}
+
+pub are_taken : refusals validate_words ≡ []
+unfolding clap_on_literals
+are_taken = refl
+
+pub ask_for : request_of validate_words ≡ validate (codes "d.json") (codes "p.yang" ∷ [])
+unfolding clap_on_literals
+ask_for = refl
+
+-- files of which none failed answered what they contain
+known_answers : (text document : List ℕ) (answers : FileAnswers) → Answered (pair_contents text document) (codes "p.yang" ∷ codes "d.json" ∷ []) answers
+    → unread_in answers ≡ 0 → answers ≡ Some text ∷ Some document ∷ []
+known_answers text document [] answered none = absurd answered
+known_answers text document (None ∷ answers) answered none = absurd (omega (arith, none))
+known_answers text document (Some a ∷ []) answered none = absurd answered.1
+known_answers text document (Some a ∷ None ∷ answers) answered none = absurd (omega (arith, none))
+known_answers text document (Some a ∷ Some b ∷ []) answered none =
+    ap (λ (bytes : List ℕ). Some bytes ∷ Some b ∷ []) (sym answered.0) ∙ ap (λ (bytes : List ℕ). Some text ∷ Some bytes ∷ []) (sym answered.1.0)
+known_answers text document (Some a ∷ Some b ∷ answer ∷ answers) answered none = absurd answered.1.1
+
+pub is_known : (before after : Store) (request : Request) (text document : List ℕ) (o : Outcome) → before.contents ≡ pair_contents text document
+    → after.failures ≡ before.failures → request ≡ validate (codes "d.json") (codes "p.yang" ∷ []) → IsOutcome before after request o → IsKnown text document o
+is_known before after request text document o tells same asked (inl came) =
+    let read = subst (λ (r : Request). WereRead before after (files_of r) came.0) asked came.1 in
+    let none : unread_in came.0 ≡ 0 = omega (arith, read.failures, same) in
+    let answered = subst (λ (contents : Contents). Answered contents (codes "p.yang" ∷ codes "d.json" ∷ []) came.0) tells read.answered in
+    inl (came.2 ∙ ap (λ (r : Request). outcome r came.0) asked
+    ∙ ap (outcome (validate (codes "d.json") (codes "p.yang" ∷ []))) (known_answers text document came.0 answered none))
+is_known before after request text document o tells same asked (inr none) = inr none.1

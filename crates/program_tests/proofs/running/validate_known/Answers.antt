@@ -1,0 +1,13 @@
+use Rattle.std.proofs.Common.{map, string_bytes, ap, refl, ◌∙◌}
+use Rattle.yapp.specs.Command.{refusals, request_of}
+use Rattle.program_tests.proofs.KnownLemmas.{are_taken, ask_for, is_known}
+use Rattle.program_tests.proofs.running.validate_known.Goals as goal
+
+pub returns : goal.returns
+returns g c =
+    let same = ap (map string_bytes) c.deref.ensures.value ∙ c.in_ok-words.ensures in
+    let came = c.run.ensures.taken (ap refusals same ∙ are_taken) in (
+      came.0,
+      is_known _ _ _ c.args.files.now.«module».now c.args.files.now.document.now came.0 refl refl (ap request_of same ∙ ask_for) came.1,
+      came.2,
+    )
