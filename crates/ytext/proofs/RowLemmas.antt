@@ -8,7 +8,7 @@ use Rattle.yspec.specs.Forest.{join}
 use Rattle.yspec.specs.text.Token.{at}
 use Rattle.yspec.specs.Results.{Fails}
 use Rattle.yspec.proofs.ForestLemmas.{join_assoc}
-use Rattle.yspec.proofs.TextProofs.SpellingRowLemmas.{bind_ok}
+use Rattle.yspec.proofs.BasicLemmas.{bind_ok}
 use Rattle.ytext.specs.Told.{told_by}
 use Rattle.ytext.specs.Reading.{rows}
 use Rattle.ytext.specs.View.{view, row_view}
