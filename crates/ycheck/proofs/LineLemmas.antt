@@ -5,12 +5,13 @@ use Rattle.std.specs.Prelude.{◌==◌, option_map, string_bytes, unwrap_or, Non
 use Rattle.std.specs.Option.{option_map_or}
 use Rattle.yspec.specs.schema.Schema.{Schema, SchemaNode, node_at, written_name}
 use Rattle.yspec.specs.document.Document.{Step}
+use Rattle.yspec.specs.document.FaultCode.{fault_number}
 use Rattle.yspec.specs.document.Faults.{info_text, line_of, or_dash, printed_tag}
 use Rattle.yspec.specs.document.Path.{path_from, path_text, position_text, step_text}
 use Rattle.yspec.specs.text.Text.{Text}
 use Rattle.ytree.specs.View.{place_view}
 use Rattle.ytree.specs.declared.tree.Step as code
-use Rattle.ycheck.specs.View.{code_number, info_view, tag_name, view}
+use Rattle.ycheck.specs.View.{code_view, info_view, tag_name, view}
 use Rattle.ycheck.specs.declared.fault.Fault.{Fault}
 use Rattle.ycheck.specs.declared.fault.Info.{Info}
 use Rattle.ycheck.specs.declared.fault.Info.TheVariants as infos
@@ -35,7 +36,7 @@ two_words number tag rest = sym (append_assoc (number ++ 32 ∷ []) ((tag ++ 32 
     ∙ append_assoc number (32 ∷ []) (((tag ++ 32 ∷ []) ++ []) ++ rest)
     ∙ ap (λ (xs : Text). number ++ (32 ∷ xs)) (ap (λ (xs : Text). xs ++ rest) (append-nil (tag ++ 32 ∷ [])) ∙ append_assoc tag (32 ∷ []) rest))
 
-pub line_parts : (schema : Schema) (f : Fault) (code tag : Text) → code ≡ codes "V" ++ (decimal (code_number f.code) ++ codes " ")
+pub line_parts : (schema : Schema) (f : Fault) (code tag : Text) → code ≡ codes "V" ++ (decimal (fault_number (code_view f.code)) ++ codes " ")
     → tag ≡ tag_name f.tag ++ codes " " → line_of schema (view f)
     ≡ (code ++ (tag ++ [])) ++ (or_dash (printed_tag (unwrap_or (option_map string_bytes f.app_tag) []))
     ++ ((codes " " ++ []) ++ (path_text schema (place_view f.steps.items) ++ (codes " -\n" ++ []))))
@@ -43,7 +44,7 @@ line_parts schema f code tag code_is tag_is =
     let rest : Text = or_dash (printed_tag (unwrap_or (option_map string_bytes f.app_tag) []))
     ++ ((codes " " ++ []) ++ (path_text schema (place_view f.steps.items) ++ (codes " -\n" ++ []))) in
     let head : Text → Text → Text = λ code tag. (code ++ (tag ++ [])) ++ rest in
-    ap (λ (info : Text). 86 ∷ (decimal (code_number f.code) ++ (32 ∷ (tag_name f.tag ++ (32 ∷ (or_dash (printed_tag (unwrap_or (option_map string_bytes f.app_tag) []))
+    ap (λ (info : Text). 86 ∷ (decimal (fault_number (code_view f.code)) ++ (32 ∷ (tag_name f.tag ++ (32 ∷ (or_dash (printed_tag (unwrap_or (option_map string_bytes f.app_tag) []))
     ++ (32 ∷ (path_text schema (place_view f.steps.items) ++ (32 ∷ (info ++ 10 ∷ [])))))))))) (without_info f.info)
-    ∙ ap (λ (xs : Text). 86 ∷ xs) (two_words (decimal (code_number f.code)) (tag_name f.tag) rest)
+    ∙ ap (λ (xs : Text). 86 ∷ xs) (two_words (decimal (fault_number (code_view f.code))) (tag_name f.tag) rest)
     ∙ ap (λ (xs : Text). head xs (tag_name f.tag ++ codes " ")) (sym code_is) ∙ ap (head code) (sym tag_is)
