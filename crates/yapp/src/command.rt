@@ -7,7 +7,7 @@ ghost use Rattle.yapp.specs.Command.{Explains, Understands, asked_by, validation
 ghost use Rattle.yapp.specs.declared.command.NoRequest.TheVariants.{Memory};
 
 use clap::error::ErrorKind;
-use clap::{Arg, ArgMatches, Command, Error};
+use clap::{Arg, ArgMatches, Command};
 use std::alloc::{AllocError, Global};
 use thiserror::Error;
 
@@ -87,7 +87,7 @@ fn request_in<'a>(alloc: Global, matches: &ArgMatches<'a>) -> Result<Request<'a>
 }
 
 /// What clap's error comes to.
-fn without_request(alloc: Global, error: &Error) -> NoRequest
+fn without_request(alloc: Global, error: &clap::Error) -> NoRequest
     ensures { Explains (kind_of error.now) result }
 {
     let text = match format!(in alloc; "{error}") {
