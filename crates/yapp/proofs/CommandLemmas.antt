@@ -12,7 +12,7 @@ use Rattle.yapp.specs.Running.{refused, with_text}
 use Rattle.yapp.specs.declared.command.Request.{Request}
 use Rattle.yapp.specs.declared.command.NoRequest.{NoRequest}
 use Rattle.yapp.specs.declared.command.NoRequest.TheVariants as none
-use Rattle.yapp.proofs.HelpAlone.{Alike, said_by}
+use Rattle.yapp.proofs.HelpLemmas.{Alike, said_by}
 
 -- clap says exactly which words the program takes
 pub is_free : is_simple_and_free yanglive ≡ true

@@ -1,4 +1,4 @@
-pub mod HelpAlone
+pub mod HelpLemmas
 pub mod CommandLemmas
 pub mod RunningLemmas
 pub mod ValidationLemmas

@@ -2,7 +2,7 @@ use Rattle.std.proofs.Common.{map, string_bytes, ap, sym, ◌∙◌}
 use Rattle.clap.specs.Words.{App, fault_of, is_simple, is_simple_and_free, subcommand_of}
 use Rattle.yapp.specs.Command.{asked_by, refusals}
 use Rattle.yapp.proofs.CommandLemmas.{declined, declined_by_memory, is_free, is_plain}
-use Rattle.yapp.proofs.HelpAlone.{refusals_alike}
+use Rattle.yapp.proofs.HelpLemmas.{refusals_alike}
 use Rattle.yapp.proofs.command.read_request.Goals as goal
 
 pub returns-in_err-application : goal.returns-in_err-application
