@@ -8,7 +8,7 @@ ghost use Rattle.program_tests.specs.Known.{IsKnown, pair_contents, validate_wor
 
 use std::alloc::{AllocError, Global};
 use yapp::{FileFault, Files, run};
-use ytext::{Cut, FailureCount, Sink};
+use ytext::{CallCount, Cut, Sink};
 
 pub const MODULE: &str = "module p {
   yang-version 1.1;
@@ -37,7 +37,7 @@ pub struct Known<'a> {
     module: &'a [u8],
     document: &'a [u8],
     reads: u64,
-    count: FailureCount,
+    count: CallCount,
 }
 
 impl<'a> Known<'a> {
@@ -46,7 +46,7 @@ impl<'a> Known<'a> {
             module,
             document,
             reads: 0,
-            count: FailureCount::new(),
+            count: CallCount::new(),
         }
     }
 }
@@ -54,7 +54,7 @@ impl<'a> Known<'a> {
 impl Files for Known<'_> {
     ghost contents = { λ s. pair_contents s.«module».now s.document.now };
 
-    ghost reads = { λ s. s.count.failures };
+    ghost reads = { λ s. s.count.calls };
 
     ghost failures = { λ _. 0 };
 
@@ -78,15 +78,15 @@ impl Files for Known<'_> {
 pub struct InMemory<'a> {
     pair: Known<'a>,
     failing_read: Option<u64>,
-    count: FailureCount,
+    count: CallCount,
 }
 
 impl Files for InMemory<'_> {
     ghost contents = { λ s. pair_contents s.pair.«module».now s.pair.document.now };
 
-    ghost reads = { λ s. s.pair.count.failures };
+    ghost reads = { λ s. s.pair.count.calls };
 
-    ghost failures = { λ s. s.count.failures };
+    ghost failures = { λ s. s.count.calls };
 
     fn read(&mut self, alloc: Global, name: &str) -> Result<Vec<u8>, FileFault> {
         let read = self.pair.read(alloc, name);
@@ -102,7 +102,7 @@ pub fn pair<'a>(module: &'a [u8], document: &'a [u8], failing_read: Option<u64>)
     InMemory {
         pair: Known::new(module, document),
         failing_read,
-        count: FailureCount::new(),
+        count: CallCount::new(),
     }
 }
 

@@ -6,14 +6,14 @@ use std::alloc::Global;
 use std::io::{BufWriter, ErrorKind, Write};
 use std::{fs, rt};
 use yapp::{FileFault, Files};
-use ytext::{FailureCount, Sink, SinkFault};
+use ytext::{CallCount, Sink, SinkFault};
 
 /// The system's files.
 #[derive(Drop)]
 pub struct FileSystem<'a, R> {
     runtime: &'a R,
-    reads: FailureCount,
-    count: FailureCount,
+    reads: CallCount,
+    count: CallCount,
 }
 
 impl<'a, R> FileSystem<'a, R> {
@@ -21,8 +21,8 @@ impl<'a, R> FileSystem<'a, R> {
     pub fn new(runtime: &'a R) -> FileSystem<'a, R> {
         FileSystem {
             runtime,
-            reads: FailureCount::new(),
-            count: FailureCount::new(),
+            reads: CallCount::new(),
+            count: CallCount::new(),
         }
     }
 }
@@ -30,9 +30,9 @@ impl<'a, R> FileSystem<'a, R> {
 impl<R: rt::Files + AllocGlobal> Files for FileSystem<'_, R> {
     ghost contents = { λ _ _. None };
 
-    ghost reads = { λ s. s.reads.failures };
+    ghost reads = { λ s. s.reads.calls };
 
-    ghost failures = { λ s. s.count.failures };
+    ghost failures = { λ s. s.count.calls };
 
     fn read(&mut self, _alloc: Global, name: &str) -> Result<Vec<u8>, FileFault> {
         self.reads.rise();
@@ -52,7 +52,7 @@ impl<R: rt::Files + AllocGlobal> Files for FileSystem<'_, R> {
 pub struct Stream<W> {
     stream: W,
     has_failed: bool,
-    count: FailureCount,
+    count: CallCount,
 }
 
 impl<W> Stream<W> {
@@ -61,7 +61,7 @@ impl<W> Stream<W> {
         Stream {
             stream,
             has_failed: false,
-            count: FailureCount::new(),
+            count: CallCount::new(),
         }
     }
 }
@@ -84,7 +84,7 @@ impl<W: Write + Drop> Stream<BufWriter<W>> {
 impl<W: Write> Sink for Stream<W> {
     ghost taken = { λ _. None };
 
-    ghost failures = { λ s. s.count.failures };
+    ghost failures = { λ s. s.count.calls };
 
     fn write(&mut self, part: &[u8]) -> Result<usize, SinkFault> {
         match self.stream.write_all(part) {

@@ -1,38 +1,38 @@
-//! A count of failures that only proofs read.
+//! A count of calls that only proofs read.
 ghost use Rattle.std.specs.Prelude.{◌≡◌, ℕ, ◌+◌};
 ghost use base.Fml.{ftrue};
 
 use std::marker::Model;
 
-/// How often something failed, as contracts see it in `failures`. It takes no bytes and no time when a program runs: a
-/// type whose contracts count failures holds one, and calls `rise` wherever one of its calls fails.
+/// How many calls were of a kind, as contracts see it in `calls`. It takes no bytes and no time when a program runs: a
+/// type whose contracts count its failed calls holds one, and calls `rise` wherever one of its calls fails.
 #[derive(Drop)]
-pub struct FailureCount {
-    pub ghost failures: { ℕ },
+pub struct CallCount {
+    pub ghost calls: { ℕ },
 }
 
-impl Model for FailureCount {
+impl Model for CallCount {
     ghost also_owns = { λ _. ftrue };
 }
 
-impl FailureCount {
-    /// No failure yet.
-    pub fn new() -> FailureCount
-        ensures { result.failures ≡ 0 }
+impl CallCount {
+    /// No call yet.
+    pub fn new() -> CallCount
+        ensures { result.calls ≡ 0 }
     {
-        FailureCount {}
+        CallCount {}
     }
 
-    // The count with one more failure.
-    fn risen(&self) -> FailureCount
-        ensures { result.failures ≡ self.now.failures + 1 }
+    // The count with one more call.
+    fn risen(&self) -> CallCount
+        ensures { result.calls ≡ self.now.calls + 1 }
     {
-        FailureCount {}
+        CallCount {}
     }
 
-    /// Counts one failure.
+    /// Counts one call.
     pub fn rise(&mut self)
-        ensures { self.new.failures ≡ self.old.failures + 1 }
+        ensures { self.new.calls ≡ self.old.calls + 1 }
     {
         *self = self.risen();
     }

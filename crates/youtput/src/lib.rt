@@ -4,5 +4,5 @@
 mod count;
 mod sink;
 
-pub use count::FailureCount;
+pub use count::CallCount;
 pub use sink::{Cut, Sink, SinkFault, write_all, write_texts};

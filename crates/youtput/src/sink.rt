@@ -4,7 +4,7 @@ ghost use Rattle.std.specs.List.{flat_map};
 ghost use Rattle.youtput.specs.Sink.{followed_by, failed_calls};
 ghost use Rattle.youtput.specs.Writing.{Writes, side};
 
-use crate::count::FailureCount;
+use crate::count::CallCount;
 use std::alloc::{AllocError, Global};
 use thiserror::Error;
 
@@ -64,7 +64,7 @@ pub struct Cut {
     bytes_per_call: usize,
     failing_call: Option<u64>,
     calls: u64,
-    count: FailureCount,
+    count: CallCount,
 }
 
 impl Cut {
@@ -92,7 +92,7 @@ impl Cut {
             bytes_per_call,
             failing_call,
             calls: 0,
-            count: FailureCount::new(),
+            count: CallCount::new(),
         })
     }
 
@@ -125,7 +125,7 @@ impl Sink for Cut {
 
     ghost taken = { λ c. Some c.buffer.items };
 
-    ghost failures = { λ c. c.count.failures };
+    ghost failures = { λ c. c.count.calls };
 
     fn write(&mut self, part: &[u8]) -> Result<usize, SinkFault>
         ensures length { IfOk result (λ n. n ≤ length part.now) }
