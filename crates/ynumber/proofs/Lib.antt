@@ -1,4 +1,5 @@
 pub mod DecimalLemmas
 pub mod NumeralLemmas
+pub mod SetLemmas
 pub mod TableLemmas
 pub mod WordLemmas

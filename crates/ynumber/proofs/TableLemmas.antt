@@ -50,7 +50,7 @@ or_true : (b : Bool) → (b || true) ≡ true
 or_true true = refl
 or_true false = refl
 
-one_or_other : {A : Type 0} (p q : A → Bool) (xs : List A) → (list_any p xs || list_any q xs) ≡ list_any (λ x. p x || q x) xs
+pub one_or_other : {A : Type 0} (p q : A → Bool) (xs : List A) → (list_any p xs || list_any q xs) ≡ list_any (λ x. p x || q x) xs
 one_or_other p q [] = refl
 one_or_other {A} p q (x ∷ xs) = by (p x) (q x) (one_or_other p q xs)
   where
@@ -135,7 +135,7 @@ number_found : (a : Assigned) (b : Bool) (o : Option Assigned) → option_map (�
 number_found a true o = refl
 number_found a false o = refl
 
-text_turned : (s t : Text) → is_text s t ≡ is_text t s
+pub text_turned : (s t : Text) → is_text s t ≡ is_text t s
 text_turned s t = same_from_decides (is_text s t) (is_text t s) (bytes_eq-Decides s t) (Decides-like (is_text t s) sym sym (bytes_eq-Decides t s))
 
 -- the tables with one name more are an index again

@@ -6,9 +6,11 @@ ghost use Rattle.yspec.specs.text.Text.{is_text};
 ghost use Rattle.yspec.specs.types.Types.{bits_value, bits_taken};
 ghost use Rattle.yspec.specs.types.Names.{words_of, is_word, is_space, is_among, has_twice, are_bit_names, named_by, positions_of};
 ghost use Rattle.ynumber.specs.Words.{words_in};
+ghost use Rattle.ynumber.specs.Sets.{holds_word, IsSetOf};
 
 use crate::names::Names;
 use std::alloc::{AllocError, Global};
+use std::collections::BTreeSet;
 
 fn is_word(piece: &str) -> bool
     ensures { result ≡ is_word piece.now }
@@ -35,37 +37,50 @@ fn words_of(alloc: Global, text: &str) -> Result<Vec<&str>, AllocError>
     Ok(words)
 }
 
-fn is_among(words: &[&str], name: &str) -> bool
-    ensures { result ≡ is_among (words_in words.now) name.now }
+/// The words as a set, if none comes twice.
+fn set_of<'a>(alloc: Global, words: &[&'a str]) -> Result<Option<BTreeSet<&'a str>>, AllocError>
+    ensures { IfOk result (λ set. IsSetOf set (words_in words.now)) }
 {
+    let mut set = BTreeSet::new(alloc);
     'words: for word in words {
-        if name == *word {
-            return true;
+        if !set.insert(*word)? {
+            return Ok(None);
         }
     }
-    false
+    Ok(Some(set))
 }
 
-fn has_twice(words: &[&str]) -> bool
-    ensures { result ≡ has_twice (words_in words.now) }
-{
-    'words: for (place, word) in words.iter().enumerate() {
-        if is_among(&words[place + 1..], word) {
-            return true;
-        }
-    }
-    false
-}
-
-fn are_bit_names(names: &Names, words: &[&str]) -> bool
-    ensures { result ≡ are_bit_names names.now (words_in words.now) }
+fn are_names(names: &Names, words: &[&str]) -> bool
+    ensures { result ≡ list_all (is_among (map (λ a. a.name) names.now)) (words_in words.now) }
 {
     'words: for word in words {
         if !names.has_name(word) {
             return false;
         }
     }
-    !has_twice(words)
+    true
+}
+
+fn holds_word(words: &BTreeSet<&str>, name: &str) -> bool
+    ensures { result ≡ holds_word words.now name.now }
+{
+    words.contains(name)
+}
+
+fn positions_among(
+    alloc: Global,
+    names: &Names,
+    words: &BTreeSet<&str>,
+) -> Result<Vec<i64>, AllocError>
+    ensures { IfOk result (λ positions. positions.items ≡ positions_of (filter (λ a. holds_word words.now a.name) names.now)) }
+{
+    let mut positions = Vec::new(alloc);
+    for (number, name) in names.rows() {
+        if holds_word(words, name.as_str()) {
+            positions.push(*number)?;
+        }
+    }
+    Ok(positions)
 }
 
 /// The positions of the bits that a text names, ascending, where it is a text of bits.
@@ -78,14 +93,11 @@ pub fn positions_in(
         ≡ bits_taken names.now (words_of text.now)) }
 {
     let words = words_of(alloc, text)?;
-    if !are_bit_names(names, &words) {
+    if !are_names(names, &words) {
         return Ok(None);
     }
-    let mut positions = Vec::new(alloc);
-    for (number, name) in names.rows() {
-        if is_among(&words, name.as_str()) {
-            positions.push(*number)?;
-        }
+    match set_of(alloc, &words)? {
+        None => Ok(None),
+        Some(set) => Ok(Some(positions_among(alloc, names, &set)?)),
     }
-    Ok(Some(positions))
 }

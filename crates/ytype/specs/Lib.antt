@@ -3,3 +3,4 @@ pub mod Founds
 pub mod Shapes
 pub mod Refusals
 pub mod Laws
+pub mod Positions
