@@ -147,6 +147,7 @@ one_member s parent f place name d ms differ none counted is others =
 
 mutual
   unfolding node_visits IsCounted
+
   node_counted : (s : Schema) (n : SchemaNode) (below : Forest SchemaNode) (place : List Step) (d : Data) → NamesDiffer s (Some n.module_number) below → IsRising d
       → first_wrong (node_visits s n below place d) ≡ None → IsCounted s n below place d
   node_counted s n below place null differ rising is = other_counted s n below place null refl is

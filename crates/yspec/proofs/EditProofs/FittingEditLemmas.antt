@@ -16,7 +16,6 @@ use Rattle.yspec.specs.document.Writing.{NamesDiffer, HasForm, IsDocument}
 use Rattle.yspec.proofs.DocumentProofs.FittingLemmas.{eqb_other, no_node_in, no_row_in}
 use Rattle.yspec.proofs.DocumentProofs.FittingReadLemmas.{rows_fit}
 use Rattle.yspec.proofs.DocumentProofs.ReadWholeLemmas.{value_held}
-use Rattle.yspec.specs.Results.{◌>>=◌}
 use Rattle.yspec.proofs.BasicLemmas.{bind_ok}
 
 -- ---- where the nodes of a schema stand

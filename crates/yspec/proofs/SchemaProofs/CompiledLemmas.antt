@@ -1,5 +1,5 @@
 -- What a schema has of which it is known that it is that of some modules, though not of which.
-use Rattle.std.proofs.Common.{◌≡◌, ◌≢◌, ℕ, ◌≤◌, Option, Some, None, refl, sym, ◌∙◌}
+use Rattle.std.proofs.Common.{◌≡◌, ℕ, ◌≤◌, Option, Some, None, refl, sym, ◌∙◌}
 use mathlib.Core.Path.{path_j}
 use mathlib.Core.Logic.{∥∥₁_elim}
 use mathlib.Core.HLevel.{⊥_prop, ×₃_prop}
@@ -8,7 +8,7 @@ use Rattle.yspec.specs.Forest.{Forest, end, node, levels}
 use Rattle.yspec.specs.text.Text.{Text}
 use Rattle.yspec.specs.schema.Schema.{Schema, SchemaNode, Kind, container, leaf, written_name}
 use Rattle.yspec.specs.schema.Breaks.{IsCompiled, level_limit}
-use Rattle.yspec.specs.document.Fitting.{IsNumbered, IsBare, LeafsAreBare}
+use Rattle.yspec.specs.document.Fitting.{IsBare, LeafsAreBare}
 use Rattle.yspec.specs.document.Writing.{IsNew, NamesDiffer}
 use Rattle.yspec.proofs.SchemaProofs.CompiledShapeLemmas.{compiled_bare}
 use Rattle.yspec.proofs.SchemaProofs.CompiledNameLemmas.{compiled_names, compiled_levels}

@@ -1,5 +1,5 @@
 -- The faults of a document, in order (RFC 7950, 8.1, 8.3.1 and 15), and the line that each prints.
-use Rattle.std.specs.Prelude.{ℕ, ◌++◌, ◌==◌, List, [], ◌∷◌, map, codes, decimal, Option, None, is_some, filter, unwrap_or, if◌then◌else◌, nat_le}
+use Rattle.std.specs.Prelude.{ℕ, ◌++◌, ◌==◌, List, [], ◌∷◌, map, codes, decimal, Option, is_some, filter, unwrap_or, if◌then◌else◌, nat_le}
 use Rattle.std.specs.List.{flat_map}
 use Rattle.std.specs.Option.{option_map_or}
 use Rattle.yspec.specs.Forest.{Forest, end, node}

@@ -1,6 +1,6 @@
 -- What is in play below a stored node or at the top: a function of its schema children and of how many instances of
 -- each are stored (RFC 7950, 7.5.1, 7.6.1 and 7.6.5).
-use Rattle.std.specs.Prelude.{ℕ, ◌++◌, Bool, List, [], ◌∷◌, None, if◌then◌else◌, nat_lt}
+use Rattle.std.specs.Prelude.{ℕ, ◌++◌, Bool, List, [], ◌∷◌, if◌then◌else◌, nat_lt}
 use Rattle.std.specs.Option.{option_map_or}
 use Rattle.yspec.specs.Forest.{Forest, end, node}
 use Rattle.yspec.specs.schema.Schema.{SchemaNode, Kind, container, leaf}

@@ -1,6 +1,6 @@
 -- The faults of a document by one walk over a row of schema nodes and the row that is stored under it. For a document
 -- that fits its schema they are the faults of the document.
-use Rattle.std.specs.Prelude.{ℕ, ◌++◌, ◌==◌, List, [], ◌∷◌, map, Bool, false, Option, None, if◌then◌else◌}
+use Rattle.std.specs.Prelude.{ℕ, ◌++◌, ◌==◌, List, [], ◌∷◌, map, Bool, false, Option, if◌then◌else◌}
 use Rattle.std.specs.Option.{option_map_or}
 use Rattle.yspec.specs.Forest.{Forest, end, node}
 use Rattle.yspec.specs.types.Types.{Raw}

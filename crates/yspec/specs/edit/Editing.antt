@@ -6,7 +6,7 @@ use Rattle.yspec.specs.Forest.{end, node, size}
 use Rattle.yspec.specs.Results.{◌>>=◌}
 use Rattle.yspec.specs.text.Text.{Text}
 use Rattle.yspec.specs.schema.Schema.{Schema, SchemaNode, node_at, children_of, child_written}
-use Rattle.yspec.specs.document.Document.{Stored, Tree, Step, step_to}
+use Rattle.yspec.specs.document.Document.{Stored, Tree, step_to}
 use Rattle.yspec.specs.document.Reading.{node_visits, first_wrong, json_of, stored_node, stored_rows, members_of}
 use Rattle.yspec.specs.edit.Edit.{edit_at}
 use Rattle.yspec.specs.edit.EditText.{Predicate, unsaid, at_position, Path, Edit, create, replace, remove, path_of, asked_by}
