@@ -1,5 +1,5 @@
 -- A sink for tests as contracts see it.
-use Rattle.std.specs.Prelude.{◌≡◌, ℕ, ◌+◌, ◌-◌, ◌^◌, min, List, length, Option, Result, Ok, Err, IsErr}
+use Rattle.std.specs.Prelude.{◌≡◌, ℕ, ◌+◌, ◌-◌, ◌^◌, min, List, length, Option}
 use Rattle.youtput.specs.declared.sink.Cut.{Cut}
 
 -- how many bytes it takes a call
