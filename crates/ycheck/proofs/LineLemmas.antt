@@ -1,5 +1,5 @@
 -- The text of a step, of a path and of a line, part by part.
-use Rattle.std.proofs.Common.{◌≡◌, ℕ, List, [], ◌∷◌, ◌++◌, length, codes, decimal, Option, Some, refl, sym, subst, ap, ◌∙◌, append_assoc, Bool, false}
+use Rattle.std.proofs.Common.{◌≡◌, ℕ, List, [], ◌∷◌, ◌++◌, length, codes, decimal, Option, Some, refl, sym, ap, ◌∙◌, append_assoc, false}
 use Rattle.std.proofs.lemmas.List.{append-nil}
 use Rattle.std.specs.Prelude.{◌==◌, option_map, string_bytes, unwrap_or, None}
 use Rattle.std.specs.Option.{option_map_or}

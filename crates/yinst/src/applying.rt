@@ -12,8 +12,8 @@ ghost use Rattle.yinst.specs.Applying.{told_by};
 ghost use Rattle.yinst.specs.Rows.{change_view};
 ghost use Rattle.yinst.specs.Ways.{target_view};
 
-use crate::edit::{Edit, EditCode, EditFault};
 use crate::branch::branch_of;
+use crate::edit::{Edit, EditCode, EditFault};
 use crate::rows::{Change, changed, is_over};
 use crate::way::{Target, refused, target_of};
 use std::alloc::{AllocError, Global};

@@ -32,7 +32,12 @@ pub(crate) fn branch_of(
 }
 
 /// The node that a value denotes at a schema node.
-fn branch_at(alloc: Global, schema: &Schema, id: SchemaId, value: &Value) -> Result<Stored, EditFault>
+fn branch_at(
+    alloc: Global,
+    schema: &Schema,
+    id: SchemaId,
+    value: &Value,
+) -> Result<Stored, EditFault>
     ensures { Gives branch_view told_by result (spec.branch_at (schema_view.view schema.now) id.0 (json.view value.now)) }
 {
     match read_node(alloc, schema, id, value) {

@@ -22,7 +22,10 @@ pub(crate) fn name_of(statement: &Stmt) -> &str
 }
 
 /// The least of the modules that are named as one before them in the set.
-pub(crate) fn repeated_module(alloc: Global, modules: &[Module]) -> Result<Option<Break>, AllocError>
+pub(crate) fn repeated_module(
+    alloc: Global,
+    modules: &[Module],
+) -> Result<Option<Break>, AllocError>
     ensures { IfOk result (λ told. seen told ≡ least_from None (module_phase (modules_view modules.now))) }
 {
     let mut names: IndexSet<&str> = IndexSet::new(alloc);

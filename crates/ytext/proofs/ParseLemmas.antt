@@ -1,5 +1,5 @@
 -- What an answer of the parser says of its text.
-use Rattle.std.proofs.Common.{◌≡◌, ℕ, List, [], ◌∷◌, Option, Some, None, Result, Ok, Err}
+use Rattle.std.proofs.Common.{◌≡◌, ℕ, List, Option, Some, None, Result, Ok, Err}
 use Rattle.std.specs.Prelude.{IfOk, IfErr, IfSome}
 use Rattle.yspec.specs.Forest.{Forest}
 use Rattle.yspec.specs.Results.{Gives, Fails}

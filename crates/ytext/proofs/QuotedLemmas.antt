@@ -1,10 +1,10 @@
 -- How what a quoted string says goes on, piece by piece.
-use Rattle.std.proofs.Common.{◌≡◌, ℕ, zero, suc, ◌+◌, ◌-◌, ◌<◌, ◌≤◌, List, [], ◌∷◌, ◌++◌, Bool, true, false, not, ◌&&◌, ◌||◌, ◌==◌, cond, Option, Some, None, Ok, length, take, drop, get_or, refl, sym, ap, ◌∙◌, arith, append_assoc, append-nil, length-drop, ◌⊎◌, inl, inr, replicate, nat_lt, subst, le_refl, lt-ltb}
+use Rattle.std.proofs.Common.{◌≡◌, ℕ, zero, suc, ◌+◌, ◌-◌, ◌<◌, ◌≤◌, List, [], ◌∷◌, ◌++◌, Bool, true, false, not, ◌&&◌, ◌||◌, ◌==◌, cond, Option, Some, None, Ok, length, take, drop, get_or, refl, sym, ap, ◌∙◌, arith, append_assoc, append-nil, ◌⊎◌, inl, inr, replicate, nat_lt, subst, le_refl, lt-ltb}
 use Rattle.std.proofs.lemmas.Bool.{eqb-true, ne_eqb, false≢true}
 use Rattle.std.proofs.lemmas.Bool.Decides.{nat_tests}
 use Rattle.std.specs.Prelude.{slice_range}
 use Rattle.std.specs.Option.{option_map_or}
-use Rattle.std.proofs.lemmas.List.{take_more, get_or-drop, drop-drop, drop_all, take-append-drop}
+use Rattle.std.proofs.lemmas.List.{drop-drop, drop_all, take-append-drop}
 use Rattle.yspec.specs.text.Text.{Text, begins, line_feed, carriage_return, space, tab, backslash, is_blank, line_after}
 use Rattle.yspec.specs.text.Token.{joined_breaks, trimmed_ends, stripped_starts, escape, unescaped, bad_escape_line}
 use Rattle.yspec.specs.text.Statement.{slip}

@@ -1,12 +1,11 @@
 -- The first refusal of visits, member by member and node by node.
-use Rattle.std.proofs.Common.{◌≡◌, ℕ, Bool, List, [], ◌∷◌, ◌++◌, Option, Some, None, Result, Ok, Err, OnOk, rules, refl, sym, ap, ◌∙◌, subst, true, false, cond}
+use Rattle.std.proofs.Common.{◌≡◌, ℕ, Bool, List, [], ◌∷◌, ◌++◌, Option, Some, None, Result, Ok, Err, OnOk, rules, refl, sym, ap, ◌∙◌, subst}
 use Rattle.serde_json.specs.Data.{Data, object, Members, no_members, member}
 use Rattle.serde_json.specs.Find.{as_object}
 use Rattle.serde_json.specs.View as json
 use Rattle.serde_json.specs.declared.value.Value.{Value, Object, the_lemmas}
-use Rattle.std.specs.Prelude.{◌==◌, option_map, option_and_then, unwrap_or}
-use Rattle.std.proofs.lemmas.Bool.Decides.{Decides-eqb}
-use Rattle.yspec.specs.Forest.{Forest, node, end, find_label, first_of}
+use Rattle.std.specs.Prelude.{option_map, option_and_then, unwrap_or}
+use Rattle.yspec.specs.Forest.{Forest}
 use Rattle.yspec.specs.text.Text.{Text}
 use Rattle.yspec.specs.types.Types.{YangType, Val}
 use Rattle.yspec.specs.schema.Schema.{Schema, SchemaNode, container, leaf, node_at, children_of}

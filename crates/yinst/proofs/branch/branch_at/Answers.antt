@@ -1,7 +1,6 @@
-use Rattle.std.proofs.Common.{Some, ap, sym, ◌∙◌}
 use Rattle.serde_json.specs.View as json
 use Rattle.yschema.specs.View as schema_view
-use Rattle.ytree.specs.View.{place_view, view}
+use Rattle.ytree.specs.View.{view}
 use Rattle.ytree.specs.Told.{code_number}
 use Rattle.yinst.proofs.EditLemmas.{branch_denoted, branch_refused}
 use Rattle.yinst.proofs.branch.branch_at.Goals as goal
