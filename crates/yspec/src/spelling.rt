@@ -5,14 +5,14 @@ ghost use Rattle.yspec.specs.Forest.{Forest, end, node};
 ghost use Rattle.yspec.specs.text.Text.{Text};
 ghost use Rattle.yspec.specs.text.Token.{Token, tokens_of};
 ghost use Rattle.yspec.specs.text.Statement.{Statement, Slip, text_limit, module_of};
-ghost use Rattle.yspec.specs.text.Spelling.{start, Cut, Spells};
+ghost use Rattle.yspec.specs.text.Spelling.{start, CutInto, Spells};
 ghost use Rattle.yspec.specs.text.Slips.{slips, first, told_slip, IsFirstWrong};
 ghost use Rattle.yspec.specs.text.SpellingExamples.{labelled, module_named, slip_of, nested};
 
 /// Each text is cut into its tokens, and in no other way.
 pub fn one_cut()
-    ensures found { (text : Text) → Cut start text (tokens_of text) }
-    ensures alone { (text : Text) (a b : List Token) → Cut start text a → Cut start text b → a ≡ b }
+    ensures found { (text : Text) → CutInto start text (tokens_of text) }
+    ensures alone { (text : Text) (a b : List Token) → CutInto start text a → CutInto start text b → a ≡ b }
 {}
 
 /// What is read of a text is what it spells, and what a text spells is read.

@@ -8,7 +8,7 @@ use Rattle.yspec.specs.Forest.{Forest}
 use Rattle.yspec.specs.text.Text.{Text, is_allowed, line_after, line_behind, forbidden_line}
 use Rattle.yspec.specs.text.Token.{Token, tokens_of}
 use Rattle.yspec.specs.text.Statement.{Statement, Slip, slip, top_statement, text_limit, module_of}
-use Rattle.yspec.specs.text.Spelling.{start, Cut, AreAllowed, TokensSpell, Spells}
+use Rattle.yspec.specs.text.Spelling.{start, CutInto, AreAllowed, TokensSpell, Spells}
 use Rattle.std.specs.Str.Lossy.{utf8_valid_len}
 use Rattle.yspec.proofs.TextProofs.SpellingTokenLemmas.{ending, cut_only}
 use Rattle.yspec.proofs.TextProofs.SpellingRowLemmas.{Ends, ok_is, top_found, top_only}
@@ -30,10 +30,10 @@ pub text_ends : (text : Text) → Ends (tokens_of text)
 unfolding Ends
 text_ends text = let e = ending (length text) start text (omega arith) in (e.line, e.lexeme, e.is_end, e.last)
 
-pub text_cut : (text : Text) → Cut start text (tokens_of text)
+pub text_cut : (text : Text) → CutInto start text (tokens_of text)
 text_cut text = (ending (length text) start text (omega arith)).cut
 
-pub one_cut : (text : Text) (a b : List Token) → Cut start text a → Cut start text b → a ≡ b
+pub one_cut : (text : Text) (a b : List Token) → CutInto start text a → CutInto start text b → a ≡ b
 one_cut text a b p q = sym (cut_only start text a p) ∙ cut_only start text b q
 
 pub module_found : (text : Text) (top : Forest Statement) → module_of text ≡ Ok top → Spells text top

@@ -3,7 +3,7 @@ use Rattle.std.proofs.Common.{◌≡◌, ℕ, zero, suc, ◌-◌, ◌<◌, ◌�
 use Rattle.std.proofs.lemmas.List.{length-append}
 use Rattle.yspec.specs.text.Text.{Text}
 use Rattle.yspec.specs.text.Token.{Lexeme, Token, finish, at, Front, gap, token, last, front, tokens_from}
-use Rattle.yspec.specs.text.Spelling.{Place, past, behind, IsGap, IsToken, IsBroken, Cut, at_end, broken, after_gap, after_token}
+use Rattle.yspec.specs.text.Spelling.{Place, past, behind, IsGap, IsToken, IsBroken, CutInto, at_end, broken, after_gap, after_token}
 use Rattle.yspec.proofs.TextProofs.SpellingCutLemmas.{Right, is_ending, front_at, front_right, gap_front, piece_front, gap_not_empty, piece_not_empty, piece_not_ending, broken_ends, broken_front, broken_not_empty}
 
 abbrev pub tokens_at : Place → Text → List Token
@@ -53,7 +53,7 @@ broken_step : (place : Place) (lexeme : Lexeme) (text : Text) → IsBroken text 
 broken_step place lexeme text b = at_broken place lexeme text (broken_front place.column text lexeme b)
     (broken_not_empty text lexeme b)
 
-pub cut_only : (place : Place) (text : Text) (ts : List Token) → Cut place text ts → tokens_at place text ≡ ts
+pub cut_only : (place : Place) (text : Text) (ts : List Token) → CutInto place text ts → tokens_at place text ≡ ts
 unfolding tokens_from
 cut_only place text ts at_end = refl
 cut_only place text ts (broken {lexeme = lexeme} b) = broken_step place lexeme text b
@@ -79,7 +79,7 @@ pub record Ending (place : Place) (text : Text) (ts : List Token) : Type 0 where
   pub lexeme : Lexeme
   pub is_end : is_ending lexeme ≡ true
   pub last : from_ending ts ≡ at line lexeme ∷ []
-  pub cut : Cut place text ts
+  pub cut : CutInto place text ts
 
 gap_ending : (place : Place) (bytes rest : Text) → IsGap bytes rest → Ending (behind place bytes) rest
     (tokens_at (behind place bytes) rest) → Ending place (bytes ++ rest) (tokens_at place (bytes ++ rest))

@@ -84,15 +84,15 @@ pub data IsBroken : Text → Lexeme → Type 0 where
 
 -- The tokens of a text from a place on, any gaps between them. The end of the text counts as a token, and so does what is
 -- broken, behind which nothing is cut.
-pub data Cut : Place → Text → List Token → Type 0 where
-  at_end : {place : Place} → Cut place [] (at place.line finish ∷ [])
+pub data CutInto : Place → Text → List Token → Type 0 where
+  at_end : {place : Place} → CutInto place [] (at place.line finish ∷ [])
   broken : {place : Place} {text : Text} {lexeme : Lexeme} → IsBroken text lexeme
-      → Cut place text (at place.line lexeme ∷ [])
-  after_gap : {place : Place} {bytes rest : Text} {ts : List Token} → IsGap bytes rest → Cut (behind place bytes) rest ts
-      → Cut place (bytes ++ rest) ts
+      → CutInto place text (at place.line lexeme ∷ [])
+  after_gap : {place : Place} {bytes rest : Text} {ts : List Token} → IsGap bytes rest → CutInto (behind place bytes) rest ts
+      → CutInto place (bytes ++ rest) ts
   after_token : {place : Place} {lexeme : Lexeme} {bytes rest : Text} {ts : List Token}
-      → IsToken place.column lexeme bytes rest → Cut (behind place bytes) rest ts
-      → Cut place (bytes ++ rest) (at place.line lexeme ∷ ts)
+      → IsToken place.column lexeme bytes rest → CutInto (behind place bytes) rest ts
+      → CutInto place (bytes ++ rest) (at place.line lexeme ∷ ts)
 
 -- ---- statements
 
@@ -151,5 +151,5 @@ pub record Spells (text : Text) (top : Forest Statement) : Type 0 where
   pub utf8 : is_utf8 text ≡ true
   pub allowed : AreAllowed (chars text)
   pub tokens : List Token
-  pub cut : Cut start text tokens
+  pub cut : CutInto start text tokens
   pub statement : TokensSpell tokens top
