@@ -3,7 +3,7 @@
 use crate::building::{FIRST, SECOND, module_text, modules_of, schema_of, with_line_feeds};
 use crate::telling::{is_refusal_of_modules, number_of};
 use std::alloc::{AllocError, Global};
-use yschema::{Children, Kind, Schema, SchemaId, compile};
+use yschema::{Child, Children, Kind, Schema, SchemaId, compile};
 
 // Whether that is the node of a number, or none for `-`.
 fn is_node(found: Option<SchemaId>, wanted: &str) -> Option<bool> {
@@ -82,18 +82,19 @@ fn description(alloc: Global, schema: &Schema, id: SchemaId) -> Option<String> {
     }
 }
 
-// The number and the name of each child, and how many children it has.
+// The number and the name of a child, and how many children it has.
+fn push_child(alloc: Global, text: &mut String, child: Child<'_>) -> Option<()> {
+    let (number, name) = (child.id().0, child.node().name.as_str());
+    let count = child.children().count();
+    let described = format!(in alloc; " {number} {name} {count},").ok()?;
+    text.push_str(described.as_str()).ok()
+}
+
+// The same of each child.
 fn row(alloc: Global, children: Children<'_>) -> Option<String> {
     let mut text = String::new(alloc);
     for child in children {
-        let (number, name) = (child.id().0, child.node().name.as_str());
-        let count = child.children().count();
-        text.push_str(
-            format!(in alloc; " {number} {name} {count},")
-                .ok()?
-                .as_str(),
-        )
-        .ok()?;
+        push_child(alloc, &mut text, child)?;
     }
     Some(text)
 }
