@@ -1,13 +1,4 @@
-pub mod MeaningLemmas
-pub mod CheckingLemmas
-pub mod FittingLemmas
-pub mod FittingReadLemmas
-pub mod VisitLemmas
-pub mod WrittenRowLemmas
-pub mod ReadBackLemmas
-pub mod WrittenNameLemmas
-pub mod WrittenShapeLemmas
-pub mod ReadWholeLemmas
 pub mod JsonLemmas
 pub mod MemberLemmas
-pub mod CountLemmas
+pub mod MeaningLemmas
+pub mod FittingLemmas

@@ -1,6 +1,6 @@
 -- Rows of trees, as one plain recursive type: nothing, or a first label with the forest below it and the forest after
 -- it. Statements, schema nodes and stored nodes are three such forests.
-use Rattle.std.specs.Prelude.{ℕ, suc, ◌+◌, List, [], ◌∷◌, ◌++◌, Bool, if◌then◌else◌, Option, Some, None, max}
+use Rattle.std.specs.Prelude.{ℕ, zero, suc, ◌+◌, List, [], ◌∷◌, ◌++◌, Bool, if◌then◌else◌, Option, Some, None, max}
 
 pub data Forest (L : Type 0) : Type 0 where
   end : Forest L
@@ -36,6 +36,16 @@ module _ {L : Type 0} where
   weigh weight end = 0
   weigh weight (node l below after) = weight l + (weigh weight below + weigh weight after)
 
+  -- the sum of what each label weighs with the forest below it
+  abbrev pub weigh_nodes : (L → Forest L → ℕ) → Forest L → ℕ
+  weigh_nodes weight end = 0
+  weigh_nodes weight (node l below after) = weight l below + (weigh_nodes weight below + weigh_nodes weight after)
+
+  -- the same of the labels of the row itself
+  abbrev pub weigh_row : (L → Forest L → ℕ) → Forest L → ℕ
+  weigh_row weight end = 0
+  weigh_row weight (node l below after) = weight l below + weigh_row weight after
+
   abbrev pub first_of : Option L → Option L → Option L
   first_of (Some l) other = Some l
   first_of None other = other
@@ -54,3 +64,24 @@ module _ {L : Type 0} where
   find_below test end = None
   find_below test (node l below after) =
       if test l then Some below else joined_below (find_below test below) (find_below test after)
+
+  -- ---- changes
+
+  -- the row with one node changed, given what stands below and after it: that at a place, from 0, among those that pass a
+  -- test
+  abbrev pub change_nth : (L → Bool) → ℕ → (L → Forest L → Forest L → Forest L) → Forest L → Forest L
+  change_nth test place change end = end
+  change_nth test zero change (node l below after) =
+      if test l then change l below after else node l below (change_nth test zero change after)
+  change_nth test (suc place) change (node l below after) = if test l
+      then node l below (change_nth test place change after) else node l below (change_nth test (suc place) change after)
+
+  -- the row with what stands below that node changed
+  abbrev pub change_below : (L → Bool) → ℕ → (Forest L → Forest L) → Forest L → Forest L
+  change_below test place change f = change_nth test place (λ l below after. node l (change below) after) f
+
+  -- the forest with the row changed to which steps lead, each to the node at a place among those that pass its test; no
+  -- steps lead to the top row
+  abbrev pub edit_at : List ((L → Bool) × ℕ) → (Forest L → Forest L) → Forest L → Forest L
+  edit_at [] change f = change f
+  edit_at ((test, place) ∷ steps) change f = change_below test place (edit_at steps change) f

@@ -3,8 +3,12 @@ pub mod FaultCode
 pub mod Document
 pub mod Path
 pub mod Reading
-pub mod Play
-pub mod Faults
 pub mod Fitting
-pub mod RowFaults
 pub mod Writing
+pub mod Fault
+pub mod Play
+pub mod Instances
+pub mod Faults
+pub mod RowFaults
+pub mod Sorting
+pub mod FrontFaults

@@ -1,3 +1,4 @@
 -- What a run of the program prints.
 pub mod Output
 pub mod Examples
+pub mod SchemaExamples

@@ -1,10 +1,12 @@
 //! Laws and worked examples of edits, from their lines to what comes of a document.
 
-ghost use Rattle.std.specs.Prelude.{◌≡◌, List, [], ◌∷◌, codes, Some, None, Err};
+ghost use Rattle.std.specs.Prelude.{◌≡◌, ◌≤◌, List, [], ◌∷◌, codes, Some, None, Err};
 ghost use Rattle.yspec.specs.schema.Schema.{Schema};
-ghost use Rattle.yspec.specs.document.Document.{Tree};
+ghost use Rattle.yspec.specs.Forest.{size};
+ghost use Rattle.yspec.specs.document.Document.{Tree, document_limit};
 ghost use Rattle.yspec.specs.document.FaultCode.{V1, V3};
-ghost use Rattle.yspec.specs.document.Fitting.{IsNumbered, LeafsAreBare, Fits};
+ghost use Rattle.yspec.specs.document.Fitting.{IsNumbered, Fits};
+ghost use Rattle.yspec.specs.document.Sorting.{IsSorted};
 ghost use Rattle.yspec.specs.document.Writing.{NamesDiffer, IsDocument};
 ghost use Rattle.yspec.specs.edit.Editing.{after};
 ghost use Rattle.yspec.specs.edit.EditText.{Edit, unsaid, at_position, with_keys, path_of, edit_of, create, replace, remove};
@@ -13,14 +15,26 @@ ghost use Rattle.yspec.specs.edit.Live.{of_document, of_modules};
 
 /// A document that fits its schema fits it after any edits.
 pub fn edited_documents_fit()
-    ensures { (schema : Schema) (tree : Tree) (edits : List Edit) → IsNumbered 0 schema.nodes → Fits schema.nodes tree
-        → Fits schema.nodes (after schema tree edits) }
+    ensures { (schema : Schema) (tree : Tree) (edits : List Edit) → IsNumbered 0 schema.nodes → Fits schema tree
+        → Fits schema (after schema tree edits) }
 {}
 
-/// It does so in its values too, where no leaf has children and no two siblings are written with one name.
+/// It does so in its values too, where no two siblings are written with one name.
 pub fn edited_documents_are_whole()
-    ensures { (schema : Schema) (tree : Tree) (edits : List Edit) → IsNumbered 0 schema.nodes → LeafsAreBare schema.nodes
-        → NamesDiffer schema None schema.nodes → IsDocument schema.nodes tree → IsDocument schema.nodes (after schema tree edits) }
+    ensures { (schema : Schema) (tree : Tree) (edits : List Edit) → IsNumbered 0 schema.nodes → NamesDiffer schema
+        → IsDocument schema tree → IsDocument schema (after schema tree edits) }
+{}
+
+/// Edits keep the order of its rows, whether it fits or not.
+pub fn edited_rows_stay_in_order()
+    ensures { (schema : Schema) (tree : Tree) (edits : List Edit) → IsNumbered 0 schema.nodes → IsSorted tree
+        → IsSorted (after schema tree edits) }
+{}
+
+/// An edit keeps a document within the limit.
+pub fn edited_documents_are_within()
+    ensures { (schema : Schema) (tree : Tree) (edits : List Edit) → size tree ≤ document_limit
+        → size (after schema tree edits) ≤ document_limit }
 {}
 
 /// What texts of paths spell: names, positions and keys; and texts that spell none.

@@ -5,9 +5,12 @@
 
 pub mod checking;
 pub mod compiling;
+pub mod documents;
 pub mod editing;
 pub mod examples;
+pub mod plain;
 pub mod reading;
+pub mod scripts;
 pub mod spelling;
 pub mod text;
 pub mod types;

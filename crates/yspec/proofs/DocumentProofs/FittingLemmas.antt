@@ -5,7 +5,7 @@ use Rattle.std.proofs.lemmas.List.Sums.{sum_by-cons}
 use Rattle.yspec.specs.Forest.{Forest, end, node, size, row, first_of, joined_below, find_below}
 use Rattle.yspec.specs.schema.Schema.{SchemaNode, node_in}
 use Rattle.yspec.specs.document.Document.{Stored, Tree, instances_in}
-use Rattle.yspec.specs.document.Fitting.{IsNumbered, Fits, at_end, not_stored, is_stored}
+use Rattle.yspec.specs.document.Fitting.{IsNumbered}
 
 pub eqb_other : (a b : ℕ) → a ≢ b → eqb a b ≡ false
 eqb_other a b other = elim_test (eqb a b) refl where
@@ -51,13 +51,3 @@ first_is_other s below after m none =
 pub none_of_others : (s : Stored) (below after : Tree) (m : ℕ) → eqb s.schema_number m ≡ false → instances_in (node s below after) m ≡ instances_in after m
 none_of_others s below after m other =
     instances-cons s below after m ∙ (ap (λ t. cond t 1 0 + instances_in after m) other ∙ zero-add (instances_in after m))
-
--- no number before those of the schema row is stored
-pub none_before : (f : Forest SchemaNode) (k : ℕ) (t : Tree) (m : ℕ) → IsNumbered k f → Fits f t → m < k → instances_in t m ≡ 0
-none_before end k end m numbered at_end before = refl
-none_before end k (node s b a) m numbered fits before = elim fits [ ]
-none_before (node n below after) k t m numbered (not_stored fits) before =
-    none_before after (k + 1 + size below) t m numbered.2 fits (omega arith)
-none_before (node n below after) k (node s b a) m numbered (is_stored same value inner fits) before =
-    none_of_others s b a m (eqb_other s.schema_number m (λ e. absurd (omega (arith, numbered.0, same, e))))
-    ∙ none_before after (k + 1 + size below) a m numbered.2 fits (omega arith)

@@ -1,16 +1,16 @@
 -- What document a JSON text denotes under a schema, or why none (RFC 7951, 4 to 6).
-use Rattle.std.specs.Prelude.{ℕ, suc, ◌-◌, ◌^◌, ℤ, pos, negsuc, Bool, true, false, List, [], ◌∷◌, ◌++◌, Option, Some, None, Result, Ok, Err, if◌then◌else◌}
+use Rattle.std.specs.Prelude.{ℕ, suc, ◌-◌, ◌+◌, ◌==◌, ◌^◌, ℤ, pos, negsuc, Bool, true, false, List, [], ◌∷◌, ◌++◌, Option, Some, None, Result, Ok, Err, if◌then◌else◌}
 use Rattle.std.specs.Option.{option_map_or}
 use Rattle.std.specs.Str.{is_utf8}
 use Rattle.serde_json.specs.Data.{Num, unsigned, negative, float, Data, null, boolean, number, string, array, object, Items, no_items, item, Members, no_members, member}
 use Rattle.serde_json.specs.Find.{get_member}
 use Rattle.serde_json.specs.Read.{read}
-use Rattle.yspec.specs.Forest.{Forest, end, node}
-use Rattle.yspec.specs.text.Text.{Text, is_text}
+use Rattle.yspec.specs.Forest.{Forest, end, node, join}
 use Rattle.yspec.specs.types.Ranges.{Part, lies_in}
 use Rattle.yspec.specs.types.Types.{Raw, text, int, bool, empty}
-use Rattle.yspec.specs.schema.Schema.{Schema, SchemaNode, Kind, container, leaf, written_name, other_name}
-use Rattle.yspec.specs.document.Document.{Stored, Tree, Step, below_place}
+use Rattle.yspec.specs.text.Text.{Text, is_text}
+use Rattle.yspec.specs.schema.Schema.{Schema, SchemaNode, Kind, is_data, is_many, has_value, data_row, written_name, other_name}
+use Rattle.yspec.specs.document.Document.{Stored, Tree, Step, step_to, below_place, instance_place, document_limit}
 
 -- why a document isn't read: the number behind the `J`, and the place
 pub record Refusal : Type 0 where
@@ -67,10 +67,15 @@ other_or is_other (child n below) = child n below
 other_or true later = other_form
 other_or false later = later
 
+-- what a name means in a row of data nodes
+abbrev pub named_in : Schema → Option ℕ → Text → Forest SchemaNode → Named
+named_in schema parent name end = unknown
+named_in schema parent name (node n below after) = if is_text name (written_name schema parent n) then child n below
+    else other_or (is_text name (other_name schema parent n)) (named_in schema parent name after)
+
+-- below a parent of a module, or at the top, whose children are given
 abbrev pub named : Schema → Option ℕ → Text → Forest SchemaNode → Named
-named schema parent name end = unknown
-named schema parent name (node n below after) = if is_text name (written_name schema parent n) then child n below
-    else other_or (is_text name (other_name schema parent n)) (named schema parent name after)
+named schema parent name children = named_in schema parent name (data_row children)
 
 abbrev pub at_named : Named → List Step → (SchemaNode → Forest SchemaNode → List Visit) → List Visit
 at_named (child n below) place visits = visits n below
@@ -82,30 +87,56 @@ at_named unknown place visits = wrong 3 place ∷ []
 abbrev pub leaf_visit : List Step → Data → List Visit
 leaf_visit place d = option_map_or (λ _. right place ∷ []) (raw_of d) (wrong (refused_value d) place ∷ [])
 
+-- of a value that is no object: only a leaf or an item has one
 abbrev pub value_visit : Kind → List Step → Data → List Visit
-value_visit (container presence) place d = wrong 5 place ∷ []
-value_visit (leaf type in_use mandatory) place d = leaf_visit place d
+value_visit kind place d = if has_value kind then leaf_visit place d else wrong 5 place ∷ []
 
--- `inner` are the visits of the object's members
+-- of an object: no leaf or item has one; `inner` are the visits of its members
 abbrev pub object_visit : Kind → List Step → List Visit → List Visit
-object_visit (container presence) place inner = right place ∷ inner
-object_visit (leaf type in_use mandatory) place inner = wrong 5 place ∷ []
+object_visit kind place inner = if has_value kind then wrong 5 place ∷ [] else right place ∷ inner
 
--- every right node and every refusal: depth first, members in byte order of their names
+-- a list or leaf-list is an array
+abbrev pub unless_many : Kind → List Step → List Visit → List Visit
+unless_many kind place visits = if is_many kind then wrong 5 place ∷ [] else visits
+
+-- every right node and every refusal: depth first, members in byte order of their names, items by position
 unfoldable mutual
+  -- of an object's members
   pub member_visits : Schema → Option ℕ → Forest SchemaNode → List Step → Members → List Visit
   member_visits schema parent children place no_members = []
   member_visits schema parent children place (member name d ms) = at_named (named schema parent name children) place
-      (λ n below. node_visits schema n below (below_place place n) d) ++ member_visits schema parent children place ms
+      (λ n below. node_visits schema n below place d) ++ member_visits schema parent children place ms
 
+  -- of the value of a member; the place is that of the parent
   pub node_visits : Schema → SchemaNode → Forest SchemaNode → List Step → Data → List Visit
-  node_visits schema n below place null = value_visit n.kind place null
-  node_visits schema n below place (boolean b) = value_visit n.kind place (boolean b)
-  node_visits schema n below place (number x) = value_visit n.kind place (number x)
-  node_visits schema n below place (string s) = value_visit n.kind place (string s)
-  node_visits schema n below place (array ds) = value_visit n.kind place (array ds)
-  node_visits schema n below place (object ms) =
+  node_visits schema n below place (array ds) = if is_many n.kind then item_visits schema n below place 1 ds
+      else value_visit n.kind (below_place place n) (array ds)
+  node_visits schema n below place (object ms) = unless_many n.kind (below_place place n)
+      (object_visit n.kind (below_place place n) (member_visits schema (Some n.module_number) below (below_place place n) ms))
+  node_visits schema n below place null =
+      unless_many n.kind (below_place place n) (value_visit n.kind (below_place place n) null)
+  node_visits schema n below place (boolean b) =
+      unless_many n.kind (below_place place n) (value_visit n.kind (below_place place n) (boolean b))
+  node_visits schema n below place (number x) =
+      unless_many n.kind (below_place place n) (value_visit n.kind (below_place place n) (number x))
+  node_visits schema n below place (string s) =
+      unless_many n.kind (below_place place n) (value_visit n.kind (below_place place n) (string s))
+
+  -- of the entries or items from a position on
+  pub item_visits : Schema → SchemaNode → Forest SchemaNode → List Step → ℕ → Items → List Visit
+  item_visits schema n below place position no_items = []
+  item_visits schema n below place position (item d ds) = instance_visits schema n below (instance_place place n position) d
+      ++ item_visits schema n below place (position + 1) ds
+
+  -- of a container, an entry, a leaf or an item; the place is its own
+  pub instance_visits : Schema → SchemaNode → Forest SchemaNode → List Step → Data → List Visit
+  instance_visits schema n below place (object ms) =
       object_visit n.kind place (member_visits schema (Some n.module_number) below place ms)
+  instance_visits schema n below place (array ds) = value_visit n.kind place (array ds)
+  instance_visits schema n below place null = value_visit n.kind place null
+  instance_visits schema n below place (boolean b) = value_visit n.kind place (boolean b)
+  instance_visits schema n below place (number x) = value_visit n.kind place (number x)
+  instance_visits schema n below place (string s) = value_visit n.kind place (string s)
 
 -- the top is an object
 abbrev pub visits : Schema → Data → List Visit
@@ -123,9 +154,15 @@ right_nodes [] = 0
 right_nodes (right place ∷ vs) = suc (right_nodes vs)
 right_nodes (wrong code place ∷ vs) = right_nodes vs
 
--- the first refusal, if there is one
+-- the first refusal, where there is room for so many right nodes
+abbrev pub first_refusal : ℕ → List Visit → Option Refusal
+first_refusal room [] = None
+first_refusal room (right place ∷ vs) =
+    if room == 0 then Some (record { code = 7; place = [] }) else first_refusal (room - 1) vs
+first_refusal room (wrong code place ∷ vs) = Some (record { code = code; place = place })
+
 abbrev pub verdict : Schema → Data → Option Refusal
-verdict schema d = first_wrong (visits schema d)
+verdict schema d = first_refusal document_limit (visits schema d)
 
 -- ---- the tree that a value denotes
 
@@ -133,22 +170,32 @@ abbrev pub members_of : Data → Members
 members_of (object ms) = ms
 members_of _ = no_members
 
-abbrev pub value_of : Kind → Data → Option Raw
-value_of (container presence) d = None
-value_of (leaf type in_use mandatory) d = raw_of d
+abbrev pub items_of : Data → Items
+items_of (array ds) = ds
+items_of _ = no_items
+
+abbrev pub raw_in : Kind → Data → Option Raw
+raw_in kind d = if has_value kind then raw_of d else None
 
 abbrev pub stored_node : SchemaNode → Data → Stored
-stored_node n d = record { schema_number = n.number; value = value_of n.kind d }
+stored_node n d = record { schema_number = n.number; value = raw_in n.kind d }
 
--- `inner` is what stands below the node, where the value is there
-abbrev pub with_stored : SchemaNode → Option Data → (Data → Tree) → Tree → Tree
-with_stored n None inner rest = rest
-with_stored n (Some d) inner rest = node (stored_node n d) (inner d) rest
+-- the row of the entries or items of an array; `inner` is what stands below one
+abbrev pub item_row : SchemaNode → (Data → Tree) → Items → Tree
+item_row n inner no_items = end
+item_row n inner (item d ds) = node (stored_node n d) (inner d) (item_row n inner ds)
 
+-- the row of the instances that a member's value denotes, where the member is there
+abbrev pub instance_row : SchemaNode → (Data → Tree) → Option Data → Tree
+instance_row n inner None = end
+instance_row n inner (Some d) = if is_many n.kind then item_row n inner (items_of d) else node (stored_node n d) (inner d) end
+
+-- the row that members denote below a parent of a module, whose children are given
 unfoldable pub stored_rows : Schema → Option ℕ → Forest SchemaNode → Members → Tree
 stored_rows schema parent end ms = end
-stored_rows schema parent (node n below after) ms = with_stored n (get_member (written_name schema parent n) ms)
-    (λ d. stored_rows schema (Some n.module_number) below (members_of d)) (stored_rows schema parent after ms)
+stored_rows schema parent (node n below after) ms = join (if is_data n.kind
+    then instance_row n (λ d. stored_rows schema (Some n.module_number) below (members_of d)) (get_member (written_name schema parent n) ms)
+    else stored_rows schema parent below ms) (stored_rows schema parent after ms)
 
 -- the tree that a value with no refusal denotes
 abbrev pub denoted : Schema → Data → Tree

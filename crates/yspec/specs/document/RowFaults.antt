@@ -1,43 +1,70 @@
--- The faults of a document by one walk over a row of schema nodes and the row that is stored under it. For a document
--- that fits its schema they are the faults of the document.
-use Rattle.std.specs.Prelude.{ℕ, ◌++◌, ◌==◌, List, [], ◌∷◌, map, Bool, false, Option, if◌then◌else◌}
-use Rattle.std.specs.Option.{option_map_or}
+-- The faults of a document by one walk over a row of schema nodes and the row that is stored under it: they are the
+-- faults of the document.
+use Rattle.std.specs.Prelude.{ℕ, ◌++◌, ◌==◌, List, [], ◌∷◌, map, length, Bool, if◌then◌else◌, nat_lt}
+use Rattle.std.specs.List.{flat_map}
 use Rattle.yspec.specs.Forest.{Forest, end, node}
-use Rattle.yspec.specs.types.Types.{Raw}
-use Rattle.yspec.specs.schema.Schema.{SchemaNode, Kind, container, leaf}
-use Rattle.yspec.specs.document.Document.{Tree, Step, step_to}
-use Rattle.yspec.specs.document.FaultCode.{V3}
-use Rattle.yspec.specs.document.Faults.{Fault, plain_fault, value_faults, under}
+use Rattle.yspec.specs.schema.Schema.{Schema, SchemaNode, Kind, container, leaf, leaf_list, list, choice, case, Absence, allowed, default_used, mandatory, key, Amount}
+use Rattle.yspec.specs.document.Document.{Stored, Tree, Step, step_to, instances_in}
+use Rattle.yspec.specs.document.FaultCode.{V2, V3, V4, V5, V6, V7}
+use Rattle.yspec.specs.document.Fault.{Fault, plain_fault, fault_with, choice_name}
+use Rattle.yspec.specs.document.Play.{cases, stored_cases, exceeds, is_among}
+use Rattle.yspec.specs.document.Instances.{tuple}
+use Rattle.yspec.specs.document.Faults.{Times, RowTimes, own_faults, under, at_positions, row_times}
 
 -- the steps to a node in front of those that lead on from it
 abbrev pub prefixed : List Step → Fault → Fault
 prefixed above f = record f { steps = above ++ f.steps }
 
--- of a value that is stored
-abbrev pub stored_own : Kind → Option Raw → List Fault
-stored_own (container presence) value = []
-stored_own (leaf type default_value mandatory) value = option_map_or (value_faults type) value []
+-- what a function says of each instance of a schema node in a row
+abbrev pub each_instance : {A : Type 0} → ℕ → (Stored → Tree → A) → Tree → List A
+each_instance number said end = []
+each_instance number said (node s below after) = if s.schema_number == number
+    then said s below ∷ each_instance number said after else each_instance number said after
 
--- of a node that isn't stored; `inside` are those of its children
-abbrev pub absent_own : Kind → List Fault → List Fault
-absent_own (container presence) inside = if presence then [] else inside
-absent_own (leaf type default_value mandatory) inside = if mandatory then plain_fault V3 [] ∷ [] else []
+-- ---- of nodes that aren't stored
 
-abbrev pub stored_faults : SchemaNode → Option Raw → List Fault → List Fault
-stored_faults n value inside = map (under (step_to n.number)) (stored_own n.kind value ++ inside)
+abbrev pub absent_leaf_faults : ℕ → Absence → List Fault
+absent_leaf_faults number allowed = []
+absent_leaf_faults number (default_used v) = []
+absent_leaf_faults number mandatory = plain_fault V3 (step_to number ∷ []) ∷ []
+absent_leaf_faults number key = plain_fault V2 (step_to number ∷ []) ∷ []
 
-abbrev pub absent_faults : SchemaNode → List Fault → List Fault
-absent_faults n inside = map (under (step_to n.number)) (absent_own n.kind inside)
+abbrev pub wrong_amount : ℕ → Amount → ℕ → List Fault
+wrong_amount number amount count = if nat_lt count amount.least then plain_fault V6 (step_to number ∷ []) ∷ []
+    else (if exceeds count amount.most then plain_fault V7 (step_to number ∷ []) ∷ [] else [])
 
--- whether a stored row begins with an instance of a schema node
-abbrev pub begins_with : ℕ → Tree → Bool
-begins_with number end = false
-begins_with number (node s below after) = s.schema_number == number
+abbrev pub wrong_choice : SchemaNode → Bool → List ℕ → List Fault
+wrong_choice n is_mandatory [] = if is_mandatory then fault_with (choice_name n.name) V4 [] ∷ [] else []
+wrong_choice n is_mandatory (first ∷ []) = []
+wrong_choice n is_mandatory (first ∷ second ∷ more) = fault_with (choice_name n.name) V5 [] ∷ []
+
+-- ---- of a node
+
+abbrev pub one_or : ℕ → List Fault → List (List Fault) → List Fault
+one_or number absent [] = absent
+one_or number absent (fs ∷ others) = flat_map (map (under (step_to number))) (fs ∷ others)
+
+-- `each` are the faults of its instances, `implied` those in it where it isn't stored, `inside` those of its children in
+-- this row
+abbrev pub node_faults : List ℕ → SchemaNode → Kind → List ℕ → List (List Fault) → List Fault → List Fault → List Fault
+node_faults chosen n (container presence) with_stored each implied inside =
+    one_or n.number (if presence then [] else map (under (step_to n.number)) implied) each
+node_faults chosen n (leaf type absence) with_stored each implied inside =
+    one_or n.number (absent_leaf_faults n.number absence) each
+node_faults chosen n (leaf_list type defaults amount) with_stored each implied inside =
+    wrong_amount n.number amount (length each) ++ at_positions n.number 1 each
+node_faults chosen n (list tuples amount) with_stored each implied inside =
+    wrong_amount n.number amount (length each) ++ at_positions n.number 1 each
+node_faults chosen n (choice default_case is_mandatory) with_stored each implied inside =
+    wrong_choice n is_mandatory with_stored ++ inside
+node_faults chosen n case with_stored each implied inside = if is_among chosen n.number then inside else []
 
 -- their steps lead from the node above the row
-unfoldable pub row_faults : Forest SchemaNode → Tree → List Fault
-row_faults end t = []
-row_faults (node n below after) end = absent_faults n (row_faults below end) ++ row_faults after end
-row_faults (node n below after) (node s stored_below stored_after) = if s.schema_number == n.number
-    then stored_faults n s.value (row_faults below stored_below) ++ row_faults after stored_after
-    else absent_faults n (row_faults below end) ++ row_faults after (node s stored_below stored_after)
+unfoldable pub row_faults : Times → Schema → RowTimes → List ℕ → Forest SchemaNode → Tree → List Fault
+row_faults times schema row chosen end t = []
+row_faults times schema row chosen (node n below after) t = node_faults chosen n n.kind (stored_cases (instances_in t) below)
+    (each_instance n.number (λ s b. own_faults times row n n.kind s.value (tuple schema s b)
+    ++ row_faults times schema (row_times schema b) [] below b) t)
+    (row_faults times schema (row_times schema end) [] below end)
+    (row_faults times schema row (cases (instances_in t) n.kind below) below t)
+    ++ row_faults times schema row chosen after t

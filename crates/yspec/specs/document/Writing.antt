@@ -1,16 +1,16 @@
 -- The JSON text of a document (RFC 7951, 4 to 6).
-use Rattle.std.specs.Prelude.{◌<◌, ◌==◌, false, length, ◌≡◌, ◌≢◌, ℕ, ℤ, true, Option, Some, None, if◌then◌else◌}
+use Rattle.std.specs.Prelude.{IsTrue, ◌<◌, ◌==◌, false, length, ◌≡◌, ◌≢◌, ℕ, ℤ, Bool, true, Option, Some, None, if◌then◌else◌}
 use Rattle.std.specs.List.{list_any}
 use Rattle.std.specs.Option.{option_map_or}
-use Rattle.serde_json.specs.Data.{Data, null, boolean, number, string, array, object, no_items, item, Members, no_members, put}
+use Rattle.serde_json.specs.Data.{Data, null, boolean, number, string, array, object, Items, no_items, item, Members, no_members, put}
 use Rattle.serde_json.specs.Find.{of_integer}
 use Rattle.serde_json.specs.Written.{compact_text}
 use Rattle.yspec.specs.Forest.{Forest, end, node}
 use Rattle.yspec.specs.text.Text.{Text, colon}
 use Rattle.yspec.specs.types.Ranges.{lies_in}
 use Rattle.yspec.specs.types.Types.{Raw, text, int, bool, empty}
-use Rattle.yspec.specs.schema.Schema.{Schema, SchemaNode, Kind, container, leaf, node_at, module_name, written_name}
-use Rattle.yspec.specs.document.Document.{Tree}
+use Rattle.yspec.specs.schema.Schema.{Schema, SchemaNode, Kind, is_data, is_many, has_value, data_row, module_name, written_name}
+use Rattle.yspec.specs.document.Document.{Tree, instances}
 use Rattle.yspec.specs.document.Reading.{whole_numbers}
 use Rattle.yspec.specs.document.Fitting.{FitsBy}
 
@@ -34,24 +34,28 @@ leaf_data value = option_map_or data_of value null
 
 -- `inner` are the members of what stands below the node
 abbrev pub written_node : Kind → Option Raw → Members → Data
-written_node (container presence) value inner = object inner
-written_node (leaf type in_use mandatory) value inner = leaf_data value
+written_node kind value inner = if has_value kind then leaf_data value else object inner
 
--- The members with that of a stored node, whose name is the one that is due below a parent of a module. `inner` are the
--- members of what stands below the node, given its module.
-abbrev pub with_node : Schema → Option ℕ → Option SchemaNode → Option Raw → (ℕ → Members) → Members → Members
-with_node schema parent None value inner so_far = so_far
-with_node schema parent (Some n) value inner so_far =
-    put (written_name schema parent n) (written_node n.kind value (inner n.module_number)) so_far
+abbrev pub written_items : Kind → (Tree → Members) → Tree → Items
+written_items kind inner end = no_items
+written_items kind inner (node s below after) = item (written_node kind s.value (inner below)) (written_items kind inner after)
+
+-- the member of the instances of a node, where there are any
+abbrev pub with_instances : Text → Kind → (Tree → Members) → Tree → Members → Members
+with_instances name kind inner end so_far = so_far
+with_instances name kind inner (node s below after) so_far = put name (if is_many kind
+    then array (written_items kind inner (node s below after)) else written_node kind s.value (inner below)) so_far
 
 -- the members of a row below a parent of a module, put in one after another
-unfoldable pub row_members : Schema → Option ℕ → Members → Tree → Members
-row_members schema parent so_far end = so_far
-row_members schema parent so_far (node s below after) = row_members schema parent
-    (with_node schema parent (node_at schema s.schema_number) s.value (λ m. row_members schema (Some m) no_members below) so_far) after
+unfoldable pub row_members : Schema → Option ℕ → Forest SchemaNode → Tree → Members → Members
+row_members schema parent end t so_far = so_far
+row_members schema parent (node n below after) t so_far = row_members schema parent after t (if is_data n.kind
+    then with_instances (written_name schema parent n) n.kind (λ inner. row_members schema (Some n.module_number) below inner no_members)
+    (instances n.number t) so_far
+    else row_members schema parent below t so_far)
 
 abbrev pub written_value : Schema → Tree → Data
-written_value schema tree = object (row_members schema None no_members tree)
+written_value schema tree = object (row_members schema None schema.nodes tree no_members)
 
 -- the compact text, in which members stand in byte order of their names
 abbrev pub written_text : Schema → Tree → Text
@@ -64,11 +68,24 @@ abbrev pub IsNew : Schema → Option ℕ → Text → Forest SchemaNode → Type
 IsNew schema parent name end = Unit {0}
 IsNew schema parent name (node n below after) = (name ≢ written_name schema parent n) × IsNew schema parent name after
 
--- no two siblings are written with one name
-abbrev pub NamesDiffer : Schema → Option ℕ → Forest SchemaNode → Type 0
-NamesDiffer schema parent end = Unit {0}
-NamesDiffer schema parent (node n below after) = IsNew schema parent (written_name schema parent n) after
-    × NamesDiffer schema (Some n.module_number) below × NamesDiffer schema parent after
+-- no two nodes of a row are written with one name
+abbrev pub RowDiffers : Schema → Option ℕ → Forest SchemaNode → Type 0
+RowDiffers schema parent end = Unit {0}
+RowDiffers schema parent (node n below after) =
+    IsNew schema parent (written_name schema parent n) after × RowDiffers schema parent after
+
+-- no two data nodes below a data node are
+abbrev pub ChildrenDiffer : Schema → SchemaNode → Forest SchemaNode → Type 0
+ChildrenDiffer schema n below = IsTrue (is_data n.kind) → RowDiffers schema (Some n.module_number) (data_row below)
+
+-- nor below any node that stands in a row or below it
+abbrev pub AllDiffer : Schema → Forest SchemaNode → Type 0
+AllDiffer schema end = Unit {0}
+AllDiffer schema (node n below after) = ChildrenDiffer schema n below × AllDiffer schema below × AllDiffer schema after
+
+-- no two data nodes with one parent are written with one name
+abbrev pub NamesDiffer : Schema → Type 0
+NamesDiffer schema = RowDiffers schema None (data_row schema.nodes) × AllDiffer schema schema.nodes
 
 -- a value that a document can have
 abbrev pub HasText : Option Raw → Type 0
@@ -76,14 +93,17 @@ HasText None = ⊥
 HasText (Some (int z)) = lies_in z whole_numbers ≡ true
 HasText (Some _) = Unit {0}
 
--- a leaf has a value and nothing below it, and nothing else has a value
-abbrev pub HasForm : Kind → Option Raw → Tree → Type 0
-HasForm (container presence) value below = value ≡ None
-HasForm (leaf type in_use mandatory) value below = HasText value × (below ≡ end)
+abbrev pub HasTextIf : Bool → Option Raw → Type 0
+HasTextIf true value = HasText value
+HasTextIf false value = value ≡ None
 
--- a row of stored nodes that fits a row of schema nodes, in values too
-abbrev pub IsDocument : Forest SchemaNode → Tree → Type 0
-IsDocument = FitsBy (λ n value below. HasForm n.kind value below)
+-- a leaf and an item have such a value, and nothing else has a value
+abbrev pub HasForm : SchemaNode → Option Raw → Type 0
+HasForm n value = HasTextIf (has_value n.kind) value
+
+-- a document that fits a schema, in values too
+abbrev pub IsDocument : Schema → Tree → Type 0
+IsDocument schema tree = FitsBy HasForm schema.nodes 0 tree
 
 -- ---- when no two siblings are written with one name
 
@@ -100,10 +120,19 @@ abbrev pub HasItsName : SchemaNode → Forest SchemaNode → Type 0
 HasItsName n end = Unit {0}
 HasItsName n (node m below after) = (n.module_number ≡ m.module_number → n.name ≢ m.name) × HasItsName n after
 
-abbrev pub AreNamed : Schema → Forest SchemaNode → Type 0
-AreNamed schema end = Unit {0}
-AreNamed schema (node n below after) =
-    IsNamed schema n × HasItsName n after × AreNamed schema below × AreNamed schema after
+abbrev pub RowIsNamed : Schema → Forest SchemaNode → Type 0
+RowIsNamed schema end = Unit {0}
+RowIsNamed schema (node n below after) = IsNamed schema n × HasItsName n after × RowIsNamed schema after
+
+-- the data nodes below each node of a row, and so on below
+abbrev pub AllAreNamed : Schema → Forest SchemaNode → Type 0
+AllAreNamed schema end = Unit {0}
+AllAreNamed schema (node n below after) =
+    RowIsNamed schema (data_row below) × AllAreNamed schema below × AllAreNamed schema after
+
+-- data nodes with one parent differ in module or name (RFC 7950, 6.2.1)
+abbrev pub AreNamed : Schema → Type 0
+AreNamed schema = RowIsNamed schema (data_row schema.nodes) × AllAreNamed schema schema.nodes
 
 -- modules of different places have different names, without colons
 abbrev pub ModulesDiffer : Schema → Type 0

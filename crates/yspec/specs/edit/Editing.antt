@@ -1,15 +1,18 @@
 -- What an edit does to a document, or why it is refused.
-use Rattle.std.specs.Prelude.{⊤, ℕ, ◌==◌, ◌++◌, Bool, true, false, List, [], ◌∷◌, map, Option, Some, None, is_some, option_and_then, Result, Ok, Err, if◌then◌else◌, nat_lt}
+use Rattle.std.specs.Prelude.{⊤, ℕ, zero, suc, ◌+◌, ◌==◌, ◌++◌, ◌&&◌, not, Bool, true, false, List, [], ◌∷◌, length, find, Option, Some, None, option_map, option_and_then, Result, Ok, Err, if◌then◌else◌, nat_lt}
+use Rattle.std.specs.List.{list_all, list_any}
 use Rattle.std.specs.Option.{option_map_or}
 use Rattle.serde_json.specs.Data.{Data}
-use Rattle.yspec.specs.Forest.{end, node, size}
+use Rattle.yspec.specs.Forest.{Forest, end, node, size, change_nth}
 use Rattle.yspec.specs.Results.{◌>>=◌}
-use Rattle.yspec.specs.text.Text.{Text}
-use Rattle.yspec.specs.schema.Schema.{Schema, SchemaNode, node_at, children_of, child_written}
-use Rattle.yspec.specs.document.Document.{Stored, Tree, step_to}
-use Rattle.yspec.specs.document.Reading.{node_visits, first_wrong, json_of, stored_node, stored_rows, members_of}
-use Rattle.yspec.specs.edit.Edit.{edit_at}
-use Rattle.yspec.specs.edit.EditText.{Predicate, unsaid, at_position, Path, Edit, create, replace, remove, path_of, asked_by}
+use Rattle.yspec.specs.text.Text.{Text, is_text}
+use Rattle.yspec.specs.types.Values.{canonical}
+use Rattle.yspec.specs.schema.Schema.{Schema, SchemaNode, Kind, container, leaf, leaf_list, list, is_many, type_in, keys_in, node_at, children_of}
+use Rattle.yspec.specs.document.Document.{Stored, Tree, Step, step_to, step_at, instances_in, stored_in, document_limit}
+use Rattle.yspec.specs.document.Reading.{Named, child, other_form, unknown, named, instance_visits, first_wrong, json_of, stored_node, stored_rows, members_of}
+use Rattle.yspec.specs.document.Instances.{value_of}
+use Rattle.yspec.specs.edit.Edit.{edit_at, is_of, place_of}
+use Rattle.yspec.specs.edit.EditText.{Key, Predicate, unsaid, at_position, with_keys, Path, Edit, create, replace, remove, path_of, asked_by}
 
 -- why an edit is refused: the number behind the `E`, and of a value that doesn't fit the one behind the `J`
 pub record EditRefusal : Type 0 where
@@ -37,29 +40,53 @@ edit_asked line = asked_or_refused (asked_by line)
 
 -- ---- what the steps of a path mean
 
--- the schema nodes above one, from the top, and that node
-pub record Way : Type 0 where
-  pub above : List ℕ
-  pub last : ℕ
+-- a step's schema node with the nodes below it, and which of its instances is meant
+pub record BoundStep : Type 0 where
+  pub schema_node : SchemaNode
+  pub predicate : Predicate
 
--- the way on from a node, by the names of its steps; E2: a name isn't there, or in the form that isn't due
-abbrev pub way_on : Schema → List ℕ → ℕ → Path → Result Way EditRefusal
-way_on schema above last [] = Ok (record { above = above; last = last })
-way_on schema above last (s ∷ steps) =
-    option_map_or (λ n. way_on schema (above ++ last ∷ []) n steps) (child_written schema (Some last) s.name) (refused 2)
+abbrev pub bound_named : Named → Predicate → (SchemaNode → Forest SchemaNode → Result (List BoundStep) EditRefusal) → Result (List BoundStep) EditRefusal
+bound_named (child n below) predicate later =
+    later n below >>= (λ steps. Ok (record { schema_node = n; predicate = predicate } ∷ steps))
+bound_named other_form predicate later = refused 2
+bound_named unknown predicate later = refused 2
 
--- a path has a step
-abbrev pub way : Schema → Path → Result Way EditRefusal
-way schema [] = refused 1
-way schema (s ∷ steps) = option_map_or (λ n. way_on schema [] n steps) (child_written schema None s.name) (refused 2)
+-- E2: a name isn't there, or in the form that isn't due
+abbrev pub bound_steps : Schema → Option ℕ → Forest SchemaNode → Path → Result (List BoundStep) EditRefusal
+bound_steps schema parent children [] = Ok []
+bound_steps schema parent children (s ∷ steps) = bound_named (named schema parent s.name children) s.predicate
+    (λ n below. bound_steps schema (Some n.module_number) below steps)
+
+abbrev pub has_name : Schema → Text → ℕ → Bool
+has_name schema name number = option_map_or (λ n. is_text name n.name) (node_at schema number) false
+
+-- each key once and no other name: as many as there are, and each of the list's keys is among them
+abbrev pub names_keys : Schema → List ℕ → List Key → Bool
+names_keys schema numbers keys = length keys == length numbers
+    && list_all (λ number. list_any (λ (k : Key). has_name schema k.name number) keys) numbers
+
+abbrev pub fits_kind : Schema → Kind → Predicate → Bool
+fits_kind schema (list tuples amount) (at_position n) = true
+fits_kind schema (list tuples amount) (with_keys keys) = nat_lt 0 (length tuples.keys) && names_keys schema tuples.keys keys
+fits_kind schema (leaf_list type defaults amount) (at_position n) = true
+fits_kind schema (container presence) unsaid = true
+fits_kind schema (leaf type absence) unsaid = true
+fits_kind schema _ _ = false
 
 abbrev pub says_nothing : Predicate → Bool
 says_nothing unsaid = true
 says_nothing _ = false
 
-abbrev pub says_which : Path → Bool
-says_which [] = false
-says_which (s ∷ steps) = if says_nothing s.predicate then says_which steps else true
+-- E3: a predicate out of place; the last step of `create` bears none
+abbrev pub are_in_place : Schema → Bool → List BoundStep → Bool
+are_in_place schema is_create [] = true
+are_in_place schema is_create (b ∷ []) =
+    if is_create then says_nothing b.predicate else fits_kind schema b.schema_node.kind b.predicate
+are_in_place schema is_create (b ∷ c ∷ bs) =
+    fits_kind schema b.schema_node.kind b.predicate && are_in_place schema is_create (c ∷ bs)
+
+abbrev pub in_place : Schema → Bool → List BoundStep → Result (List BoundStep) EditRefusal
+in_place schema is_create steps = if are_in_place schema is_create steps then Ok steps else refused 3
 
 -- positions count from 1, so no text spells a path with a position 0
 abbrev pub is_zero : Predicate → Bool
@@ -70,42 +97,77 @@ abbrev pub has_zero : Path → Bool
 has_zero [] = false
 has_zero (s ∷ steps) = if is_zero s.predicate then true else has_zero steps
 
--- E3: a container and a leaf have one instance, so no step of today says which
-abbrev pub way_meant : Schema → Path → Result Way EditRefusal
-way_meant schema path = way schema path >>= (λ w. if says_which path then refused 3 else Ok w)
-
 -- E1: a path that no text spells, though it can be made as a value: without steps, or with a position 0
-abbrev pub meant : Schema → Path → Result Way EditRefusal
-meant schema path = if has_zero path then refused 1 else way_meant schema path
+abbrev pub is_spelled : Path → Bool
+is_spelled [] = false
+is_spelled (s ∷ steps) = not (has_zero (s ∷ steps))
 
--- ---- where an edit stands
+-- what a path means to an edit
+abbrev pub bound : Schema → Bool → Path → Result (List BoundStep) EditRefusal
+bound schema is_create path = if is_spelled path
+    then bound_steps schema None schema.nodes path >>= in_place schema is_create else refused 1
 
--- what stands below the stored node of a schema node in a row, where it is stored
-abbrev pub stored_in : Tree → ℕ → Option Tree
-stored_in end number = None
-stored_in (node s below after) number = if s.schema_number == number then Some below else stored_in after number
+-- ---- which stored node a step means
 
--- the row below the last of some nodes, each of which is stored below the one before it
-abbrev pub row_under : Tree → List ℕ → Option Tree
-row_under tree [] = Some tree
-row_under tree (n ∷ ns) = option_and_then (λ below. row_under below ns) (stored_in tree n)
+-- the canonical text of the valid value of a stored leaf
+abbrev pub text_of : Schema → Stored → Option Text
+text_of schema s = option_and_then (λ n. option_and_then (λ type. option_map (canonical type.type) (value_of schema s))
+    (type_in n.kind)) (node_at schema s.schema_number)
 
--- the nodes above one, that node, and whether it is stored
+abbrev pub is_the_text : Text → Option Text → Bool
+is_the_text text t = option_map_or (is_text text) t false
+
+abbrev pub key_text : List Key → Schema → ℕ → Text
+key_text keys schema number = option_map_or (λ k. k.text) (find (λ (k : Key). has_name schema k.name number) keys) []
+
+-- each key is stored, valid and has that canonical text
+abbrev pub fits_keys : Schema → List ℕ → List Key → Tree → Bool
+fits_keys schema numbers keys entry = list_all (λ number.
+    is_the_text (key_text keys schema number) (option_and_then (text_of schema) (stored_in number entry))) numbers
+
+-- the positions, from one on, of the instances of a schema node in a row whose rows below pass a test
+abbrev pub positions_where : ℕ → (Tree → Bool) → ℕ → Tree → List ℕ
+positions_where number test position end = []
+positions_where number test position (node s below after) = if s.schema_number == number
+    then (if test below then position ∷ [] else []) ++ positions_where number test (position + 1) after
+    else positions_where number test position after
+
+-- E4 or E7, and E6
+abbrev pub the_one : ℕ → ℕ → List ℕ → Result Step EditRefusal
+the_one missing number [] = refused missing
+the_one missing number (position ∷ []) = Ok (step_at number position)
+the_one missing number (first ∷ second ∷ more) = refused 6
+
+-- E5, and E4 or E7
+abbrev pub instance_meant : Schema → ℕ → Tree → SchemaNode → Predicate → Result Step EditRefusal
+instance_meant schema missing row n unsaid = if nat_lt 0 (instances_in row n.number) then Ok (step_to n.number) else refused missing
+instance_meant schema missing row n (at_position position) =
+    if nat_lt (instances_in row n.number) position then refused 5 else Ok (step_at n.number position)
+instance_meant schema missing row n (with_keys keys) =
+    the_one missing n.number (positions_where n.number (fits_keys schema (keys_in n.kind) keys) 1 row)
+
+-- the row below the instance of a schema node at a place among those of that node, from 0
+abbrev pub row_at : ℕ → ℕ → Tree → Tree
+row_at number place end = end
+row_at number zero (node s below after) = if s.schema_number == number then below else row_at number zero after
+row_at number (suc place) (node s below after) =
+    if s.schema_number == number then row_at number place after else row_at number (suc place) after
+
+-- the stored nodes above the last step's, the row in which that stands or would stand, and the last step
 pub record Target : Type 0 where
-  pub above : List ℕ
-  pub schema_number : ℕ
-  pub is_stored : Bool
+  pub above : List Step
+  pub row : Tree
+  pub last : BoundStep
 
-abbrev pub target_in : Way → Tree → Target
-target_in w row = record { above = w.above; schema_number = w.last; is_stored = is_some (stored_in row w.last) }
+abbrev pub lower : Step → Target → Target
+lower step t = record t { above = step ∷ t.above }
 
--- E4: a container before the last step isn't stored
-abbrev pub target : Tree → Way → Result Target EditRefusal
-target tree w = option_map_or (λ row. Ok (target_in w row)) (row_under tree w.above) (refused 4)
-
--- the tree, with the row in which the target stands, or would stand, changed
-abbrev pub with_row : Target → (Tree → Tree) → Tree → Tree
-with_row t change tree = edit_at (map step_to t.above) change tree
+-- E4 to E6: what stands above isn't stored, or isn't one
+abbrev pub target : Schema → Tree → List BoundStep → Result Target EditRefusal
+target schema row [] = refused 1
+target schema row (b ∷ []) = Ok (record { above = []; row = row; last = b })
+target schema row (b ∷ c ∷ bs) = instance_meant schema 4 row b.schema_node b.predicate >>= (λ step.
+    target schema (row_at step.schema_number (place_of step) row) (c ∷ bs) >>= (λ t. Ok (lower step t)))
 
 -- ---- the value
 
@@ -120,10 +182,10 @@ branch schema n d = record {
   below = stored_rows schema (Some n.module_number) (children_of schema n.number) (members_of d);
 }
 
--- E10: a value doesn't fit its node, with the first refusal of a document
+-- E10: a value doesn't fit its node, an entry's or item's one instance, with the first refusal of a document
 abbrev pub fitting_branch : Schema → SchemaNode → Data → Result Branch EditRefusal
 fitting_branch schema n d = option_map_or (λ r. value_refused r.code)
-    (first_wrong (node_visits schema n (children_of schema n.number) [] d)) (Ok (branch schema n d))
+    (first_wrong (instance_visits schema n (children_of schema n.number) [] d)) (Ok (branch schema n d))
 
 -- a number that the schema gave has its node
 abbrev pub branch_at : Schema → ℕ → Data → Result Branch EditRefusal
@@ -135,50 +197,55 @@ branch_of schema number text = option_map_or (branch_at schema number) (json_of 
 
 -- ---- changes of a row
 
--- with a branch in its place: before the first node of a greater number, instead of one of the same
+-- with a branch behind all nodes of its number and smaller ones
 abbrev pub with_branch : Branch → Tree → Tree
-with_branch p end = node p.label p.below end
-with_branch p (node s below after) = if s.schema_number == p.label.schema_number then node p.label p.below after
-    else (if nat_lt p.label.schema_number s.schema_number then node p.label p.below (node s below after)
-    else node s below (with_branch p after))
+with_branch b end = node b.label b.below end
+with_branch b (node s below after) = if nat_lt b.label.schema_number s.schema_number
+    then node b.label b.below (node s below after) else node s below (with_branch b after)
 
-abbrev pub without : ℕ → Tree → Tree
-without number end = end
-without number (node s below after) = if s.schema_number == number then after else node s below (without number after)
+-- with a branch instead of the node that a step means
+abbrev pub with_instead : Step → Branch → Tree → Tree
+with_instead step b row =
+    change_nth (is_of step.schema_number) (place_of step) (λ s below after. node b.label b.below after) row
+
+-- without the node that a step means
+abbrev pub without : Step → Tree → Tree
+without step row = change_nth (is_of step.schema_number) (place_of step) (λ s below after. after) row
 
 -- ---- edits
-
--- a document has at most so many nodes
-abbrev pub document_limit : ℕ
-document_limit = 1000000
 
 -- E11
 abbrev pub within_limit : Tree → Result Tree EditRefusal
 within_limit tree = if nat_lt document_limit (size tree) then refused 11 else Ok tree
 
-abbrev pub with_value : Schema → Tree → Text → Target → Result Tree EditRefusal
-with_value schema tree text t = branch_of schema t.schema_number text >>= (λ p. within_limit (with_row t (with_branch p) tree))
+-- E8: a container or leaf that is created is there
+abbrev pub is_there : Target → Bool
+is_there t = not (is_many t.last.schema_node.kind) && nat_lt 0 (instances_in t.row t.last.schema_node.number)
 
--- E8: what is created is there
 abbrev pub created : Schema → Tree → Text → Target → Result Tree EditRefusal
-created schema tree text t = if t.is_stored then refused 8 else with_value schema tree text t
+created schema tree text t = if is_there t then refused 8
+    else branch_of schema t.last.schema_node.number text >>= (λ b. within_limit (edit_at t.above (with_branch b) tree))
 
 -- E7: what is replaced or removed isn't there
+abbrev pub last_meant : Schema → Target → Result Step EditRefusal
+last_meant schema t = instance_meant schema 7 t.row t.last.schema_node t.last.predicate
+
 abbrev pub replaced : Schema → Tree → Text → Target → Result Tree EditRefusal
-replaced schema tree text t = if t.is_stored then with_value schema tree text t else refused 7
+replaced schema tree text t = last_meant schema t >>= (λ step. branch_of schema t.last.schema_node.number text >>= (λ b.
+    within_limit (edit_at t.above (with_instead step b) tree)))
 
-abbrev pub removed : Tree → Target → Result Tree EditRefusal
-removed tree t = if t.is_stored then Ok (with_row t (without t.schema_number) tree) else refused 7
+abbrev pub removed : Schema → Tree → Target → Result Tree EditRefusal
+removed schema tree t = last_meant schema t >>= (λ step. Ok (edit_at t.above (without step) tree))
 
-abbrev pub target_of : Schema → Tree → Path → Result Target EditRefusal
-target_of schema tree path = meant schema path >>= target tree
+abbrev pub target_of : Schema → Tree → Bool → Path → Result Target EditRefusal
+target_of schema tree is_create path = bound schema is_create path >>= target schema tree
 
 -- the tree after an edit, or its refusal: the text's first, then the path's names and predicates, then where it stands,
 -- then its value
 unfoldable pub applied : Schema → Tree → Edit → Result Tree EditRefusal
-applied schema tree (create path text) = target_of schema tree path >>= created schema tree text
-applied schema tree (replace path text) = target_of schema tree path >>= replaced schema tree text
-applied schema tree (remove path) = target_of schema tree path >>= removed tree
+applied schema tree (create path text) = target_of schema tree true path >>= created schema tree text
+applied schema tree (replace path text) = target_of schema tree false path >>= replaced schema tree text
+applied schema tree (remove path) = target_of schema tree false path >>= removed schema tree
 
 -- ---- lists of edits
 

@@ -6,7 +6,8 @@ use Rattle.yspec.specs.schema.Breaks.{Break, compiled}
 use Rattle.yspec.specs.schema.Schema.{Schema}
 use Rattle.yspec.specs.document.Document.{Tree}
 use Rattle.yspec.specs.document.Reading.{Refusal, document_of}
-use Rattle.yspec.specs.document.Faults.{Fault, faults_of}
+use Rattle.yspec.specs.document.Fault.{Fault}
+use Rattle.yspec.specs.document.Faults.{faults_of}
 use Rattle.yspec.specs.edit.EditText.{Edit}
 use Rattle.yspec.specs.edit.Editing.{Decision, after, decisions}
 

@@ -10,7 +10,7 @@ use Rattle.yspec.specs.program.Output.{Outcome, validate, outcome, found}
 use Rattle.yspec.specs.document.Document.{Tree, step_to}
 use Rattle.yspec.specs.edit.EditText.{Edit, edit_of}
 use Rattle.yspec.specs.edit.Editing.{Decision, after, decisions}
-use Rattle.yspec.specs.document.Faults.{Fault, plain_fault}
+use Rattle.yspec.specs.document.Fault.{Fault, plain_fault}
 use Rattle.yspec.specs.document.FaultCode.{FaultCode}
 use Rattle.yspec.specs.edit.Live.{Checked, CheckRefusal, checked}
 

@@ -8,7 +8,8 @@ use Rattle.yspec.specs.schema.Breaks.{Break, compiled}
 use Rattle.yspec.specs.schema.Schema.{Schema}
 use Rattle.yspec.specs.document.Document.{Tree}
 use Rattle.yspec.specs.document.Reading.{Refusal, document_of}
-use Rattle.yspec.specs.document.Faults.{Fault, faults_of, line_of}
+use Rattle.yspec.specs.document.Fault.{Fault}
+use Rattle.yspec.specs.document.Faults.{faults_of, line_of}
 use Rattle.yspec.specs.document.Path.{path_text}
 
 -- what the words of a command line ask for

@@ -6,12 +6,44 @@ use Rattle.yspec.specs.text.Text.{Text, is_text}
 use Rattle.yspec.specs.text.Statement.{Statement}
 use Rattle.yspec.specs.types.Types.{YangType, Val, string_type, built_in}
 
--- what only this kind of node has
+-- ---- what only one kind of node has
+
+-- the type of a leaf or of items; of a leafref the type is that of its target, whose number stands beside it
+pub record LeafType : Type 0 where
+  pub type : YangType
+  pub target : Option ℕ
+
+-- what it means that a leaf isn't stored: nothing; its default is in use; it is mandatory; it is a key of its list
+pub data Absence : Type 0 where
+  allowed : Absence
+  default_used : Val → Absence
+  mandatory : Absence
+  key : Absence
+
+-- min-elements and max-elements
+pub record Amount : Type 0 where
+  pub least : ℕ
+  pub most : Option ℕ
+
+-- the numbers of the containers that lead from an entry of a list to a leaf, and the leaf's
+abbrev pub LeafPath : Type 0
+LeafPath = List ℕ
+
+-- the leafs of a list's key, which stand directly in it, and those of each `unique`
+pub record Tuples : Type 0 where
+  pub keys : List ℕ
+  pub uniques : List (List LeafPath)
+
 pub data Kind : Type 0 where
   -- whether its presence means something (RFC 7950, 7.5.1)
   container : Bool → Kind
-  -- its type, its default in use where it has one, and whether it is mandatory
-  leaf : YangType → Option Val → Bool → Kind
+  leaf : LeafType → Absence → Kind
+  -- with its defaults
+  leaf_list : LeafType → List Val → Amount → Kind
+  list : Tuples → Amount → Kind
+  -- the number of its default case, and whether it is mandatory
+  choice : Option ℕ → Bool → Kind
+  case : Kind
 
 -- RFC 7950, 7.21.2
 pub data Status : Type 0 where
@@ -36,6 +68,35 @@ pub record SchemaModule : Type 0 where
 pub record Schema : Type 0 where
   pub modules : List SchemaModule
   pub nodes : Forest SchemaNode
+
+-- ---- kinds
+
+-- choices and cases stand in no document (RFC 7950, 7.9)
+abbrev pub is_data : Kind → Bool
+is_data (choice default_case is_mandatory) = false
+is_data case = false
+is_data _ = true
+
+-- it may be stored more than once in a row
+abbrev pub is_many : Kind → Bool
+is_many (list tuples amount) = true
+is_many (leaf_list type defaults amount) = true
+is_many _ = false
+
+-- it holds a value
+abbrev pub has_value : Kind → Bool
+has_value (leaf type absence) = true
+has_value (leaf_list type defaults amount) = true
+has_value _ = false
+
+abbrev pub type_in : Kind → Option LeafType
+type_in (leaf type absence) = Some type
+type_in (leaf_list type defaults amount) = Some type
+type_in _ = None
+
+abbrev pub keys_in : Kind → List ℕ
+keys_in (list tuples amount) = tuples.keys
+keys_in _ = []
 
 -- ---- statements
 
@@ -63,9 +124,17 @@ data_levels end = 0
 data_levels (node s below after) = if is_data_definition s.keyword then max (suc (data_levels below)) (data_levels after)
     else data_levels after
 
+abbrev pub absence_of : Forest Statement → Absence
+absence_of below = if option_map_or (λ t. is_text t (codes "true")) (argument_of (codes "mandatory") below) false
+    then mandatory else allowed
+
+-- the type of a leaf that refers to no other
+abbrev pub own_type : YangType → LeafType
+own_type type = record { type = type; target = None }
+
 abbrev pub leaf_kind : Forest Statement → Kind
-leaf_kind below = leaf (unwrap_or (option_and_then built_in (argument_of (codes "type") below)) string_type) None
-    (option_map_or (λ t. is_text t (codes "true")) (argument_of (codes "mandatory") below) false)
+leaf_kind below = leaf (own_type (unwrap_or (option_and_then built_in (argument_of (codes "type") below)) string_type))
+    (absence_of below)
 
 abbrev pub kind_of : Statement → Forest Statement → Kind
 kind_of s below = if is_text s.keyword (codes "container") then container false else leaf_kind below
@@ -138,6 +207,17 @@ written_name schema parent n = if is_module n.module_number parent then n.name e
 -- the form that is not due there
 abbrev pub other_name : Schema → Option ℕ → SchemaNode → Text
 other_name schema parent n = if is_module n.module_number parent then qualified_name schema n else n.name
+
+-- the data nodes of a row, those reached through choices and cases included (RFC 7950, 7.9)
+abbrev pub data_row : Forest SchemaNode → Forest SchemaNode
+data_row end = end
+data_row (node n below after) =
+    if is_data n.kind then node n below (data_row after) else join (data_row below) (data_row after)
+
+-- the node of a number in a row, with what stands below it
+abbrev pub child_in : Forest SchemaNode → ℕ → Option (SchemaNode × Forest SchemaNode)
+child_in end number = None
+child_in (node n below after) number = if n.number == number then Some (n, below) else child_in after number
 
 -- ---- a child by its name
 

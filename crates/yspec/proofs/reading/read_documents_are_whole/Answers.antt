@@ -1,5 +1,0 @@
-use Rattle.yspec.proofs.DocumentProofs.ReadWholeLemmas.{read_whole}
-use Rattle.yspec.proofs.reading.read_documents_are_whole.Goals as goal
-
-pub returns : goal.returns
-returns c = read_whole

@@ -1,6 +1,0 @@
-use Rattle.std.proofs.Common.{None}
-use Rattle.yspec.proofs.DocumentProofs.WrittenNameLemmas.{names_differ}
-use Rattle.yspec.proofs.reading.written_names_differ.Goals as goal
-
-pub returns : goal.returns
-returns c = λ schema. names_differ schema None schema.nodes
