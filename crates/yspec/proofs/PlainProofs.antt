@@ -1,1 +1,3 @@
 pub mod RowLemmas
+pub mod StoredRowLemmas
+pub mod FaultLemmas
