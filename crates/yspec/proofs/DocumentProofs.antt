@@ -2,3 +2,4 @@ pub mod JsonLemmas
 pub mod MemberLemmas
 pub mod MeaningLemmas
 pub mod FittingLemmas
+pub mod WrittenNameLemmas
