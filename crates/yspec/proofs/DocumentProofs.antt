@@ -7,3 +7,4 @@ pub mod CheckingRowLemmas
 pub mod CursorLemmas
 pub mod FrontFaultLemmas
 pub mod SortingLemmas
+pub mod WrittenNameLemmas
