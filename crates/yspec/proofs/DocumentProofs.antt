@@ -5,3 +5,9 @@ pub mod FittingLemmas
 pub mod DataRowLemmas
 pub mod FittingReadLemmas
 pub mod CountLemmas
+pub mod HeldNodeLemmas
+pub mod CheckingRowLemmas
+pub mod CursorLemmas
+pub mod FrontFaultLemmas
+pub mod SortingLemmas
+pub mod WrittenNameLemmas
