@@ -2,6 +2,9 @@ pub mod JsonLemmas
 pub mod MemberLemmas
 pub mod MeaningLemmas
 pub mod FittingLemmas
+pub mod DataRowLemmas
+pub mod FittingReadLemmas
+pub mod CountLemmas
 pub mod HeldNodeLemmas
 pub mod CheckingRowLemmas
 pub mod CursorLemmas

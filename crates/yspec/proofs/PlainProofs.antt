@@ -1,3 +1,4 @@
+pub mod ReadingLemmas
 pub mod RowLemmas
 pub mod StoredRowLemmas
 pub mod FaultLemmas

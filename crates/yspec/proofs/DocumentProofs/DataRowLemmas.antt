@@ -1,0 +1,78 @@
+-- The data nodes of a row of schema nodes, those reached through choices and cases among them, and their numbers.
+use Rattle.std.proofs.Common.{◌≡◌, ℕ, ◌+◌, ◌≤◌, ◌<◌, Bool, true, false, cond, eqb, Some, refl, sym, ap, ◌∙◌, subst, arith}
+use Rattle.std.proofs.lemmas.Bool.{eq-eqb, eqb-true}
+use Rattle.yspec.specs.Forest.{Forest, end, node, size, join}
+use Rattle.yspec.specs.schema.Schema.{SchemaNode, is_data, data_row, child_in}
+use Rattle.yspec.specs.document.Fitting.{IsNumbered}
+use Rattle.yspec.proofs.ForestLemmas.{join_end, join_assoc}
+use Rattle.yspec.proofs.DocumentProofs.FittingLemmas.{eqb_other}
+
+-- the numbers of a row rise from a least one on, and those below each of its nodes count up from its own
+abbrev pub Rises : ℕ → Forest SchemaNode → Type 0
+Rises least end = Unit {0}
+Rises least (node n below after) = (least ≤ n.number) × IsNumbered (n.number + 1) below × Rises (n.number + 1) after
+
+pub rises_sooner : (f : Forest SchemaNode) (j k : ℕ) → j ≤ k → Rises k f → Rises j f
+rises_sooner end j k lower rises = tt
+rises_sooner (node n below after) j k lower rises = (omega (arith, lower, rises.0), rises.1, rises.2)
+
+rises_joined : (f rest : Forest SchemaNode) (k : ℕ) → IsNumbered k f → Rises (k + size f) rest → Rises k (join (data_row f) rest)
+rises_joined end rest k numbered rises = subst (λ j. Rises j rest) (omega arith) rises
+rises_joined (node n below after) rest k numbered rises =
+    let later = rises_joined after rest (k + 1 + size below) numbered.2 (subst (λ j. Rises j rest) (omega arith) rises) in
+    by (is_data n.kind) later (rises_joined below (join (data_row after) rest) (k + 1) numbered.1 later)
+  where
+    by : (b : Bool) → Rises (k + 1 + size below) (join (data_row after) rest) → Rises (k + 1) (join (data_row below) (join (data_row after) rest))
+        → Rises k (join (cond b (node n below (data_row after)) (join (data_row below) (data_row after))) rest)
+    by true later through = (
+      omega (arith, numbered.0),
+      subst (λ j. IsNumbered (j + 1) below) (sym numbered.0) numbered.1,
+      rises_sooner (join (data_row after) rest) (n.number + 1) (k + 1 + size below) (omega (arith, numbered.0)) later,
+    )
+    by false later through = rises_sooner _ k (k + 1) (omega arith)
+        (subst (Rises (k + 1)) (sym (join_assoc (data_row below) (data_row after) rest)) through)
+
+-- the data nodes of a numbered row
+pub data_rises : (f : Forest SchemaNode) (k : ℕ) → IsNumbered k f → Rises k (data_row f)
+data_rises f k numbered = subst (Rises k) (join_end (data_row f)) (rises_joined f end k numbered tt)
+
+-- ---- nodes by their numbers
+
+-- each node of a row is the one of its number among others
+abbrev pub AreFound : Forest SchemaNode → Forest SchemaNode → Type 0
+AreFound others end = Unit {0}
+AreFound others (node n below after) = (child_in others n.number ≡ Some (n, below)) × AreFound others after
+
+-- with one more in front, whose number is smaller
+found_later : (n : SchemaNode) (below others f : Forest SchemaNode) (k : ℕ) → n.number < k → Rises k f → AreFound others f
+    → AreFound (node n below others) f
+found_later n below others end k less rises found = tt
+found_later n below others (node m inner f) k less rises found = (
+  ap (λ b. cond b (Some (n, below)) (child_in others m.number)) (eqb_other n.number m.number (λ e. absurd (omega (arith, rises.0, e, less)))) ∙ found.0,
+  found_later n below others f (m.number + 1) (omega (arith, rises.0, less)) rises.2 found.1,
+)
+
+found_themselves : (f : Forest SchemaNode) (k : ℕ) → Rises k f → AreFound f f
+found_themselves end k rises = tt
+found_themselves (node n below after) k rises = (
+  ap (λ b. cond b (Some (n, below)) (child_in after n.number)) (eq-eqb n.number n.number refl),
+  found_later n below after after (n.number + 1) (omega arith) rises.2 (found_themselves after (n.number + 1) rises.2),
+)
+
+-- each data node of a numbered row is the one of its number
+pub data_found : (f : Forest SchemaNode) (k : ℕ) → IsNumbered k f → AreFound (data_row f) (data_row f)
+data_found f k numbered = found_themselves (data_row f) k (data_rises f k numbered)
+
+pub found_parts : (others f g : Forest SchemaNode) → AreFound others (join f g) → AreFound others f × AreFound others g
+found_parts others end g found = (tt, found)
+found_parts others (node n below after) g found = let rest = found_parts others after g found.1 in ((found.0, rest.0), rest.1)
+
+-- a node that is found by a number has it
+pub child_number : (f : Forest SchemaNode) (number : ℕ) (x : SchemaNode × Forest SchemaNode) → child_in f number ≡ Some x → x.0.number ≡ number
+child_number end number x is = let no : ⊥ = cc in absurd no
+child_number (node n below after) number x is = by (eqb n.number number) refl is (child_number after number x)
+  where
+    by : (b : Bool) → eqb n.number number ≡ b → cond b (Some (n, below)) (child_in after number) ≡ Some x
+        → (child_in after number ≡ Some x → x.0.number ≡ number) → x.0.number ≡ number
+    by true same is rest = let here : (n, below) ≡ x = cc in ap (λ (y : SchemaNode × Forest SchemaNode). y.0.number) (sym here) ∙ eqb-true n.number number same
+    by false same is rest = rest is
