@@ -3,3 +3,4 @@ pub mod MemberLemmas
 pub mod MeaningLemmas
 pub mod FittingLemmas
 pub mod WrittenNameLemmas
+pub mod DataRowLemmas
