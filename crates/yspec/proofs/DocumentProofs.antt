@@ -4,3 +4,4 @@ pub mod MeaningLemmas
 pub mod FittingLemmas
 pub mod WrittenNameLemmas
 pub mod DataRowLemmas
+pub mod AlongLemmas

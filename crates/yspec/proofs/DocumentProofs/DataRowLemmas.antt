@@ -18,7 +18,7 @@ abbrev pub Rises : ℕ → ℕ → Forest SchemaNode → Type 0
 Rises low high end = low ≤ high
 Rises low high (node n below after) = (low ≤ n.number) × Rises (suc n.number) high after
 
-rises_lower : (low lower high : ℕ) (f : Forest SchemaNode) → lower ≤ low → Rises low high f → Rises lower high f
+pub rises_lower : (low lower high : ℕ) (f : Forest SchemaNode) → lower ≤ low → Rises low high f → Rises lower high f
 rises_lower low lower high end less rises = omega (arith, less, rises)
 rises_lower low lower high (node n below after) less rises = (omega (arith, less, rises.0), rises.1)
 
