@@ -95,3 +95,41 @@ module _ (Held : SchemaNode → Option Raw → Type 0) where
   pub along_of : (f : Forest SchemaNode) (k : ℕ) (t : Tree) → IsNumbered k f → FitsBy Held f 0 t → Along (data_row f) t
   along_of f k t numbered fits =
       along_row f (data_row f) 0 (k + size f) 0 t (rises_lower k 0 (k + size f) (data_row f) (omega arith) (numbers_rise f k numbered)) (λ m _. refl) (omega arith) fits
+
+  -- ---- instances
+
+  -- among instances of one data node none is of another number
+  pub others_behind : (n : SchemaNode) (below : Forest SchemaNode) (front back : Tree) (m : ℕ) → n.number ≢ m → AreOf n below front
+      → instances m (join front back) ≡ instances m back
+  others_behind n below end back m other are = refl
+  others_behind n below (node s b a) back m other are =
+      ap (λ c. cond c (node s b (instances m (join a back))) (instances m (join a back))) (eqb_other s.schema_number m (λ e. other (sym are.0 ∙ e)))
+      ∙ others_behind n below a back m other are.3
+
+  -- of a number before those of the schema row nothing is stored
+  pub none_before : (f : Forest SchemaNode) (low high m : ℕ) (t : Tree) → Rises low high f → Along f t → m < low → instances m t ≡ end
+  none_before end low high m t rises along before = ap (instances m) along
+  none_before (node n below after) low high m t rises along before =
+      ap (instances m) along.2
+      ∙ (others_behind n below along.0 along.1 m (λ e. absurd (omega (arith, e, before, rises.0))) along.3
+      ∙ none_before after (suc n.number) high m along.1 rises.1 along.5 (omega (arith, before, rises.0)))
+
+  -- those of the first data node
+  pub its_instances : (n : SchemaNode) (below : Forest SchemaNode) (front back : Tree) → AreOf n below front → instances n.number back ≡ end
+      → instances n.number (join front back) ≡ front
+  its_instances n below end back are none = none
+  its_instances n below (node s b a) back are none =
+      ap (λ c. cond c (node s b (instances n.number (join a back))) (instances n.number (join a back))) (eq-eqb s.schema_number n.number are.0)
+      ∙ ap (node s b) (its_instances n below a back are.3 none)
+
+  pub first_instances : (n : SchemaNode) (below after : Forest SchemaNode) (low high : ℕ) (t : Tree) → Rises low high (node n below after) → (along : Along (node n below after) t)
+      → instances n.number t ≡ along.0
+  first_instances n below after low high t rises along =
+      ap (instances n.number) along.2
+      ∙ its_instances n below along.0 along.1 along.3 (none_before after (suc n.number) high n.number along.1 rises.1 along.5 (omega arith))
+
+  -- those of the data nodes after it
+  pub later_instances : (n : SchemaNode) (below after : Forest SchemaNode) (t : Tree) → (along : Along (node n below after) t)
+      → (m : ℕ) → suc n.number ≤ m → instances m t ≡ instances m along.1
+  later_instances n below after t along m behind =
+      ap (instances m) along.2 ∙ others_behind n below along.0 along.1 m (λ e. absurd (omega (arith, e, behind))) along.3

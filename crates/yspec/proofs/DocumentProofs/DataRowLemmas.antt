@@ -108,3 +108,32 @@ rows_of_data_row s parent (node n below after) ms =
     let here = instance_row n (λ d. stored_rows s (Some n.module_number) below (members_of d)) (get_member (written_name s parent n) ms) in
     ap₂ (λ x y. join (cond (is_data n.kind) here x) y) (rows_of_data_row s parent below ms) (rows_of_data_row s parent after ms)
     ∙ sym (rows_if s parent n below (data_row below) (data_row after) ms (is_data n.kind) refl)
+
+-- ---- what holds of each data node
+
+abbrev pub Each : (SchemaNode → Forest SchemaNode → Type 0) → Forest SchemaNode → Type 0
+Each P end = Unit {0}
+Each P (node n below after) = P n below × Each P after
+
+-- of each node of a row and below it
+abbrev pub AllHave : (SchemaNode → Forest SchemaNode → Type 0) → Forest SchemaNode → Type 0
+AllHave P end = Unit {0}
+AllHave P (node n below after) = P n below × AllHave P below × AllHave P after
+
+each_joined : (P : SchemaNode → Forest SchemaNode → Type 0) (f g : Forest SchemaNode) → Each P f → Each P g → Each P (join f g)
+each_joined P end g first second = second
+each_joined P (node n below after) g first second = (first.0, each_joined P after g first.1 second)
+
+-- a data node for which something holds
+abbrev pub OfData : (SchemaNode → Forest SchemaNode → Type 0) → SchemaNode → Forest SchemaNode → Type 0
+OfData P n below = (is_data n.kind ≡ true) × P n below
+
+each_if : (P : SchemaNode → Forest SchemaNode → Type 0) (b : Bool) (n : SchemaNode) (below inner after : Forest SchemaNode) → is_data n.kind ≡ b → P n below
+    → Each (OfData P) inner → Each (OfData P) after → Each (OfData P) (cond b (node n below after) (join inner after))
+each_if P true n below inner after is this first second = ((is, this), second)
+each_if P false n below inner after is this first second = each_joined (OfData P) inner after first second
+
+pub each_of_data_row : (P : SchemaNode → Forest SchemaNode → Type 0) (f : Forest SchemaNode) → AllHave P f → Each (OfData P) (data_row f)
+each_of_data_row P end all = tt
+each_of_data_row P (node n below after) all =
+    each_if P (is_data n.kind) n below (data_row below) (data_row after) refl all.0 (each_of_data_row P below all.1) (each_of_data_row P after all.2)
