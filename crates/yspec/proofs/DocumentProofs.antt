@@ -5,3 +5,4 @@ pub mod FittingLemmas
 pub mod WrittenNameLemmas
 pub mod DataRowLemmas
 pub mod AlongLemmas
+pub mod WrittenAlongLemmas

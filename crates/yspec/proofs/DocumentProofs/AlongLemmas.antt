@@ -1,6 +1,6 @@
 -- A stored row that fits a schema row, node by node along the schema row: the instances of each data node stand one behind
 -- another, and then those of the nodes after it.
-use Rattle.std.proofs.Common.{◌≡◌, ◌≢◌, ℕ, suc, ◌+◌, ◌≤◌, ◌<◌, Bool, true, false, cond, eqb, Option, Some, None, refl, sym, ap, ap₂, ◌∙◌, subst, arith}
+use Rattle.std.proofs.Common.{◌≡◌, ◌≢◌, ℕ, suc, ◌+◌, ◌≤◌, ◌<◌, Bool, true, false, cond, eqb, Option, Some, refl, sym, ap, ◌∙◌, subst, arith}
 use Rattle.std.specs.Prelude.{unwrap_or}
 use Rattle.std.proofs.lemmas.Bool.{eqb-true, eq-eqb}
 use Rattle.yspec.specs.Forest.{Forest, end, node, size, join}
@@ -8,20 +8,19 @@ use Rattle.yspec.specs.types.Types.{Raw}
 use Rattle.yspec.specs.schema.Schema.{SchemaNode, is_many, data_row, child_in}
 use Rattle.yspec.specs.document.Document.{Stored, Tree, instances}
 use Rattle.yspec.specs.document.Fitting.{IsNumbered, next_after, FitsBy}
-use Rattle.yspec.proofs.ForestLemmas.{join_end}
 use Rattle.yspec.proofs.DocumentProofs.FittingLemmas.{eqb_other}
 use Rattle.yspec.proofs.DocumentProofs.DataRowLemmas.{Rises, rises_lower, numbers_rise, least_of_row}
+
+-- more than one instance only of a list or leaf-list
+abbrev pub MayBe : Bool → Tree → Type 0
+MayBe many end = Unit {0}
+MayBe many (node s b a) = many ≡ false → a ≡ end
 
 module _ (Held : SchemaNode → Option Raw → Type 0) where
   -- all nodes of the row are instances of one data node
   abbrev pub AreOf : SchemaNode → Forest SchemaNode → Tree → Type 0
   AreOf n below end = Unit {0}
   AreOf n below (node s b a) = (s.schema_number ≡ n.number) × Held n s.value × FitsBy Held below 0 b × AreOf n below a
-
-  -- more than one only of a list or leaf-list
-  abbrev pub MayBe : Bool → Tree → Type 0
-  MayBe many end = Unit {0}
-  MayBe many (node s b a) = many ≡ false → a ≡ end
 
   -- the row is the instances of the first data node, and behind them those of the others
   abbrev pub Along : Forest SchemaNode → Tree → Type 0
