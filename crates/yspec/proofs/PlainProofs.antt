@@ -2,3 +2,4 @@ pub mod ReadingLemmas
 pub mod RowLemmas
 pub mod StoredRowLemmas
 pub mod FaultLemmas
+pub mod WritingLemmas
