@@ -3,6 +3,7 @@ pub mod BasicLemmas
 pub mod DocumentProofs
 pub mod EditProofs
 pub mod LiteralLemmas
+pub mod PlainProofs
 pub mod SchemaProofs
 pub mod TextProofs
 pub mod TypeProofs

@@ -1,0 +1,5 @@
+use Rattle.yspec.proofs.PlainProofs.InstanceLemmas.{instance_same, rows_same}
+use Rattle.yspec.proofs.plain.plain_edits.Goals as goal
+
+pub returns : goal.returns
+returns c = ?
