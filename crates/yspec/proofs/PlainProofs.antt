@@ -1,3 +1,5 @@
 pub mod RowLemmas
 pub mod InstanceLemmas
+pub mod ChangeLemmas
+pub mod PathLemmas
 pub mod EditingLemmas
