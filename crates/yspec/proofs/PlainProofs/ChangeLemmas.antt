@@ -1,14 +1,14 @@
 -- Changes of a row in which each node is the only one of its number.
-use Rattle.std.proofs.Common.{◌≡◌, ℕ, zero, suc, ◌+◌, ◌-◌, ◌≤◌, ◌<◌, Bool, true, false, cond, eqb, ltb, List, [], ◌∷◌, map, Option, Some, None, refl, sym, ap, ap₂, ◌∙◌, subst, arith, eqb-true, eq-eqb, lt-ltb, le-ltb, ltb-true, ltb-false}
+use Rattle.std.proofs.Common.{◌≡◌, ℕ, suc, ◌+◌, ◌≤◌, ◌<◌, Bool, true, false, cond, eqb, ltb, List, [], ◌∷◌, map, Option, Some, None, refl, sym, ap, ◌∙◌, subst, arith, eqb-true, le-ltb}
 use Rattle.std.specs.Prelude.{unwrap_or, option_and_then}
 use Rattle.yspec.specs.Forest.{Forest, end, node, change_nth}
 use Rattle.yspec.specs.Forest as forest
 use Rattle.yspec.specs.types.Types.{Raw}
 use Rattle.yspec.specs.schema.Schema.{SchemaNode, is_many, data_row, child_in}
-use Rattle.yspec.specs.document.Document.{Stored, Tree, Step, step_to, instances_in}
+use Rattle.yspec.specs.document.Document.{Tree, step_to, instances_in}
 use Rattle.yspec.specs.document.Fitting.{FitsBy, next_after}
 use Rattle.yspec.specs.document.Sorting.{StartsAt, IsSorted}
-use Rattle.yspec.specs.edit.Edit.{edit_at, is_of, place_of}
+use Rattle.yspec.specs.edit.Edit.{edit_at, is_of}
 use Rattle.yspec.specs.edit.Editing.{Branch}
 use Rattle.yspec.specs.edit.Editing as wide
 use Rattle.yspec.specs.plain.Editing.{stored_in, row_under}

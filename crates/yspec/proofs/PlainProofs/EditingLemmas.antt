@@ -1,18 +1,17 @@
 -- Under a schema of containers and leafs alone, what an edit does to a document that fits is what the plain definition says.
-use Rattle.std.proofs.Common.{◌≡◌, ℕ, ◌+◌, ◌<◌, ◌≤◌, Bool, true, false, cond, not, ◌&&◌, ltb, List, [], ◌∷◌, ◌++◌, map, Option, Some, None, Result, Ok, Err, refl, sym, ap, ap₂, ◌∙◌, subst, arith, append_assoc, lt-ltb, le-ltb, append-nil}
-use Rattle.std.specs.Prelude.{is_some, option_and_then, unwrap_or}
+use Rattle.std.proofs.Common.{◌≡◌, ℕ, Bool, true, false, cond, ltb, List, [], ◌∷◌, ◌++◌, map, Option, Some, None, Result, Ok, Err, refl, sym, ap, ap₂, ◌∙◌, append_assoc, lt-ltb, append-nil}
+use Rattle.std.specs.Prelude.{is_some, unwrap_or}
 use Rattle.std.specs.Option.{option_map_or}
 use Rattle.serde_json.specs.Data.{Data}
-use Rattle.yspec.specs.Forest.{Forest, end, node}
 use Rattle.yspec.specs.Results.{◌>>=◌}
 use Rattle.yspec.specs.text.Text.{Text}
-use Rattle.yspec.specs.schema.Schema.{Schema, SchemaNode, is_many, node_at, children_of}
+use Rattle.yspec.specs.schema.Schema.{Schema, SchemaNode, node_at, children_of}
 use Rattle.yspec.specs.document.Document.{Tree, Step, step_to, instances_in}
 use Rattle.yspec.specs.document.Reading.{Refusal, first_wrong, json_of, members_of, stored_node}
 use Rattle.yspec.specs.document.Fitting.{IsNumbered, Fits}
 use Rattle.yspec.specs.document.Sorting.{IsSorted}
 use Rattle.yspec.specs.edit.Edit.{edit_at, place_of}
-use Rattle.yspec.specs.edit.EditText.{Predicate, unsaid, Path, Edit, create, replace, remove}
+use Rattle.yspec.specs.edit.EditText.{unsaid, Path, Edit, create, replace, remove}
 use Rattle.yspec.specs.edit.Editing.{EditRefusal, refused, value_refused, BoundStep, Branch, bound, instance_meant, lower, within_limit}
 use Rattle.yspec.specs.edit.Editing as wide
 use Rattle.yspec.specs.plain.Kinds.{ArePlain}

@@ -1,10 +1,10 @@
 -- Under a schema of containers and leafs alone an instance is visited, and stored, as the plain definitions say.
-use Rattle.std.proofs.Common.{◌≡◌, ℕ, Bool, true, false, cond, List, ◌++◌, Option, Some, None, refl, sym, ap, ap₂, ◌∙◌}
-use Rattle.serde_json.specs.Data.{Data, null, boolean, number, string, array, object, Items, Members, no_members, member}
+use Rattle.std.proofs.Common.{◌≡◌, ℕ, Bool, true, false, cond, List, ◌++◌, Option, Some, None, refl, ap, ap₂, ◌∙◌}
+use Rattle.serde_json.specs.Data.{Data, null, boolean, number, string, array, object, Members, no_members, member}
 use Rattle.serde_json.specs.Find.{get_member}
 use Rattle.yspec.specs.Forest.{Forest, end, node, join}
 use Rattle.yspec.specs.text.Text.{Text, is_text}
-use Rattle.yspec.specs.schema.Schema.{Schema, SchemaNode, Kind, is_data, is_many, data_row, written_name, other_name}
+use Rattle.yspec.specs.schema.Schema.{Schema, SchemaNode, is_many, written_name, other_name}
 use Rattle.yspec.specs.document.Document.{Tree, Step, below_place}
 use Rattle.yspec.specs.document.Reading.{Visit, Named, child, other_form, unknown, named_in, other_or, at_named, value_visit, object_visit, unless_many, item_visits, instance_row, item_row, items_of, stored_node, members_of}
 use Rattle.yspec.specs.document.Reading as wide
@@ -43,15 +43,16 @@ at_plain s m name (node n below after) place g h are same = by (is_text name (wr
 
 mutual
   unfolding wide.member_visits wide.node_visits wide.item_visits plain.member_visits plain.node_visits
+
   pub members_same : (s : Schema) (m : Option ℕ) (f : Forest SchemaNode) (place : List Step) (ms : Members) → ArePlain f
       → wide.member_visits s m f place ms ≡ plain.member_visits s m f place ms
   members_same s m f place no_members are = refl
   members_same s m f place (member name d ms) are =
       ap₂ (λ vs ws. vs ++ ws)
-          (ap (λ g. at_named (named_in s m name g) place (λ n below. wide.node_visits s n below place d)) (data_row_same f are)
-          ∙ at_plain s m name f place (λ n below. wide.node_visits s n below place d) (λ n below. plain.node_visits s n below (below_place place n) d)
-          are (λ n below kind below_are. nodes_same s n below place d kind below_are))
-          (members_same s m f place ms are)
+      (ap (λ g. at_named (named_in s m name g) place (λ n below. wide.node_visits s n below place d)) (data_row_same f are)
+      ∙ at_plain s m name f place (λ n below. wide.node_visits s n below place d) (λ n below. plain.node_visits s n below (below_place place n) d)
+      are (λ n below kind below_are. nodes_same s n below place d kind below_are))
+      (members_same s m f place ms are)
 
   pub nodes_same : (s : Schema) (n : SchemaNode) (below : Forest SchemaNode) (place : List Step) (d : Data) → IsPlainKind n.kind → ArePlain below
       → wide.node_visits s n below place d ≡ plain.node_visits s n below (below_place place n) d

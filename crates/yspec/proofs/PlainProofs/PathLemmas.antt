@@ -1,18 +1,18 @@
 -- Under a schema of containers and leafs alone a path is bound as the plain definition says.
-use Rattle.std.proofs.Common.{◌≡◌, ℕ, Bool, true, false, cond, not, ◌&&◌, List, [], ◌∷◌, ◌++◌, Option, Some, None, Result, Ok, Err, refl, sym, ap, ap₂, ◌∙◌, subst, append_assoc}
+use Rattle.std.proofs.Common.{◌≡◌, ℕ, Bool, true, false, cond, not, ◌&&◌, List, [], ◌∷◌, ◌++◌, Option, Some, None, Result, Ok, refl, sym, ap, ap₂, ◌∙◌, subst}
 use Rattle.std.specs.Prelude.{option_map, unwrap_or}
 use Rattle.std.specs.List.{list_any}
 use Rattle.std.specs.Option.{option_map_or}
 use Rattle.yspec.specs.Forest.{Forest, end, node, row}
 use Rattle.yspec.specs.Results.{◌>>=◌}
 use Rattle.yspec.specs.text.Text.{Text, is_text}
-use Rattle.yspec.specs.schema.Schema.{Schema, SchemaNode, Kind, container, leaf, leaf_list, list, choice, case, is_written, other_name, row_at, module_at, node_at, children_of, child_written, data_row}
-use Rattle.yspec.specs.document.Reading.{Named, child, other_form, unknown, named, named_in}
+use Rattle.yspec.specs.schema.Schema.{Schema, SchemaNode, Kind, container, leaf, leaf_list, list, choice, case, is_written, other_name, row_at, module_at, node_at, children_of, child_written}
+use Rattle.yspec.specs.document.Reading.{child, other_form, unknown, named, named_in}
 use Rattle.yspec.specs.document.Fitting.{IsNumbered}
 use Rattle.yspec.specs.edit.EditText.{Predicate, unsaid, at_position, with_keys, NamedStep, Path}
-use Rattle.yspec.specs.edit.Editing.{EditRefusal, refused, BoundStep, bound_named, bound_steps, fits_kind, says_nothing, are_in_place, in_place, has_zero, is_spelled, bound}
+use Rattle.yspec.specs.edit.Editing.{EditRefusal, refused, BoundStep, bound_named, bound_steps, fits_kind, says_nothing, are_in_place, has_zero, bound}
 use Rattle.yspec.specs.plain.Kinds.{IsPlainKind, ArePlain}
-use Rattle.yspec.specs.plain.Editing.{Way, way_on, way, says_which, way_meant, meant}
+use Rattle.yspec.specs.plain.Editing.{Way, way_on, way, says_which, meant}
 use Rattle.yspec.proofs.SchemaProofs.NodeLemmas.{Found, first_found, first_in_row-is, row_node}
 use Rattle.yspec.proofs.DocumentProofs.MeaningLemmas.{named_child, named_none}
 use Rattle.yspec.proofs.PlainProofs.RowLemmas.{data_row_same}

@@ -1,5 +1,5 @@
 -- Rows of containers and leafs are data rows as they stand.
-use Rattle.std.proofs.Common.{◌≡◌, Bool, true, false, refl, ap}
+use Rattle.std.proofs.Common.{◌≡◌, true, false, refl, ap}
 use Rattle.yspec.specs.Forest.{Forest, end, node}
 use Rattle.yspec.specs.schema.Schema.{SchemaNode, Kind, container, leaf, leaf_list, list, choice, case, is_data, is_many, data_row}
 use Rattle.yspec.specs.plain.Kinds.{IsPlainKind, ArePlain}
