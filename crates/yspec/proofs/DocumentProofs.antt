@@ -2,3 +2,9 @@ pub mod JsonLemmas
 pub mod MemberLemmas
 pub mod MeaningLemmas
 pub mod FittingLemmas
+pub mod HeldNodeLemmas
+pub mod CheckingRowLemmas
+pub mod CursorLemmas
+pub mod FrontFaultLemmas
+pub mod SortingLemmas
+pub mod WrittenNameLemmas

@@ -1,12 +1,9 @@
 -- Changes of a row in which each node is the only one of its number.
-use Rattle.std.proofs.Common.{◌≡◌, ℕ, suc, ◌+◌, ◌≤◌, ◌<◌, Bool, true, false, cond, eqb, ltb, List, [], ◌∷◌, map, Option, Some, None, refl, sym, ap, ◌∙◌, subst, arith, eqb-true, le-ltb}
+use Rattle.std.proofs.Common.{◌≡◌, ℕ, ◌+◌, ◌≤◌, ◌<◌, Bool, true, false, cond, eqb, ltb, List, [], ◌∷◌, map, Option, Some, None, refl, sym, ap, ◌∙◌, subst, arith, eqb-true, le-ltb}
 use Rattle.std.specs.Prelude.{unwrap_or, option_and_then}
 use Rattle.yspec.specs.Forest.{Forest, end, node, change_nth}
 use Rattle.yspec.specs.Forest as forest
-use Rattle.yspec.specs.types.Types.{Raw}
-use Rattle.yspec.specs.schema.Schema.{SchemaNode, is_many, data_row, child_in}
 use Rattle.yspec.specs.document.Document.{Tree, step_to, instances_in}
-use Rattle.yspec.specs.document.Fitting.{FitsBy, next_after}
 use Rattle.yspec.specs.document.Sorting.{StartsAt, IsSorted}
 use Rattle.yspec.specs.edit.Edit.{edit_at, is_of}
 use Rattle.yspec.specs.edit.Editing.{Branch}
@@ -14,38 +11,6 @@ use Rattle.yspec.specs.edit.Editing as wide
 use Rattle.yspec.specs.plain.Editing.{stored_in, row_under}
 use Rattle.yspec.specs.plain.Editing as plain
 use Rattle.yspec.proofs.DocumentProofs.FittingLemmas.{instances-cons}
-
--- ---- order
-
-found_number : (f : Forest SchemaNode) (number : ℕ) (x : SchemaNode × Forest SchemaNode) → child_in f number ≡ Some x → x.0.number ≡ number
-found_number end number x e = absurd cc
-found_number (node n below after) number x e = by (eqb n.number number) refl e (found_number after number x)
-  where
-    by : (b : Bool) → eqb n.number number ≡ b → cond b (Some (n, below)) (child_in after number) ≡ Some x
-        → (child_in after number ≡ Some x → x.0.number ≡ number) → x.0.number ≡ number
-    by true is e h = sym (ap (λ (o : Option (SchemaNode × Forest SchemaNode)). (unwrap_or o x).0.number) e) ∙ eqb-true n.number number is
-    by false is e h = h e
-
-not_before : (n : SchemaNode) → n.number ≤ next_after n
-not_before n = by (is_many n.kind)
-  where
-    by : (b : Bool) → n.number ≤ cond b n.number (suc n.number)
-    by true = omega arith
-    by false = omega arith
-
-starts_at : (number least : ℕ) (f : Forest SchemaNode) (t : Tree) (Held : SchemaNode → Option Raw → Type 0) → number ≤ least → FitsBy Held f least t → StartsAt number t
-starts_at number least f end Held from fits = tt
-starts_at number least f (node s below after) Held from fits = omega (arith, from, fits.2)
-
-pub fits_sorted : (Held : SchemaNode → Option Raw → Type 0) (f : Forest SchemaNode) (least : ℕ) (t : Tree) → FitsBy Held f least t → IsSorted t
-fits_sorted Held f least end fits = tt
-fits_sorted Held f least (node s below after) fits =
-    let same = found_number (data_row f) s.schema_number fits.0 fits.1 in
-    let from = not_before fits.0.0 in (
-      starts_at s.schema_number (next_after fits.0.0) f after Held (omega (arith, same, from)) fits.5,
-      fits_sorted Held fits.0.1 0 below fits.4,
-      fits_sorted Held f (next_after fits.0.0) after fits.5,
-    )
 
 -- ---- what is stored
 

@@ -18,9 +18,10 @@ use Rattle.yspec.specs.plain.Kinds.{ArePlain}
 use Rattle.yspec.specs.plain.Editing.{Way, stored_in, row_under, meant}
 use Rattle.yspec.specs.plain.Editing as plain
 use Rattle.yspec.specs.plain.Reading.{node_visits}
-use Rattle.yspec.proofs.PlainProofs.RowLemmas.{plain_is_one}
+use Rattle.yspec.proofs.DocumentProofs.SortingLemmas.{fits_sorted}
+use Rattle.yspec.proofs.PlainProofs.StoredRowLemmas.{plain_is_one}
 use Rattle.yspec.proofs.PlainProofs.InstanceLemmas.{instance_same, rows_same}
-use Rattle.yspec.proofs.PlainProofs.ChangeLemmas.{fits_sorted, none_stored, some_stored, row_stored, under_sorted, without_same, with_new_same, with_instead_same, edit_same}
+use Rattle.yspec.proofs.PlainProofs.ChangeLemmas.{none_stored, some_stored, row_stored, under_sorted, without_same, with_new_same, with_instead_same, edit_same}
 use Rattle.yspec.proofs.PlainProofs.PathLemmas.{IsPlace, ArePlaces, AreUnsaid, way_from, PathMeant, path_refused, path_bound, path_meant}
 
 -- ---- values

@@ -11,7 +11,8 @@ use Rattle.yspec.specs.document.Reading as wide
 use Rattle.yspec.specs.plain.Kinds.{IsPlainKind, ArePlain}
 use Rattle.yspec.specs.plain.Reading.{with_stored}
 use Rattle.yspec.specs.plain.Reading as plain
-use Rattle.yspec.proofs.PlainProofs.RowLemmas.{plain_is_data, plain_is_one, data_row_same}
+use Rattle.yspec.proofs.PlainProofs.RowLemmas.{plain_is_data, data_row_same}
+use Rattle.yspec.proofs.PlainProofs.StoredRowLemmas.{plain_is_one}
 
 -- ---- visits
 
