@@ -3,3 +3,7 @@ pub mod RowLemmas
 pub mod StoredRowLemmas
 pub mod FaultLemmas
 pub mod WritingLemmas
+pub mod InstanceLemmas
+pub mod ChangeLemmas
+pub mod PathLemmas
+pub mod EditingLemmas
