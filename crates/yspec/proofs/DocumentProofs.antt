@@ -5,6 +5,9 @@ pub mod FittingLemmas
 pub mod DataRowLemmas
 pub mod FittingReadLemmas
 pub mod CountLemmas
+pub mod VisitLemmas
+pub mod ReadWholeLemmas
+pub mod RightNodeLemmas
 pub mod HeldNodeLemmas
 pub mod CheckingRowLemmas
 pub mod CursorLemmas

@@ -6,24 +6,17 @@ use Rattle.serde_json.specs.Find.{get_member}
 use Rattle.yspec.specs.Forest.{Forest, end, node, size, join}
 use Rattle.yspec.specs.text.Text.{is_text}
 use Rattle.yspec.specs.types.Types.{Raw}
-use Rattle.yspec.specs.schema.Schema.{Schema, SchemaNode, Kind, container, leaf, leaf_list, list, choice, case, is_data, is_many, has_value, data_row, written_name, other_name}
+use Rattle.yspec.specs.schema.Schema.{Schema, SchemaNode, Kind, container, leaf, leaf_list, list, choice, case, is_many, has_value, written_name, other_name}
 use Rattle.yspec.specs.schema.Breaks.{node_limit}
 use Rattle.yspec.specs.document.Document.{Tree, Step, below_place, document_limit}
 use Rattle.yspec.specs.document.Reading.{Refusal, Visit, right, wrong, raw_of, refused_value, Named, child, other_form, unknown, named_in, other_or, at_named, value_visit, object_visit, member_visits, node_visits, item_visits, visits, right_nodes, first_refusal, members_of, items_of, stored_node, item_row, instance_row, stored_rows, json_of, document_of, tree_or_refusal}
 use Rattle.yspec.specs.plain.Kinds.{IsPlainKind, ArePlain}
 use Rattle.yspec.specs.plain.Reading as plain_reading
+use Rattle.yspec.proofs.PlainProofs.RowLemmas.{plain_is_data, data_row_same}
 use Rattle.yspec.proofs.DocumentProofs.MemberLemmas.{IsRising, AreRising, json_rising}
 use Rattle.yspec.proofs.DocumentProofs.CountLemmas.{rights_joined, room_for_all, EachMember, found_among, child_later, weigh_found, weigh_members, weigh_at_end, weigh_first, rights_named}
 
 -- ---- kinds
-
-pub plain_is_data : (kind : Kind) → IsPlainKind kind → is_data kind ≡ true
-plain_is_data (container presence) is = refl
-plain_is_data (leaf type absence) is = refl
-plain_is_data (leaf_list type defaults amount) is = absurd is
-plain_is_data (list tuples amount) is = absurd is
-plain_is_data (choice default_case is_mandatory) is = absurd is
-plain_is_data case is = absurd is
 
 pub plain_is_one : (kind : Kind) → IsPlainKind kind → is_many kind ≡ false
 plain_is_one (container presence) is = refl
@@ -32,13 +25,6 @@ plain_is_one (leaf_list type defaults amount) is = absurd is
 plain_is_one (list tuples amount) is = absurd is
 plain_is_one (choice default_case is_mandatory) is = absurd is
 plain_is_one case is = absurd is
-
--- each node of such a row is a data node
-pub plain_row : (f : Forest SchemaNode) → ArePlain f → data_row f ≡ f
-plain_row end plain = refl
-plain_row (node n below after) plain =
-    ap (λ b. cond b (node n below (data_row after)) (join (data_row below) (data_row after))) (plain_is_data n.kind plain.0)
-    ∙ ap (node n below) (plain_row after plain.2)
 
 -- ---- rows
 
@@ -111,7 +97,7 @@ mutual
       → member_visits s parent f place ms ≡ plain_reading.member_visits s parent f place ms
   plain_members s parent f place no_members plain = refl
   plain_members s parent f place (member name d ms) plain = ap₂ (λ vs ws. vs ++ ws)
-      (ap (λ row. at_named (named_in s parent name row) place (λ n below. node_visits s n below place d)) (plain_row f plain)
+      (ap (λ row. at_named (named_in s parent name row) place (λ n below. node_visits s n below place d)) (data_row_same f plain)
       ∙ at_plain (named_in s parent name f) place _ _ (λ n below is.
       let these = named_plain s parent name f n below plain is in plain_node s n below place d these.0 these.1))
       (plain_members s parent f place ms plain)

@@ -1,7 +1,7 @@
 -- Rows of containers and leafs hold data nodes alone.
 use Rattle.std.proofs.Common.{◌≡◌, cond, true, refl, ap, ◌∙◌}
 use Rattle.yspec.specs.Forest.{Forest, end, node, join}
-use Rattle.yspec.specs.schema.Schema.{SchemaNode, Kind, container, leaf, leaf_list, list, choice, case, is_data, is_many, data_row}
+use Rattle.yspec.specs.schema.Schema.{SchemaNode, Kind, container, leaf, leaf_list, list, choice, case, is_data, data_row}
 use Rattle.yspec.specs.plain.Kinds.{IsPlainKind, ArePlain}
 
 pub plain_is_data : (k : Kind) → IsPlainKind k → is_data k ≡ true
