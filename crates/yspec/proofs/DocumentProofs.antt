@@ -3,6 +3,7 @@ pub mod MemberLemmas
 pub mod MeaningLemmas
 pub mod FittingLemmas
 pub mod DataRowLemmas
+pub mod DataRowWritingLemmas
 pub mod FittingReadLemmas
 pub mod CountLemmas
 pub mod VisitLemmas
@@ -14,3 +15,5 @@ pub mod CursorLemmas
 pub mod FrontFaultLemmas
 pub mod SortingLemmas
 pub mod WrittenNameLemmas
+pub mod AlongLemmas
+pub mod WrittenAlongLemmas
