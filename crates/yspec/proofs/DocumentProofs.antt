@@ -6,3 +6,4 @@ pub mod WrittenNameLemmas
 pub mod DataRowLemmas
 pub mod AlongLemmas
 pub mod WrittenAlongLemmas
+pub mod WrittenRowLemmas
