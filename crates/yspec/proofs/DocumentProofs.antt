@@ -7,3 +7,4 @@ pub mod DataRowLemmas
 pub mod AlongLemmas
 pub mod WrittenAlongLemmas
 pub mod WrittenRowLemmas
+pub mod WrittenVisitLemmas
