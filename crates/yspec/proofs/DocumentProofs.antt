@@ -8,3 +8,4 @@ pub mod AlongLemmas
 pub mod WrittenAlongLemmas
 pub mod WrittenRowLemmas
 pub mod WrittenVisitLemmas
+pub mod ReadBackLemmas

@@ -1,5 +1,5 @@
 -- What is written of a stored row that fits is right, and has no more right nodes than are stored.
-use Rattle.std.proofs.Common.{◌≡◌, ◌≢◌, ℕ, suc, zero-add, ◌+◌, ◌-◌, ◌≤◌, Bool, true, false, cond, eqb, List, [], ◌∷◌, ◌++◌, Option, Some, None, Ordering, Less, Equal, Greater, nat_cmp, is_eq, ℤ, refl, sym, ap, ap₂, ◌∙◌, subst, arith}
+use Rattle.std.proofs.Common.{◌≡◌, ◌≢◌, ℕ, suc, zero-add, ◌+◌, ◌-◌, ◌≤◌, Bool, true, false, cond, List, [], ◌∷◌, ◌++◌, Option, Some, None, Ordering, Less, Equal, Greater, nat_cmp, is_eq, ℤ, refl, sym, ap, ◌∙◌, subst, arith}
 use Rattle.std.proofs.lemmas.Map.Text.{is_eq-slice_cmp}
 use Rattle.std.proofs.lemmas.Slice.Eq.{bytes_eq-Decides}
 use Rattle.std.specs.Cmp.Lexicographic.{slice_cmp}
@@ -12,15 +12,15 @@ use Rattle.yspec.specs.Forest.{Forest, end, node, size, join}
 use Rattle.yspec.specs.text.Text.{Text, is_text}
 use Rattle.yspec.specs.types.Ranges.{lies_in}
 use Rattle.yspec.specs.types.Types.{Raw, text, int, bool, empty}
-use Rattle.yspec.specs.schema.Schema.{Schema, SchemaNode, Kind, is_many, has_value, data_row, written_name, other_name}
+use Rattle.yspec.specs.schema.Schema.{Schema, SchemaNode, is_many, has_value, data_row, written_name, other_name}
 use Rattle.yspec.specs.document.Document.{Stored, Tree, Step, below_place, instance_place}
-use Rattle.yspec.specs.document.Reading.{whole_numbers, Visit, right, wrong, refused_value, raw_of, child, named_in, other_or, named, at_named, leaf_visit, value_visit, object_visit, member_visits, node_visits, item_visits, instance_visits, first_wrong, right_nodes, first_refusal}
+use Rattle.yspec.specs.document.Reading.{whole_numbers, Visit, right, wrong, refused_value, child, named_in, other_or, named, at_named, leaf_visit, value_visit, object_visit, member_visits, node_visits, item_visits, instance_visits, first_wrong, right_nodes, first_refusal}
 use Rattle.yspec.specs.document.Fitting.{FitsBy}
-use Rattle.yspec.specs.document.Writing.{data_of, leaf_data, written_node, written_items, with_instances, row_members, IsNew, RowDiffers, HasText, HasTextIf, HasForm}
+use Rattle.yspec.specs.document.Writing.{leaf_data, written_node, written_items, with_instances, row_members, IsNew, RowDiffers, HasText, HasTextIf, HasForm}
 use Rattle.yspec.proofs.BasicLemmas.{same_text, other_text}
 use Rattle.yspec.proofs.DocumentProofs.FittingLemmas.{eqb_other}
 use Rattle.yspec.proofs.DocumentProofs.DataRowLemmas.{Rises, Each, OfData}
-use Rattle.yspec.proofs.DocumentProofs.AlongLemmas.{AreOf, MayBe, Along}
+use Rattle.yspec.proofs.DocumentProofs.AlongLemmas.{AreOf, Along}
 use Rattle.yspec.proofs.DocumentProofs.WrittenAlongLemmas.{inner_members, first_written}
 use Rattle.yspec.proofs.DocumentProofs.WrittenRowLemmas.{leaf_back}
 
@@ -52,7 +52,7 @@ fine_append vs ws n m first second =
 fine_more : (vs : List Visit) (n m : ℕ) → n ≤ m → AreFine vs n → AreFine vs m
 fine_more vs n m less fine = (fine.0, omega (arith, less, fine.1))
 
-room_left : (vs : List Visit) (room : ℕ) → AreFine vs room → first_refusal room vs ≡ None
+pub room_left : (vs : List Visit) (room : ℕ) → AreFine vs room → first_refusal room vs ≡ None
 room_left [] room fine = refl
 room_left (right place ∷ vs) room fine =
     let few = fine.1 in
