@@ -1,6 +1,8 @@
+pub mod ReadingLemmas
 pub mod RowLemmas
 pub mod StoredRowLemmas
 pub mod FaultLemmas
+pub mod WritingLemmas
 pub mod InstanceLemmas
 pub mod ChangeLemmas
 pub mod PathLemmas

@@ -4,3 +4,4 @@ pub mod NumberLemmas
 pub mod CompiledLemmas
 pub mod CompiledShapeLemmas
 pub mod CompiledNameLemmas
+pub mod FindingLemmas
