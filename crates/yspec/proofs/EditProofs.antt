@@ -1,0 +1,4 @@
+pub mod AnswerLemmas
+pub mod SortedEditLemmas
+pub mod BoundLemmas
+pub mod FittingEditLemmas
