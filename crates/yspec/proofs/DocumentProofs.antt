@@ -17,3 +17,6 @@ pub mod SortingLemmas
 pub mod WrittenNameLemmas
 pub mod AlongLemmas
 pub mod WrittenAlongLemmas
+pub mod WrittenRowLemmas
+pub mod WrittenVisitLemmas
+pub mod ReadBackLemmas

@@ -128,12 +128,22 @@ each_joined P (node n below after) g first second = (first.0, each_joined P afte
 abbrev pub OfData : (SchemaNode → Forest SchemaNode → Type 0) → SchemaNode → Forest SchemaNode → Type 0
 OfData P n below = (is_data n.kind ≡ true) × P n below
 
-each_if : (P : SchemaNode → Forest SchemaNode → Type 0) (b : Bool) (n : SchemaNode) (below inner after : Forest SchemaNode) → is_data n.kind ≡ b → P n below
+-- something that holds wherever it is a data node
+abbrev pub WhereData : (SchemaNode → Forest SchemaNode → Type 0) → SchemaNode → Forest SchemaNode → Type 0
+WhereData P n below = is_data n.kind ≡ true → P n below
+
+each_if : (P : SchemaNode → Forest SchemaNode → Type 0) (b : Bool) (n : SchemaNode) (below inner after : Forest SchemaNode) → is_data n.kind ≡ b → WhereData P n below
     → Each (OfData P) inner → Each (OfData P) after → Each (OfData P) (cond b (node n below after) (join inner after))
-each_if P true n below inner after is this first second = ((is, this), second)
+each_if P true n below inner after is this first second = ((is, this is), second)
 each_if P false n below inner after is this first second = each_joined (OfData P) inner after first second
 
-pub each_of_data_row : (P : SchemaNode → Forest SchemaNode → Type 0) (f : Forest SchemaNode) → AllHave P f → Each (OfData P) (data_row f)
+pub each_of_data_row : (P : SchemaNode → Forest SchemaNode → Type 0) (f : Forest SchemaNode) → AllHave (WhereData P) f → Each (OfData P) (data_row f)
 each_of_data_row P end all = tt
 each_of_data_row P (node n below after) all =
     each_if P (is_data n.kind) n below (data_row below) (data_row after) refl all.0 (each_of_data_row P below all.1) (each_of_data_row P after all.2)
+
+-- what follows from it holds too
+pub each_weaker : (P Q : SchemaNode → Forest SchemaNode → Type 0) (f : Forest SchemaNode) → ((n : SchemaNode) (below : Forest SchemaNode) → P n below → Q n below)
+    → Each (OfData P) f → Each (OfData Q) f
+each_weaker P Q end weaker each = tt
+each_weaker P Q (node n below after) weaker each = ((each.0.0, weaker n below each.0.1), each_weaker P Q after weaker each.1)

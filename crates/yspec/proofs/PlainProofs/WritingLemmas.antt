@@ -11,7 +11,7 @@ use Rattle.yspec.specs.document.Fitting.{IsNumbered, FitsBy, Fits}
 use Rattle.yspec.specs.plain.Kinds.{IsPlainKind, ArePlain}
 use Rattle.yspec.specs.plain.Writing as plain
 use Rattle.yspec.proofs.SchemaProofs.FindingLemmas.{Finds, finds_first, finds_below, finds_after}
-use Rattle.yspec.proofs.DocumentProofs.DataRowWritingLemmas.{Rises, numbers_rise, Each, OfData, AllHave, each_of_data_row, members_of_data_row}
+use Rattle.yspec.proofs.DocumentProofs.DataRowWritingLemmas.{Rises, numbers_rise, Each, OfData, AllHave, WhereData, each_of_data_row, members_of_data_row}
 use Rattle.yspec.proofs.DocumentProofs.AlongLemmas.{AreOf, MayBe, Along, along_of}
 use Rattle.yspec.proofs.DocumentProofs.WrittenAlongLemmas.{inner_members, first_written}
 use Rattle.yspec.proofs.PlainProofs.RowLemmas.{plain_is_single}
@@ -47,17 +47,17 @@ module _ (s : Schema) (Held : SchemaNode → Option Raw → Type 0) where
       ∙ sym (first_written s Held IsSame parent n below after low high t found rises each along)))
 
   -- of a whole row, where its nodes are so
-  below_same : (parent : Option ℕ) (f : Forest SchemaNode) (k : ℕ) → IsNumbered k f → AllHave IsSame f → (t : Tree) → FitsBy Held f 0 t
+  below_same : (parent : Option ℕ) (f : Forest SchemaNode) (k : ℕ) → IsNumbered k f → AllHave (WhereData IsSame) f → (t : Tree) → FitsBy Held f 0 t
       → plain.row_members s parent no_members t ≡ row_members s parent f t no_members
   below_same parent f k numbered all t fits =
       row_same parent (data_row f) k (k + size f) t no_members (numbers_rise f k numbered) (each_of_data_row IsSame f all) (along_of Held f k t numbered fits)
       ∙ sym (members_of_data_row s parent f t no_members)
 
-  all_same : (f : Forest SchemaNode) (k : ℕ) → ArePlain f → IsNumbered k f → Finds s.nodes f k → AllHave IsSame f
+  all_same : (f : Forest SchemaNode) (k : ℕ) → ArePlain f → IsNumbered k f → Finds s.nodes f k → AllHave (WhereData IsSame) f
   all_same end k plain numbered finds = tt
   all_same (node n below after) k plain numbered finds =
       let inner = all_same below (k + 1) plain.1 numbered.1 (finds_below s.nodes n below after k numbered finds) in (
-        (finds_first s.nodes n below after k numbered finds, plain.0, below_same (Some n.module_number) below (k + 1) numbered.1 inner),
+        λ _. (finds_first s.nodes n below after k numbered finds, plain.0, below_same (Some n.module_number) below (k + 1) numbered.1 inner),
         inner,
         all_same after (k + 1 + size below) plain.2 numbered.2 (finds_after s.nodes n below after k numbered finds),
       )
