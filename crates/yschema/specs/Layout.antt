@@ -1,6 +1,7 @@
 -- How the nodes of a schema lie in rows: each before those below it, with how many these are.
-use Rattle.std.specs.Prelude.{ℕ, zero, suc, ◌+◌, Bool, true, ◌&&◌, nat_le, length, take, drop, map, List, [], ◌∷◌, ◌++◌, Option, Some, None, option_map, string_bytes, ◌≡◌}
+use Rattle.std.specs.Prelude.{ℕ, zero, suc, ◌+◌, Bool, true, ◌&&◌, nat_le, length, take, drop, map, List, [], ◌∷◌, ◌++◌, Option, Some, None, option_map, string_bytes, ◌≡◌, if◌then◌else◌}
 use Rattle.yspec.specs.Forest.{Forest, end, node, size}
+use Rattle.yspec.specs.types.Types.{Val}
 use Rattle.yspec.specs.schema.Schema as spec
 use Rattle.yschema.specs.declared.node.SchemaId.{SchemaId}
 use Rattle.yschema.specs.declared.node.SchemaNode.{SchemaNode}
@@ -11,9 +12,18 @@ use Rattle.yschema.specs.declared.node.Status.TheVariants as states
 use Rattle.yschema.specs.declared.children.Row.{Row}
 use Rattle.yschema.specs.declared.schema.SchemaModule.{SchemaModule}
 
+abbrev pub default_view : Option Val → spec.Absence
+default_view None = spec.allowed
+default_view (Some v) = spec.default_used v
+
+-- what it means that a leaf isn't stored
+abbrev pub absence_view : Option Val → Bool → spec.Absence
+absence_view default_value mandatory = if mandatory then spec.mandatory else default_view default_value
+
 abbrev pub kind_view : Kind → spec.Kind
 kind_view (kinds.Container presence) = spec.container presence
-kind_view (kinds.Leaf leaf_type default_value mandatory) = spec.leaf leaf_type default_value mandatory
+kind_view (kinds.Leaf leaf_type default_value mandatory) =
+    spec.leaf (spec.own_type leaf_type) (absence_view default_value mandatory)
 
 abbrev pub status_view : Status → spec.Status
 status_view states.Current = spec.current

@@ -32,7 +32,7 @@ use ytype::YType;
 #[tactic(auto, unfolding(yspec::specs::schema::Breaks::compiled))]
 pub fn compile(alloc: Global, modules: &[Module]) -> Result<Schema, CompileFault>
     ensures exact { Gives view told_by result (compiled (modules_view modules.now)) }
-    ensures names { IfOk result (λ schema. NamesDiffer (view schema) None (view schema).nodes) }
+    ensures names { IfOk result (λ schema. NamesDiffer (view schema)) }
     ensures bare { IfOk result (λ schema. LeafsAreBare (view schema).nodes) }
     ensures within { IfOk result (λ schema. levels (view schema).nodes ≤ level_limit) }
 {

@@ -2,8 +2,16 @@ pub mod JsonLemmas
 pub mod MemberLemmas
 pub mod MeaningLemmas
 pub mod FittingLemmas
-pub mod WrittenNameLemmas
 pub mod DataRowLemmas
+pub mod DataRowWritingLemmas
+pub mod FittingReadLemmas
+pub mod CountLemmas
+pub mod HeldNodeLemmas
+pub mod CheckingRowLemmas
+pub mod CursorLemmas
+pub mod FrontFaultLemmas
+pub mod SortingLemmas
+pub mod WrittenNameLemmas
 pub mod AlongLemmas
 pub mod WrittenAlongLemmas
 pub mod WrittenRowLemmas

@@ -1,4 +1,5 @@
 pub mod ForestLemmas
+pub mod ChangeLemmas
 pub mod BasicLemmas
 pub mod DocumentProofs
 pub mod EditProofs

@@ -1,2 +1,9 @@
+pub mod ReadingLemmas
 pub mod RowLemmas
+pub mod StoredRowLemmas
+pub mod FaultLemmas
 pub mod WritingLemmas
+pub mod InstanceLemmas
+pub mod ChangeLemmas
+pub mod PathLemmas
+pub mod EditingLemmas

@@ -1,6 +1,6 @@
 -- Rows of trees, as one plain recursive type: nothing, or a first label with the forest below it and the forest after
 -- it. Statements, schema nodes and stored nodes are three such forests.
-use Rattle.std.specs.Prelude.{ℕ, zero, suc, ◌+◌, List, [], ◌∷◌, ◌++◌, Bool, if◌then◌else◌, Option, Some, None, max}
+use Rattle.std.specs.Prelude.{ℕ, zero, suc, ◌+◌, List, [], ◌∷◌, ◌++◌, Bool, if◌then◌else◌, Option, Some, None, option_and_then, max, ◌≡◌}
 
 pub data Forest (L : Type 0) : Type 0 where
   end : Forest L
@@ -85,3 +85,43 @@ module _ {L : Type 0} where
   abbrev pub edit_at : List ((L → Bool) × ℕ) → (Forest L → Forest L) → Forest L → Forest L
   edit_at [] change f = change f
   edit_at ((test, place) ∷ steps) change f = change_below test place (edit_at steps change) f
+
+  -- the row below that node, and the row to which steps lead, where they lead to one
+  abbrev pub below_nth : (L → Bool) → ℕ → Forest L → Option (Forest L)
+  below_nth test place end = None
+  below_nth test zero (node l below after) = if test l then Some below else below_nth test zero after
+  below_nth test (suc place) (node l below after) =
+      if test l then below_nth test place after else below_nth test (suc place) after
+
+  abbrev pub row_to : List ((L → Bool) × ℕ) → Forest L → Option (Forest L)
+  row_to [] f = Some f
+  row_to ((test, place) ∷ steps) f = option_and_then (row_to steps) (below_nth test place f)
+
+-- ---- sums that a change leaves as they were but for one row and the node above it
+
+-- a weight that depends on a node's label and on the labels below it
+abbrev pub IsLocal : {L : Type 0} → (L → Forest L → ℕ) → Type 0
+IsLocal weight = (l : _) (f g : Forest _) → row f ≡ row g → weight l f ≡ weight l g
+
+-- a row, and the weight of the node above it as a function of the row
+pub record Place (L : Type 0) : Type 0 where
+  pub top : Forest L → ℕ
+  pub below : Forest L
+
+module _ {L : Type 0} where
+  -- the weight of a row with that of the node above it
+  abbrev pub total : (Forest L → ℕ) → (L → Forest L → ℕ) → Forest L → ℕ
+  total top weight f = top f + weigh_nodes weight f
+
+  abbrev pub place_in : (L → Forest L → ℕ) → (L → Bool) → ℕ → Forest L → Option (Place L)
+  place_in weight test place end = None
+  place_in weight test zero (node l below after) =
+      if test l then Some (record { top = weight l; below = below }) else place_in weight test zero after
+  place_in weight test (suc place) (node l below after) =
+      if test l then place_in weight test place after else place_in weight test (suc place) after
+
+  -- the place to which steps lead, below a node whose weight is given
+  abbrev pub place_at : (L → Forest L → ℕ) → (Forest L → ℕ) → List ((L → Bool) × ℕ) → Forest L → Option (Place L)
+  place_at weight top [] f = Some (record { top = top; below = f })
+  place_at weight top ((test, place) ∷ steps) f =
+      option_and_then (λ p. place_at weight p.top steps p.below) (place_in weight test place f)

@@ -3,6 +3,7 @@
 //! worked examples of those definitions.
 #![tactic(auto)]
 
+pub mod changes;
 pub mod checking;
 pub mod compiling;
 pub mod documents;

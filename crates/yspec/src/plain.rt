@@ -6,8 +6,8 @@ ghost use Rattle.yspec.specs.schema.Schema.{Schema};
 ghost use Rattle.yspec.specs.schema.Breaks.{node_limit};
 ghost use Rattle.yspec.specs.document.Document.{Tree};
 ghost use Rattle.yspec.specs.document.Reading.{document_of};
-ghost use Rattle.yspec.specs.document.Fitting.{IsNumbered, LeafsAreBare, Fits};
-ghost use Rattle.yspec.specs.document.Writing.{NamesDiffer, written_text};
+ghost use Rattle.yspec.specs.document.Fitting.{IsNumbered, Fits};
+ghost use Rattle.yspec.specs.document.Writing.{written_text};
 ghost use Rattle.yspec.specs.document.Faults.{faults_of};
 ghost use Rattle.yspec.specs.edit.EditText.{Edit};
 ghost use Rattle.yspec.specs.edit.Editing.{applied};
@@ -19,8 +19,8 @@ ghost use Rattle.yspec.specs.plain.Editing as plain_editing;
 
 /// What bytes denote.
 pub fn plain_documents()
-    ensures { (schema : Schema) (bytes : List ℕ) → ArePlain schema.nodes → LeafsAreBare schema.nodes → NamesDiffer schema
-        → size schema.nodes ≤ node_limit → document_of schema bytes ≡ plain_reading.document_of schema bytes }
+    ensures { (schema : Schema) (bytes : List ℕ) → ArePlain schema.nodes → size schema.nodes ≤ node_limit
+        → document_of schema bytes ≡ plain_reading.document_of schema bytes }
 {}
 
 /// What is written.

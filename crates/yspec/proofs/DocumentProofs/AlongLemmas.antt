@@ -9,7 +9,7 @@ use Rattle.yspec.specs.schema.Schema.{SchemaNode, is_many, data_row, child_in}
 use Rattle.yspec.specs.document.Document.{Stored, Tree, instances}
 use Rattle.yspec.specs.document.Fitting.{IsNumbered, next_after, FitsBy}
 use Rattle.yspec.proofs.DocumentProofs.FittingLemmas.{eqb_other}
-use Rattle.yspec.proofs.DocumentProofs.DataRowLemmas.{Rises, rises_lower, numbers_rise, least_of_row}
+use Rattle.yspec.proofs.DocumentProofs.DataRowWritingLemmas.{Rises, rises_lower, numbers_rise, least_of_row}
 
 -- more than one instance only of a list or leaf-list
 abbrev pub MayBe : Bool → Tree → Type 0

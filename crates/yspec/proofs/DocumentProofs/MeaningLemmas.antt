@@ -9,7 +9,7 @@ use Rattle.yspec.specs.document.Reading.{child, other_form, unknown, named_in, o
 use Rattle.yspec.specs.document.Fitting.{IsNumbered}
 use Rattle.yspec.proofs.SchemaProofs.NodeLemmas.{Found, first_found, first_in_row-is, row_node}
 
-named_child : (s : Schema) (m : Option ℕ) (name : Text) (f : Forest SchemaNode) (x : Found)
+pub named_child : (s : Schema) (m : Option ℕ) (name : Text) (f : Forest SchemaNode) (x : Found)
     → first_found (λ n. is_text name (written_name s m n)) f ≡ Some x → named_in s m name f ≡ child x.0 x.1
 named_child s m name end x e = absurd cc
 named_child s m name (node n below after) x e = by (is_text name (written_name s m n)) e (named_child s m name after x)
@@ -20,7 +20,7 @@ named_child s m name (node n below after) x e = by (is_text name (written_name s
     by true e h = ap (λ (o : Option Found). child (unwrap_or o x).0 (unwrap_or o x).1) e
     by false e h = ap (other_or (is_text name (other_name s m n))) (h e)
 
-named_none : (s : Schema) (m : Option ℕ) (name : Text) (f : Forest SchemaNode)
+pub named_none : (s : Schema) (m : Option ℕ) (name : Text) (f : Forest SchemaNode)
     → first_found (λ n. is_text name (written_name s m n)) f ≡ None
     → named_in s m name f ≡ cond (list_any (λ n. is_text name (other_name s m n)) (row f)) other_form unknown
 named_none s m name end e = refl

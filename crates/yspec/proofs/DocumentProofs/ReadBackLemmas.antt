@@ -8,7 +8,7 @@ use Rattle.yspec.specs.document.Document.{Tree, Step, document_limit}
 use Rattle.yspec.specs.document.Reading.{Refusal, visits, verdict, denoted, tree_or_refusal, json_of, document_of, stored_rows, member_visits}
 use Rattle.yspec.specs.document.Fitting.{IsNumbered, LeafsAreBare, FitsBy}
 use Rattle.yspec.specs.document.Writing.{row_members, RowDiffers, AllDiffer, NamesDiffer, HasForm, IsDocument, written_value}
-use Rattle.yspec.proofs.DocumentProofs.DataRowLemmas.{numbers_rise, AllHave, WhereData, each_of_data_row, each_weaker, members_of_data_row, rows_of_data_row}
+use Rattle.yspec.proofs.DocumentProofs.DataRowWritingLemmas.{numbers_rise, AllHave, WhereData, each_of_data_row, each_weaker, members_of_data_row, rows_of_data_row}
 use Rattle.yspec.proofs.DocumentProofs.AlongLemmas.{along_of}
 use Rattle.yspec.proofs.DocumentProofs.WrittenRowLemmas.{absent_of_none, ComesBack, rows_back}
 use Rattle.yspec.proofs.DocumentProofs.WrittenVisitLemmas.{AreFine, room_left, meant_all, none_fine, IsRight, rows_fine}

@@ -6,7 +6,7 @@ use Rattle.yspec.specs.types.Types.{Raw}
 use Rattle.yspec.specs.schema.Schema.{Schema, SchemaNode, is_data, written_name}
 use Rattle.yspec.specs.document.Document.{Tree, instances}
 use Rattle.yspec.specs.document.Writing.{with_instances, row_members}
-use Rattle.yspec.proofs.DocumentProofs.DataRowLemmas.{Rises, Each, OfData}
+use Rattle.yspec.proofs.DocumentProofs.DataRowWritingLemmas.{Rises, Each, OfData}
 use Rattle.yspec.proofs.DocumentProofs.AlongLemmas.{Along, first_instances, later_instances}
 
 module _ (s : Schema) where

@@ -12,7 +12,7 @@ use Rattle.yspec.specs.document.Document.{Stored, Tree}
 use Rattle.yspec.specs.document.Reading.{whole_numbers, raw_integer, raw_of, members_of, items_of, stored_node, item_row, instance_row, stored_rows}
 use Rattle.yspec.specs.document.Fitting.{IsBare, FitsBy}
 use Rattle.yspec.specs.document.Writing.{data_of, leaf_data, written_node, written_items, with_instances, row_members, IsNew, RowDiffers, HasText, HasTextIf, HasForm}
-use Rattle.yspec.proofs.DocumentProofs.DataRowLemmas.{Rises, Each, OfData}
+use Rattle.yspec.proofs.DocumentProofs.DataRowWritingLemmas.{Rises, Each, OfData}
 use Rattle.yspec.proofs.DocumentProofs.AlongLemmas.{AreOf, MayBe, Along}
 use Rattle.yspec.proofs.DocumentProofs.WrittenAlongLemmas.{inner_members, first_written}
 

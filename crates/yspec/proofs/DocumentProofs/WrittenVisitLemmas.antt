@@ -19,7 +19,7 @@ use Rattle.yspec.specs.document.Fitting.{FitsBy}
 use Rattle.yspec.specs.document.Writing.{leaf_data, written_node, written_items, with_instances, row_members, IsNew, RowDiffers, HasText, HasTextIf, HasForm}
 use Rattle.yspec.proofs.BasicLemmas.{same_text, other_text}
 use Rattle.yspec.proofs.DocumentProofs.FittingLemmas.{eqb_other}
-use Rattle.yspec.proofs.DocumentProofs.DataRowLemmas.{Rises, Each, OfData}
+use Rattle.yspec.proofs.DocumentProofs.DataRowWritingLemmas.{Rises, Each, OfData}
 use Rattle.yspec.proofs.DocumentProofs.AlongLemmas.{AreOf, Along}
 use Rattle.yspec.proofs.DocumentProofs.WrittenAlongLemmas.{inner_members, first_written}
 use Rattle.yspec.proofs.DocumentProofs.WrittenRowLemmas.{leaf_back}

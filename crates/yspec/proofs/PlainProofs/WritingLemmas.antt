@@ -11,7 +11,7 @@ use Rattle.yspec.specs.document.Fitting.{IsNumbered, FitsBy, Fits}
 use Rattle.yspec.specs.plain.Kinds.{IsPlainKind, ArePlain}
 use Rattle.yspec.specs.plain.Writing as plain
 use Rattle.yspec.proofs.SchemaProofs.FindingLemmas.{Finds, finds_first, finds_below, finds_after}
-use Rattle.yspec.proofs.DocumentProofs.DataRowLemmas.{Rises, numbers_rise, Each, OfData, AllHave, WhereData, each_of_data_row, members_of_data_row}
+use Rattle.yspec.proofs.DocumentProofs.DataRowWritingLemmas.{Rises, numbers_rise, Each, OfData, AllHave, WhereData, each_of_data_row, members_of_data_row}
 use Rattle.yspec.proofs.DocumentProofs.AlongLemmas.{AreOf, MayBe, Along, along_of}
 use Rattle.yspec.proofs.DocumentProofs.WrittenAlongLemmas.{inner_members, first_written}
 use Rattle.yspec.proofs.PlainProofs.RowLemmas.{plain_is_single}

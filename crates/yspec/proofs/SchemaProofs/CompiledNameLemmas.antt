@@ -11,8 +11,10 @@ use Rattle.yspec.specs.text.Statement.{Statement}
 use Rattle.yspec.specs.schema.Grammar.{identifier, Allowed, Rule, fits, rule_of}
 use Rattle.yspec.specs.schema.Schema.{Schema, SchemaNode, argument_text, is_data_definition, data_size, data_levels, schema_node, nodes_from, modules_of, all_nodes, schema_of, module_name}
 use Rattle.yspec.specs.schema.Breaks.{broken, when, doubled, is_known_substatement, substatements_of, argument_breaks, own_breaks, statement_breaks, grammar_breaks, module_breaks, name_breaks, at_top, by_module, by_body, data_levels_of_all, compiled}
-use Rattle.yspec.specs.document.Writing.{IsPlain, HasItsName, AreNamed, ModulesDiffer, NamesDiffer}
-use Rattle.yspec.proofs.SchemaProofs.CompiledShapeLemmas.{none_first, none_second, is_right, by_keyword, BreaksNothing, compiles}
+use Rattle.yspec.specs.document.Writing.{IsPlain, IsNamed, HasItsName, RowIsNamed, AllAreNamed, AreNamed, ModulesDiffer, NamesDiffer}
+use Rattle.yspec.specs.plain.Kinds.{ArePlain}
+use Rattle.yspec.proofs.SchemaProofs.CompiledShapeLemmas.{none_first, none_second, is_right, by_keyword, BreaksNothing, compiles, compiled_plain}
+use Rattle.yspec.proofs.PlainProofs.RowLemmas.{data_row_same}
 use Rattle.yspec.proofs.DocumentProofs.WrittenNameLemmas.{names_differ}
 use Rattle.yspec.proofs.BasicLemmas.{or_parts, texts_differ}
 
@@ -108,6 +110,30 @@ module_takes keyword e = go (is_text (codes "module") keyword) refl e
 
 -- ---- names of siblings
 
+-- each node of a row is named, and so on below
+abbrev AreNamedWithin : Schema → Forest SchemaNode → Type 0
+AreNamedWithin schema end = Unit {0}
+AreNamedWithin schema (node n below after) =
+    IsNamed schema n × HasItsName n after × AreNamedWithin schema below × AreNamedWithin schema after
+
+row_named : (schema : Schema) (f : Forest SchemaNode) → AreNamedWithin schema f → RowIsNamed schema f
+row_named schema end named = tt
+row_named schema (node n below after) named = (named.0, named.1, row_named schema after named.3)
+
+all_named : (schema : Schema) (f : Forest SchemaNode) → ArePlain f → AreNamedWithin schema f → AllAreNamed schema f
+all_named schema end plain named = tt
+all_named schema (node n below after) plain named = (
+  subst (RowIsNamed schema) (sym (data_row_same below plain.1)) (row_named schema below named.2),
+  all_named schema below plain.1 named.2,
+  all_named schema after plain.2 named.3,
+)
+
+are_named : (schema : Schema) → ArePlain schema.nodes → AreNamedWithin schema schema.nodes → AreNamed schema
+are_named schema plain named = (
+  subst (RowIsNamed schema) (sym (data_row_same schema.nodes plain)) (row_named schema schema.nodes named),
+  all_named schema schema.nodes plain named,
+)
+
 -- a name that is among those before isn't that of a node of the row
 own_name : (n : SchemaNode) (m module_number next : ℕ) (before : List Text) (f : Forest Statement)
     → ((t : Text) → list_any (is_text t) before ≡ false → n.name ≢ t) → name_breaks m before f ≡ [] → HasItsName n (nodes_from module_number next f)
@@ -133,7 +159,7 @@ own_name n m module_number next before (node s below after) among e =
     go false e rest others = others e
 
 named_from : (schema : Schema) (m module_number next : ℕ) (allowed : List Allowed) (before : List Text) (f : Forest Statement) → module_number < length schema.modules
-    → grammar_breaks m allowed f ≡ [] → name_breaks m before f ≡ [] → AreNamed schema (nodes_from module_number next f)
+    → grammar_breaks m allowed f ≡ [] → name_breaks m before f ≡ [] → AreNamedWithin schema (nodes_from module_number next f)
 unfolding name_breaks nodes_from
 named_from schema m module_number next allowed before end within known e = tt
 named_from schema m module_number next allowed before (node s below after) within known e =
@@ -149,10 +175,10 @@ named_from schema m module_number next allowed before (node s below after) withi
     go : (b : Bool) → is_data_definition s.keyword ≡ b
         → cond b (doubled 13 m before s ++ (name_breaks m [] below ++ name_breaks m (argument_text s ∷ before) after)) (name_breaks m before after) ≡ []
         → own_breaks m s below ≡ []
-        → (name_breaks m [] below ≡ [] → AreNamed schema (nodes_from module_number (next + 1) below))
-        → (name_breaks m (argument_text s ∷ before) after ≡ [] → AreNamed schema (nodes_from module_number (next + 1 + data_size below) after))
-        → (name_breaks m before after ≡ [] → AreNamed schema (nodes_from module_number next after))
-        → AreNamed schema (cond b (node (schema_node module_number next s below) (nodes_from module_number (next + 1) below) (nodes_from module_number (next + 1 + data_size below) after))
+        → (name_breaks m [] below ≡ [] → AreNamedWithin schema (nodes_from module_number (next + 1) below))
+        → (name_breaks m (argument_text s ∷ before) after ≡ [] → AreNamedWithin schema (nodes_from module_number (next + 1 + data_size below) after))
+        → (name_breaks m before after ≡ [] → AreNamedWithin schema (nodes_from module_number next after))
+        → AreNamedWithin schema (cond b (node (schema_node module_number next s below) (nodes_from module_number (next + 1) below) (nodes_from module_number (next + 1 + data_size below) after))
         (nodes_from module_number next after))
     go true is e own inner rest others =
         let more = none_second (doubled 13 m before s) (name_breaks m [] below ++ name_breaks m (argument_text s ∷ before) after) e in
@@ -200,13 +226,13 @@ later_module n module_number next (node s below after) before =
     (later_module n (module_number + 1) (next + data_size below) after (omega (arith, before)))
 
 named_joined : (schema : Schema) (m : ℕ) (f g : Forest SchemaNode) → RowOf m f → ((n : SchemaNode) → n.module_number ≡ m → HasItsName n g)
-    → AreNamed schema f → AreNamed schema g → AreNamed schema (join f g)
+    → AreNamedWithin schema f → AreNamedWithin schema g → AreNamedWithin schema (join f g)
 named_joined schema m end g row apart first second = second
 named_joined schema m (node n below after) g row apart first second =
     (first.0, own_joined n after g first.1 (apart n row.0), first.2, named_joined schema m after g row.1 apart first.3 second)
 
 named_all : (schema : Schema) (m next : ℕ) (modules : Forest Statement) → m + length (modules_of modules) ≡ length schema.modules
-    → by_module (λ m s. grammar_breaks m at_top s) m modules ≡ [] → by_body (λ m s. name_breaks m [] s) m modules ≡ [] → AreNamed schema (all_nodes m next modules)
+    → by_module (λ m s. grammar_breaks m at_top s) m modules ≡ [] → by_body (λ m s. name_breaks m [] s) m modules ≡ [] → AreNamedWithin schema (all_nodes m next modules)
 named_all schema m next end count known e = tt
 named_all schema m next (node s below after) count known e =
     let right = is_right m at_top s below end (none_first (grammar_breaks m at_top (node s below end)) (by_module (λ m s. grammar_breaks m at_top s) (m + 1) after) known) in
@@ -265,13 +291,13 @@ modules_differ modules none i j here there =
 
 -- ---- what compiled
 
-pub compiled_names : (modules : Forest Statement) (schema : Schema) → compiled modules ≡ Ok schema → NamesDiffer schema None schema.nodes
+pub compiled_names : (modules : Forest Statement) (schema : Schema) → compiled modules ≡ Ok schema → NamesDiffer schema
 compiled_names modules schema e =
     let i = compiles modules schema e in
     let whole = schema_of modules in
-    subst (λ (s : Schema). NamesDiffer s None s.nodes) i.is
-    (names_differ whole None whole.nodes (modules_differ modules i.none)
-    (named_all whole 0 0 modules (omega arith) i.none.statements i.none.names))
+    names_differ schema (subst ModulesDiffer i.is (modules_differ modules i.none))
+    (are_named schema (compiled_plain modules schema e) (subst (λ (s : Schema). AreNamedWithin s s.nodes) i.is
+    (named_all whole 0 0 modules (omega arith) i.none.statements i.none.names)))
 
 pub compiled_levels : (modules : Forest Statement) (schema : Schema) → compiled modules ≡ Ok schema → levels schema.nodes ≤ 60
 compiled_levels modules schema e =

@@ -1,5 +1,5 @@
 -- The schema of modules in which no rule is broken: its leafs have no children, and its nodes are numbered in preorder.
-use Rattle.std.proofs.Common.{◌≡◌, ℕ, suc, ◌+◌, ◌≤◌, Bool, true, false, cond, List, [], ◌∷◌, ◌++◌, codes, Option, Some, None, Ok, Err, refl, sym, ap, ◌∙◌, subst, arith}
+use Rattle.std.proofs.Common.{◌≡◌, ℕ, suc, ◌+◌, ◌≤◌, Bool, true, false, cond, List, [], ◌∷◌, ◌++◌, codes, Option, Some, None, Ok, Err, refl, sym, ap, ap₂, ◌∙◌, subst, arith}
 use Rattle.std.proofs.lemmas.Slice.Eq.{bytes_eq-Decides}
 use Rattle.std.proofs.lemmas.Bool.{ltb-false}
 use Rattle.std.specs.Prelude.{◌||◌, nat_lt}
@@ -8,9 +8,11 @@ use Rattle.yspec.specs.Forest.{Forest, end, node, size, join}
 use Rattle.yspec.specs.text.Text.{Text, is_text}
 use Rattle.yspec.specs.text.Statement.{Statement}
 use Rattle.yspec.specs.schema.Grammar.{Allowed}
-use Rattle.yspec.specs.schema.Schema.{Schema, SchemaNode, container, leaf_kind, kind_of, is_data_definition, data_size, schema_node, nodes_from, all_nodes, schema_of}
+use Rattle.yspec.specs.schema.Schema as spec
+use Rattle.yspec.specs.schema.Schema.{Schema, SchemaNode, container, leaf, argument_of, leaf_type, leaf_kind, kind_of, is_data_definition, data_size, schema_node, nodes_from, all_nodes, schema_of}
 use Rattle.yspec.specs.schema.Breaks.{Break, broken, least_from, or_told, first_broken, is_known_substatement, substatements_of, own_breaks, breaks_at, grammar_breaks, at_top, by_module, last_module, limit_breaks, node_limit, level_limit, data_size_of_all, data_levels_of_all, grammar_phase, module_phase, size_phase, name_phase, level_phase, phases, compiled}
 use Rattle.yspec.specs.document.Fitting.{IsNumbered, IsBare, LeafsAreBare}
+use Rattle.yspec.specs.plain.Kinds.{IsPlainKind, ArePlain}
 
 -- ---- nothing is broken
 
@@ -80,8 +82,8 @@ kind_is_bare : (m module_number next : ℕ) (s : Statement) (below : Forest Stat
 kind_is_bare m module_number next s below is e =
     by_keyword s.keyword
     (λ (t : Text). grammar_breaks m (substatements_of t) below ≡ [] → IsBare (cond (is_text t (codes "container")) (container false) (leaf_kind below)) (nodes_from module_number next below))
-    (λ _. tt)
-    (λ none. nothing_from m module_number next (substatements_of (codes "leaf")) below leaf_has_no_data none)
+    (λ _ no. absurd cc)
+    (λ none _. nothing_from m module_number next (substatements_of (codes "leaf")) below leaf_has_no_data none)
     is e
 
 bare_from : (m module_number next : ℕ) (allowed : List Allowed) (f : Forest Statement) → grammar_breaks m allowed f ≡ []
@@ -104,6 +106,41 @@ bare_from m module_number next allowed (node s below after) e =
 bare_joined : (f g : Forest SchemaNode) → LeafsAreBare f → LeafsAreBare g → LeafsAreBare (join f g)
 bare_joined end g first second = second
 bare_joined (node n below after) g first second = (first.0, first.1, bare_joined after g first.2 second)
+
+-- ---- kinds
+
+kind_is_plain : (s : Statement) (below : Forest Statement) → IsPlainKind (kind_of s below)
+kind_is_plain s below =
+    go (is_text s.keyword (codes "container")) (option_map_or (λ t. is_text t (codes "true")) (argument_of (codes "mandatory") below) false)
+  where
+    go : (a b : Bool) → IsPlainKind (cond a (container false) (leaf (leaf_type below) (cond b spec.mandatory spec.allowed)))
+    go true b = tt
+    go false true = (refl, tt)
+    go false false = (refl, tt)
+
+plain_from : (module_number next : ℕ) (f : Forest Statement) → ArePlain (nodes_from module_number next f)
+unfolding nodes_from
+plain_from module_number next end = tt
+plain_from module_number next (node s below after) =
+    go (is_data_definition s.keyword) (plain_from module_number (next + 1) below) (plain_from module_number (next + 1 + data_size below) after)
+    (plain_from module_number next after)
+  where
+    go : (b : Bool) → ArePlain (nodes_from module_number (next + 1) below) → ArePlain (nodes_from module_number (next + 1 + data_size below) after)
+        → ArePlain (nodes_from module_number next after)
+        → ArePlain (cond b (node (schema_node module_number next s below) (nodes_from module_number (next + 1) below) (nodes_from module_number (next + 1 + data_size below) after))
+        (nodes_from module_number next after))
+    go true inner rest others = (kind_is_plain s below, inner, rest)
+    go false inner rest others = others
+
+plain_joined : (f g : Forest SchemaNode) → ArePlain f → ArePlain g → ArePlain (join f g)
+plain_joined end g first second = second
+plain_joined (node n below after) g first second = (first.0, first.1, plain_joined after g first.2 second)
+
+plain_all : (module_number next : ℕ) (modules : Forest Statement) → ArePlain (all_nodes module_number next modules)
+plain_all module_number next end = tt
+plain_all module_number next (node s below after) =
+    plain_joined (nodes_from module_number next below) (all_nodes (module_number + 1) (next + data_size below) after)
+    (plain_from module_number next below) (plain_all (module_number + 1) (next + data_size below) after)
 
 -- ---- numbers
 
@@ -149,6 +186,16 @@ numbered_all module_number next end = tt
 numbered_all module_number next (node s below after) =
     numbered_joined next (next + data_size below) (nodes_from module_number next below) (all_nodes (module_number + 1) (next + data_size below) after)
     (numbered_from module_number next below) (ap (λ k. next + k) (size_from module_number next below)) (numbered_all (module_number + 1) (next + data_size below) after)
+
+size_joined : (f g : Forest SchemaNode) → size (join f g) ≡ size f + size g
+size_joined end g = omega arith
+size_joined (node n below after) g = let rest = size_joined after g in omega (arith, rest)
+
+size_all : (module_number next : ℕ) (modules : Forest Statement) → size (all_nodes module_number next modules) ≡ data_size_of_all modules
+size_all module_number next end = refl
+size_all module_number next (node s below after) =
+    size_joined (nodes_from module_number next below) (all_nodes (module_number + 1) (next + data_size below) after)
+    ∙ ap₂ (λ i j. i + j) (size_from module_number next below) (size_all (module_number + 1) (next + data_size below) after)
 
 pub schema_numbered : (modules : Forest Statement) → IsNumbered 0 (schema_of modules).nodes
 schema_numbered modules = numbered_all 0 0 modules
@@ -232,3 +279,11 @@ compiled_bare modules schema e =
 
 pub compiled_numbered : (modules : Forest Statement) (schema : Schema) → compiled modules ≡ Ok schema → IsNumbered 0 schema.nodes
 compiled_numbered modules schema e = subst (λ (s : Schema). IsNumbered 0 s.nodes) (compiles modules schema e).is (schema_numbered modules)
+
+pub compiled_plain : (modules : Forest Statement) (schema : Schema) → compiled modules ≡ Ok schema → ArePlain schema.nodes
+compiled_plain modules schema e = subst (λ (s : Schema). ArePlain s.nodes) (compiles modules schema e).is (plain_all 0 0 modules)
+
+pub compiled_few : (modules : Forest Statement) (schema : Schema) → compiled modules ≡ Ok schema → size schema.nodes ≤ node_limit
+compiled_few modules schema e =
+    subst (λ (s : Schema). size s.nodes ≤ node_limit) (compiles modules schema e).is
+    (subst (λ (k : ℕ). k ≤ node_limit) (sym (size_all 0 0 modules)) (few_nodes modules schema e))

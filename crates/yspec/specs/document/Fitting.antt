@@ -1,5 +1,5 @@
 -- Documents that fit a schema (RFC 7950, 8.1), and how the nodes of a schema are numbered.
-use Rattle.std.specs.Prelude.{IsTrue, ◌≡◌, ◌≤◌, ℕ, suc, ◌+◌, Option, Some, if◌then◌else◌}
+use Rattle.std.specs.Prelude.{◌≡◌, ◌≤◌, ℕ, suc, ◌+◌, true, Option, Some, if◌then◌else◌}
 use Rattle.yspec.specs.Forest.{Forest, end, node, size}
 use Rattle.yspec.specs.types.Types.{Raw}
 use Rattle.yspec.specs.schema.Schema.{Schema, SchemaNode, Kind, is_many, has_value, data_row, child_in}
@@ -13,7 +13,7 @@ IsNumbered next (node n below after) =
 
 -- a leaf and a leaf-list have no children (RFC 7950, 7.6 and 7.7)
 abbrev pub IsBare : Kind → Forest SchemaNode → Type 0
-IsBare kind below = IsTrue (has_value kind) → below ≡ end
+IsBare kind below = (has_value kind ≡ true) → below ≡ end
 
 abbrev pub LeafsAreBare : Forest SchemaNode → Type 0
 LeafsAreBare end = Unit {0}

@@ -1,5 +1,5 @@
 -- The JSON text of a document (RFC 7951, 4 to 6).
-use Rattle.std.specs.Prelude.{IsTrue, ◌<◌, ◌==◌, false, length, ◌≡◌, ◌≢◌, ℕ, ℤ, Bool, true, Option, Some, None, if◌then◌else◌}
+use Rattle.std.specs.Prelude.{◌<◌, ◌==◌, false, length, ◌≡◌, ◌≢◌, ℕ, ℤ, Bool, true, Option, Some, None, if◌then◌else◌}
 use Rattle.std.specs.List.{list_any}
 use Rattle.std.specs.Option.{option_map_or}
 use Rattle.serde_json.specs.Data.{Data, null, boolean, number, string, array, object, Items, no_items, item, Members, no_members, put}
@@ -76,7 +76,7 @@ RowDiffers schema parent (node n below after) =
 
 -- no two data nodes below a data node are
 abbrev pub ChildrenDiffer : Schema → SchemaNode → Forest SchemaNode → Type 0
-ChildrenDiffer schema n below = IsTrue (is_data n.kind) → RowDiffers schema (Some n.module_number) (data_row below)
+ChildrenDiffer schema n below = (is_data n.kind ≡ true) → RowDiffers schema (Some n.module_number) (data_row below)
 
 -- nor below any node that stands in a row or below it
 abbrev pub AllDiffer : Schema → Forest SchemaNode → Type 0

@@ -132,9 +132,11 @@ absence_of below = if option_map_or (λ t. is_text t (codes "true")) (argument_o
 abbrev pub own_type : YangType → LeafType
 own_type type = record { type = type; target = None }
 
+abbrev pub leaf_type : Forest Statement → LeafType
+leaf_type below = own_type (unwrap_or (option_and_then built_in (argument_of (codes "type") below)) string_type)
+
 abbrev pub leaf_kind : Forest Statement → Kind
-leaf_kind below = leaf (own_type (unwrap_or (option_and_then built_in (argument_of (codes "type") below)) string_type))
-    (absence_of below)
+leaf_kind below = leaf (leaf_type below) (absence_of below)
 
 abbrev pub kind_of : Statement → Forest Statement → Kind
 kind_of s below = if is_text s.keyword (codes "container") then container false else leaf_kind below
