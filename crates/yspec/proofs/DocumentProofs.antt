@@ -17,3 +17,4 @@ pub mod WrittenAlongLemmas
 pub mod WrittenRowLemmas
 pub mod WrittenVisitLemmas
 pub mod ReadBackLemmas
+pub mod WrittenShapeLemmas
