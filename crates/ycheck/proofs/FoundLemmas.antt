@@ -5,10 +5,14 @@ use Rattle.yspec.specs.Forest.{Forest, end, node}
 use Rattle.yspec.specs.types.Types.{Raw}
 use Rattle.yspec.specs.schema.Schema.{Schema, SchemaNode, Kind}
 use Rattle.yspec.specs.document.Document.{Stored, Tree, Step, step_to}
-use Rattle.yspec.specs.document.Faults.{Fault, under, faults_of, counting_of}
-use Rattle.yspec.specs.document.RowFaults.{prefixed, begins_with, stored_own, stored_faults, absent_faults, row_faults}
+use Rattle.yspec.specs.document.Fault.{Fault}
+use Rattle.yspec.specs.document.Faults.{under, faults_of}
+use Rattle.yspec.specs.document.RowFaults.{prefixed}
+use Rattle.yspec.specs.plain.RowFaults.{begins_with, stored_own, stored_faults, absent_faults, row_faults}
 use Rattle.yspec.specs.document.Fitting.{IsNumbered, Fits}
-use Rattle.yspec.proofs.DocumentProofs.CheckingLemmas.{prefixed_twice, rows_are_faults}
+use Rattle.yspec.proofs.DocumentProofs.CheckingRowLemmas.{prefixed_twice}
+use Rattle.yspec.specs.plain.Kinds.{ArePlain}
+use Rattle.yspec.proofs.PlainProofs.FaultLemmas.{faults_are_plain}
 use Rattle.yschema.specs.declared.node.SchemaId.{SchemaId}
 use Rattle.ytree.specs.declared.tree.Step as inst
 use Rattle.ytree.specs.View.{step_view, place_view}
@@ -108,8 +112,8 @@ row_ended change so_far whole f t is_end found =
 
 -- all that is found from the top
 pub all_found : (schema : Schema) (tree : Tree) (f : Forest SchemaNode) (t : Tree) (steps : List inst.Step) (old : List check.Fault) (new : List Fault)
-    → steps ≡ [] → old ≡ [] → f ≡ schema.nodes → t ≡ tree → IsNumbered 0 schema.nodes → Fits schema.nodes tree
+    → steps ≡ [] → old ≡ [] → f ≡ schema.nodes → t ≡ tree → ArePlain schema.nodes → IsNumbered 0 schema.nodes → Fits schema tree
     → new ≡ views old ++ map (prefixed (place_view steps)) (row_faults f t) → new ≡ faults_of schema tree
-all_found schema tree f t steps old new no_step nothing f_is t_is numbered fits found =
+all_found schema tree f t steps old new no_step nothing f_is t_is are_plain numbered fits found =
     found ∙ (ap₂ (λ fs p. views fs ++ map (prefixed (place_view p)) (row_faults f t)) nothing no_step
-    ∙ (map-id (row_faults f t) ∙ (ap₂ row_faults f_is t_is ∙ sym (rows_are_faults (counting_of schema tree) schema tree numbered fits))))
+    ∙ (map-id (row_faults f t) ∙ (ap₂ row_faults f_is t_is ∙ sym (faults_are_plain schema tree are_plain numbered fits))))

@@ -2,8 +2,8 @@
 use Rattle.std.specs.Prelude.{List, map, codes, option_map, string_bytes}
 use Rattle.yspec.specs.text.Text.{Text}
 use Rattle.yspec.specs.document.FaultCode as spec
-use Rattle.yspec.specs.document.Faults as faults
-use Rattle.yspec.specs.document.Faults.{no_info}
+use Rattle.yspec.specs.document.Fault as faults
+use Rattle.yspec.specs.document.Fault.{no_info}
 use Rattle.ytree.specs.View.{place_view}
 use Rattle.ycheck.specs.declared.fault.FaultCode.{FaultCode}
 use Rattle.ycheck.specs.declared.fault.FaultCode.TheVariants.{V1, V3}

@@ -3,9 +3,12 @@
 ghost use Rattle.std.specs.Prelude.{◌≡◌, ◌++◌, [], ◌∷◌, map, length, take, ◌-◌, None, option_map, string_bytes, OnOk, IfOk, IfSome, is_some};
 ghost use Rattle.yspec.specs.Forest.{Forest, end, node};
 ghost use Rattle.yspec.specs.schema.Schema as spec;
-ghost use Rattle.yspec.specs.document.Faults.{fault, faults_of, value_faults, no_info};
+ghost use Rattle.yspec.specs.document.Fault.{fault, no_info};
+ghost use Rattle.yspec.specs.document.Faults.{faults_of};
+ghost use Rattle.yspec.specs.plain.RowFaults.{value_faults};
 ghost use Rattle.yspec.specs.document.Fitting.{Fits};
-ghost use Rattle.yspec.specs.document.RowFaults.{prefixed, begins_with, stored_own, stored_faults, absent_own, absent_faults, row_faults};
+ghost use Rattle.yspec.specs.document.RowFaults.{prefixed};
+ghost use Rattle.yspec.specs.plain.RowFaults.{begins_with, stored_own, stored_faults, absent_own, absent_faults, row_faults};
 ghost use Rattle.ytype.specs.View.{raw_of};
 ghost use Rattle.yschema.specs.View as schema_view;
 ghost use Rattle.ytree.specs.View as document_view;
@@ -65,7 +68,7 @@ impl Findings {
 pub fn faults(alloc: Global, schema: &Schema, tree: &Tree) -> Result<Vec<Fault>, AllocError>
     // of a document that fits its schema, as one that is read under it does
     ensures { let schema' = schema_view.view schema.now in let tree' = document_view.tree_view tree.now in
-        Fits schema'.nodes tree' → IfOk result (λ found. views found.items ≡ faults_of schema' tree') }
+        Fits schema' tree' → IfOk result (λ found. views found.items ≡ faults_of schema' tree') }
 {
     let mut findings = Findings {
         alloc,

@@ -6,13 +6,18 @@ use Rattle.std.proofs.lemmas.Option.{same_Some}
 use Rattle.serde_json.specs.Data.{Data}
 use Rattle.yspec.specs.Forest.{Forest}
 use Rattle.yspec.specs.schema.Schema.{Schema, SchemaNode, node_at, children_of}
-use Rattle.yspec.specs.document.Reading.{Refusal, json_of, first_wrong, node_visits, stored_node, stored_rows, members_of}
-use Rattle.yspec.specs.edit.Editing.{EditRefusal, Branch, refused, value_refused, fitting_branch, branch, branch_at, branch_of, applied}
+use Rattle.yspec.specs.document.Reading.{Refusal, json_of, first_wrong, stored_node, members_of}
+use Rattle.yspec.specs.plain.Reading.{node_visits, stored_rows}
+use Rattle.yspec.specs.edit.Editing.{EditRefusal, Branch, refused, value_refused, applied}
+use Rattle.yspec.specs.plain.Editing.{fitting_branch, branch, branch_at, branch_of}
+use Rattle.yspec.specs.plain.Editing as plain
+use Rattle.yspec.specs.plain.Kinds.{ArePlain}
 use Rattle.yspec.specs.edit.EditText.{Edit}
 use Rattle.yspec.specs.document.Document.{Tree}
-use Rattle.yspec.specs.document.Fitting.{IsNumbered, Fits, LeafsAreBare}
+use Rattle.yspec.specs.document.Fitting.{IsNumbered, Fits}
 use Rattle.yspec.specs.document.Writing.{NamesDiffer, IsDocument}
-use Rattle.yspec.proofs.EditProofs.FittingEditLemmas.{edit_fits, edit_whole}
+use Rattle.yspec.proofs.PlainProofs.EditingLemmas.{edits_are_plain}
+use Rattle.yspec.proofs.EditProofs.FittingEditLemmas.{edit_fits, edit_whole, whole_fits}
 use Rattle.yspec.proofs.SchemaProofs.NumberLemmas.{number_at}
 use Rattle.ytree.specs.View.{Labelled, tree_view}
 use Rattle.ytree.specs.Told.{denoted_at, refused_at}
@@ -58,13 +63,18 @@ branch_refused s i d r is = by (node_at s i) refl is
         ap (λ k. option_map_or (λ r. value_refused r.code) (first_wrong (node_visits s n (children_of s k) [] d)) (Ok (branch s n d))) (number_at s.nodes i n e)
         ∙ ap (λ o. option_map_or (λ r. value_refused r.code) o (Ok (branch s n d))) is
 
-pub fits_if_applied : (given : Result tree.Tree EditFault) (s : Schema) (before : Tree) (e : Edit) → IsNumbered 0 s.nodes
-    → Gives tree_view told_by given (applied s before e) → Fits s.nodes before → IfOk given (λ t. Fits s.nodes (tree_view t))
-fits_if_applied (Ok t) s before e numbered is fits = edit_fits s before (tree_view t) e numbered fits is
-fits_if_applied (Err f) s before e numbered is fits = tt
+-- what the plain definition gives is what every schema's gives, of a document that fits
+pub wide_if_applied : (given : Result tree.Tree EditFault) (s : Schema) (before : Tree) (e : Edit) → ArePlain s.nodes → IsNumbered 0 s.nodes
+    → Gives tree_view told_by given (plain.applied s before e) → Fits s before → Gives tree_view told_by given (applied s before e)
+wide_if_applied given s before e are numbered is fits =
+    answers_same tree_view given (applied s before e) (plain.applied s before e) (edits_are_plain s before e are numbered fits) is
 
-pub whole_if_applied : (given : Result tree.Tree EditFault) (s : Schema) (before : Tree) (e : Edit) → IsNumbered 0 s.nodes
-    → Gives tree_view told_by given (applied s before e) → NamesDiffer s None s.nodes → LeafsAreBare s.nodes → IsDocument s.nodes before
-    → IfOk given (λ t. IsDocument s.nodes (tree_view t))
-whole_if_applied (Ok t) s before e numbered is differ bare whole = edit_whole s before (tree_view t) e numbered bare differ whole is
-whole_if_applied (Err f) s before e numbered is differ bare whole = tt
+pub fits_if_applied : (given : Result tree.Tree EditFault) (s : Schema) (before : Tree) (e : Edit) → IsNumbered 0 s.nodes
+    → Fits s before → Gives tree_view told_by given (applied s before e) → IfOk given (λ t. Fits s (tree_view t))
+fits_if_applied (Ok t) s before e numbered fits is = edit_fits s before (tree_view t) e numbered fits is
+fits_if_applied (Err f) s before e numbered fits is = tt
+
+pub whole_if_applied : (given : Result tree.Tree EditFault) (s : Schema) (before : Tree) (e : Edit) → IsNumbered 0 s.nodes → NamesDiffer s
+    → IsDocument s before → Gives tree_view told_by given (applied s before e) → IfOk given (λ t. IsDocument s (tree_view t))
+whole_if_applied (Ok t) s before e numbered differ whole is = edit_whole s before (tree_view t) e numbered differ whole is
+whole_if_applied (Err f) s before e numbered differ whole is = tt

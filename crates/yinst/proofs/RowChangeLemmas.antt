@@ -6,7 +6,8 @@ use Rattle.std.proofs.lemmas.List.{at_drop_more}
 use Rattle.yspec.specs.Forest.{node, join, size}
 use Rattle.yspec.specs.document.Document.{Tree}
 use Rattle.yspec.specs.edit.Edit.{change_below}
-use Rattle.yspec.specs.edit.Editing.{Branch, stored_in, with_branch, without}
+use Rattle.yspec.specs.edit.Editing.{Branch}
+use Rattle.yspec.specs.plain.Editing.{stored_in, with_branch, without}
 use Rattle.ytree.specs.View.{view, row_view}
 use Rattle.yinst.specs.Rows.{number_of, has_number, is_not_before, before_first, from_first, branch_view, without_first}
 use Rattle.ytree.specs.declared.tree.Stored.{Stored}

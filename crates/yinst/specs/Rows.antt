@@ -2,7 +2,8 @@
 use Rattle.std.specs.Prelude.{ℕ, ◌==◌, List, [], ◌∷◌, Bool, nat_le, if◌then◌else◌}
 use Rattle.yspec.specs.Forest.{end, node}
 use Rattle.yspec.specs.document.Document.{Tree}
-use Rattle.yspec.specs.edit.Editing.{Branch, with_branch, without}
+use Rattle.yspec.specs.edit.Editing.{Branch}
+use Rattle.yspec.specs.plain.Editing.{with_branch, without}
 use Rattle.ytree.specs.View.{view}
 use Rattle.ytree.specs.declared.tree.Stored.{Stored}
 use Rattle.yinst.specs.declared.rows.Change.{Change}

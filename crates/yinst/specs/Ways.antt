@@ -1,5 +1,5 @@
 -- Ways and targets of edits as the specification's.
-use Rattle.yspec.specs.edit.Editing as spec
+use Rattle.yspec.specs.plain.Editing as spec
 use Rattle.yinst.specs.Applying.{numbers}
 use Rattle.yinst.specs.declared.way.Way.{Way}
 use Rattle.yinst.specs.declared.way.Target.{Target}

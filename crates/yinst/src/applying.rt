@@ -3,7 +3,8 @@
 ghost use Rattle.std.specs.Prelude.{◌≡◌, None, IfOk};
 ghost use Rattle.yspec.specs.document.Fitting.{Fits};
 ghost use Rattle.yspec.specs.document.Writing.{IsDocument};
-ghost use Rattle.yspec.specs.edit.Editing as spec;
+ghost use Rattle.yspec.specs.edit.Editing as editing;
+ghost use Rattle.yspec.specs.plain.Editing as spec;
 ghost use Rattle.yschema.specs.View as schema_view;
 ghost use Rattle.ytree.specs.View.{tree_view};
 ghost use Rattle.yinst.specs.EditView.{edit_view};
@@ -26,18 +27,19 @@ const NODE_LIMIT: usize = 1_000_000;
 /// The document after an edit, or the first refusal: of the path's steps E1, of its names E2 and its predicates E3, of
 /// where it stands E4, E7 and E8, of its value E9 and E10, and E11. The document that is given stays as it is.
 pub fn apply(alloc: Global, schema: &Schema, tree: &Tree, edit: &Edit) -> Result<Tree, EditFault>
-    ensures answer { Gives tree_view told_by result (spec.applied (schema_view.view schema.now) (tree_view tree.now) (edit_view edit.now)) }
     // of a document that fits its schema, as one that is read under it does
-    ensures fitting { let s = schema_view.view schema.now in Fits s.nodes (tree_view tree.now) → IfOk result (λ t. Fits s.nodes (tree_view t)) }
+    ensures answer { let s = schema_view.view schema.now in
+        Fits s (tree_view tree.now) → Gives tree_view told_by result (editing.applied s (tree_view tree.now) (edit_view edit.now)) }
+    ensures fitting { let s = schema_view.view schema.now in Fits s (tree_view tree.now) → IfOk result (λ t. Fits s (tree_view t)) }
     // in values as in shape
     ensures whole { let s = schema_view.view schema.now in
-        IsDocument s.nodes (tree_view tree.now) → IfOk result (λ t. IsDocument s.nodes (tree_view t)) }
+        IsDocument s (tree_view tree.now) → IfOk result (λ t. IsDocument s (tree_view t)) }
 {
     edited(alloc, schema, tree, edit)
 }
 
 /// The document after an edit.
-#[tactic(auto, unfolding(yspec::specs::edit::Editing::applied))]
+#[tactic(auto, unfolding(yspec::specs::plain::Editing::applied))]
 fn edited(alloc: Global, schema: &Schema, tree: &Tree, edit: &Edit) -> Result<Tree, EditFault>
     ensures { Gives tree_view told_by result (spec.applied (schema_view.view schema.now) (tree_view tree.now) (edit_view edit.now)) }
 {
@@ -124,7 +126,7 @@ fn with_row(alloc: Global, tree: &Tree, target: &Target, change: Change) -> Resu
 }
 
 fn within_limit(tree: Tree) -> Result<Tree, EditFault>
-    ensures { Gives tree_view told_by result (spec.within_limit (tree_view tree)) }
+    ensures { Gives tree_view told_by result (editing.within_limit (tree_view tree)) }
 {
     if is_over(tree.nodes(), NODE_LIMIT) {
         Err(refused(EditCode::E11))

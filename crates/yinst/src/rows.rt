@@ -3,9 +3,9 @@
 ghost use Rattle.std.specs.Prelude.{◌≡◌, ◌+◌, ◌<◌, MatchOption, length, map, position, nat_lt, is_some, IfOk, IfSome, OnOk, option_map};
 ghost use Rattle.yspec.specs.Forest.{node, join, size};
 ghost use Rattle.yspec.specs.edit.Edit.{change_below, edit_at};
-ghost use Rattle.yspec.specs.edit.Editing as spec;
+ghost use Rattle.yspec.specs.plain.Editing as spec;
 ghost use Rattle.yspec.specs.document.Document.{step_to};
-ghost use Rattle.yspec.specs.edit.Editing.{stored_in};
+ghost use Rattle.yspec.specs.plain.Editing.{stored_in};
 ghost use Rattle.ytree.specs.View.{view, row_view};
 ghost use Rattle.yinst.specs.Applying.{numbers};
 ghost use Rattle.yinst.specs.Rows.{has_number, is_not_before, before_first, from_first, branch_view, change_view};

@@ -1,7 +1,8 @@
 //! What the steps of a path mean, and where an edit stands.
 
 ghost use Rattle.std.specs.Prelude.{◌≡◌, not, None};
-ghost use Rattle.yspec.specs.edit.Editing as spec;
+ghost use Rattle.yspec.specs.edit.Editing as editing;
+ghost use Rattle.yspec.specs.plain.Editing as spec;
 ghost use Rattle.yschema.specs.View as schema_view;
 ghost use Rattle.ytree.specs.View.{tree_view};
 ghost use Rattle.yinst.specs.EditView.{predicate_view, path_view, steps_view};
@@ -84,7 +85,7 @@ fn meant(alloc: Global, schema: &Schema, steps: &[NamedStep]) -> Result<Way, Edi
 
 /// Whether a step bears the position 0; positions count from 1.
 fn has_zero(steps: &[NamedStep]) -> bool
-    ensures { result ≡ spec.has_zero (steps_view steps.now) }
+    ensures { result ≡ editing.has_zero (steps_view steps.now) }
 {
     for step in steps {
         if matches!(step.predicate, Predicate::Position(0)) {
@@ -146,7 +147,7 @@ fn says_which(steps: &[NamedStep]) -> bool
 }
 
 fn says(predicate: &Predicate) -> bool
-    ensures { result ≡ not (spec.says_nothing (predicate_view predicate.now)) }
+    ensures { result ≡ not (editing.says_nothing (predicate_view predicate.now)) }
 {
     match predicate {
         Predicate::Unsaid => false,

@@ -6,6 +6,9 @@ pub mod DataRowLemmas
 pub mod DataRowWritingLemmas
 pub mod FittingReadLemmas
 pub mod CountLemmas
+pub mod VisitLemmas
+pub mod ReadWholeLemmas
+pub mod RightNodeLemmas
 pub mod HeldNodeLemmas
 pub mod CheckingRowLemmas
 pub mod CursorLemmas

@@ -20,7 +20,7 @@ use Rattle.yspec.specs.document.RowFaults.{prefixed, each_instance, absent_leaf_
 
 -- ---- steps in front
 
-prefixed_twice : (above : List Step) (step : Step) (fs : List Fault) → map (prefixed (above ++ step ∷ [])) fs ≡ map (prefixed above) (map (under step) fs)
+pub prefixed_twice : (above : List Step) (step : Step) (fs : List Fault) → map (prefixed (above ++ step ∷ [])) fs ≡ map (prefixed above) (map (under step) fs)
 prefixed_twice above step [] = refl
 prefixed_twice above step (f ∷ fs) =
     ap₂ ◌∷◌ (ap (λ (steps : List Step). record f { steps = steps }) (append_assoc above (step ∷ []) f.steps)) (prefixed_twice above step fs)

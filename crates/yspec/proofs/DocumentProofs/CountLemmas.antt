@@ -89,7 +89,6 @@ module _ (weight : SchemaNode → Forest SchemaNode → Data → ℕ) where
   weigh_first s parent n below after (member name d ms) rising =
       by (is_text name (written_name s parent n)) refl (weigh_first s parent n below after ms rising.2)
     where
-
       by : (b : Bool) → is_text name (written_name s parent n) ≡ b
           → weigh_members s parent (node n below after) ms + weigh_found (named_in s parent (written_name s parent n) after) (get_member (written_name s parent n) ms)
           ≡ weigh_found (child n below) (get_member (written_name s parent n) ms) + weigh_members s parent after ms

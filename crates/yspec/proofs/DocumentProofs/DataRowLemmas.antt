@@ -1,8 +1,12 @@
 -- The data nodes of a row of schema nodes, those reached through choices and cases among them, and their numbers.
-use Rattle.std.proofs.Common.{◌≡◌, ℕ, ◌+◌, ◌≤◌, ◌<◌, Bool, true, false, cond, eqb, Some, refl, sym, ap, ◌∙◌, subst, arith}
-use Rattle.std.proofs.lemmas.Bool.{eq-eqb, eqb-true}
+use Rattle.std.proofs.Common.{◌≡◌, ℕ, ◌+◌, ◌≤◌, ◌<◌, Bool, true, false, cond, Option, Some, refl, sym, ap, ap₂, ◌∙◌, subst, arith}
+use Rattle.std.proofs.lemmas.Bool.{eq-eqb}
 use Rattle.yspec.specs.Forest.{Forest, end, node, size, join}
-use Rattle.yspec.specs.schema.Schema.{SchemaNode, is_data, data_row, child_in}
+use Rattle.serde_json.specs.Data.{Members}
+use Rattle.serde_json.specs.Find.{get_member}
+use Rattle.yspec.specs.schema.Schema.{Schema, SchemaNode, is_data, data_row, child_in, written_name}
+use Rattle.yspec.specs.document.Document.{Tree}
+use Rattle.yspec.specs.document.Reading.{members_of, instance_row, stored_rows}
 use Rattle.yspec.specs.document.Fitting.{IsNumbered}
 use Rattle.yspec.proofs.ForestLemmas.{join_end, join_assoc}
 use Rattle.yspec.proofs.DocumentProofs.FittingLemmas.{eqb_other}
@@ -67,12 +71,55 @@ pub found_parts : (others f g : Forest SchemaNode) → AreFound others (join f g
 found_parts others end g found = (tt, found)
 found_parts others (node n below after) g found = let rest = found_parts others after g found.1 in ((found.0, rest.0), rest.1)
 
--- a node that is found by a number has it
-pub child_number : (f : Forest SchemaNode) (number : ℕ) (x : SchemaNode × Forest SchemaNode) → child_in f number ≡ Some x → x.0.number ≡ number
-child_number end number x is = let no : ⊥ = cc in absurd no
-child_number (node n below after) number x is = by (eqb n.number number) refl is (child_number after number x)
+-- ---- the nodes themselves
+
+abbrev pub AreData : Forest SchemaNode → Type 0
+AreData end = Unit {0}
+AreData (node n below after) = (is_data n.kind ≡ true) × AreData after
+
+data_joined : (f g : Forest SchemaNode) → AreData f → AreData g → AreData (join f g)
+data_joined end g first second = second
+data_joined (node n below after) g first second = (first.0, data_joined after g first.1 second)
+
+pub data_are_data : (f : Forest SchemaNode) → AreData (data_row f)
+data_are_data end = tt
+data_are_data (node n below after) = by (is_data n.kind) refl (data_are_data below) (data_are_data after)
   where
-    by : (b : Bool) → eqb n.number number ≡ b → cond b (Some (n, below)) (child_in after number) ≡ Some x
-        → (child_in after number ≡ Some x → x.0.number ≡ number) → x.0.number ≡ number
-    by true same is rest = let here : (n, below) ≡ x = cc in ap (λ (y : SchemaNode × Forest SchemaNode). y.0.number) (sym here) ∙ eqb-true n.number number same
-    by false same is rest = rest is
+    by : (b : Bool) → is_data n.kind ≡ b → AreData (data_row below) → AreData (data_row after)
+        → AreData (cond b (node n below (data_row after)) (join (data_row below) (data_row after)))
+    by true is inner rest = (is, rest)
+    by false is inner rest = data_joined (data_row below) (data_row after) inner rest
+
+-- ---- what members denote in a row
+
+-- the first of a row
+stored_first : Schema → Option ℕ → SchemaNode → Forest SchemaNode → Members → Tree
+stored_first s parent n below ms = cond (is_data n.kind)
+    (instance_row n (λ d. stored_rows s (Some n.module_number) below (members_of d)) (get_member (written_name s parent n) ms))
+    (stored_rows s parent below ms)
+
+rows_joined : (s : Schema) (parent : Option ℕ) (f g : Forest SchemaNode) (ms : Members)
+    → stored_rows s parent (join f g) ms ≡ join (stored_rows s parent f ms) (stored_rows s parent g ms)
+unfolding stored_rows stored_first
+rows_joined s parent end g ms = refl
+rows_joined s parent (node n below after) g ms =
+    ap (join (stored_first s parent n below ms)) (rows_joined s parent after g ms)
+    ∙ sym (join_assoc (stored_first s parent n below ms) (stored_rows s parent after ms) (stored_rows s parent g ms))
+
+-- it is what they denote in its data nodes
+pub rows_of_data : (s : Schema) (parent : Option ℕ) (f : Forest SchemaNode) (ms : Members)
+    → stored_rows s parent f ms ≡ stored_rows s parent (data_row f) ms
+unfolding stored_rows stored_first
+rows_of_data s parent end ms = refl
+rows_of_data s parent (node n below after) ms =
+    by (is_data n.kind) refl (rows_of_data s parent below ms) (rows_of_data s parent after ms)
+  where
+    by : (b : Bool) → is_data n.kind ≡ b → stored_rows s parent below ms ≡ stored_rows s parent (data_row below) ms
+        → stored_rows s parent after ms ≡ stored_rows s parent (data_row after) ms
+        → stored_rows s parent (node n below after) ms
+        ≡ stored_rows s parent (cond b (node n below (data_row after)) (join (data_row below) (data_row after))) ms
+    by true is inner rest = ap (join (stored_first s parent n below ms)) rest
+    by false is inner rest =
+        ap (λ b. join (cond b (instance_row n (λ d. stored_rows s (Some n.module_number) below (members_of d)) (get_member (written_name s parent n) ms))
+        (stored_rows s parent below ms)) (stored_rows s parent after ms)) is
+        ∙ (ap₂ join inner rest ∙ sym (rows_joined s parent (data_row below) (data_row after) ms))

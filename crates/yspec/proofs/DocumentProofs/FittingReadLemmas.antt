@@ -9,9 +9,8 @@ use Rattle.yspec.specs.schema.Schema.{Schema, SchemaNode, is_data, is_many, data
 use Rattle.yspec.specs.document.Document.{Tree}
 use Rattle.yspec.specs.document.Reading.{Refusal, tree_or_refusal, members_of, items_of, raw_in, stored_node, item_row, instance_row, stored_rows, denoted, json_of, verdict, document_of}
 use Rattle.yspec.specs.document.Fitting.{IsNumbered, next_after, FitsBy, Fits}
-use Rattle.yspec.specs.document.Sorting.{StartsAt, IsSorted}
 use Rattle.yspec.proofs.ForestLemmas.{join_end, join_assoc}
-use Rattle.yspec.proofs.DocumentProofs.DataRowLemmas.{AreFound, data_found, found_parts, child_number}
+use Rattle.yspec.proofs.DocumentProofs.DataRowLemmas.{AreFound, data_found, found_parts}
 
 -- ---- what is asked of members, so that their row fits
 
@@ -56,7 +55,11 @@ module _ (s : Schema) (Held : SchemaNode → Option Raw → Type 0) (IsRight : O
       → EachItem (IsHeld n below) ds → FitsBy Held children n.number rest → FitsBy Held children least (join (item_row n inner ds) rest)
   items_fit children below n least inner no_items rest found lower many deeper held fits = fits_sooner children rest least n.number lower fits
   items_fit children below n least inner (item d ds) rest found lower many deeper held fits = (
-    (n, below), found, lower, held.0.0, deeper d held.0.1,
+    (n, below),
+    found,
+    lower,
+    held.0.0,
+    deeper d held.0.1,
     subst (λ k. FitsBy Held children k (join (item_row n inner ds) rest)) (sym (next_of_many n many))
         (items_fit children below n n.number inner ds rest found (omega arith) many deeper held.1 fits),
   )
@@ -74,7 +77,11 @@ module _ (s : Schema) (Held : SchemaNode → Option Raw → Type 0) (IsRight : O
       by true many these = items_fit children below n least inner (items_of d) rest found lower many deeper these
           (fits_sooner children rest n.number (suc n.number) (omega arith) fits)
       by false one this = (
-        (n, below), found, lower, this.0, deeper d this.1,
+        (n, below),
+        found,
+        lower,
+        this.0,
+        deeper d this.1,
         subst (λ k. FitsBy Held children k rest) (sym (next_of_one n one)) fits,
       )
 
@@ -171,26 +178,3 @@ read_fits s bytes t numbered so =
     subst (λ (u : Tree). Fits s u) was.is
     (row_fits s (λ n value. Unit {0}) (λ parent children ms. Unit {0}) (λ parent children ms right. ever_held s parent (data_row children) ms)
     None s.nodes 0 (members_of was.value) numbered tt)
-
--- ---- order
-
-next_is_not_less : (n : SchemaNode) → n.number ≤ next_after n
-next_is_not_less n = by (is_many n.kind)
-  where
-    by : (b : Bool) → n.number ≤ cond b n.number (suc n.number)
-    by true = omega arith
-    by false = omega arith
-
-starts : (Held : SchemaNode → Option Raw → Type 0) (children : Forest SchemaNode) (t : Tree) (j k : ℕ) → j ≤ k → FitsBy Held children k t → StartsAt j t
-starts Held children end j k lower fits = tt
-starts Held children (node l below after) j k lower fits = omega (arith, lower, fits.2)
-
-pub fits_in_order : (Held : SchemaNode → Option Raw → Type 0) (children : Forest SchemaNode) (least : ℕ) (t : Tree) → FitsBy Held children least t → IsSorted t
-fits_in_order Held children least end fits = tt
-fits_in_order Held children least (node l below after) fits =
-    let same = child_number (data_row children) l.schema_number fits.0 fits.1 in
-    let next = next_is_not_less fits.0.0 in (
-      starts Held children after l.schema_number (next_after fits.0.0) (omega (arith, same, next)) fits.5,
-      fits_in_order Held fits.0.1 0 below fits.4,
-      fits_in_order Held children (next_after fits.0.0) after fits.5,
-    )

@@ -9,7 +9,7 @@ use Rattle.std.specs.Prelude.{option_map, option_and_then}
 use Rattle.std.specs.Str.{is_utf8}
 use Rattle.json.specs.Json as json
 use Rattle.json.specs.Lex.{tokens}
-use Rattle.serde_json.specs.Data.{Data, null, boolean, number, string, array, object, Members, no_members, member, put}
+use Rattle.serde_json.specs.Data.{Data, null, boolean, number, string, array, object, Items, no_items, item, Members, no_members, member, put}
 use Rattle.serde_json.specs.Find.{get_member}
 use Rattle.serde_json.specs.Read.{of_json, of_items, of_members, number_of, max_depth, read}
 use Rattle.yspec.specs.text.Text.{Text}
@@ -20,15 +20,19 @@ abbrev IsBefore : Text → Members → Type 0
 IsBefore k no_members = Unit {0}
 IsBefore k (member l e ms) = (slice_cmp nat_cmp k l ≡ Less) × IsBefore k ms
 
--- in an object, and in those that its members have, the names rise
+-- in an object, and in those that its members have or the items of an array are, the names rise
 abbrev mutual
   pub IsRising : Data → Type 0
   IsRising null = Unit {0}
   IsRising (boolean b) = Unit {0}
   IsRising (number n) = Unit {0}
   IsRising (string t) = Unit {0}
-  IsRising (array ds) = Unit {0}
+  IsRising (array ds) = ItemsRise ds
   IsRising (object ms) = AreRising ms
+
+  pub ItemsRise : Items → Type 0
+  ItemsRise no_items = Unit {0}
+  ItemsRise (item d ds) = IsRising d × ItemsRise ds
 
   pub AreRising : Members → Type 0
   AreRising no_members = Unit {0}
@@ -96,9 +100,16 @@ mutual
   read_rising (json.boolean b) d e = subst IsRising (let is : boolean b ≡ d = cc in is) tt
   read_rising (json.number s) d e = let m = mapped number (number_of s) d e in subst IsRising m.2 tt
   read_rising (json.string s) d e = subst IsRising (let is : string s ≡ d = cc in is) tt
-  read_rising (json.array js) d e = let m = mapped array (of_items js) d e in subst IsRising m.2 tt
+  read_rising (json.array js) d e = let m = mapped array (of_items js) d e in subst IsRising m.2 (items_rise js m.0 m.1)
   read_rising (json.object ms) d e =
       let m = mapped object (of_members ms no_members) d e in subst IsRising m.2 (members_rising ms no_members m.0 tt m.1)
+
+  items_rise : (js : json.Items) (ds : Items) → of_items js ≡ Some ds → ItemsRise ds
+  items_rise json.no_items ds e = subst ItemsRise (let is : no_items ≡ ds = cc in is) tt
+  items_rise (json.item j js) ds e =
+      let m = chained (λ d. option_map (item d) (of_items js)) (of_json j) ds e in
+      let rest = mapped (item m.0) (of_items js) ds m.2 in
+      subst ItemsRise rest.2 (read_rising j m.0 m.1, items_rise js rest.0 rest.1)
 
   members_rising : (ms : json.Members) (found all : Members) → AreRising found → of_members ms found ≡ Some all → AreRising all
   members_rising json.no_members found all rising e = subst AreRising (let is : found ≡ all = cc in is) rising

@@ -6,39 +6,15 @@ use Rattle.serde_json.specs.Find.{get_member}
 use Rattle.yspec.specs.Forest.{Forest, end, node, size, join}
 use Rattle.yspec.specs.text.Text.{is_text}
 use Rattle.yspec.specs.types.Types.{Raw}
-use Rattle.yspec.specs.schema.Schema.{Schema, SchemaNode, Kind, container, leaf, leaf_list, list, choice, case, is_data, is_many, has_value, data_row, written_name, other_name}
+use Rattle.yspec.specs.schema.Schema.{Schema, SchemaNode, Kind, container, leaf, leaf_list, list, choice, case, is_many, has_value, written_name, other_name}
 use Rattle.yspec.specs.schema.Breaks.{node_limit}
 use Rattle.yspec.specs.document.Document.{Tree, Step, below_place, document_limit}
 use Rattle.yspec.specs.document.Reading.{Refusal, Visit, right, wrong, raw_of, refused_value, Named, child, other_form, unknown, named_in, other_or, at_named, value_visit, object_visit, member_visits, node_visits, item_visits, visits, right_nodes, first_refusal, members_of, items_of, stored_node, item_row, instance_row, stored_rows, json_of, document_of, tree_or_refusal}
 use Rattle.yspec.specs.plain.Kinds.{IsPlainKind, ArePlain}
 use Rattle.yspec.specs.plain.Reading as plain_reading
+use Rattle.yspec.proofs.PlainProofs.RowLemmas.{plain_is_data, plain_is_single, data_row_same}
 use Rattle.yspec.proofs.DocumentProofs.MemberLemmas.{IsRising, AreRising, json_rising}
 use Rattle.yspec.proofs.DocumentProofs.CountLemmas.{rights_joined, room_for_all, EachMember, found_among, child_later, weigh_found, weigh_members, weigh_at_end, weigh_first, rights_named}
-
--- ---- kinds
-
-pub plain_is_data : (kind : Kind) → IsPlainKind kind → is_data kind ≡ true
-plain_is_data (container presence) is = refl
-plain_is_data (leaf type absence) is = refl
-plain_is_data (leaf_list type defaults amount) is = absurd is
-plain_is_data (list tuples amount) is = absurd is
-plain_is_data (choice default_case is_mandatory) is = absurd is
-plain_is_data case is = absurd is
-
-pub plain_is_one : (kind : Kind) → IsPlainKind kind → is_many kind ≡ false
-plain_is_one (container presence) is = refl
-plain_is_one (leaf type absence) is = refl
-plain_is_one (leaf_list type defaults amount) is = absurd is
-plain_is_one (list tuples amount) is = absurd is
-plain_is_one (choice default_case is_mandatory) is = absurd is
-plain_is_one case is = absurd is
-
--- each node of such a row is a data node
-pub plain_row : (f : Forest SchemaNode) → ArePlain f → data_row f ≡ f
-plain_row end plain = refl
-plain_row (node n below after) plain =
-    ap (λ b. cond b (node n below (data_row after)) (join (data_row below) (data_row after))) (plain_is_data n.kind plain.0)
-    ∙ ap (node n below) (plain_row after plain.2)
 
 -- ---- rows
 
@@ -60,7 +36,7 @@ plain_rows s parent (node n below after) ms plain =
     let found = get_member (written_name s parent n) ms in
     ap (λ b. join (cond b (instance_row n (λ d. stored_rows s (Some n.module_number) below (members_of d)) found) (stored_rows s parent below ms))
     (stored_rows s parent after ms)) (plain_is_data n.kind plain.0)
-    ∙ (one_or_none n (λ d. stored_rows s (Some n.module_number) below (members_of d)) found (stored_rows s parent after ms) (plain_is_one n.kind plain.0)
+    ∙ (one_or_none n (λ d. stored_rows s (Some n.module_number) below (members_of d)) found (stored_rows s parent after ms) (plain_is_single n.kind plain.0)
     ∙ (with_inner n found (λ d. stored_rows s (Some n.module_number) below (members_of d)) (λ d. plain_reading.stored_rows s (Some n.module_number) below (members_of d))
     (stored_rows s parent after ms) (λ d. plain_rows s (Some n.module_number) below (members_of d) plain.1)
     ∙ ap (plain_reading.with_stored n found (λ d. plain_reading.stored_rows s (Some n.module_number) below (members_of d))) (plain_rows s parent after ms plain.2)))
@@ -93,25 +69,25 @@ mutual
   pub plain_node : (s : Schema) (n : SchemaNode) (below : Forest SchemaNode) (place : List Step) (d : Data) → IsPlainKind n.kind → ArePlain below
       → node_visits s n below place d ≡ plain_reading.node_visits s n below (below_place place n) d
   plain_node s n below place null kind plain =
-      ap (λ b. cond b (wrong 5 (below_place place n) ∷ []) (value_visit n.kind (below_place place n) null)) (plain_is_one n.kind kind)
+      ap (λ b. cond b (wrong 5 (below_place place n) ∷ []) (value_visit n.kind (below_place place n) null)) (plain_is_single n.kind kind)
   plain_node s n below place (boolean x) kind plain =
-      ap (λ b. cond b (wrong 5 (below_place place n) ∷ []) (value_visit n.kind (below_place place n) (boolean x))) (plain_is_one n.kind kind)
+      ap (λ b. cond b (wrong 5 (below_place place n) ∷ []) (value_visit n.kind (below_place place n) (boolean x))) (plain_is_single n.kind kind)
   plain_node s n below place (number x) kind plain =
-      ap (λ b. cond b (wrong 5 (below_place place n) ∷ []) (value_visit n.kind (below_place place n) (number x))) (plain_is_one n.kind kind)
+      ap (λ b. cond b (wrong 5 (below_place place n) ∷ []) (value_visit n.kind (below_place place n) (number x))) (plain_is_single n.kind kind)
   plain_node s n below place (string x) kind plain =
-      ap (λ b. cond b (wrong 5 (below_place place n) ∷ []) (value_visit n.kind (below_place place n) (string x))) (plain_is_one n.kind kind)
+      ap (λ b. cond b (wrong 5 (below_place place n) ∷ []) (value_visit n.kind (below_place place n) (string x))) (plain_is_single n.kind kind)
   plain_node s n below place (array ds) kind plain =
-      ap (λ b. cond b (item_visits s n below place 1 ds) (value_visit n.kind (below_place place n) (array ds))) (plain_is_one n.kind kind)
+      ap (λ b. cond b (item_visits s n below place 1 ds) (value_visit n.kind (below_place place n) (array ds))) (plain_is_single n.kind kind)
   plain_node s n below place (object ms) kind plain =
       ap (λ b. cond b (wrong 5 (below_place place n) ∷ [])
-      (object_visit n.kind (below_place place n) (member_visits s (Some n.module_number) below (below_place place n) ms))) (plain_is_one n.kind kind)
+      (object_visit n.kind (below_place place n) (member_visits s (Some n.module_number) below (below_place place n) ms))) (plain_is_single n.kind kind)
       ∙ ap (object_visit n.kind (below_place place n)) (plain_members s (Some n.module_number) below (below_place place n) ms plain)
 
   pub plain_members : (s : Schema) (parent : Option ℕ) (f : Forest SchemaNode) (place : List Step) (ms : Members) → ArePlain f
       → member_visits s parent f place ms ≡ plain_reading.member_visits s parent f place ms
   plain_members s parent f place no_members plain = refl
   plain_members s parent f place (member name d ms) plain = ap₂ (λ vs ws. vs ++ ws)
-      (ap (λ row. at_named (named_in s parent name row) place (λ n below. node_visits s n below place d)) (plain_row f plain)
+      (ap (λ row. at_named (named_in s parent name row) place (λ n below. node_visits s n below place d)) (data_row_same f plain)
       ∙ at_plain (named_in s parent name f) place _ _ (λ n below is.
       let these = named_plain s parent name f n below plain is in plain_node s n below place d these.0 these.1))
       (plain_members s parent f place ms plain)

@@ -1,5 +1,6 @@
 use Rattle.std.proofs.Common.{ap, option_map}
-use Rattle.yspec.specs.document.RowFaults.{prefixed, absent_own, row_faults}
+use Rattle.yspec.specs.document.RowFaults.{prefixed}
+use Rattle.yspec.specs.plain.RowFaults.{absent_own, row_faults}
 use Rattle.yspec.specs.Forest.{end}
 use Rattle.ytype.specs.View.{raw_of}
 use Rattle.yschema.specs.View as schema_view

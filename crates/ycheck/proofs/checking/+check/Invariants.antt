@@ -1,6 +1,7 @@
 use Rattle.std.proofs.Common.{◌≡◌, ◌+◌, ◌*◌, ◌≤◌, ◌++◌, map}
 use Rattle.yspec.specs.Forest.{size}
-use Rattle.yspec.specs.document.RowFaults.{prefixed, row_faults}
+use Rattle.yspec.specs.document.RowFaults.{prefixed}
+use Rattle.yspec.specs.plain.RowFaults.{row_faults}
 use Rattle.yschema.specs.View.{row_view, below_of}
 use Rattle.ytree.specs.View as document_view
 use Rattle.ytree.specs.View.{place_view}

@@ -1,5 +1,5 @@
 use Rattle.std.proofs.Common.{◌≡◌, drop}
-use Rattle.yspec.specs.edit.Editing.{row_under}
+use Rattle.yspec.specs.plain.Editing.{row_under}
 use Rattle.ytree.specs.View.{row_view}
 use Rattle.yinst.specs.Applying.{numbers}
 use Rattle.yinst.proofs.rows.row_under.Given as goal

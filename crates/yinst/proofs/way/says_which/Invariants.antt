@@ -1,5 +1,5 @@
 use Rattle.std.proofs.Common.{◌≡◌, drop}
-use Rattle.yspec.specs.edit.Editing.{says_which}
+use Rattle.yspec.specs.plain.Editing.{says_which}
 use Rattle.yinst.specs.EditView.{steps_view}
 use Rattle.yinst.proofs.way.says_which.Given as goal
 

@@ -1,5 +1,5 @@
 use Rattle.std.proofs.Common.{◌≡◌, drop}
-use Rattle.yspec.specs.edit.Editing.{way_on}
+use Rattle.yspec.specs.plain.Editing.{way_on}
 use Rattle.yschema.specs.View.{view}
 use Rattle.yinst.specs.EditView.{steps_view}
 use Rattle.yinst.specs.Applying.{numbers}
