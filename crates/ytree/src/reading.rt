@@ -25,7 +25,8 @@ use yschema::{Children, Kind, Schema, SchemaId, SchemaNode};
 use ytype::Raw;
 
 /// The document that JSON bytes denote under a schema, or the first refusal: J1 and J2, then J3 to J6 depth first, members
-/// in byte order of their names (RFC 7951).
+/// in byte order of their names (RFC 7951). J7 never comes: a schema of containers and leafs has fewer nodes than a document
+/// may.
 pub fn read(alloc: Global, schema: &Schema, bytes: &[u8]) -> Result<Tree, DocFault>
     ensures answer { Gives tree_view told_by result (document_of (schema_view.view schema.now) bytes.now) }
     ensures fitting { IfOk result (λ tree. Fits (schema_view.view schema.now) (tree_view tree)) }
