@@ -20,3 +20,4 @@ pub mod WrittenAlongLemmas
 pub mod WrittenRowLemmas
 pub mod WrittenVisitLemmas
 pub mod ReadBackLemmas
+pub mod WrittenShapeLemmas

@@ -1,15 +1,12 @@
--- What is written and read of a row of schema nodes is what is written and read of its data nodes, whose numbers rise.
-use Rattle.std.proofs.Common.{◌≡◌, ℕ, suc, ◌+◌, ◌≤◌, Bool, true, false, cond, eqb, Option, Some, refl, sym, ap, ap₂, ◌∙◌, arith}
+-- What is written of a row of schema nodes is what is written of its data nodes, whose numbers rise.
+use Rattle.std.proofs.Common.{◌≡◌, ℕ, suc, ◌+◌, ◌≤◌, Bool, true, false, cond, eqb, Option, Some, refl, sym, ap, ◌∙◌, arith}
 use Rattle.std.proofs.lemmas.Bool.{eqb-true}
 use Rattle.serde_json.specs.Data.{Members, no_members}
-use Rattle.serde_json.specs.Find.{get_member}
 use Rattle.yspec.specs.Forest.{Forest, end, node, size, join}
 use Rattle.yspec.specs.schema.Schema.{Schema, SchemaNode, is_data, data_row, child_in, written_name}
 use Rattle.yspec.specs.document.Document.{Tree, instances}
-use Rattle.yspec.specs.document.Reading.{members_of, instance_row, stored_rows}
 use Rattle.yspec.specs.document.Writing.{with_instances, row_members}
 use Rattle.yspec.specs.document.Fitting.{IsNumbered}
-use Rattle.yspec.proofs.ForestLemmas.{join_assoc}
 
 -- ---- numbers
 
@@ -80,34 +77,6 @@ members_of_data_row s parent (node n below after) t found =
     members_of_data_row s parent after t (cond (is_data n.kind) here (row_members s parent below t found))
     ∙ (ap (λ ms. row_members s parent (data_row after) t (cond (is_data n.kind) here ms)) (members_of_data_row s parent below t found)
     ∙ sym (members_if s parent n below (data_row below) (data_row after) t (is_data n.kind) found refl))
-
--- ---- reading
-
-rows_joined : (s : Schema) (parent : Option ℕ) (f g : Forest SchemaNode) (ms : Members)
-    → stored_rows s parent (join f g) ms ≡ join (stored_rows s parent f ms) (stored_rows s parent g ms)
-unfolding stored_rows
-rows_joined s parent end g ms = refl
-rows_joined s parent (node n below after) g ms =
-    let here = cond (is_data n.kind) (instance_row n (λ d. stored_rows s (Some n.module_number) below (members_of d)) (get_member (written_name s parent n) ms))
-    (stored_rows s parent below ms) in
-    ap (join here) (rows_joined s parent after g ms) ∙ sym (join_assoc here (stored_rows s parent after ms) (stored_rows s parent g ms))
-
-rows_if : (s : Schema) (parent : Option ℕ) (n : SchemaNode) (below inner after : Forest SchemaNode) (ms : Members) (b : Bool) → is_data n.kind ≡ b
-    → stored_rows s parent (cond b (node n below after) (join inner after)) ms
-    ≡ join (cond b (instance_row n (λ d. stored_rows s (Some n.module_number) below (members_of d)) (get_member (written_name s parent n) ms))
-    (stored_rows s parent inner ms)) (stored_rows s parent after ms)
-unfolding stored_rows
-rows_if s parent n below inner after ms true is = rw is refl
-rows_if s parent n below inner after ms false is = rows_joined s parent inner after ms
-
-pub rows_of_data_row : (s : Schema) (parent : Option ℕ) (f : Forest SchemaNode) (ms : Members)
-    → stored_rows s parent f ms ≡ stored_rows s parent (data_row f) ms
-unfolding stored_rows
-rows_of_data_row s parent end ms = refl
-rows_of_data_row s parent (node n below after) ms =
-    let here = instance_row n (λ d. stored_rows s (Some n.module_number) below (members_of d)) (get_member (written_name s parent n) ms) in
-    ap₂ (λ x y. join (cond (is_data n.kind) here x) y) (rows_of_data_row s parent below ms) (rows_of_data_row s parent after ms)
-    ∙ sym (rows_if s parent n below (data_row below) (data_row after) ms (is_data n.kind) refl)
 
 -- ---- what holds of each data node
 

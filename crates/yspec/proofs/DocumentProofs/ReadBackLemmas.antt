@@ -8,10 +8,12 @@ use Rattle.yspec.specs.document.Document.{Tree, Step, document_limit}
 use Rattle.yspec.specs.document.Reading.{Refusal, visits, verdict, denoted, tree_or_refusal, json_of, document_of, stored_rows, member_visits}
 use Rattle.yspec.specs.document.Fitting.{IsNumbered, LeafsAreBare, FitsBy}
 use Rattle.yspec.specs.document.Writing.{row_members, RowDiffers, AllDiffer, NamesDiffer, HasForm, IsDocument, written_value}
-use Rattle.yspec.proofs.DocumentProofs.DataRowWritingLemmas.{numbers_rise, AllHave, WhereData, each_of_data_row, each_weaker, members_of_data_row, rows_of_data_row}
+use Rattle.yspec.proofs.DocumentProofs.DataRowLemmas.{rows_of_data}
+use Rattle.yspec.proofs.DocumentProofs.DataRowWritingLemmas.{numbers_rise, AllHave, WhereData, each_of_data_row, each_weaker, members_of_data_row}
+use Rattle.yspec.proofs.DocumentProofs.VisitLemmas.{meant_themselves}
 use Rattle.yspec.proofs.DocumentProofs.AlongLemmas.{along_of}
 use Rattle.yspec.proofs.DocumentProofs.WrittenRowLemmas.{absent_of_none, ComesBack, rows_back}
-use Rattle.yspec.proofs.DocumentProofs.WrittenVisitLemmas.{AreFine, room_left, meant_all, none_fine, IsRight, rows_fine}
+use Rattle.yspec.proofs.DocumentProofs.WrittenVisitLemmas.{AreFine, room_left, none_fine, IsRight, rows_fine}
 
 module _ (s : Schema) where
   abbrev ReadsBack : SchemaNode → Forest SchemaNode → Type 0
@@ -21,7 +23,7 @@ module _ (s : Schema) where
       → (t : Tree) → FitsBy HasForm f 0 t → stored_rows s parent f (row_members s parent f t no_members) ≡ t
   row_back parent f k differ numbered all t fits =
       ap (stored_rows s parent f) (members_of_data_row s parent f t no_members)
-      ∙ (rows_of_data_row s parent f (row_members s parent (data_row f) t no_members)
+      ∙ (rows_of_data s parent f (row_members s parent (data_row f) t no_members)
       ∙ rows_back s parent (data_row f) k (k + size f) t no_members differ (numbers_rise f k numbered)
       (each_weaker ReadsBack (ComesBack s) (data_row f) (λ n below both. both.0) (each_of_data_row ReadsBack f all)) (along_of HasForm f k t numbered fits)
       (absent_of_none s parent (data_row f)))
@@ -31,7 +33,7 @@ module _ (s : Schema) where
   row_right parent f k differ numbered all place t fits =
       subst (λ ms. AreFine (member_visits s parent f place ms) (size t)) (sym (members_of_data_row s parent f t no_members))
       (subst (AreFine (member_visits s parent f place (row_members s parent (data_row f) t no_members))) (omega arith)
-      (rows_fine s parent f (data_row f) k (k + size f) t place no_members 0 (meant_all s parent (data_row f) differ) (numbers_rise f k numbered)
+      (rows_fine s parent f (data_row f) k (k + size f) t place no_members 0 (meant_themselves s parent (data_row f) differ) (numbers_rise f k numbered)
       (each_weaker ReadsBack (IsRight s) (data_row f) (λ n below both. both.1) (each_of_data_row ReadsBack f all)) (along_of HasForm f k t numbered fits)
       (none_fine s parent f place)))
 

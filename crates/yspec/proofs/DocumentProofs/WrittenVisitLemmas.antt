@@ -1,24 +1,24 @@
 -- What is written of a stored row that fits is right, and has no more right nodes than are stored.
-use Rattle.std.proofs.Common.{◌≡◌, ◌≢◌, ℕ, suc, zero-add, ◌+◌, ◌-◌, ◌≤◌, Bool, true, false, cond, List, [], ◌∷◌, ◌++◌, Option, Some, None, Ordering, Less, Equal, Greater, nat_cmp, is_eq, ℤ, refl, sym, ap, ◌∙◌, subst, arith}
+use Rattle.std.proofs.Common.{◌≡◌, ℕ, suc, zero-add, ◌+◌, ◌-◌, ◌≤◌, Bool, true, false, cond, List, [], ◌∷◌, ◌++◌, Option, Some, None, Ordering, Less, Equal, Greater, nat_cmp, is_eq, ℤ, refl, sym, ap, ◌∙◌, subst, arith}
 use Rattle.std.proofs.lemmas.Map.Text.{is_eq-slice_cmp}
 use Rattle.std.proofs.lemmas.Slice.Eq.{bytes_eq-Decides}
 use Rattle.std.specs.Cmp.Lexicographic.{slice_cmp}
 use Rattle.std.specs.Prelude.{unwrap_or}
 use Rattle.std.specs.Option.{option_map_or}
 use Rattle.std.specs.Ordering.{match_ordering}
-use Rattle.serde_json.specs.Data.{Data, null, boolean, number, string, array, object, Items, no_items, item, Members, no_members, member, put}
+use Rattle.serde_json.specs.Data.{Data, null, number, array, object, Items, no_items, item, Members, no_members, member, put}
 use Rattle.serde_json.specs.Find.{as_object, of_integer}
 use Rattle.yspec.specs.Forest.{Forest, end, node, size, join}
-use Rattle.yspec.specs.text.Text.{Text, is_text}
+use Rattle.yspec.specs.text.Text.{Text}
 use Rattle.yspec.specs.types.Ranges.{lies_in}
 use Rattle.yspec.specs.types.Types.{Raw, text, int, bool, empty}
-use Rattle.yspec.specs.schema.Schema.{Schema, SchemaNode, is_many, has_value, data_row, written_name, other_name}
+use Rattle.yspec.specs.schema.Schema.{Schema, SchemaNode, is_many, has_value, data_row, written_name}
 use Rattle.yspec.specs.document.Document.{Stored, Tree, Step, below_place, instance_place}
-use Rattle.yspec.specs.document.Reading.{whole_numbers, Visit, right, wrong, refused_value, child, named_in, other_or, named, at_named, leaf_visit, value_visit, object_visit, member_visits, node_visits, item_visits, instance_visits, first_wrong, right_nodes, first_refusal}
+use Rattle.yspec.specs.document.Reading.{whole_numbers, Visit, right, wrong, refused_value, child, named, at_named, leaf_visit, value_visit, member_visits, node_visits, item_visits, instance_visits, first_wrong, right_nodes, first_refusal}
 use Rattle.yspec.specs.document.Fitting.{FitsBy}
-use Rattle.yspec.specs.document.Writing.{leaf_data, written_node, written_items, with_instances, row_members, IsNew, RowDiffers, HasText, HasTextIf, HasForm}
-use Rattle.yspec.proofs.BasicLemmas.{same_text, other_text}
+use Rattle.yspec.specs.document.Writing.{leaf_data, written_node, written_items, with_instances, row_members, HasText, HasTextIf, HasForm}
 use Rattle.yspec.proofs.DocumentProofs.FittingLemmas.{eqb_other}
+use Rattle.yspec.proofs.DocumentProofs.VisitLemmas.{first_part, one_visited, other_visited, AreMeant}
 use Rattle.yspec.proofs.DocumentProofs.DataRowWritingLemmas.{Rises, Each, OfData}
 use Rattle.yspec.proofs.DocumentProofs.AlongLemmas.{AreOf, Along}
 use Rattle.yspec.proofs.DocumentProofs.WrittenAlongLemmas.{inner_members, first_written}
@@ -34,11 +34,6 @@ wrong_append : (vs ws : List Visit) → first_wrong vs ≡ None → first_wrong 
 wrong_append [] ws none = refl
 wrong_append (right place ∷ vs) ws none = wrong_append vs ws none
 wrong_append (wrong code place ∷ vs) ws none = absurd cc
-
-first_part : (vs ws : List Visit) → first_wrong (vs ++ ws) ≡ None → first_wrong vs ≡ None
-first_part [] ws none = refl
-first_part (right place ∷ vs) ws none = first_part vs ws none
-first_part (wrong code place ∷ vs) ws none = absurd cc
 
 right_append : (vs ws : List Visit) → right_nodes (vs ++ ws) ≡ right_nodes vs + right_nodes ws
 right_append [] ws = sym (zero-add (right_nodes ws))
@@ -59,33 +54,6 @@ room_left (right place ∷ vs) room fine =
     ap (λ b. cond b (Some (record { code = 7; place = [] })) (first_refusal (room - 1) vs)) (eqb_other room 0 (λ e. absurd (omega (arith, few, e))))
     ∙ room_left vs (room - 1) (fine.0, omega (arith, few))
 room_left (wrong code place ∷ vs) room fine = absurd (let no = fine.0 in cc)
-
--- ---- names
-
--- each data node of a row is the one that its written name means
-abbrev pub AreMeant : Schema → Option ℕ → Forest SchemaNode → Forest SchemaNode → Type 0
-AreMeant s parent whole end = Unit {0}
-AreMeant s parent whole (node n below after) = (named_in s parent (written_name s parent n) whole ≡ child n below) × AreMeant s parent whole after
-
--- with one more node in front, which has another name
-meant_later : (s : Schema) (parent : Option ℕ) (n : SchemaNode) (below after f : Forest SchemaNode) → IsNew s parent (written_name s parent n) f
-    → AreMeant s parent after f → AreMeant s parent (node n below after) f
-meant_later s parent n below after end new meant = tt
-meant_later s parent n below after (node m inner f) new meant =
-    let name = written_name s parent m in
-    let apart : name ≢ written_name s parent n = λ e. new.0 (sym e) in (
-      ap (λ b. cond b (child n below) (other_or (is_text name (other_name s parent n)) (named_in s parent name after))) (other_text name (written_name s parent n) apart)
-          ∙ ap (other_or (is_text name (other_name s parent n))) meant.0,
-      meant_later s parent n below after f new.1 meant.1,
-    )
-
-pub meant_all : (s : Schema) (parent : Option ℕ) (f : Forest SchemaNode) → RowDiffers s parent f → AreMeant s parent f f
-meant_all s parent end differ = tt
-meant_all s parent (node n below after) differ =
-    let name = written_name s parent n in (
-      ap (λ b. cond b (child n below) (other_or (is_text name (other_name s parent n)) (named_in s parent name after))) (same_text name),
-      meant_later s parent n below after after differ.0 (meant_all s parent after differ.1),
-    )
 
 -- ---- members
 
@@ -152,34 +120,11 @@ no_object (Some empty) = refl
 no_object None = refl
 
 module _ (s : Schema) where
-  -- of a value that is no object
-  other_value : (n : SchemaNode) (below : Forest SchemaNode) (place : List Step) (d : Data) → as_object d ≡ None → instance_visits s n below place d ≡ value_visit n.kind place d
-  unfolding instance_visits
-  other_value n below place null h = refl
-  other_value n below place (boolean b) h = refl
-  other_value n below place (number x) h = refl
-  other_value n below place (string t) h = refl
-  other_value n below place (array ds) h = refl
-  other_value n below place (object ms) h = absurd cc
-
   object_value : (n : SchemaNode) (below : Forest SchemaNode) (place : List Step) (inner : Members) → has_value n.kind ≡ false
       → instance_visits s n below place (object inner) ≡ right place ∷ member_visits s (Some n.module_number) below place inner
   unfolding instance_visits
   object_value n below place inner is =
       ap (λ c. cond c (wrong 5 place ∷ []) (right place ∷ member_visits s (Some n.module_number) below place inner)) is
-
-  -- a node that is neither list nor leaf-list
-  single_visits : (n : SchemaNode) (below : Forest SchemaNode) (place : List Step) (d : Data) → is_many n.kind ≡ false
-      → node_visits s n below place d ≡ instance_visits s n below (below_place place n) d
-  unfolding node_visits instance_visits
-  single_visits n below place null is = ap (λ c. cond c (wrong 5 (below_place place n) ∷ []) (value_visit n.kind (below_place place n) null)) is
-  single_visits n below place (boolean b) is = ap (λ c. cond c (wrong 5 (below_place place n) ∷ []) (value_visit n.kind (below_place place n) (boolean b))) is
-  single_visits n below place (number x) is = ap (λ c. cond c (wrong 5 (below_place place n) ∷ []) (value_visit n.kind (below_place place n) (number x))) is
-  single_visits n below place (string t) is = ap (λ c. cond c (wrong 5 (below_place place n) ∷ []) (value_visit n.kind (below_place place n) (string t))) is
-  single_visits n below place (array ds) is = ap (λ c. cond c (item_visits s n below place 1 ds) (value_visit n.kind (below_place place n) (array ds))) is
-  single_visits n below place (object ms) is =
-      let steps = below_place place n in
-      ap (λ c. cond c (wrong 5 steps ∷ []) (object_visit n.kind steps (member_visits s (Some n.module_number) below steps ms))) is
 
   many_visits : (n : SchemaNode) (below : Forest SchemaNode) (place : List Step) (ds : Items) → is_many n.kind ≡ true
       → node_visits s n below place (array ds) ≡ item_visits s n below place 1 ds
@@ -203,7 +148,7 @@ module _ (s : Schema) where
       → AreFine (instance_visits s n below place (leaf_data value)) (suc (size b))
   leaf_fine n below place value b is held =
       subst (λ vs. AreFine vs (suc (size b)))
-      (sym (other_value n below place (leaf_data value) (no_object value)
+      (sym (other_visited s n below place (leaf_data value) (no_object value)
       ∙ (ap (λ c. cond c (leaf_visit place (leaf_data value)) (wrong 5 place ∷ [])) is
       ∙ ap (λ (o : Option Raw). option_map_or (λ _. right place ∷ []) o (wrong (refused_value (leaf_data value)) place ∷ [])) (leaf_back value held ∙ known value held))))
       (refl, omega arith)
@@ -245,7 +190,7 @@ module _ (s : Schema) where
       subst (λ vs. AreFine vs (size (node st b a))) (sym (many_visits n below place (written_items n.kind (inner_members s n below) (node st b a)) is))
       (items_fine n below place 1 (node st b a) inner are)
   front_fine false n below place st b a is inner are =
-      subst (λ vs. AreFine vs (size (node st b a))) (sym (single_visits n below place (written_node n.kind st.value (inner_members s n below b)) is))
+      subst (λ vs. AreFine vs (size (node st b a))) (sym (one_visited s n below place (written_node n.kind st.value (inner_members s n below b)) is))
       (fine_more (instance_visits s n below (below_place place n) (written_node n.kind st.value (inner_members s n below b))) (suc (size b)) (size (node st b a)) (omega arith) (instance_fine n below (below_place place n) st.value b inner are.1 are.2))
 
   -- ---- rows
