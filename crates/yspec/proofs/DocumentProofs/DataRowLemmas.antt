@@ -1,8 +1,12 @@
 -- The data nodes of a row of schema nodes, those reached through choices and cases among them, and their numbers.
-use Rattle.std.proofs.Common.{◌≡◌, ℕ, ◌+◌, ◌≤◌, ◌<◌, Bool, true, false, cond, Some, refl, sym, ap, ◌∙◌, subst, arith}
+use Rattle.std.proofs.Common.{◌≡◌, ℕ, ◌+◌, ◌≤◌, ◌<◌, Bool, true, false, cond, Option, Some, refl, sym, ap, ap₂, ◌∙◌, subst, arith}
 use Rattle.std.proofs.lemmas.Bool.{eq-eqb}
 use Rattle.yspec.specs.Forest.{Forest, end, node, size, join}
-use Rattle.yspec.specs.schema.Schema.{SchemaNode, is_data, data_row, child_in}
+use Rattle.serde_json.specs.Data.{Members}
+use Rattle.serde_json.specs.Find.{get_member}
+use Rattle.yspec.specs.schema.Schema.{Schema, SchemaNode, is_data, data_row, child_in, written_name}
+use Rattle.yspec.specs.document.Document.{Tree}
+use Rattle.yspec.specs.document.Reading.{members_of, instance_row, stored_rows}
 use Rattle.yspec.specs.document.Fitting.{IsNumbered}
 use Rattle.yspec.proofs.ForestLemmas.{join_end, join_assoc}
 use Rattle.yspec.proofs.DocumentProofs.FittingLemmas.{eqb_other}
@@ -85,3 +89,37 @@ data_are_data (node n below after) = by (is_data n.kind) refl (data_are_data bel
         → AreData (cond b (node n below (data_row after)) (join (data_row below) (data_row after)))
     by true is inner rest = (is, rest)
     by false is inner rest = data_joined (data_row below) (data_row after) inner rest
+
+-- ---- what members denote in a row
+
+-- the first of a row
+stored_first : Schema → Option ℕ → SchemaNode → Forest SchemaNode → Members → Tree
+stored_first s parent n below ms = cond (is_data n.kind)
+    (instance_row n (λ d. stored_rows s (Some n.module_number) below (members_of d)) (get_member (written_name s parent n) ms))
+    (stored_rows s parent below ms)
+
+rows_joined : (s : Schema) (parent : Option ℕ) (f g : Forest SchemaNode) (ms : Members)
+    → stored_rows s parent (join f g) ms ≡ join (stored_rows s parent f ms) (stored_rows s parent g ms)
+unfolding stored_rows stored_first
+rows_joined s parent end g ms = refl
+rows_joined s parent (node n below after) g ms =
+    ap (join (stored_first s parent n below ms)) (rows_joined s parent after g ms)
+    ∙ sym (join_assoc (stored_first s parent n below ms) (stored_rows s parent after ms) (stored_rows s parent g ms))
+
+-- it is what they denote in its data nodes
+pub rows_of_data : (s : Schema) (parent : Option ℕ) (f : Forest SchemaNode) (ms : Members)
+    → stored_rows s parent f ms ≡ stored_rows s parent (data_row f) ms
+unfolding stored_rows stored_first
+rows_of_data s parent end ms = refl
+rows_of_data s parent (node n below after) ms =
+    by (is_data n.kind) refl (rows_of_data s parent below ms) (rows_of_data s parent after ms)
+  where
+    by : (b : Bool) → is_data n.kind ≡ b → stored_rows s parent below ms ≡ stored_rows s parent (data_row below) ms
+        → stored_rows s parent after ms ≡ stored_rows s parent (data_row after) ms
+        → stored_rows s parent (node n below after) ms
+        ≡ stored_rows s parent (cond b (node n below (data_row after)) (join (data_row below) (data_row after))) ms
+    by true is inner rest = ap (join (stored_first s parent n below ms)) rest
+    by false is inner rest =
+        ap (λ b. join (cond b (instance_row n (λ d. stored_rows s (Some n.module_number) below (members_of d)) (get_member (written_name s parent n) ms))
+        (stored_rows s parent below ms)) (stored_rows s parent after ms)) is
+        ∙ (ap₂ join inner rest ∙ sym (rows_joined s parent (data_row below) (data_row after) ms))

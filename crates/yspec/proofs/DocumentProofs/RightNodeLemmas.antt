@@ -12,8 +12,7 @@ use Rattle.yspec.specs.document.Reading.{Visit, right, wrong, raw_of, refused_va
 use Rattle.yspec.specs.document.Writing.{IsNew, RowDiffers, AllDiffer, NamesDiffer}
 use Rattle.yspec.proofs.BasicLemmas.{other_text}
 use Rattle.yspec.proofs.DocumentProofs.MemberLemmas.{IsRising, ItemsRise, AreRising, json_rising}
-use Rattle.yspec.proofs.DocumentProofs.DataRowLemmas.{AreData, data_are_data}
-use Rattle.yspec.proofs.DocumentProofs.DataRowWritingLemmas.{rows_of_data_row}
+use Rattle.yspec.proofs.DocumentProofs.DataRowLemmas.{AreData, data_are_data, rows_of_data}
 use Rattle.yspec.proofs.DocumentProofs.FittingReadLemmas.{EachItem, was_read}
 use Rattle.yspec.proofs.DocumentProofs.CountLemmas.{rights_joined, EachMember, found_among, weigh_named, weigh_found, weigh_members, weigh_later, weigh_at_end, weigh_first, rights_named}
 use Rattle.yspec.proofs.DocumentProofs.VisitLemmas.{first_part, other_part, none_refused, top_right, one_visited, many_visited, other_visited, no_members_of, BelowDiffers, AreVisited, all_visited}
@@ -108,7 +107,7 @@ members_counted : (s : Schema) (parent : Option ℕ) (children : Forest SchemaNo
 members_counted s parent children place ms differ all rising each is =
     rights_weighed s parent children place ms
     ∙ (row_counted s parent place ms (data_row children) (data_are_data children) differ rising each (all_visited s parent children place ms differ all is)
-    ∙ ap size (sym (rows_of_data_row s parent children ms)))
+    ∙ ap size (sym (rows_of_data s parent children ms)))
 
 -- ---- values
 
