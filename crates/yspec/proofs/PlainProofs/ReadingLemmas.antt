@@ -6,7 +6,7 @@ use Rattle.serde_json.specs.Find.{as_object, get_member}
 use Rattle.yspec.specs.Forest.{Forest, end, node, size, join}
 use Rattle.yspec.specs.text.Text.{is_text}
 use Rattle.yspec.specs.types.Types.{Raw}
-use Rattle.yspec.specs.schema.Schema.{Schema, SchemaNode, Kind, container, leaf, leaf_list, list, choice, case, is_many, has_value, written_name, other_name}
+use Rattle.yspec.specs.schema.Schema.{Schema, SchemaNode, Kind, is_many, has_value, written_name, other_name}
 use Rattle.yspec.specs.schema.Breaks.{node_limit}
 use Rattle.yspec.specs.document.Document.{Tree, Step, below_place, document_limit}
 use Rattle.yspec.specs.document.Reading.{Refusal, Visit, right, wrong, raw_of, refused_value, Named, child, other_form, unknown, named_in, other_or, at_named, value_visit, object_visit, member_visits, node_visits, item_visits, visits, right_nodes, first_refusal, members_of, items_of, stored_node, item_row, instance_row, stored_rows, json_of, document_of, tree_or_refusal}
