@@ -15,9 +15,8 @@ use Rattle.yspec.specs.plain.Kinds.{ArePlain}
 use Rattle.yspec.specs.edit.EditText.{Edit}
 use Rattle.yspec.specs.document.Document.{Tree}
 use Rattle.yspec.specs.document.Fitting.{IsNumbered, Fits}
-use Rattle.yspec.specs.document.Writing.{NamesDiffer, IsDocument}
 use Rattle.yspec.proofs.PlainProofs.EditingLemmas.{edits_are_plain}
-use Rattle.yspec.proofs.EditProofs.FittingEditLemmas.{edit_fits, edit_whole, whole_fits}
+use Rattle.yspec.proofs.EditProofs.AnswerLemmas.{If}
 use Rattle.yspec.proofs.SchemaProofs.NumberLemmas.{number_at}
 use Rattle.ytree.specs.View.{Labelled, tree_view}
 use Rattle.ytree.specs.Told.{denoted_at, refused_at}
@@ -69,12 +68,8 @@ pub wide_if_applied : (given : Result tree.Tree EditFault) (s : Schema) (before 
 wide_if_applied given s before e are numbered is fits =
     answers_same tree_view given (applied s before e) (plain.applied s before e) (edits_are_plain s before e are numbered fits) is
 
-pub fits_if_applied : (given : Result tree.Tree EditFault) (s : Schema) (before : Tree) (e : Edit) → IsNumbered 0 s.nodes
-    → Fits s before → Gives tree_view told_by given (applied s before e) → IfOk given (λ t. Fits s (tree_view t))
-fits_if_applied (Ok t) s before e numbered fits is = edit_fits s before (tree_view t) e numbered fits is
-fits_if_applied (Err f) s before e numbered fits is = tt
-
-pub whole_if_applied : (given : Result tree.Tree EditFault) (s : Schema) (before : Tree) (e : Edit) → IsNumbered 0 s.nodes → NamesDiffer s
-    → IsDocument s before → Gives tree_view told_by given (applied s before e) → IfOk given (λ t. IsDocument s (tree_view t))
-whole_if_applied (Ok t) s before e numbered differ whole is = edit_whole s before (tree_view t) e numbered differ whole is
-whole_if_applied (Err f) s before e numbered differ whole is = tt
+-- what holds of the definition's answer holds of what is given
+pub if_given : (P : Tree → Type 0) (given : Result tree.Tree EditFault) (answer : Result Tree EditRefusal) → Gives tree_view told_by given answer
+    → If P answer → IfOk given (λ t. P (tree_view t))
+if_given P (Ok t) answer is holds = subst (λ (r : Result Tree EditRefusal). If P r) is holds
+if_given P (Err f) answer is holds = tt

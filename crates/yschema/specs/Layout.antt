@@ -1,29 +1,54 @@
 -- How the nodes of a schema lie in rows: each before those below it, with how many these are.
-use Rattle.std.specs.Prelude.{ℕ, zero, suc, ◌+◌, Bool, true, ◌&&◌, nat_le, length, take, drop, map, List, [], ◌∷◌, ◌++◌, Option, Some, None, option_map, string_bytes, ◌≡◌, if◌then◌else◌}
+use Rattle.std.specs.Prelude.{ℕ, zero, suc, ◌+◌, Bool, true, ◌&&◌, nat_le, length, take, drop, map, List, [], ◌∷◌, ◌++◌, Option, Some, None, option_map, string_bytes, ◌≡◌}
 use Rattle.yspec.specs.Forest.{Forest, end, node, size}
-use Rattle.yspec.specs.types.Types.{Val}
 use Rattle.yspec.specs.schema.Schema as spec
 use Rattle.yschema.specs.declared.node.SchemaId.{SchemaId}
 use Rattle.yschema.specs.declared.node.SchemaNode.{SchemaNode}
 use Rattle.yschema.specs.declared.node.Kind.{Kind}
 use Rattle.yschema.specs.declared.node.Kind.TheVariants as kinds
+use Rattle.yschema.specs.declared.node.LeafType.{LeafType}
+use Rattle.yschema.specs.declared.node.Absence.{Absence}
+use Rattle.yschema.specs.declared.node.Absence.TheVariants as absences
+use Rattle.yschema.specs.declared.node.Amount.{Amount}
+use Rattle.yschema.specs.declared.node.Tuples.{Tuples}
 use Rattle.yschema.specs.declared.node.Status.{Status}
 use Rattle.yschema.specs.declared.node.Status.TheVariants as states
 use Rattle.yschema.specs.declared.children.Row.{Row}
 use Rattle.yschema.specs.declared.schema.SchemaModule.{SchemaModule}
 
-abbrev pub default_view : Option Val → spec.Absence
-default_view None = spec.allowed
-default_view (Some v) = spec.default_used v
+abbrev pub number_of : Option SchemaId → Option ℕ
+number_of = option_map (λ id. id.0)
 
--- what it means that a leaf isn't stored
-abbrev pub absence_view : Option Val → Bool → spec.Absence
-absence_view default_value mandatory = if mandatory then spec.mandatory else default_view default_value
+-- the numbers of some nodes
+abbrev pub numbers_of : List SchemaId → List ℕ
+numbers_of = map (λ id. id.0)
+
+abbrev pub leaf_type_view : LeafType → spec.LeafType
+leaf_type_view t = record { type = t.value_type; target = number_of t.target }
+
+abbrev pub absence_view : Absence → spec.Absence
+absence_view absences.Allowed = spec.allowed
+absence_view (absences.DefaultUsed v) = spec.default_used v
+absence_view absences.Mandatory = spec.mandatory
+absence_view absences.Key = spec.key
+
+abbrev pub amount_view : Amount → spec.Amount
+amount_view a = record { least = a.least; most = a.most }
+
+abbrev pub tuples_view : Tuples → spec.Tuples
+tuples_view t = record {
+  keys = numbers_of t.keys.items;
+  uniques = map (λ unique. map (λ path. numbers_of path.items) unique.items) t.uniques.items;
+}
 
 abbrev pub kind_view : Kind → spec.Kind
 kind_view (kinds.Container presence) = spec.container presence
-kind_view (kinds.Leaf leaf_type default_value mandatory) =
-    spec.leaf (spec.own_type leaf_type) (absence_view default_value mandatory)
+kind_view (kinds.Leaf leaf_type absence) = spec.leaf (leaf_type_view leaf_type) (absence_view absence)
+kind_view (kinds.LeafList leaf_type defaults amount) =
+    spec.leaf_list (leaf_type_view leaf_type) defaults.items (amount_view amount)
+kind_view (kinds.List tuples amount) = spec.list (tuples_view tuples) (amount_view amount)
+kind_view (kinds.Choice default_case mandatory) = spec.choice (number_of default_case) mandatory
+kind_view kinds.Case = spec.case
 
 abbrev pub status_view : Status → spec.Status
 status_view states.Current = spec.current
@@ -40,9 +65,6 @@ node_view number n = record {
   status = status_view n.status;
   kind = kind_view n.kind;
 }
-
-abbrev pub number_of : Option SchemaId → Option ℕ
-number_of = option_map (λ id. id.0)
 
 -- a node, the number of the one above it, and how many stand below it
 pub record Place : Type 0 where

@@ -1,16 +1,17 @@
 //! From modules to their schema.
 
-ghost use Rattle.std.specs.Prelude.{◌≡◌, ◌+◌, ◌≤◌, ◌++◌, ◌∷◌, [], ℕ, suc, Some, None, Ok, IfOk, OnOk, unwrap_or, length};
+ghost use Rattle.std.specs.Prelude.{codes, if◌then◌else◌, ◌≡◌, ◌+◌, ◌≤◌, ◌++◌, ◌∷◌, [], ℕ, suc, Some, None, Ok, IfOk, OnOk, unwrap_or, length};
 ghost use Rattle.yspec.specs.Forest.{levels};
 ghost use Rattle.yspec.specs.schema.Schema as spec;
 ghost use Rattle.yspec.specs.schema.Schema.{data_size, schema_node, nodes_from, schema_of};
+ghost use Rattle.yspec.specs.text.Text.{is_text};
 ghost use Rattle.yspec.specs.types.Types.{built_in, string_type};
 ghost use Rattle.yspec.specs.schema.Breaks.{first_broken, phases, limit_breaks, least_from, level_limit, compiled};
 ghost use Rattle.yspec.specs.document.Fitting.{LeafsAreBare};
 ghost use Rattle.yspec.specs.document.Writing.{NamesDiffer};
 ghost use Rattle.ytext.specs.View as text;
 ghost use Rattle.ytext.specs.View.{row_view, modules_view};
-ghost use Rattle.yschema.specs.Layout.{kind_view, node_view, number_of, places, laid};
+ghost use Rattle.yschema.specs.Layout.{absence_view, kind_view, node_view, number_of, places, laid};
 ghost use Rattle.yspec.specs.Results.{Gives};
 ghost use Rattle.yschema.specs.Told.{seen, told_by};
 ghost use Rattle.yschema.specs.View.{view, module_view};
@@ -21,7 +22,7 @@ use crate::grammar::{broken, judge_modules};
 use crate::index::Index;
 use crate::limits::{count_nodes, has_too_many_levels, has_too_many_nodes, is_data_node};
 use crate::names::{name_of, repeated_module, repeated_name};
-use crate::node::{Kind, SchemaId, SchemaNode, Status};
+use crate::node::{Absence, Kind, LeafType, SchemaId, SchemaNode, Status};
 use crate::schema::{Schema, SchemaModule};
 use std::alloc::{AllocError, Global};
 use ytext::{Module, Stmt};
@@ -173,10 +174,23 @@ fn kind_of(alloc: Global, statement: &Stmt) -> Result<Kind, AllocError>
     }
     let statements = statement.substatements();
     Ok(Kind::Leaf {
-        leaf_type: type_of(alloc, argument_of("type", statements))?,
-        default: None,
-        mandatory: argument_of("mandatory", statements) == "true",
+        leaf_type: LeafType {
+            value_type: type_of(alloc, argument_of("type", statements))?,
+            target: None,
+        },
+        absence: absence_of(argument_of("mandatory", statements)),
     })
+}
+
+/// What it means that a leaf with this argument of `mandatory` isn't stored.
+fn absence_of(mandatory: &str) -> Absence
+    ensures { absence_view result ≡ if is_text mandatory.now (codes "true") then spec.mandatory else spec.allowed }
+{
+    if mandatory == "true" {
+        Absence::Mandatory
+    } else {
+        Absence::Allowed
+    }
 }
 
 /// The built-in type of a name that the statement table has let through.

@@ -17,5 +17,5 @@ pub use building::compile;
 pub use children::{Child, Children};
 pub use fault::{CompileCode, CompileFault};
 pub use limits::{LEVEL_LIMIT, NODE_LIMIT};
-pub use node::{Kind, SchemaId, SchemaNode, Status};
+pub use node::{Absence, Amount, Kind, LeafType, SchemaId, SchemaNode, Status, Tuples};
 pub use schema::{Schema, SchemaModule};

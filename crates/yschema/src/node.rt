@@ -33,6 +33,42 @@ pub enum Status {
     Obsolete,
 }
 
+/// The type of a leaf or of items; of a leafref that of its target, which stands beside it (RFC 7950, 9.9).
+#[derive(Debug, Drop)]
+pub struct LeafType {
+    pub value_type: YType,
+    pub target: Option<SchemaId>,
+}
+
+/// What it means that a leaf isn't stored.
+#[derive(Debug, Drop)]
+pub enum Absence {
+    /// Nothing.
+    Allowed,
+    /// Its default is in use (RFC 7950, 7.6.1).
+    DefaultUsed(Val),
+    /// It is mandatory (RFC 7950, 7.6.5).
+    Mandatory,
+    /// It is a key of its list (RFC 7950, 7.8.2).
+    Key,
+}
+
+/// How many entries or items there may be: min-elements and max-elements (RFC 7950, 7.7.5 and 7.7.6).
+#[derive(Clone, Copy, Debug, PartialEq, Eq)]
+pub struct Amount {
+    pub least: u32,
+    pub most: Option<u32>,
+}
+
+/// The leafs of a list whose values tell its entries apart (RFC 7950, 7.8.2 and 7.8.3).
+#[derive(Debug, Drop)]
+pub struct Tuples {
+    /// Those of its key, which stand directly in it.
+    pub keys: Vec<SchemaId>,
+    /// Those of each `unique`, each by the containers that lead to it and itself.
+    pub uniques: Vec<Vec<Vec<SchemaId>>>,
+}
+
 /// What only one kind of node has.
 #[derive(Debug, Drop)]
 pub enum Kind {
@@ -40,12 +76,55 @@ pub enum Kind {
     Container {
         presence: bool,
     },
-    /// A leaf: its type, the default in use where it isn't stored, and whether it is mandatory (RFC 7950, 7.6).
+    /// RFC 7950, 7.6.
     Leaf {
-        leaf_type: YType,
-        default: Option<Val>,
+        leaf_type: LeafType,
+        absence: Absence,
+    },
+    /// With its defaults (RFC 7950, 7.7).
+    LeafList {
+        leaf_type: LeafType,
+        defaults: Vec<Val>,
+        amount: Amount,
+    },
+    /// RFC 7950, 7.8.
+    List {
+        tuples: Tuples,
+        amount: Amount,
+    },
+    /// With its default case (RFC 7950, 7.9).
+    Choice {
+        default_case: Option<SchemaId>,
         mandatory: bool,
     },
+    Case,
+}
+
+impl Kind {
+    ghost use Rattle.std.specs.Prelude.{◌≡◌};
+    ghost use Rattle.yspec.specs.schema.Schema as spec;
+    ghost use Rattle.yschema.specs.Layout.{kind_view};
+
+    /// Whether it stands in documents: all but choices and cases.
+    pub fn is_data(&self) -> bool
+        ensures { result ≡ spec.is_data (kind_view self.now) }
+    {
+        !matches!(self, Kind::Choice { .. } | Kind::Case)
+    }
+
+    /// Whether it may be stored more than once in a row.
+    pub fn is_many(&self) -> bool
+        ensures { result ≡ spec.is_many (kind_view self.now) }
+    {
+        matches!(self, Kind::List { .. } | Kind::LeafList { .. })
+    }
+
+    /// Whether it holds a value.
+    pub fn has_value(&self) -> bool
+        ensures { result ≡ spec.has_value (kind_view self.now) }
+    {
+        matches!(self, Kind::Leaf { .. } | Kind::LeafList { .. })
+    }
 }
 
 /// All that a schema holds of a node. The module is given by its place in the set.

@@ -1,0 +1,5 @@
+pub mod AnswerLemmas
+pub mod SortedEditLemmas
+pub mod LimitLemmas
+pub mod BoundLemmas
+pub mod FittingEditLemmas

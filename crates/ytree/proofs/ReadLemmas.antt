@@ -1,13 +1,17 @@
 -- From bytes to what is told of them.
-use Rattle.std.proofs.Common.{◌≡◌, ℕ, List, [], Option, Some, None, Result, Ok, Err, IfOk, sym, ap, ◌∙◌, subst}
+use Rattle.std.proofs.Common.{◌≡◌, ◌≤◌, ℕ, List, [], Option, Some, None, Result, Ok, Err, IfOk, sym, ap, ◌∙◌, subst}
 use Rattle.std.specs.Option.{option_map_or}
 use Rattle.serde_json.specs.Data.{Data}
+use Rattle.yspec.specs.Forest.{size}
 use Rattle.yspec.specs.schema.Schema.{Schema}
-use Rattle.yspec.specs.document.Reading.{Refusal, tree_or_refusal, json_of, document_of}
-use Rattle.yspec.specs.document.Fitting.{Fits}
+use Rattle.yspec.specs.document.Document.{document_limit}
+use Rattle.yspec.specs.document.Reading.{Refusal, json_of, document_of}
+use Rattle.yspec.specs.plain.Reading as plain_reading
+use Rattle.yspec.specs.document.Fitting.{IsNumbered, Fits}
 use Rattle.yspec.specs.document.Writing.{NamesDiffer, IsDocument}
 use Rattle.yspec.proofs.DocumentProofs.FittingReadLemmas.{read_fits}
 use Rattle.yspec.proofs.DocumentProofs.ReadWholeLemmas.{read_whole}
+use Rattle.yspec.proofs.DocumentProofs.RightNodeLemmas.{read_within}
 use Rattle.ytree.specs.Told.{Tells, code_number, told_by}
 use Rattle.yspec.specs.Results.{Fails, Gives}
 use Rattle.ytree.specs.View.{place_view, tree_view}
@@ -15,13 +19,13 @@ use Rattle.ytree.specs.declared.tree.Tree as tree
 use Rattle.ytree.specs.declared.fault.DocFault.{DocFault}
 use Rattle.ytree.specs.declared.fault.DocFault.TheVariants.{Refused, Memory}
 
-pub of_json : (s : Schema) (bytes : List ℕ) (d : Data) → json_of bytes ≡ Some d → document_of s bytes ≡ tree_or_refusal s d
-unfolding document_of
-of_json s bytes d is = ap (λ (o : Option Data). option_map_or (tree_or_refusal s) o (Err (record { code = 1; place = [] }))) is
+pub of_json : (s : Schema) (bytes : List ℕ) (d : Data) → json_of bytes ≡ Some d → plain_reading.document_of s bytes ≡ plain_reading.tree_or_refusal s d
+unfolding plain_reading.document_of
+of_json s bytes d is = ap (λ (o : Option Data). option_map_or (plain_reading.tree_or_refusal s) o (Err (record { code = 1; place = [] }))) is
 
-pub of_none : (s : Schema) (bytes : List ℕ) → json_of bytes ≡ None → document_of s bytes ≡ Err (record { code = 1; place = [] })
-unfolding document_of
-of_none s bytes is = ap (λ (o : Option Data). option_map_or (tree_or_refusal s) o (Err (record { code = 1; place = [] }))) is
+pub of_none : (s : Schema) (bytes : List ℕ) → json_of bytes ≡ None → plain_reading.document_of s bytes ≡ Err (record { code = 1; place = [] })
+unfolding plain_reading.document_of
+of_none s bytes is = ap (λ (o : Option Data). option_map_or (plain_reading.tree_or_refusal s) o (Err (record { code = 1; place = [] }))) is
 
 same_refusal : (a b : Refusal) → Some a ≡ Some b → a ≡ b
 same_refusal a b h = cc
@@ -35,11 +39,17 @@ fails_by Memory told r answer tells is said = tt
 pub gives_same : {X Y : Type 0} (see : X → Y) (given : Result X DocFault) (a b : Result Y Refusal) → a ≡ b → Gives see told_by given b → Gives see told_by given a
 gives_same {X} {Y} see given a b is h = subst (λ (r : Result Y Refusal). Gives see told_by given r) (sym is) h
 
-pub fits_if_read : (given : Result tree.Tree DocFault) (s : Schema) (bytes : List ℕ) → Gives tree_view told_by given (document_of s bytes) → IfOk given (λ t. Fits s.nodes (tree_view t))
-fits_if_read (Ok t) s bytes is = read_fits s bytes (tree_view t) is
-fits_if_read (Err f) s bytes is = tt
+pub fits_if_read : (given : Result tree.Tree DocFault) (s : Schema) (bytes : List ℕ) → IsNumbered 0 s.nodes
+    → Gives tree_view told_by given (document_of s bytes) → IfOk given (λ t. Fits s (tree_view t))
+fits_if_read (Ok t) s bytes numbered is = read_fits s bytes (tree_view t) numbered is
+fits_if_read (Err f) s bytes numbered is = tt
 
-pub whole_if_read : (given : Result tree.Tree DocFault) (s : Schema) (bytes : List ℕ) → NamesDiffer s None s.nodes
-    → Gives tree_view told_by given (document_of s bytes) → IfOk given (λ t. IsDocument s.nodes (tree_view t))
-whole_if_read (Ok t) s bytes differ is = read_whole s bytes (tree_view t) differ is
-whole_if_read (Err f) s bytes differ is = tt
+pub whole_if_read : (given : Result tree.Tree DocFault) (s : Schema) (bytes : List ℕ) → IsNumbered 0 s.nodes → NamesDiffer s
+    → Gives tree_view told_by given (document_of s bytes) → IfOk given (λ t. IsDocument s (tree_view t))
+whole_if_read (Ok t) s bytes numbered differ is = read_whole s bytes (tree_view t) numbered differ is
+whole_if_read (Err f) s bytes numbered differ is = tt
+
+pub within_if_read : (given : Result tree.Tree DocFault) (s : Schema) (bytes : List ℕ) → NamesDiffer s
+    → Gives tree_view told_by given (document_of s bytes) → IfOk given (λ t. size (tree_view t) ≤ document_limit)
+within_if_read (Ok t) s bytes differ is = read_within s bytes (tree_view t) differ is
+within_if_read (Err f) s bytes differ is = tt

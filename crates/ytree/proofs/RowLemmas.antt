@@ -7,7 +7,8 @@ use Rattle.yspec.specs.schema.Schema.{Schema, SchemaNode, written_name}
 use Rattle.yspec.specs.types.Types.{Raw}
 use Rattle.yspec.specs.document.Document as spec
 use Rattle.yspec.specs.document.Document.{Tree}
-use Rattle.yspec.specs.document.Reading.{stored_rows, stored_node, value_of, members_of, with_stored}
+use Rattle.yspec.specs.document.Reading.{stored_node, raw_in, members_of}
+use Rattle.yspec.specs.plain.Reading.{stored_rows, with_stored}
 use Rattle.yschema.specs.View as schema_view
 use Rattle.yschema.specs.declared.node.SchemaNode as code
 use Rattle.yspec.proofs.ForestLemmas.{join_end}
@@ -73,7 +74,7 @@ all_rows s parent left ms done whole is so =
 
 -- a node that holds a value, below which nothing stands
 pub held_node : (s : Schema) (n : SchemaNode) (d : Data) (below : Forest SchemaNode) (seen : Stored) (i : ℕ) (v : Option Raw)
-    → (view seen).0 ≡ record { schema_number = i; value = v } → (view seen).1 ≡ end → i ≡ n.number → v ≡ value_of n.kind d → members_of d ≡ no_members
+    → (view seen).0 ≡ record { schema_number = i; value = v } → (view seen).1 ≡ end → i ≡ n.number → v ≡ raw_in n.kind d → members_of d ≡ no_members
     → view seen ≡ (stored_node n d, stored_rows s (Some n.module_number) below (members_of d))
 held_node s n d below seen i v label nothing number held none =
     let labelled : ℕ → Option Raw → spec.Stored = λ i v. record { schema_number = i; value = v } in

@@ -7,11 +7,12 @@ use Rattle.serde_json.specs.declared.value.Value.{Value, Object, the_lemmas}
 use Rattle.std.specs.Prelude.{option_map, option_and_then, unwrap_or}
 use Rattle.yspec.specs.Forest.{Forest}
 use Rattle.yspec.specs.text.Text.{Text}
-use Rattle.yspec.specs.types.Types.{YangType, Val}
-use Rattle.yspec.specs.schema.Schema.{Schema, SchemaNode, container, leaf, node_at, children_of}
+use Rattle.yspec.specs.schema.Schema.{Schema, SchemaNode, LeafType, Absence, container, leaf, node_at, children_of}
 use Rattle.yspec.specs.document.Document.{Step, below_place}
-use Rattle.yspec.specs.document.Reading.{Refusal, Visit, right, wrong, named, at_named, value_visit, member_visits, node_visits, first_wrong, Named, child}
-use Rattle.yspec.proofs.DocumentProofs.VisitLemmas.{passes, other_value}
+use Rattle.yspec.specs.document.Reading.{Refusal, Visit, right, wrong, named_in, at_named, value_visit, first_wrong, Named, child}
+use Rattle.yspec.specs.plain.Reading.{member_visits, node_visits}
+use Rattle.yspec.proofs.DocumentProofs.VisitLemmas.{passes}
+use Rattle.yspec.proofs.PlainProofs.ReadingLemmas.{other_value}
 use Rattle.yspec.proofs.SchemaProofs.NumberLemmas.{number_at}
 use Rattle.ytree.specs.Told.{Tells, Judges, code_number, refused_at}
 use Rattle.ytree.specs.View.{place_view}
@@ -38,7 +39,7 @@ told_same f o told is h = subst (λ (x : Option Refusal). Tells f x) (sym is) h
 -- ---- members
 
 abbrev pub visits_of : Schema → Option ℕ → Forest SchemaNode → List Step → Text → Data → List Visit
-visits_of s parent children place name d = at_named (named s parent name children) place (λ n below. node_visits s n below (below_place place n) d)
+visits_of s parent children place name d = at_named (named_in s parent name children) place (λ n below. node_visits s n below (below_place place n) d)
 
 member_first : (s : Schema) (parent : Option ℕ) (children : Forest SchemaNode) (place : List Step) (name : Text) (d : Data) (rest : Members)
     → member_visits s parent children place (member name d rest) ≡ visits_of s parent children place name d ++ member_visits s parent children place rest
@@ -87,11 +88,11 @@ pub object_inside : (s : Schema) (n : SchemaNode) (below : Forest SchemaNode) (p
 unfolding node_visits
 object_inside s n below place d ms presence is kind = rw (is, kind) refl
 
-pub object_at_leaf : (s : Schema) (n : SchemaNode) (below : Forest SchemaNode) (place : List Step) (d : Data) (ms : Members) (type : YangType) (in_use : Option Val) (mandatory : Bool)
-    → d ≡ object ms → n.kind ≡ leaf type in_use mandatory
+pub object_at_leaf : (s : Schema) (n : SchemaNode) (below : Forest SchemaNode) (place : List Step) (d : Data) (ms : Members) (type : LeafType) (absence : Absence)
+    → d ≡ object ms → n.kind ≡ leaf type absence
     → first_wrong (node_visits s n below place d) ≡ Some (record { code = 5; place = place })
 unfolding node_visits
-object_at_leaf s n below place d ms type in_use mandatory is kind = rw (is, kind) refl
+object_at_leaf s n below place d ms type absence is kind = rw (is, kind) refl
 
 pub no_object : (v : Value) → ((m : _) → v ≡ Object m → ⊥) → as_object (json.view v) ≡ None
 no_object v h = search (rules, the_lemmas)

@@ -4,7 +4,8 @@ use Rattle.std.specs.Option.{option_map_or}
 use Rattle.serde_json.specs.Data.{Data}
 use Rattle.yspec.specs.schema.Schema.{Schema, node_at, children_of}
 use Rattle.yspec.specs.document.Document.{Step}
-use Rattle.yspec.specs.document.Reading.{Refusal, raw_of, refused_value, node_visits, first_wrong, stored_node, stored_rows, members_of}
+use Rattle.yspec.specs.document.Reading.{Refusal, raw_of, refused_value, first_wrong, stored_node, members_of}
+use Rattle.yspec.specs.plain.Reading.{node_visits, stored_rows}
 use Rattle.ytree.specs.View.{Labelled, place_view}
 use Rattle.ytree.specs.declared.fault.DocCode.{DocCode}
 use Rattle.ytree.specs.declared.fault.DocCode.TheVariants.{J1, J2, J3, J4, J5, J6}

@@ -6,7 +6,7 @@ ghost use Rattle.yspec.specs.Forest.{row};
 ghost use Rattle.yspec.specs.text.Text.{is_text};
 ghost use Rattle.yspec.specs.schema.Schema as spec;
 ghost use Rattle.yspec.specs.schema.Schema.{row_at};
-ghost use Rattle.yspec.specs.document.Reading.{named};
+ghost use Rattle.yspec.specs.document.Reading.{named_in};
 ghost use Rattle.yschema.specs.Layout.{number_of};
 ghost use Rattle.yschema.specs.View.{view, node_view, row_view};
 ghost use Rattle.ytree.specs.View.{Means};
@@ -31,7 +31,7 @@ pub(crate) fn meaning_of(
     name: &str,
 ) -> Result<Named, AllocError>
     ensures { let s = view schema.now in let p = number_of parent in
-        IfOk result (λ m. Means s m (named s (spec.module_at s p) name.now (row_at s p))) }
+        IfOk result (λ m. Means s m (named_in s (spec.module_at s p) name.now (row_at s p))) }
 {
     match schema.child_written(parent, name) {
         Some(id) => Ok(Named::Child(id)),

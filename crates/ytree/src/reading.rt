@@ -1,8 +1,11 @@
 //! From bytes to a document.
 
-ghost use Rattle.std.specs.Prelude.{◌≡◌, [], IfOk, None, Some, option_map};
+ghost use Rattle.std.specs.Prelude.{◌≡◌, ◌≤◌, [], IfOk, None, Some, option_map};
 ghost use Rattle.serde_json.specs.View as json;
-ghost use Rattle.yspec.specs.document.Reading.{stored_rows, stored_node, members_of, value_of, tree_or_refusal, document_of};
+ghost use Rattle.yspec.specs.Forest.{size};
+ghost use Rattle.yspec.specs.document.Document.{document_limit};
+ghost use Rattle.yspec.specs.document.Reading.{stored_node, members_of, raw_in, document_of};
+ghost use Rattle.yspec.specs.plain.Reading.{stored_rows, tree_or_refusal};
 ghost use Rattle.yspec.specs.document.Fitting.{Fits};
 ghost use Rattle.yspec.specs.document.Writing.{IsDocument};
 ghost use Rattle.ytype.specs.View.{raw_of};
@@ -25,8 +28,9 @@ use ytype::Raw;
 /// in byte order of their names (RFC 7951).
 pub fn read(alloc: Global, schema: &Schema, bytes: &[u8]) -> Result<Tree, DocFault>
     ensures answer { Gives tree_view told_by result (document_of (schema_view.view schema.now) bytes.now) }
-    ensures fitting { IfOk result (λ tree. Fits (schema_view.view schema.now).nodes (tree_view tree)) }
-    ensures whole { IfOk result (λ tree. IsDocument (schema_view.view schema.now).nodes (tree_view tree)) }
+    ensures fitting { IfOk result (λ tree. Fits (schema_view.view schema.now) (tree_view tree)) }
+    ensures whole { IfOk result (λ tree. IsDocument (schema_view.view schema.now) (tree_view tree)) }
+    ensures within { IfOk result (λ tree. size (tree_view tree) ≤ document_limit) }
 {
     match Value::from_slice(alloc, bytes) {
         Ok(value) => tree_of(alloc, schema, &value),
@@ -133,7 +137,7 @@ fn stored(
 /// What a node of the schema holds of a value: nothing but at a leaf.
 fn held_of(alloc: Global, node: &SchemaNode, value: &Value) -> Result<Option<Raw>, AllocError>
     ensures { IfOk result (λ raw. option_map raw_of raw
-        ≡ value_of (schema_view.kind_view node.now.kind) (json.view value.now)) }
+        ≡ raw_in (schema_view.kind_view node.now.kind) (json.view value.now)) }
 {
     match node.kind {
         Kind::Leaf { .. } => raw_of(alloc, value),

@@ -4,7 +4,8 @@ ghost use Rattle.std.specs.Prelude.{◌≡◌, OnOk, Some};
 ghost use Rattle.serde_json.specs.View as json;
 ghost use Rattle.yspec.specs.schema.Schema.{module_at, row_at};
 ghost use Rattle.yspec.specs.document.Document.{below_place};
-ghost use Rattle.yspec.specs.document.Reading.{named, at_named, leaf_visit, value_visit, member_visits, node_visits, first_wrong};
+ghost use Rattle.yspec.specs.document.Reading.{named_in, at_named, leaf_visit, value_visit, first_wrong};
+ghost use Rattle.yspec.specs.plain.Reading.{member_visits, node_visits};
 ghost use Rattle.yschema.specs.Layout.{number_of};
 ghost use Rattle.yschema.specs.View.{view, kind_view};
 ghost use Rattle.ytree.specs.View.{place_view};
@@ -51,7 +52,7 @@ fn visit_member(
     place: &mut Vec<Step>,
 ) -> Result<(), DocFault>
     ensures told { let s = view schema.now in let p = number_of parent in let steps = place_view place.old.items in
-        Judges result (first_wrong (at_named (named s (module_at s p) name.now (row_at s p)) steps
+        Judges result (first_wrong (at_named (named_in s (module_at s p) name.now (row_at s p)) steps
         (λ n below. node_visits s n below (below_place steps n) (json.view value.now)))) }
     ensures place { OnOk result (place.new.items ≡ place.old.items) }
 {

@@ -167,7 +167,7 @@ value_held : (s : Schema) (b : Bool) (n : SchemaNode) (below : Forest SchemaNode
 value_held s true n below d = each_held s n below (items_of d)
 value_held s false n below d = (tt, tt)
 
-ever_held : (s : Schema) (parent : Option ℕ) (f : Forest SchemaNode) (ms : Members)
+pub ever_held : (s : Schema) (parent : Option ℕ) (f : Forest SchemaNode) (ms : Members)
     → AreHeld s (λ n value. Unit {0}) (λ parent children ms. Unit {0}) parent f ms
 ever_held s parent end ms = tt
 ever_held s parent (node n below after) ms = (λ d is. value_held s (is_many n.kind) n below d, ever_held s parent after ms)

@@ -22,6 +22,11 @@ first_part [] ws none = refl
 first_part (right place ∷ vs) ws none = first_part vs ws none
 first_part (wrong code place ∷ vs) ws none = let no : ⊥ = cc in absurd no
 
+pub passes : (vs ws : List Visit) → first_wrong vs ≡ None → first_wrong (vs ++ ws) ≡ first_wrong ws
+passes [] ws none = refl
+passes (right place ∷ vs) ws none = passes vs ws none
+passes (wrong code place ∷ vs) ws none = let no : ⊥ = cc in absurd no
+
 pub other_part : (vs ws : List Visit) → first_wrong (vs ++ ws) ≡ None → first_wrong ws ≡ None
 other_part [] ws none = none
 other_part (right place ∷ vs) ws none = other_part vs ws none

@@ -2,7 +2,7 @@
 use Rattle.std.proofs.Common.{◌≡◌, ℕ, suc, ◌+◌, ◌≤◌, Bool, true, false, cond, List, [], ◌∷◌, ◌++◌, Option, Some, None, Ok, Err, refl, ap, ap₂, ◌∙◌, subst, arith}
 use Rattle.std.specs.Option.{option_map_or}
 use Rattle.serde_json.specs.Data.{Data, null, boolean, number, string, array, object, Members, no_members, member}
-use Rattle.serde_json.specs.Find.{get_member}
+use Rattle.serde_json.specs.Find.{as_object, get_member}
 use Rattle.yspec.specs.Forest.{Forest, end, node, size, join}
 use Rattle.yspec.specs.text.Text.{is_text}
 use Rattle.yspec.specs.types.Types.{Raw}
@@ -99,6 +99,17 @@ plain_visits s (number x) plain = refl
 plain_visits s (string t) plain = refl
 plain_visits s (array ds) plain = refl
 plain_visits s (object ms) plain = plain_members s None s.nodes [] ms plain
+
+-- a value that is no object
+pub other_value : (s : Schema) (n : SchemaNode) (below : Forest SchemaNode) (place : List Step) (d : Data) → as_object d ≡ None
+    → plain_reading.node_visits s n below place d ≡ value_visit n.kind place d
+unfolding plain_reading.node_visits
+other_value s n below place null other = refl
+other_value s n below place (boolean b) other = refl
+other_value s n below place (number x) other = refl
+other_value s n below place (string t) other = refl
+other_value s n below place (array ds) other = refl
+other_value s n below place (object ms) other = let no : ⊥ = cc in absurd no
 
 -- ---- there are no more right nodes than the schema has
 

@@ -1,7 +1,7 @@
 use Rattle.std.proofs.Common.{◌≡◌}
 use Rattle.serde_json.specs.View.{members_view}
 use Rattle.yspec.specs.Forest.{join}
-use Rattle.yspec.specs.document.Reading.{stored_rows}
+use Rattle.yspec.specs.plain.Reading.{stored_rows}
 use Rattle.yschema.specs.View as schema_view
 use Rattle.ytree.specs.View.{row_view}
 use Rattle.ytree.proofs.reading.+rows.Given as goal

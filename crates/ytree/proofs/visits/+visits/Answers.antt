@@ -3,7 +3,8 @@ use Rattle.std.proofs.lemmas.List.{map_push}
 use Rattle.serde_json.specs.View as json
 use Rattle.serde_json.proofs.Views.{view-Object}
 use Rattle.yspec.specs.schema.Schema.{module_at, row_at, node_at, children_of}
-use Rattle.yspec.specs.document.Reading.{named, value_visit, member_visits, first_wrong}
+use Rattle.yspec.specs.document.Reading.{named_in, value_visit, first_wrong}
+use Rattle.yspec.specs.plain.Reading.{member_visits}
 use Rattle.yschema.specs.Layout.{number_of}
 use Rattle.yschema.specs.View.{view, node_view, kind_view}
 use Rattle.ytree.specs.View.{place_view, step_view, Means}
@@ -37,7 +38,7 @@ visit_member-returns-in-Ok-clause-told t c =
     let i = c.in-Child.id.0 in
     let steps = place_view c.args.place.now.items in
     let d = json.view c.args.value.now in
-    let read = named s (module_at s p) c.args.name.now (row_at s p) in
+    let read = named_in s (module_at s p) c.args.name.now (row_at s p) in
     let with_stored = ap place_view c.in_ok-push-in-Child.ensures.items ∙ map_push step_view c.args.place.now.items (record { id = c.in-Child.id; position = None }) in
     refused_child s i steps d read (subst (λ m. Means s m read) c.in-Child.is c.in_ok-id.ensures)
     ∙ (ap (λ q. refused_at s i q d) (sym with_stored) ∙ c.in-Ok.ensures.told)
@@ -49,7 +50,7 @@ visit_member-returns-in-Err-clause-told t c =
     let i = c.in-Child.id.0 in
     let steps = place_view c.args.place.now.items in
     let d = json.view c.args.value.now in
-    let read = named s (module_at s p) c.args.name.now (row_at s p) in
+    let read = named_in s (module_at s p) c.args.name.now (row_at s p) in
     let with_stored = ap place_view c.in_ok-push-in-Child.ensures.items ∙ map_push step_view c.args.place.now.items (record { id = c.in-Child.id; position = None }) in
     told_same c.in-Err.fault _ _ (refused_child s i steps d read (subst (λ m. Means s m read) c.in-Child.is c.in_ok-id.ensures)
     ∙ ap (λ q. refused_at s i q d) (sym with_stored)) c.in-Err.ensures.told
@@ -78,7 +79,7 @@ visit_node-returns-in-Leaf-clause-told t c =
     let at : node_at s i ≡ Some n = sym c.kind.ensures ∙ ap (option_map (λ m. node_view i m.now)) c.in-Some.is in
     let steps = ap place_view c.deref.ensures.value in
     told_same c.refused.result _ _ (refused_node s i n place d at
-    ∙ (object_at_leaf s n (children_of s i) place d (json.members_view c.in-Object.members.entries) _ _ _ (ap json.view c.in-Object.is ∙ view-Object c.in-Object.members) (ap kind_view c.in-Leaf.is)
+    ∙ (object_at_leaf s n (children_of s i) place d (json.members_view c.in-Object.members.entries) _ _ (ap json.view c.in-Object.is ∙ view-Object c.in-Object.members) (ap kind_view c.in-Leaf.is)
     ∙ ap (λ p. Some (record { code = 5; place = p })) (sym steps))) c.refused.ensures
 
 pub visit_node-returns-in_default-value : goal.visit_node-returns-in_default-value

@@ -1,6 +1,7 @@
 use Rattle.std.proofs.Common.{◌≡◌}
 use Rattle.serde_json.specs.View as json
-use Rattle.yspec.specs.document.Reading.{member_visits, first_wrong}
+use Rattle.yspec.specs.document.Reading.{first_wrong}
+use Rattle.yspec.specs.plain.Reading.{member_visits}
 use Rattle.yspec.specs.schema.Schema.{module_at, row_at}
 use Rattle.yschema.specs.Layout.{number_of}
 use Rattle.yschema.specs.View.{view}
