@@ -21,3 +21,4 @@ pub mod WrittenRowLemmas
 pub mod WrittenVisitLemmas
 pub mod ReadBackLemmas
 pub mod WrittenShapeLemmas
+pub mod WeakerFitLemmas

@@ -5,18 +5,22 @@ use Rattle.std.specs.Str.{IsUtf8}
 use Rattle.serde_json.specs.Data.{Data, Members, no_members, depth}
 use Rattle.serde_json.specs.Read.{read, max_depth}
 use Rattle.serde_json.specs.Written.{has_float, compact_text}
-use Rattle.yspec.specs.Forest.{levels}
+use Rattle.yspec.specs.Forest.{levels, size}
 use Rattle.yspec.specs.schema.Schema.{Schema, node_at}
 use Rattle.yspec.specs.schema.Breaks.{level_limit}
-use Rattle.yspec.specs.document.Document.{Tree}
+use Rattle.yspec.specs.document.Document.{Tree, document_limit}
 use Rattle.yspec.specs.document.Reading.{document_of}
-use Rattle.yspec.specs.document.Fitting.{IsNumbered}
-use Rattle.yspec.specs.document.Writing.{with_node, row_members, written_value, written_text, NamesDiffer, IsDocument}
+use Rattle.yspec.specs.document.Fitting.{IsNumbered, LeafsAreBare, Fits}
+use Rattle.yspec.specs.document.Writing.{written_text, NamesDiffer, HasForm, IsDocument}
+use Rattle.yspec.specs.plain.Kinds.{ArePlain}
+use Rattle.yspec.specs.plain.Writing.{with_node, row_members, written_value}
+use Rattle.yspec.proofs.DocumentProofs.JsonLemmas.{json_found}
 use Rattle.yspec.proofs.DocumentProofs.ReadBackLemmas.{written_read}
+use Rattle.yspec.proofs.DocumentProofs.WeakerFitLemmas.{document_fits}
 use Rattle.yspec.proofs.DocumentProofs.WrittenShapeLemmas.{levels_fit, no_fractions, written_depth}
+use Rattle.yspec.proofs.PlainProofs.WritingLemmas.{values_are_plain}
 use Rattle.ytree.specs.View.{view, row_view}
 use Rattle.ytree.specs.declared.tree.Stored.{Stored}
-use Rattle.yspec.proofs.DocumentProofs.JsonLemmas.{json_found}
 
 pub next_put : (s : Schema) (parent : Option ℕ) (row : List Stored) (i : ℕ) (st : Stored) (old new whole : Members) → i < length row → st ≡ get_or row i st
     → new ≡ with_node s parent (node_at s (view st).0.schema_number) (view st).0.value (λ m. row_members s (Some m) no_members (view st).1) old
@@ -32,13 +36,17 @@ pub all_put : (s : Schema) (parent : Option ℕ) (row : List Stored) (i : ℕ) (
 unfolding row_members
 all_put s parent row i ms whole ended so = sym (at_drop_all (λ ss. row_members s parent ms (row_view ss)) row i ended) ∙ so
 
-pub text_of : (s : Schema) (t : Tree) (d : Data) (text : List ℕ) → d ≡ written_value s t → (has_float d ≡ false → text ≡ compact_text d) → text ≡ written_text s t
-text_of s t d text is so = so (ap has_float is ∙ no_fractions s t) ∙ ap compact_text is
+pub text_of : (s : Schema) (t : Tree) (d : Data) (text : List ℕ) → ArePlain s.nodes → IsNumbered 0 s.nodes → d ≡ written_value s t → (has_float d ≡ false → text ≡ compact_text d)
+    → Fits s t → text ≡ written_text s t
+text_of s t d text plain numbered is so fits =
+    let wide = is ∙ sym (values_are_plain s t plain numbered fits) in
+    so (ap has_float wide ∙ no_fractions s t) ∙ ap compact_text wide
 
-pub text_read : (s : Schema) (t : Tree) (d : Data) (text : List ℕ) → IsNumbered 0 s.nodes → d ≡ written_value s t → IsUtf8 text → (depth d ≤ max_depth → read text ≡ Some d)
-    → NamesDiffer s None s.nodes → levels s.nodes ≤ level_limit → IsDocument s.nodes t → document_of s text ≡ Ok t
-text_read s t d text numbered is utf8 reads differ few fits =
-    let lower = levels_fit s.nodes t fits in
+pub text_read : (s : Schema) (t : Tree) (d : Data) (text : List ℕ) → ArePlain s.nodes → IsNumbered 0 s.nodes → NamesDiffer s → LeafsAreBare s.nodes → levels s.nodes ≤ level_limit
+    → d ≡ written_value s t → IsUtf8 text → (depth d ≤ max_depth → read text ≡ Some d) → IsDocument s t → size t ≤ document_limit → document_of s text ≡ Ok t
+text_read s t d text plain numbered differ bare few is utf8 reads whole within =
+    let wide = is ∙ sym (values_are_plain s t plain numbered (document_fits s t whole)) in
+    let lower = levels_fit HasForm s.nodes 0 t whole in
     let deep = written_depth s t (levels s.nodes) lower in
-    let same = ap depth is in
-    written_read s t text numbered differ fits (json_found text d utf8 (reads (omega (arith, deep, same, few))) ∙ ap Some is)
+    let same = ap depth wide in
+    written_read s t text numbered differ bare whole within (json_found text d utf8 (reads (omega (arith, deep, same, few))) ∙ ap Some wide)

@@ -1,11 +1,15 @@
 //! From a document to its text.
 
-ghost use Rattle.std.specs.Prelude.{◌≡◌, ◌<◌, IfOk, OnOk, None, Some, Ok, option_map, string_bytes};
+ghost use Rattle.std.specs.Prelude.{◌≡◌, ◌≤◌, ◌<◌, IfOk, OnOk, None, Some, Ok, option_map, string_bytes};
 ghost use Rattle.serde_json.specs.Data.{no_members, put};
 ghost use Rattle.serde_json.specs.View as json;
+ghost use Rattle.yspec.specs.Forest.{size};
 ghost use Rattle.yspec.specs.schema.Schema.{node_at};
+ghost use Rattle.yspec.specs.document.Document.{document_limit};
 ghost use Rattle.yspec.specs.document.Reading.{document_of};
-ghost use Rattle.yspec.specs.document.Writing.{whole_number, data_of, leaf_data, written_node, with_node, row_members, written_value, written_text, IsDocument};
+ghost use Rattle.yspec.specs.document.Fitting.{Fits};
+ghost use Rattle.yspec.specs.document.Writing.{whole_number, data_of, leaf_data, written_node, written_text, IsDocument};
+ghost use Rattle.yspec.specs.plain.Writing.{with_node, row_members, written_value};
 ghost use Rattle.ytype.specs.View as held;
 ghost use Rattle.yschema.specs.View as schema_view;
 ghost use Rattle.ytree.specs.View.{view, row_view, tree_view};
@@ -20,10 +24,11 @@ use ytype::Raw;
 /// The compact JSON text of a document: members in byte order of their names, no line break (RFC 7951). It reads as that
 /// document again.
 pub fn write(alloc: Global, schema: &Schema, tree: &Tree) -> Result<String, AllocError>
-    ensures text { IfOk result (λ text. string_bytes text ≡ written_text (schema_view.view schema.now) (tree_view tree.now)) }
     // of a document that was read under the schema, or made by edits
+    ensures text { let s = schema_view.view schema.now in let t = tree_view tree.now in
+        IfOk result (λ text. Fits s t → string_bytes text ≡ written_text s t) }
     ensures reads_back { let s = schema_view.view schema.now in let t = tree_view tree.now in
-        IfOk result (λ text. IsDocument s.nodes t → document_of s (string_bytes text) ≡ Ok t) }
+        IfOk result (λ text. IsDocument s t → size t ≤ document_limit → document_of s (string_bytes text) ≡ Ok t) }
 {
     value_of_tree(alloc, schema, tree)?.to_string(alloc)
 }

@@ -1,7 +1,7 @@
 use Rattle.std.proofs.Common.{◌≡◌, drop}
 use Rattle.serde_json.specs.Data.{no_members}
 use Rattle.serde_json.specs.View as json
-use Rattle.yspec.specs.document.Writing.{row_members}
+use Rattle.yspec.specs.plain.Writing.{row_members}
 use Rattle.yschema.specs.View as schema_view
 use Rattle.ytree.specs.View.{row_view}
 use Rattle.ytree.proofs.writing.+members.Given as goal

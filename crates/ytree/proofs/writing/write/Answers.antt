@@ -4,17 +4,20 @@ use Rattle.std.proofs.lemmas.Str.{IsUtf8-string_bytes}
 use Rattle.serde_json.specs.View as json
 use Rattle.yschema.specs.View as schema_view
 use Rattle.ytree.specs.View.{tree_view}
-use Rattle.yschema.proofs.CallerLemmas.{numbered, names_differ, not_deep}
+use Rattle.yschema.proofs.CallerLemmas.{numbered, names_differ, leafs_are_bare, not_deep, kinds_are_plain}
 use Rattle.ytree.proofs.WriteLemmas.{text_of, text_read}
 use Rattle.ytree.proofs.writing.write.Goals as goal
 
 pub returns-clause-text : goal.returns-clause-text
 returns-clause-text c =
-    IfOk-weaker c.to_string.result _ _ (λ text. text_of (schema_view.view c.args.schema.now) (tree_view c.args.tree.now) (json.view c.in_ok-value_of_tree.field-0) (string_bytes text) c.in_ok-value_of_tree.ensures)
+    let s = c.args.schema.now in
+    IfOk-weaker c.to_string.result _ _ (λ text. text_of (schema_view.view s) (tree_view c.args.tree.now) (json.view c.in_ok-value_of_tree.field-0) (string_bytes text)
+    (kinds_are_plain s) (numbered s) c.in_ok-value_of_tree.ensures)
     c.to_string.ensures.text
 
 pub returns-clause-reads_back : goal.returns-clause-reads_back
 returns-clause-reads_back c =
-    IfOk-weaker c.to_string.result _ _ (λ text reads. text_read (schema_view.view c.args.schema.now) (tree_view c.args.tree.now) (json.view c.in_ok-value_of_tree.field-0) (string_bytes text)
-    (numbered c.args.schema.now) c.in_ok-value_of_tree.ensures (IsUtf8-string_bytes text) reads (names_differ c.args.schema.now) (not_deep c.args.schema.now))
+    let s = c.args.schema.now in
+    IfOk-weaker c.to_string.result _ _ (λ text reads. text_read (schema_view.view s) (tree_view c.args.tree.now) (json.view c.in_ok-value_of_tree.field-0) (string_bytes text)
+    (kinds_are_plain s) (numbered s) (names_differ s) (leafs_are_bare s) (not_deep s) c.in_ok-value_of_tree.ensures (IsUtf8-string_bytes text) reads)
     c.to_string.ensures.reads_back
