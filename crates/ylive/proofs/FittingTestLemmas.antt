@@ -1,50 +1,52 @@
 -- The test of what fits is the definition's.
-use Rattle.std.proofs.Common.{◌≡◌, ℕ, Bool, true, false, refl, arith}
-use Rattle.std.specs.Prelude.{◌==◌, ◌&&◌, ◌||◌}
-use Rattle.std.proofs.lemmas.Bool.{eqb-true, and_from, and_parts}
+use Rattle.std.proofs.Common.{◌≡◌, ℕ, ◌≤◌, Bool, true, false, Option, Some, None, refl, sym, ap, ◌∙◌, leb-true, le-leb}
+use Rattle.std.specs.Prelude.{◌&&◌, nat_le}
+use Rattle.std.specs.Option.{option_map_or}
+use Rattle.std.proofs.lemmas.Bool.{and_from, and_parts}
 use Rattle.yspec.specs.Forest.{Forest, end, node}
-use Rattle.yspec.specs.schema.Schema.{SchemaNode}
-use Rattle.yspec.specs.document.Document.{Tree}
-use Rattle.yspec.specs.document.Fitting.{Fits, at_end, not_stored, is_stored}
-use Rattle.ylive.specs.Kept.{fits}
+use Rattle.yspec.specs.types.Types.{Raw}
+use Rattle.yspec.specs.schema.Schema.{Schema, SchemaNode, data_row, child_in}
+use Rattle.yspec.specs.document.Document.{Stored, Tree}
+use Rattle.yspec.specs.document.Fitting.{FitsBy, Fits, next_after}
+use Rattle.ylive.specs.Kept.{row_fits, fits}
 
--- a disjunction that is true, by its parts
-by_part : {P : Type 0} (a b : Bool) → (a || b) ≡ true → (a ≡ true → P) → (b ≡ true → P) → P
-by_part true b h left right = left refl
-by_part false b h left right = right h
+abbrev Found : Type 0
+Found = SchemaNode × Forest SchemaNode
 
-or_left : (a b : Bool) → a ≡ true → (a || b) ≡ true
-or_left true b h = refl
-or_left false b h = absurd cc
+-- a node is found, and it passes a test
+found_so : (o : Option Found) (test : Found → Bool) → option_map_or test o false ≡ true → (found : Found) × (o ≡ Some found) × (test found ≡ true)
+found_so None test h = absurd cc
+found_so (Some found) test h = (found, refl, h)
 
-or_right : (a b : Bool) → b ≡ true → (a || b) ≡ true
-or_right true b h = refl
-or_right false b h = h
+abbrev RowFits : Forest SchemaNode → ℕ → Tree → Type 0
+RowFits children least tree = FitsBy (λ n value. Unit {0}) children least tree
 
-same_number : (a b : ℕ) → a ≡ b → (a == b) ≡ true
-same_number a b e = grind arith
+row_is : (children : Forest SchemaNode) (least : ℕ) (tree : Tree) → row_fits children least tree ≡ true → RowFits children least tree
+unfolding row_fits
+row_is children least end h = tt
+row_is children least (node s below after) h =
+    let parts = and_parts (nat_le least s.schema_number) _ h in
+    let found = found_so (child_in (data_row children) s.schema_number) (λ found. row_fits found.1 0 below && row_fits children (next_after found.0) after) parts.1 in
+    let rows = and_parts (row_fits found.0.1 0 below) (row_fits children (next_after found.0.0) after) found.2 in (
+      found.0,
+      found.1,
+      leb-true least s.schema_number parts.0,
+      tt,
+      row_is found.0.1 0 below rows.0,
+      row_is children (next_after found.0.0) after rows.1,
+    )
 
-pub fits_is : (row : Forest SchemaNode) (tree : Tree) → fits row tree ≡ true → Fits row tree
-unfolding fits
-fits_is end end h = at_end
-fits_is end (node s below after) h = absurd cc
-fits_is (node n below after) end h = not_stored (fits_is after end h)
-fits_is (node n below after) (node s stored_below stored_after) h =
-    by_part (s.schema_number == n.number && (fits below stored_below && fits after stored_after)) (fits after (node s stored_below stored_after)) h
-    (λ one. let parts = and_parts (s.schema_number == n.number) (fits below stored_below && fits after stored_after) one in
-    let rows = and_parts (fits below stored_below) (fits after stored_after) parts.1 in
-    is_stored (eqb-true s.schema_number n.number parts.0) tt (fits_is below stored_below rows.0) (fits_is after stored_after rows.1))
-    (λ other. not_stored (fits_is after (node s stored_below stored_after) other))
+row_true : (children : Forest SchemaNode) (least : ℕ) (tree : Tree) → RowFits children least tree → row_fits children least tree ≡ true
+unfolding row_fits
+row_true children least end fits = refl
+row_true children least (node s below after) fits =
+    and_from (nat_le least s.schema_number) _ (le-leb least s.schema_number fits.2)
+    (ap (λ o. option_map_or (λ found. row_fits found.1 0 below && row_fits children (next_after found.0) after) o false) fits.1
+    ∙ and_from (row_fits fits.0.1 0 below) (row_fits children (next_after fits.0.0) after)
+    (row_true fits.0.1 0 below fits.4) (row_true children (next_after fits.0.0) after fits.5))
 
-pub fits_true : (row : Forest SchemaNode) (tree : Tree) → Fits row tree → fits row tree ≡ true
-unfolding fits
-fits_true end end at_end = refl
-fits_true end (node s below after) h = elim h [ ]
-fits_true (node n below after) end (not_stored h) = fits_true after end h
-fits_true (node n below after) (node s stored_below stored_after) (not_stored h) =
-    or_right (s.schema_number == n.number && (fits below stored_below && fits after stored_after)) (fits after (node s stored_below stored_after))
-    (fits_true after (node s stored_below stored_after) h)
-fits_true (node n below after) (node s stored_below stored_after) (is_stored same held b a) =
-    or_left (s.schema_number == n.number && (fits below stored_below && fits after stored_after)) (fits after (node s stored_below stored_after))
-    (and_from (s.schema_number == n.number) (fits below stored_below && fits after stored_after) (same_number s.schema_number n.number same)
-    (and_from (fits below stored_below) (fits after stored_after) (fits_true below stored_below b) (fits_true after stored_after a)))
+pub fits_is : (schema : Schema) (tree : Tree) → fits schema tree ≡ true → Fits schema tree
+fits_is schema tree h = row_is schema.nodes 0 tree h
+
+pub fits_true : (schema : Schema) (tree : Tree) → Fits schema tree → fits schema tree ≡ true
+fits_true schema tree h = row_true schema.nodes 0 tree h

@@ -21,7 +21,7 @@ pub struct Live {
     schema: Schema,
     tree: Tree,
     faults: Option<usize>,
-    ghost fitting: { fits (schema_view.view schema).nodes (tree_view tree) ≡ true },
+    ghost fitting: { fits (schema_view.view schema) (tree_view tree) ≡ true },
     ghost counted: { IfSome faults (λ n. n ≡ length (faults_of (schema_view.view schema) (tree_view tree))) } by { Prim.hlevel props },
 }
 
@@ -35,7 +35,7 @@ impl Live {
 
     /// A document with its schema, under which it was read or made. Where memory runs out both are given back.
     pub fn open(alloc: Global, schema: Schema, tree: Tree) -> Result<Live, (Schema, Tree)>
-        requires { Fits (schema_view.view schema).nodes (tree_view tree) }
+        requires { Fits (schema_view.view schema) (tree_view tree) }
         ensures opened { IfOk result (λ live. view live ≡ opened (schema_view.view schema) (tree_view tree)) }
         ensures schema { IfErr result (λ given. given.0 ≡ schema) }
         ensures tree { IfErr result (λ given. given.1 ≡ tree) }
@@ -95,7 +95,7 @@ impl Live {
     /// A copy of what the document stores, also of a stale one.
     pub fn tree(&self) -> Result<Tree, AllocError>
         ensures copy { IfOk result (λ tree. tree_view tree ≡ (view self.now).tree) }
-        ensures fitting { IfOk result (λ tree. Fits (view self.now).schema.nodes (tree_view tree)) }
+        ensures fitting { IfOk result (λ tree. Fits (view self.now).schema (tree_view tree)) }
     {
         self.tree.clone()
     }
@@ -149,7 +149,7 @@ impl Live {
 
 /// How many faults a document has that fits its schema.
 fn count_of(alloc: Global, schema: &Schema, tree: &Tree) -> Result<usize, AllocError>
-    requires { fits (schema_view.view schema.now).nodes (tree_view tree.now) ≡ true }
+    requires { fits (schema_view.view schema.now) (tree_view tree.now) ≡ true }
     ensures { IfOk result (λ n. n ≡ length (faults_of (schema_view.view schema.now) (tree_view tree.now))) }
 {
     Ok(faults(alloc, schema, tree)?.len())

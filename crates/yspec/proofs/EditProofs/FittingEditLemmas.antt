@@ -361,12 +361,3 @@ edits_fit s tree edits numbered fits = edits_keep (Fits s) s tree edits (λ t e 
 
 pub edits_whole : (s : Schema) (tree : Tree) (edits : List Edit) → IsNumbered 0 s.nodes → NamesDiffer s → IsDocument s tree → IsDocument s (after s tree edits)
 edits_whole s tree edits numbered differ whole = edits_keep (IsDocument s) s tree edits (λ t e so. edit_whole s t e numbered differ so) whole
-
--- a document that fits in values does so in shape
-shape_fits : (f : Forest SchemaNode) (least : ℕ) (t : Tree) → FitsBy HasForm f least t → FitsBy (λ n value. Unit {0}) f least t
-shape_fits f least end fits = tt
-shape_fits f least (node s below after) fits =
-    (fits.0, fits.1, fits.2, tt, shape_fits fits.0.1 0 below fits.4, shape_fits f (next_after fits.0.0) after fits.5)
-
-pub whole_fits : (s : Schema) (tree : Tree) → IsDocument s tree → Fits s tree
-whole_fits s tree whole = shape_fits s.nodes 0 tree whole

@@ -1,7 +1,8 @@
 use Rattle.yspec.specs.document.Fitting.{Fits}
 use Rattle.yspec.specs.document.Writing.{IsDocument}
 use Rattle.yspec.specs.edit.Editing.{applied}
-use Rattle.yspec.proofs.EditProofs.FittingEditLemmas.{edit_fits, edit_whole, whole_fits}
+use Rattle.yspec.proofs.EditProofs.FittingEditLemmas.{edit_fits, edit_whole}
+use Rattle.yspec.proofs.DocumentProofs.WeakerFitLemmas.{document_fits}
 use Rattle.yschema.specs.View.{view}
 use Rattle.yschema.proofs.CallerLemmas.{numbered, names_differ, kinds_are_plain}
 use Rattle.ytree.specs.View.{tree_view}
@@ -28,5 +29,5 @@ returns-clause-whole c whole =
     let before = tree_view c.args.tree.now in
     let edit = edit_view c.args.edit.now in
     if_given (IsDocument s) c.edited.result (applied s before edit)
-    (wide_if_applied c.edited.result s before edit (kinds_are_plain c.args.schema.now) (numbered c.args.schema.now) c.edited.ensures (whole_fits s before whole))
+    (wide_if_applied c.edited.result s before edit (kinds_are_plain c.args.schema.now) (numbered c.args.schema.now) c.edited.ensures (document_fits s before whole))
     (edit_whole s before edit (numbered c.args.schema.now) (names_differ c.args.schema.now) whole)

@@ -7,4 +7,4 @@ use Rattle.ylive.proofs.live.Live.tree.Goals as goal
 
 pub returns-clause-fitting : goal.returns-clause-fitting
 returns-clause-fitting c = MatchResult-weaker c.clone.result c.clone.ensures.cases
-    (λ tree same. subst (Fits (schema_view.view c.args.self.now.schema).nodes) (sym same) (fits_is _ _ c.args.self.now.fitting)) (λ fault no. tt)
+    (λ tree same. subst (Fits (schema_view.view c.args.self.now.schema)) (sym same) (fits_is _ _ c.args.self.now.fitting)) (λ fault no. tt)
