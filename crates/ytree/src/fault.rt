@@ -1,6 +1,6 @@
 //! Why a document isn't read.
 
-ghost use Rattle.std.specs.Prelude.{◌≡◌, Some};
+ghost use Rattle.std.specs.Prelude.{◌≡◌, Some, []};
 ghost use Rattle.ytree.specs.View.{place_view};
 ghost use Rattle.ytree.specs.Told.{Tells, code_number};
 ghost use Rattle.ytree.specs.declared.fault.DocFault.TheVariants.{Memory};
@@ -25,6 +25,8 @@ pub enum DocCode {
     J5 = 5,
     /// A number with a fraction or an exponent, or one too large for a whole number, at a leaf.
     J6 = 6,
+    /// More nodes than a document may have.
+    J7 = 7,
 }
 
 impl DocCode {
@@ -77,5 +79,15 @@ pub(crate) fn refused(alloc: Global, code: DocCode, place: &[Step]) -> DocFault
     match Vec::from_slice(alloc, place) {
         Ok(place) => DocFault::Refused { code, place },
         Err(_) => DocFault::Memory,
+    }
+}
+
+/// The refusal of a document as a whole.
+pub(crate) fn refused_at_root(alloc: Global, code: DocCode) -> DocFault
+    ensures { Tells result (Some (record { code = code_number code; place = [] })) }
+{
+    DocFault::Refused {
+        code,
+        place: Vec::new(alloc),
     }
 }

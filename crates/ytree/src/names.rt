@@ -2,17 +2,17 @@
 
 ghost use Rattle.std.specs.Prelude.{◌≡◌, IfOk, option_map, string_bytes};
 ghost use Rattle.std.specs.List.{list_any};
-ghost use Rattle.yspec.specs.Forest.{row};
+ghost use Rattle.yspec.specs.Forest.{row, node, end};
 ghost use Rattle.yspec.specs.text.Text.{is_text};
 ghost use Rattle.yspec.specs.schema.Schema as spec;
-ghost use Rattle.yspec.specs.schema.Schema.{row_at};
-ghost use Rattle.yspec.specs.document.Reading.{named_in};
+ghost use Rattle.yspec.specs.schema.Schema.{row_at, data_row};
+ghost use Rattle.yspec.specs.document.Reading.{named};
 ghost use Rattle.yschema.specs.Layout.{number_of};
-ghost use Rattle.yschema.specs.View.{view, node_view, row_view};
+ghost use Rattle.yschema.specs.View.{view, node_view, row_view, label_of, below_of};
 ghost use Rattle.ytree.specs.View.{Means};
 
 use std::alloc::{AllocError, Global};
-use yschema::{Children, Schema, SchemaId, SchemaNode};
+use yschema::{Child, Children, Schema, SchemaId, SchemaNode};
 
 /// What the name of a member means.
 #[derive(Clone, Copy)]
@@ -31,7 +31,7 @@ pub(crate) fn meaning_of(
     name: &str,
 ) -> Result<Named, AllocError>
     ensures { let s = view schema.now in let p = number_of parent in
-        IfOk result (λ m. Means s m (named_in s (spec.module_at s p) name.now (row_at s p))) }
+        IfOk result (λ m. Means s m (named s (spec.module_at s p) name.now (row_at s p))) }
 {
     match schema.child_written(parent, name) {
         Some(id) => Ok(Named::Child(id)),
@@ -48,16 +48,49 @@ fn is_other_form(
     name: &str,
 ) -> Result<bool, AllocError>
     ensures { let s = view schema.now in let p = number_of parent in IfOk result (λ is_other. is_other
-        ≡ list_any (λ n. is_text name.now (spec.other_name s (spec.module_at s p) n)) (row (row_at s p))) }
+        ≡ list_any (λ n. is_text name.now (spec.other_name s (spec.module_at s p) n)) (row (data_row (row_at s p)))) }
 {
     let parent_module = module_of(schema, parent);
-    for child in children_of(schema, parent) {
-        let other = schema.other_name(alloc, parent_module, child.node())?;
-        if name == other.as_str() {
+    is_other_in(alloc, schema, parent_module, children_of(schema, parent), name)
+}
+
+/// Whether a data node of a row has a name in the form that isn't due; choices and cases are passed through.
+#[cycle(others)]
+fn is_other_in(
+    alloc: Global,
+    schema: &Schema,
+    parent_module: Option<usize>,
+    children: Children<'_>,
+    name: &str,
+) -> Result<bool, AllocError>
+    ensures { IfOk result (λ is_other. is_other ≡ list_any
+        (λ n. is_text name.now (spec.other_name (view schema.now) parent_module n)) (row (data_row (row_view children.entry)))) }
+{
+    for child in children {
+        if is_other_at(alloc, schema, parent_module, child, name)? {
             return Ok(true);
         }
     }
     Ok(false)
+}
+
+#[cycle(others)]
+fn is_other_at(
+    alloc: Global,
+    schema: &Schema,
+    parent_module: Option<usize>,
+    child: Child<'_>,
+    name: &str,
+) -> Result<bool, AllocError>
+    ensures { IfOk result (λ is_other. is_other ≡ list_any (λ n. is_text name.now (spec.other_name (view schema.now) parent_module n))
+        (row (data_row (node (label_of child.entry) (below_of child.entry) end)))) }
+{
+    if child.node().kind.is_data() {
+        let other = schema.other_name(alloc, parent_module, child.node())?;
+        Ok(name == other.as_str())
+    } else {
+        is_other_in(alloc, schema, parent_module, child.children(), name)
+    }
 }
 
 /// The module of a node; none at the top.

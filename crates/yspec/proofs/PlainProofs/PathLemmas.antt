@@ -1,19 +1,19 @@
 -- Under a schema of containers and leafs alone a path is bound as the plain definition says.
-use Rattle.std.proofs.Common.{◌≡◌, ℕ, Bool, true, false, cond, not, ◌&&◌, List, [], ◌∷◌, ◌++◌, Option, Some, None, Result, Ok, refl, sym, ap, ap₂, ◌∙◌, subst}
+use Rattle.std.proofs.Common.{◌≡◌, ℕ, Bool, true, false, cond, not, ◌&&◌, List, [], ◌∷◌, ◌++◌, Option, Some, None, Result, Ok, refl, sym, ap, ◌∙◌, subst}
 use Rattle.std.specs.Prelude.{option_map, unwrap_or}
 use Rattle.std.specs.List.{list_any}
 use Rattle.std.specs.Option.{option_map_or}
 use Rattle.yspec.specs.Forest.{Forest, end, node, row}
 use Rattle.yspec.specs.Results.{◌>>=◌}
 use Rattle.yspec.specs.text.Text.{Text, is_text}
-use Rattle.yspec.specs.schema.Schema.{Schema, SchemaNode, Kind, container, leaf, leaf_list, list, choice, case, is_written, other_name, row_at, module_at, node_at, children_of, child_written}
-use Rattle.yspec.specs.document.Reading.{child, other_form, unknown, named, named_in}
+use Rattle.yspec.specs.schema.Schema.{Schema, SchemaNode, Kind, container, leaf, leaf_list, list, choice, case, data_row, is_written, other_name, row_at, module_at, node_at, children_of, child_written}
+use Rattle.yspec.specs.document.Reading.{child, other_form, unknown, named}
 use Rattle.yspec.specs.document.Fitting.{IsNumbered}
 use Rattle.yspec.specs.edit.EditText.{Predicate, unsaid, at_position, with_keys, NamedStep, Path}
 use Rattle.yspec.specs.edit.Editing.{EditRefusal, refused, BoundStep, bound_named, bound_steps, fits_kind, says_nothing, are_in_place, has_zero, bound}
 use Rattle.yspec.specs.plain.Kinds.{IsPlainKind, ArePlain}
 use Rattle.yspec.specs.plain.Editing.{Way, way_on, way, says_which, meant}
-use Rattle.yspec.proofs.SchemaProofs.NodeLemmas.{Found, first_found, first_in_row-is, row_node}
+use Rattle.yspec.proofs.SchemaProofs.NodeLemmas.{Found, first_found, first_in_row-is, data_row_node}
 use Rattle.yspec.proofs.DocumentProofs.MeaningLemmas.{named_child, named_none}
 use Rattle.yspec.proofs.PlainProofs.RowLemmas.{data_row_same}
 
@@ -39,28 +39,28 @@ Bound = Result (List BoundStep) EditRefusal
 data Meant (s : Schema) (p : Option ℕ) (name : Text) : Type 0 where
   nothing : child_written s p name ≡ None
       → ((predicate : Predicate) (later : SchemaNode → Forest SchemaNode → Bound)
-      → bound_named (named_in s (module_at s p) name (row_at s p)) predicate later ≡ refused 2) → Meant s p name
+      → bound_named (named s (module_at s p) name (row_at s p)) predicate later ≡ refused 2) → Meant s p name
   something : (n : SchemaNode) → child_written s p name ≡ Some n.number
-      → named_in s (module_at s p) name (row_at s p) ≡ child n (children_of s n.number) → IsPlace s n → Meant s p name
+      → named s (module_at s p) name (row_at s p) ≡ child n (children_of s n.number) → IsPlace s n → Meant s p name
 
 no_child : (b : Bool) (predicate : Predicate) (later : SchemaNode → Forest SchemaNode → Bound) → bound_named (cond b other_form unknown) predicate later ≡ refused 2
 no_child true predicate later = refl
 no_child false predicate later = refl
 
 name_meant : (s : Schema) (p : Option ℕ) (name : Text) → IsNumbered 0 s.nodes → ArePlain (row_at s p) → Meant s p name
-name_meant s p name numbered are = by (first_found (is_written s p name) (row_at s p)) refl
+name_meant s p name numbered are = by (first_found (is_written s p name) (data_row (row_at s p))) refl
   where
-    by : (o : Option Found) → first_found (is_written s p name) (row_at s p) ≡ o → Meant s p name
+    by : (o : Option Found) → first_found (is_written s p name) (data_row (row_at s p)) ≡ o → Meant s p name
     by None is = nothing
-        (first_in_row-is (is_written s p name) (row_at s p) ∙ ap (option_map (λ (x : Found). x.0.number)) is)
-        (λ predicate later. ap (λ nm. bound_named nm predicate later) (named_none s (module_at s p) name (row_at s p) is)
-        ∙ no_child (list_any (λ n. is_text name (other_name s (module_at s p) n)) (row (row_at s p))) predicate later)
+        (first_in_row-is (is_written s p name) (data_row (row_at s p)) ∙ ap (option_map (λ (x : Found). x.0.number)) is)
+        (λ predicate later. ap (λ nm. bound_named nm predicate later) (named_none s (module_at s p) name (data_row (row_at s p)) is)
+        ∙ no_child (list_any (λ n. is_text name (other_name s (module_at s p) n)) (row (data_row (row_at s p)))) predicate later)
     by (Some x) is =
-        let at = row_node s p (is_written s p name) x numbered is in
-        let plain = found_plain (is_written s p name) (row_at s p) x are is in
+        let at = data_row_node s p (is_written s p name) x numbered is in
+        let plain = found_plain (is_written s p name) (data_row (row_at s p)) x (subst ArePlain (sym (data_row_same (row_at s p) are)) are) is in
         something x.0
-        (first_in_row-is (is_written s p name) (row_at s p) ∙ ap (option_map (λ (x : Found). x.0.number)) is)
-        (named_child s (module_at s p) name (row_at s p) x is ∙ ap (child x.0) (sym at.1))
+        (first_in_row-is (is_written s p name) (data_row (row_at s p)) ∙ ap (option_map (λ (x : Found). x.0.number)) is)
+        (named_child s (module_at s p) name (data_row (row_at s p)) x is ∙ ap (child x.0) (sym at.1))
         (at.0, plain.0, subst (λ (f : Forest SchemaNode). ArePlain f) (sym at.1) plain.1)
 
 -- ---- all names
@@ -94,7 +94,7 @@ data LeadsBy (s : Schema) (p : Option ℕ) (m : Option ℕ) (f : Forest SchemaNo
       → ((above : List ℕ) → way_by s p above x.name path ≡ Ok (way_from above b.schema_node.number bs)) → LeadsBy s p m f x path
 
 leads_by : (s : Schema) (p m : Option ℕ) (f : Forest SchemaNode) (x : NamedStep) (path : Path) → Meant s p x.name
-    → named s m x.name f ≡ named_in s (module_at s p) x.name (row_at s p)
+    → named s m x.name f ≡ named s (module_at s p) x.name (row_at s p)
     → ((n : SchemaNode) → IsPlace s n → LeadsOn s n path) → LeadsBy s p m f x path
 leads_by s p m f x path (nothing none unnamed) same rest = not_led
     (ap (λ nm. bound_named nm x.predicate (λ n below. bound_steps s (Some n.module_number) below path)) same
@@ -119,7 +119,7 @@ leads_on : (s : Schema) (n : SchemaNode) (path : Path) → IsNumbered 0 s.nodes 
 leads_on s n [] numbered place = led [] refl tt (λ above. refl)
 leads_on s n (x ∷ path) numbered place =
     by (leads_by s (Some n.number) (Some n.module_number) (children_of s n.number) x path (name_meant s (Some n.number) x.name numbered place.2)
-    (ap₂ (λ m f. named_in s m x.name f) (sym (ap (option_map (λ (n : SchemaNode). n.module_number)) place.0)) (data_row_same (children_of s n.number) place.2))
+    (ap (λ m. named s m x.name (children_of s n.number)) (sym (ap (option_map (λ (n : SchemaNode). n.module_number)) place.0)))
     (λ m at. leads_on s m path numbered at))
   where
     by : LeadsBy s (Some n.number) (Some n.module_number) (children_of s n.number) x path → LeadsOn s n (x ∷ path)
@@ -128,7 +128,7 @@ leads_on s n (x ∷ path) numbered place =
 
 leads_first : (s : Schema) (x : NamedStep) (path : Path) → IsNumbered 0 s.nodes → ArePlain s.nodes → LeadsBy s None None s.nodes x path
 leads_first s x path numbered are = leads_by s None None s.nodes x path (name_meant s None x.name numbered are)
-    (ap (λ f. named_in s None x.name f) (data_row_same s.nodes are)) (λ n place. leads_on s n path numbered place)
+    refl (λ n place. leads_on s n path numbered place)
 
 -- ---- predicates
 

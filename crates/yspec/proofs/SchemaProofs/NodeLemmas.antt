@@ -1,9 +1,9 @@
--- A node of a row of a schema whose nodes are numbered in preorder is the node of its number, and so is what stands below it.
+-- A data node of a row of a schema whose nodes are numbered in preorder is the node of its number, and so is what stands below it.
 use Rattle.std.proofs.Common.{◌≡◌, ◌⊎◌, inl, inr, ℕ, ◌+◌, ◌≤◌, Bool, true, false, cond, List, [], ◌∷◌, ◌++◌, length, Option, Some, None, refl, sym, ap, ap₂, ◌∙◌, subst, arith, length-append}
 use Rattle.std.specs.Prelude.{◌==◌, option_map, unwrap_or, find}
 use Rattle.std.proofs.lemmas.Bool.{eq-eqb, ne_eqb}
-use Rattle.yspec.specs.Forest.{Forest, node, end, size, row, find_label, first_of, find_below, joined_below}
-use Rattle.yspec.specs.schema.Schema.{Schema, SchemaNode, row_at, node_at, children_of, first_in_row}
+use Rattle.yspec.specs.Forest.{Forest, node, end, size, row, find_label, first_of, find_below, joined_below, join}
+use Rattle.yspec.specs.schema.Schema.{Schema, SchemaNode, is_data, data_row, row_at, node_at, children_of, first_in_row}
 use Rattle.yspec.specs.document.Fitting.{IsNumbered}
 
 -- a node with what stands below it
@@ -98,16 +98,6 @@ found_there test (y ∷ ys) x e = by (test y) e (found_there test ys x)
     by true e h = inl (ap (λ o. unwrap_or o x) (sym e))
     by false e h = inr (h e)
 
-in_row : (test : SchemaNode → Bool) (f : Forest SchemaNode) (x : Found) → first_found test f ≡ Some x → Has x (all_below f)
-unfolding all_below
-in_row test end x e = absurd cc
-in_row test (node l below after) x e = by (test l) e (in_row test after x)
-  where
-    by : (b : Bool) → cond b (Some (l, below)) (first_found test after) ≡ Some x → (first_found test after ≡ Some x → Has x (all_below after))
-        → Has x ((l, below) ∷ (all_below below ++ all_below after))
-    by true e h = inl (ap (λ o. unwrap_or o x) (sym e))
-    by false e h = inr (has_right x (all_below below) (all_below after) (h e))
-
 in_rows_below : (f : Forest SchemaNode) (x y : Found) → Has x (all_below f) → Has y (all_below x.1) → Has y (all_below f)
 unfolding all_below
 in_rows_below end x y h g = absurd h
@@ -158,25 +148,58 @@ found_itself k (y ∷ ys) x counts (inr h) =
     ap (λ b. cond b (Some y) (find (λ p. p.0.number == x.0.number) ys)) (ne_eqb y.0.number x.0.number (omega (arith, past, counts.0)))
     ∙ found_itself (k + 1) ys x counts.1 h
 
--- ---- a node of a row
+-- ---- a data node of a row
+
+joined_either : (test : SchemaNode → Bool) (f g : Forest SchemaNode) (x : Found) → first_found test (join f g) ≡ Some x
+    → (first_found test f ≡ Some x) ⊎ (first_found test g ≡ Some x)
+joined_either test end g x e = inr e
+joined_either test (node l below after) g x e = by (test l) e (joined_either test after g x)
+  where
+    by : (b : Bool) → cond b (Some (l, below)) (first_found test (join after g)) ≡ Some x
+        → (first_found test (join after g) ≡ Some x → (first_found test after ≡ Some x) ⊎ (first_found test g ≡ Some x))
+        → (cond b (Some (l, below)) (first_found test after) ≡ Some x) ⊎ (first_found test g ≡ Some x)
+    by true e h = inl e
+    by false e h = h e
+
+in_data_row : (test : SchemaNode → Bool) (f : Forest SchemaNode) (x : Found) → first_found test (data_row f) ≡ Some x → Has x (all_below f)
+unfolding all_below
+in_data_row test end x e = absurd cc
+in_data_row test (node l below after) x e = by (is_data l.kind) e (in_data_row test below x) (in_data_row test after x)
+  where
+    its_own : (b : Bool) → cond b (Some (l, below)) (first_found test (data_row after)) ≡ Some x → (first_found test (data_row after) ≡ Some x → Has x (all_below after))
+        → Has x ((l, below) ∷ (all_below below ++ all_below after))
+    its_own true e rest = inl (ap (λ o. unwrap_or o x) (sym e))
+    its_own false e rest = inr (has_right x (all_below below) (all_below after) (rest e))
+
+    either : (first_found test (data_row below) ≡ Some x) ⊎ (first_found test (data_row after) ≡ Some x)
+        → (first_found test (data_row below) ≡ Some x → Has x (all_below below)) → (first_found test (data_row after) ≡ Some x → Has x (all_below after))
+        → Has x ((l, below) ∷ (all_below below ++ all_below after))
+    either (inl e) inner rest = inr (has_left x (all_below below) (all_below after) (inner e))
+    either (inr e) inner rest = inr (has_right x (all_below below) (all_below after) (rest e))
+
+    by : (b : Bool) → first_found test (cond b (node l below (data_row after)) (join (data_row below) (data_row after))) ≡ Some x
+        → (first_found test (data_row below) ≡ Some x → Has x (all_below below)) → (first_found test (data_row after) ≡ Some x → Has x (all_below after))
+        → Has x ((l, below) ∷ (all_below below ++ all_below after))
+    by true e inner rest = its_own (test l) e rest
+    by false e inner rest = either (joined_either test (data_row below) (data_row after) x e) inner rest
 
 in_schema : (f : Forest SchemaNode) (p : ℕ) (test : SchemaNode → Bool) (x : Found)
-    → first_found test (unwrap_or (find_below (λ n. n.number == p) f) end) ≡ Some x → Has x (all_below f)
+    → first_found test (data_row (unwrap_or (find_below (λ n. n.number == p) f) end)) ≡ Some x → Has x (all_below f)
 in_schema f p test x e = by (find (λ q. q.0.number == p) (all_below f)) refl
-    (sym (ap (λ o. first_found test (unwrap_or o end)) (find_below-is (λ n. n.number == p) f)) ∙ e)
+    (sym (ap (λ o. first_found test (data_row (unwrap_or o end))) (find_below-is (λ n. n.number == p) f)) ∙ e)
   where
-    by : (o : Option Found) → find (λ q. q.0.number == p) (all_below f) ≡ o → first_found test (unwrap_or (option_map (λ q. q.1) o) end) ≡ Some x → Has x (all_below f)
+    by : (o : Option Found) → find (λ q. q.0.number == p) (all_below f) ≡ o → first_found test (data_row (unwrap_or (option_map (λ q. q.1) o) end)) ≡ Some x → Has x (all_below f)
     by None is e = absurd cc
-    by (Some y) is e = in_rows_below f y x (found_there (λ q. q.0.number == p) (all_below f) y is) (in_row test y.1 x e)
+    by (Some y) is e = in_rows_below f y x (found_there (λ q. q.0.number == p) (all_below f) y is) (in_data_row test y.1 x e)
 
-pub row_node : (s : Schema) (p : Option ℕ) (test : SchemaNode → Bool) (x : Found) → IsNumbered 0 s.nodes → first_found test (row_at s p) ≡ Some x
+pub data_row_node : (s : Schema) (p : Option ℕ) (test : SchemaNode → Bool) (x : Found) → IsNumbered 0 s.nodes → first_found test (data_row (row_at s p)) ≡ Some x
     → (node_at s x.0.number ≡ Some x.0) × (children_of s x.0.number ≡ x.1)
-row_node s p test x numbered e =
+data_row_node s p test x numbered e =
     let itself : find (λ q. q.0.number == x.0.number) (all_below s.nodes) ≡ Some x = found_itself 0 (all_below s.nodes) x (counts_below 0 s.nodes numbered) (there p e) in (
       find_label-is (λ n. n.number == x.0.number) s.nodes ∙ ap (option_map (λ q. q.0)) itself,
       ap (λ o. unwrap_or o end) (find_below-is (λ n. n.number == x.0.number) s.nodes ∙ ap (option_map (λ q. q.1)) itself),
     )
   where
-    there : (p : Option ℕ) → first_found test (row_at s p) ≡ Some x → Has x (all_below s.nodes)
-    there None e = in_row test s.nodes x e
+    there : (p : Option ℕ) → first_found test (data_row (row_at s p)) ≡ Some x → Has x (all_below s.nodes)
+    there None e = in_data_row test s.nodes x e
     there (Some j) e = in_schema s.nodes j test x e

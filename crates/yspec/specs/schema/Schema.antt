@@ -247,6 +247,6 @@ first_in_row test nodes = option_map (λ n. n.number) (find test (row nodes))
 abbrev pub child_named : Schema → Option ℕ → ℕ → Text → Option ℕ
 child_named schema parent module_number name = first_in_row (is_called module_number name) (row_at schema parent)
 
--- the child whose name a document writes so
+-- the child whose name a document writes so; choices and cases are passed through
 abbrev pub child_written : Schema → Option ℕ → Text → Option ℕ
-child_written schema parent name = first_in_row (is_written schema parent name) (row_at schema parent)
+child_written schema parent name = first_in_row (is_written schema parent name) (data_row (row_at schema parent))
