@@ -51,7 +51,13 @@ fn is_other_form(
         ≡ list_any (λ n. is_text name.now (spec.other_name s (spec.module_at s p) n)) (row (data_row (row_at s p)))) }
 {
     let parent_module = module_of(schema, parent);
-    is_other_in(alloc, schema, parent_module, children_of(schema, parent), name)
+    is_other_in(
+        alloc,
+        schema,
+        parent_module,
+        children_of(schema, parent),
+        name,
+    )
 }
 
 /// Whether a data node of a row has a name in the form that isn't due; choices and cases are passed through.

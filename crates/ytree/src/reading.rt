@@ -175,7 +175,14 @@ fn put_instance(
     ensures { let n = schema_view.label_of child.entry in let d = json.view value.now in OnOk result (row_view row.new.items
         ≡ join (row_view row.old.items) (node (stored_node n d) (inner_rows (schema_view.view schema.now) n (schema_view.below_of child.entry) d) end)) }
 {
-    row.push(stored(alloc, schema, child.id(), child.node(), child.children(), value)?)?;
+    row.push(stored(
+        alloc,
+        schema,
+        child.id(),
+        child.node(),
+        child.children(),
+        value,
+    )?)?;
     Ok(())
 }
 
@@ -199,7 +206,14 @@ fn stored(
     match value {
         Value::Object(members) => {
             let mut below = Vec::new(alloc);
-            put_rows(alloc, schema, Some(node.module), children, members, &mut below)?;
+            put_rows(
+                alloc,
+                schema,
+                Some(node.module),
+                children,
+                members,
+                &mut below,
+            )?;
             Ok(Stored::new(id, held, below))
         }
         _ => Ok(Stored::new(id, held, Vec::new(alloc))),

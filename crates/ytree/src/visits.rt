@@ -1,7 +1,7 @@
 //! The walk over a document's values that finds the first refusal: depth first, members in byte order of their names, items
 //! by position.
 
-ghost use Rattle.std.specs.Prelude.{◌≡◌, ◌++◌, OnOk, Some, None, [], ◌∷◌};
+ghost use Rattle.std.specs.Prelude.{◌≡◌, ◌+◌, ◌++◌, IfSome, OnOk, Some, None, [], ◌∷◌};
 ghost use Rattle.serde_json.specs.View as json;
 ghost use Rattle.yspec.specs.schema.Schema.{module_at, row_at};
 ghost use Rattle.yspec.specs.document.Reading.{right, named, at_named, leaf_visit, value_visit, member_visits, node_visits, item_visits, instance_visits};
@@ -89,7 +89,14 @@ fn visit_node(
             _ => Err(refused_below(alloc, DocCode::J5, id, place)),
         }
     } else {
-        visit_below(alloc, schema, Step { id, position: None }, value, place, room)
+        visit_below(
+            alloc,
+            schema,
+            Step { id, position: None },
+            value,
+            place,
+            room,
+        )
     }
 }
 
@@ -109,17 +116,27 @@ fn visit_items(
 {
     let mut left = room;
     for (index, item) in items.iter().enumerate() {
-        // So many items have no place in memory, nor in a document.
-        let Ok(position) = u32::try_from(index + 1) else {
+        let Some(position) = position_behind(index) else {
             return Err(DocFault::Memory);
         };
-        let step = Step { id, position: Some(position) };
-        match visit_below(alloc, schema, step, item, place, left) {
+        let position = Some(position);
+        match visit_below(alloc, schema, Step { id, position }, item, place, left) {
             Ok(rest) => left = rest,
             Err(fault) => return Err(fault),
         }
     }
     Ok(left)
+}
+
+/// The position of the item behind so many; nothing past the last that a step can hold.
+fn position_behind(index: usize) -> Option<u32>
+    ensures { IfSome result (λ position. position ≡ index + 1) }
+{
+    if index < u32::MAX as usize {
+        Some(index as u32 + 1)
+    } else {
+        None
+    }
 }
 
 /// Refuses what stands a step below the place.

@@ -1,40 +1,88 @@
-use Rattle.std.proofs.Common.{◌≡◌, Option, option_map, refl, ap, ◌∙◌}
+use Rattle.std.proofs.Common.{◌≡◌, true, Option, Some, option_map, refl, sym, ap, ◌∙◌, arith}
 use Rattle.serde_json.specs.Data.{Data}
 use Rattle.serde_json.specs.Find.{get_member}
 use Rattle.serde_json.specs.View as json
 use Rattle.serde_json.proofs.Views.{view_of_ref, view-lookup}
-use Rattle.yspec.specs.schema.Schema.{written_name}
+use Rattle.yspec.specs.schema.Schema as spec
+use Rattle.yspec.specs.schema.Schema.{is_data, is_many, written_name}
 use Rattle.ytype.specs.View.{raw_of}
 use Rattle.yschema.specs.View as schema_view
 use Rattle.ytree.specs.View.{row_view}
-use Rattle.ytree.proofs.ValueLemmas.{not_object}
-use Rattle.ytree.proofs.RowLemmas.{goes_on_with, goes_on_without, all_rows, held_node, seen_as}
+use Rattle.ytree.specs.Told.{inner_rows}
+use Rattle.ytree.proofs.ValueLemmas.{not_object, not_array}
+use Rattle.ytree.proofs.RowLemmas.{row_pushed, goes_on, all_rows, at_data, at_none, at_no_items, item_on, items_end, held_node, seen_as, on_ok, fewer_after}
 use Rattle.ytree.proofs.reading.+rows.Goals as goal
-use Rattle.ytree.proofs.reading.+rows.Goals.{rows_of-in-Some-get+in_ok-stored+in_ok-push, rows_of-in_default}
 
-pub rows_of-loop-child-preserved : goal.rows_of-loop-child-preserved
-rows_of-loop-child-preserved t c =
+pub put_child-returns-in-Some : goal.put_child-returns-in-Some
+put_child-returns-in-Some t c =
     let s = schema_view.view c.args.schema.now in
     let ms = json.members_view c.args.members.now.entries in
-    let n = schema_view.label_of c.in-Some.child in
-    let below = schema_view.below_of c.in-Some.child in
-    let before = schema_view.row_view c.loop-child.child-iterator in
-    let after = schema_view.row_view c.next.new.self in
+    let n = schema_view.label_of c.args.child in
+    let stands : is_data n.kind ≡ true = ap (λ (n : spec.SchemaNode). is_data n.kind) (sym c.node.ensures) ∙ (sym c.is_data.ensures ∙ c.if-is_data.true) in
     let found : Option Data = option_map (λ x. json.view x.now) c.get.result in
-    let named = ap (written_name s c.args.parent_module) c.node.ensures in
     let here : found ≡ get_member (written_name s c.args.parent_module n) ms =
     view_of_ref c.get.result ∙ (ap (option_map json.view) c.get.ensures.value ∙ (view-lookup c.as_str.result.now c.args.members.now.entries
-    ∙ ap (λ k. get_member k ms) (c.as_str.ensures.value ∙ (c.in_ok-name.ensures ∙ named)))) in
-    elim c.match-get.branch [
-      | rows_of-in-Some-get+in_ok-stored+in_ok-push w ↦ goes_on_with s c.args.parent_module n before below after ms found (json.view w.in-Some-get.value.now) c.loop-child.nodes.items c.match-get.nodes.items w.in_ok-stored.field-0 _ c.in-Some.ensures.steps here
-          (ap (option_map (λ x. json.view x.now)) w.in-Some-get.is) (ap (λ v. v.items) w.nodes-is ∙ w.in_ok-push.ensures.items) (seen_as s w.id-id.result.0 w.node-node.result.now n (schema_view.row_view w.children-below.result) below (json.view w.in-Some-get.value.now) w.in_ok-stored.field-0 w.id-id.ensures w.node-node.ensures w.children-below.ensures w.in_ok-stored.ensures) c.loop-child.invariant
-      | rows_of-in_default w ↦ goes_on_without s c.args.parent_module n before below after ms found c.loop-child.nodes.items c.match-get.nodes.items _ c.in-Some.ensures.steps here (ap (option_map (λ x. json.view x.now)) w.in_default.is) (ap (λ v. v.items) w.nodes-is) c.loop-child.invariant
-    ]
+    ∙ ap (λ k. get_member k ms) (c.as_str.ensures.value ∙ (c.in_ok-name.ensures ∙ ap (written_name s c.args.parent_module) c.node-then-is_data.ensures)))) in
+    on_ok c.put_instances.result (at_data s c.args.parent_module n (schema_view.below_of c.args.child) ms (Some (json.view c.in-Some.value.now)) (row_view c.args.row.now.items) _ stands
+    (sym (ap (option_map (λ x. json.view x.now)) c.in-Some.is) ∙ here)) c.put_instances.ensures
 
-pub rows_of-returns : goal.rows_of-returns
-rows_of-returns t c =
+pub put_child-returns-then-is_data : goal.put_child-returns-then-is_data
+put_child-returns-then-is_data t c =
+    let s = schema_view.view c.args.schema.now in
+    let ms = json.members_view c.args.members.now.entries in
+    let n = schema_view.label_of c.args.child in
+    let stands : is_data n.kind ≡ true = ap (λ (n : spec.SchemaNode). is_data n.kind) (sym c.node.ensures) ∙ (sym c.is_data.ensures ∙ c.if-is_data.true) in
+    let found : Option Data = option_map (λ x. json.view x.now) c.get.result in
+    let here : found ≡ get_member (written_name s c.args.parent_module n) ms =
+    view_of_ref c.get.result ∙ (ap (option_map json.view) c.get.ensures.value ∙ (view-lookup c.as_str.result.now c.args.members.now.entries
+    ∙ ap (λ k. get_member k ms) (c.as_str.ensures.value ∙ (c.in_ok-name.ensures ∙ ap (written_name s c.args.parent_module) c.node-then-is_data.ensures)))) in
+    at_none s c.args.parent_module n (schema_view.below_of c.args.child) ms found (row_view c.args.row.now.items) _ stands here
+    (ap (option_map (λ x. json.view x.now)) c.in-None.is) refl
+
+pub put_instance-returns : goal.put_instance-returns
+put_instance-returns t c =
+    let s = schema_view.view c.args.schema.now in
+    let child = c.args.child in
+    row_pushed c.args.row.now.items c.push.new.self.items c.in_ok-stored.field-0 _ _ c.in_ok-push.ensures.items
+    (seen_as s c.id.result.0 c.node.result.now (schema_view.label_of child) (schema_view.row_view c.children.result) (schema_view.below_of child) (json.view c.args.value.now)
+    c.in_ok-stored.field-0 c.id.ensures c.node.ensures c.children.ensures c.in_ok-stored.ensures)
+
+pub put_instances-returns-in_default : goal.put_instances-returns-in_default
+put_instances-returns-in_default t c =
+    let n = schema_view.label_of c.args.child in
+    let many : is_many n.kind ≡ true = ap (λ (n : spec.SchemaNode). is_many n.kind) (sym c.node.ensures) ∙ (sym c.is_many.ensures ∙ c.if-is_many.true) in
+    at_no_items n (inner_rows (schema_view.view c.args.schema.now) n (schema_view.below_of c.args.child)) (json.view c.args.value.now) (row_view c.args.row.now.items) many
+    (not_array c.args.value.now c.in_default.not-Array)
+
+pub put_items-loop-item-preserved : goal.put_items-loop-item-preserved
+put_items-loop-item-preserved t c =
+    let n = schema_view.label_of c.args.child in
+    item_on n (inner_rows (schema_view.view c.args.schema.now) n (schema_view.below_of c.args.child)) c.args.items.now c.loop-item.item-index c.item-item.result
+    (row_view c.loop-item.row.items) (row_view c.put_instance.new.row.items) _ (omega arith) c.item-item.is c.in_ok-put_instance.ensures c.loop-item.invariant
+
+pub put_items-returns : goal.put_items-returns
+put_items-returns t c =
+    let n = schema_view.label_of c.args.child in
+    items_end n (inner_rows (schema_view.view c.args.schema.now) n (schema_view.below_of c.args.child)) c.args.items.now c.loop-item.item-index (row_view c.loop-item.row.items) _
+    (omega arith) c.loop-item.invariant
+
+pub put_rows-loop-child-preserved : goal.put_rows-loop-child-preserved
+put_rows-loop-child-preserved t c =
+    let child = c.in-Some.child in
+    record {
+      more = tt;
+      ends = tt;
+      smaller = fewer_after (schema_view.label_of child) (schema_view.below_of child) (schema_view.row_view c.next.new.self) (schema_view.row_view c.loop-child.child-iterator) _
+          c.in-Some.ensures.steps c.loop-child.invariant.smaller;
+      rows = goes_on (schema_view.view c.args.schema.now) c.args.parent_module (schema_view.label_of child) (schema_view.row_view c.loop-child.child-iterator) (schema_view.below_of child)
+          (schema_view.row_view c.next.new.self) (json.members_view c.args.members.now.entries) (row_view c.loop-child.row.items) (row_view c.put_child.new.row.items) _
+          c.in-Some.ensures.steps c.in_ok-put_child.ensures c.loop-child.invariant.rows;
+    }
+
+pub put_rows-returns : goal.put_rows-returns
+put_rows-returns t c =
     all_rows (schema_view.view c.args.schema.now) c.args.parent_module (schema_view.row_view c.loop-child.child-iterator) (json.members_view c.args.members.now.entries)
-    c.loop-child.nodes.items _ c.in-None.ensures.steps.0 c.loop-child.invariant
+    (row_view c.loop-child.row.items) _ c.in-None.ensures.steps.0 c.loop-child.invariant.rows
 
 pub stored-returns-in_default : goal.stored-returns-in_default
 stored-returns-in_default t c =

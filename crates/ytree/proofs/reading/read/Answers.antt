@@ -1,11 +1,10 @@
-use Rattle.std.proofs.Common.{[], refl, rules, ◌∙◌}
+use Rattle.std.proofs.Common.{[], refl, rules}
 use Rattle.serde_json.specs.Errors.{IsMemory}
 use Rattle.serde_json.specs.View as json
 use Rattle.yschema.specs.View as schema_view
 use Rattle.ytree.specs.View.{tree_view}
 use Rattle.yspec.proofs.DocumentProofs.JsonLemmas.{json_found, no_json}
-use Rattle.yschema.proofs.CallerLemmas.{numbered, names_differ, kinds_are_plain, not_large}
-use Rattle.yspec.proofs.PlainProofs.ReadingLemmas.{documents_are_plain}
+use Rattle.yschema.proofs.CallerLemmas.{numbered, names_differ}
 use Rattle.ytree.proofs.ReadLemmas.{of_json, of_none, fails_by, gives_same, fits_if_read, whole_if_read, within_if_read}
 use Rattle.ytree.proofs.reading.read.Goals as goal
 
@@ -13,15 +12,13 @@ pub returns-in-Ok-clause-answer : goal.returns-in-Ok-clause-answer
 returns-in-Ok-clause-answer c =
     let s = schema_view.view c.args.schema.now in
     gives_same tree_view c.tree_of.result _ _
-    (documents_are_plain s c.args.bytes.now (kinds_are_plain c.args.schema.now) (not_large c.args.schema.now)
-    ∙ of_json s c.args.bytes.now (json.view c.in-Ok.value) (json_found c.args.bytes.now (json.view c.in-Ok.value) c.in-Ok.ensures.ok.0 c.in-Ok.ensures.ok.1)) c.tree_of.ensures
+    (of_json s c.args.bytes.now (json.view c.in-Ok.value) (json_found c.args.bytes.now (json.view c.in-Ok.value) c.in-Ok.ensures.ok.0 c.in-Ok.ensures.ok.1)) c.tree_of.ensures
 
 pub returns-in-Err-2-clause-answer : goal.returns-in-Err-2-clause-answer
 returns-in-Err-2-clause-answer c =
     let is_refused : IsMemory c.in-Err.error → ⊥ = search rules in
-    fails_by c.at_root.result _ (record { code = 1; place = [] }) _ c.at_root.ensures refl
-    (documents_are_plain (schema_view.view c.args.schema.now) c.args.bytes.now (kinds_are_plain c.args.schema.now) (not_large c.args.schema.now)
-    ∙ of_none (schema_view.view c.args.schema.now) c.args.bytes.now (no_json c.args.bytes.now (c.in-Err.ensures.err is_refused)))
+    fails_by c.refused_at_root.result _ (record { code = 1; place = [] }) _ c.refused_at_root.ensures refl
+    (of_none (schema_view.view c.args.schema.now) c.args.bytes.now (no_json c.args.bytes.now (c.in-Err.ensures.err is_refused)))
 
 pub returns-in-Ok-clause-fitting : goal.returns-in-Ok-clause-fitting
 returns-in-Ok-clause-fitting c =
