@@ -17,7 +17,7 @@ ghost use Rattle.ycheck.specs.View.{code_view, views};
 
 use crate::fault::{Fault, FaultCode, Info};
 use std::alloc::{AllocError, Global};
-use yschema::{Child, Children, Kind, Schema, SchemaId, SchemaNode};
+use yschema::{Absence, Child, Children, Kind, Schema, SchemaId, SchemaNode};
 use ytree::{Step, Stored, Tree};
 use ytype::{BadValue, Raw, YType};
 
@@ -167,12 +167,11 @@ fn check_own(
         (stored_own (schema_view.kind_view node.now.kind) (option_map (λ raw. raw_of raw.now) value.entry))) }
     ensures place { OnOk result (findings.new.steps.items ≡ findings.old.steps.items) }
 {
-    match &node.kind {
-        Kind::Container { .. } => Ok(()),
-        Kind::Leaf { leaf_type, .. } => match value {
-            Some(raw) => check_value(leaf_type, raw, findings),
-            None => Ok(()),
-        },
+    match (&node.kind, value) {
+        (Kind::Leaf { leaf_type, .. }, Some(raw)) => {
+            check_value(&leaf_type.value_type, raw, findings)
+        }
+        _ => Ok(()),
     }
 }
 
@@ -211,15 +210,11 @@ fn check_missing(child: Child<'_>, findings: &mut Findings) -> Result<(), AllocE
     ensures place { OnOk result (findings.new.steps.items ≡ findings.old.steps.items) }
 {
     match &child.node().kind {
-        Kind::Container { presence: true } => Ok(()),
         Kind::Container { presence: false } => check_row(child.children(), &[], findings),
         Kind::Leaf {
-            mandatory: true,
+            absence: Absence::Mandatory,
             ..
         } => findings.tell(FaultCode::V3, None),
-        Kind::Leaf {
-            mandatory: false,
-            ..
-        } => Ok(()),
+        _ => Ok(()),
     }
 }

@@ -1,5 +1,5 @@
 -- The first refusal of visits, member by member and node by node.
-use Rattle.std.proofs.Common.{◌≡◌, ℕ, Bool, List, [], ◌∷◌, ◌++◌, Option, Some, None, Result, Ok, Err, OnOk, rules, refl, sym, ap, ◌∙◌, subst}
+use Rattle.std.proofs.Common.{◌≡◌, ℕ, true, false, List, [], ◌∷◌, ◌++◌, Option, Some, None, Result, Ok, Err, OnOk, rules, refl, sym, ap, ◌∙◌, subst}
 use Rattle.serde_json.specs.Data.{Data, object, Members, no_members, member}
 use Rattle.serde_json.specs.Find.{as_object}
 use Rattle.serde_json.specs.View as json
@@ -7,7 +7,7 @@ use Rattle.serde_json.specs.declared.value.Value.{Value, Object, the_lemmas}
 use Rattle.std.specs.Prelude.{option_map, option_and_then, unwrap_or}
 use Rattle.yspec.specs.Forest.{Forest}
 use Rattle.yspec.specs.text.Text.{Text}
-use Rattle.yspec.specs.schema.Schema.{Schema, SchemaNode, LeafType, Absence, container, leaf, node_at, children_of}
+use Rattle.yspec.specs.schema.Schema.{Schema, SchemaNode, has_value, node_at, children_of}
 use Rattle.yspec.specs.document.Document.{Step, below_place}
 use Rattle.yspec.specs.document.Reading.{Refusal, Visit, right, wrong, named_in, at_named, value_visit, first_wrong, Named, child}
 use Rattle.yspec.specs.plain.Reading.{member_visits, node_visits}
@@ -82,17 +82,17 @@ all_right s parent children place left whole is so =
 
 -- ---- nodes
 
-pub object_inside : (s : Schema) (n : SchemaNode) (below : Forest SchemaNode) (place : List Step) (d : Data) (ms : Members) (presence : Bool)
-    → d ≡ object ms → n.kind ≡ container presence
+pub object_inside : (s : Schema) (n : SchemaNode) (below : Forest SchemaNode) (place : List Step) (d : Data) (ms : Members)
+    → d ≡ object ms → has_value n.kind ≡ false
     → first_wrong (node_visits s n below place d) ≡ first_wrong (member_visits s (Some n.module_number) below place ms)
 unfolding node_visits
-object_inside s n below place d ms presence is kind = rw (is, kind) refl
+object_inside s n below place d ms is other = rw (is, other) refl
 
-pub object_at_leaf : (s : Schema) (n : SchemaNode) (below : Forest SchemaNode) (place : List Step) (d : Data) (ms : Members) (type : LeafType) (absence : Absence)
-    → d ≡ object ms → n.kind ≡ leaf type absence
+pub object_at_leaf : (s : Schema) (n : SchemaNode) (below : Forest SchemaNode) (place : List Step) (d : Data) (ms : Members)
+    → d ≡ object ms → has_value n.kind ≡ true
     → first_wrong (node_visits s n below place d) ≡ Some (record { code = 5; place = place })
 unfolding node_visits
-object_at_leaf s n below place d ms type absence is kind = rw (is, kind) refl
+object_at_leaf s n below place d ms is holds = rw (is, holds) refl
 
 pub no_object : (v : Value) → ((m : _) → v ≡ Object m → ⊥) → as_object (json.view v) ≡ None
 no_object v h = search (rules, the_lemmas)

@@ -21,7 +21,7 @@ use crate::values::raw_of;
 use crate::visits::{visit_members, visit_node};
 use serde_json::{Map, Value};
 use std::alloc::{AllocError, Global};
-use yschema::{Children, Kind, Schema, SchemaId, SchemaNode};
+use yschema::{Children, Schema, SchemaId, SchemaNode};
 use ytype::Raw;
 
 /// The document that JSON bytes denote under a schema, or the first refusal: J1 and J2, then J3 to J6 depth first, members
@@ -135,13 +135,14 @@ fn stored(
     }
 }
 
-/// What a node of the schema holds of a value: nothing but at a leaf.
+/// What a node of the schema holds of a value: nothing but at a leaf or item.
 fn held_of(alloc: Global, node: &SchemaNode, value: &Value) -> Result<Option<Raw>, AllocError>
     ensures { IfOk result (λ raw. option_map raw_of raw
         ≡ raw_in (schema_view.kind_view node.now.kind) (json.view value.now)) }
 {
-    match node.kind {
-        Kind::Leaf { .. } => raw_of(alloc, value),
-        Kind::Container { .. } => Ok(None),
+    if node.kind.has_value() {
+        raw_of(alloc, value)
+    } else {
+        Ok(None)
     }
 }

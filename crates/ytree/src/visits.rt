@@ -17,7 +17,7 @@ use crate::tree::Step;
 use crate::values::refusal_of;
 use serde_json::{Map, Value};
 use std::alloc::Global;
-use yschema::{Kind, Schema, SchemaId, SchemaNode};
+use yschema::{Schema, SchemaId, SchemaNode};
 
 /// Refuses the members of an object below a node, or at the top, whose steps are given. The place is as before.
 #[cycle(visits)]
@@ -88,10 +88,8 @@ pub(crate) fn visit_node(
         return Ok(());
     };
     match value {
-        Value::Object(members) => match node.kind {
-            Kind::Container { .. } => visit_members(alloc, schema, Some(id), members, place),
-            Kind::Leaf { .. } => Err(refused(alloc, DocCode::J5, place)),
-        },
+        Value::Object(_) if node.kind.has_value() => Err(refused(alloc, DocCode::J5, place)),
+        Value::Object(members) => visit_members(alloc, schema, Some(id), members, place),
         _ => visit_value(alloc, node, value, place),
     }
 }
@@ -105,9 +103,10 @@ fn visit_value(
 ) -> Result<(), DocFault>
     ensures { Judges result (first_wrong (value_visit (kind_view node.now.kind) (place_view place.now) (json.view value.now))) }
 {
-    match node.kind {
-        Kind::Leaf { .. } => visit_leaf(alloc, value, place),
-        Kind::Container { .. } => Err(refused(alloc, DocCode::J5, place)),
+    if node.kind.has_value() {
+        visit_leaf(alloc, value, place)
+    } else {
+        Err(refused(alloc, DocCode::J5, place))
     }
 }
 

@@ -18,7 +18,7 @@ use crate::names::written_name;
 use crate::tree::{Stored, Tree};
 use serde_json::{Map, Number, Value};
 use std::alloc::{AllocError, Global};
-use yschema::{Kind, Schema, SchemaNode};
+use yschema::{Schema, SchemaNode};
 use ytype::Raw;
 
 /// The compact JSON text of a document: members in byte order of their names, no line break (RFC 7951). It reads as that
@@ -101,13 +101,11 @@ fn value_of(
     ensures { IfOk result (λ value. json.view value ≡ written_node (schema_view.kind_view node.now.kind) (view stored.now).0.value
         (row_members (schema_view.view schema.now) (Some node.now.«module») no_members (view stored.now).1)) }
 {
-    match node.kind {
-        Kind::Container { .. } => {
-            let module = Some(node.module);
-            Ok(Value::Object(members_of(alloc, schema, module, stored.below())?))
-        }
-        Kind::Leaf { .. } => value_of_leaf(alloc, stored.value()),
+    if node.kind.has_value() {
+        return value_of_leaf(alloc, stored.value());
     }
+    let module = Some(node.module);
+    Ok(Value::Object(members_of(alloc, schema, module, stored.below())?))
 }
 
 fn value_of_leaf(alloc: Global, raw: Option<&Raw>) -> Result<Value, AllocError>

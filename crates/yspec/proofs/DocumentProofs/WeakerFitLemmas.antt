@@ -11,7 +11,12 @@ pub fits_weaker : (Held Weaker : SchemaNode → Option Raw → Type 0) → ((n :
     → (f : Forest SchemaNode) (least : ℕ) (t : Tree) → FitsBy Held f least t → FitsBy Weaker f least t
 fits_weaker Held Weaker weaker f least end fits = tt
 fits_weaker Held Weaker weaker f least (node s below after) fits = (
-  fits.0, fits.1, fits.2, weaker fits.0.0 s.value fits.3, fits_weaker Held Weaker weaker fits.0.1 0 below fits.4, fits_weaker Held Weaker weaker f (next_after fits.0.0) after fits.5,
+  fits.0,
+  fits.1,
+  fits.2,
+  weaker fits.0.0 s.value fits.3,
+  fits_weaker Held Weaker weaker fits.0.1 0 below fits.4,
+  fits_weaker Held Weaker weaker f (next_after fits.0.0) after fits.5,
 )
 
 pub document_fits : (schema : Schema) (tree : Tree) → IsDocument schema tree → Fits schema tree

@@ -64,7 +64,7 @@ module _ (s : Schema) (Held : SchemaNode → Option Raw → Type 0) where
 
 pub values_are_plain : (schema : Schema) (tree : Tree) → ArePlain schema.nodes → IsNumbered 0 schema.nodes → Fits schema tree
     → written_value schema tree ≡ plain.written_value schema tree
-values_are_plain s t plain numbered fits = 
+values_are_plain s t plain numbered fits =
     ap object (sym (below_same s (λ n value. Unit {0}) None s.nodes 0 numbered (all_same s (λ n value. Unit {0}) s.nodes 0 plain numbered (λ m _ _. refl)) t fits))
 
 pub texts_are_plain : (schema : Schema) (tree : Tree) → ArePlain schema.nodes → IsNumbered 0 schema.nodes → Fits schema tree

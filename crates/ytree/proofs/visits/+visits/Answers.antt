@@ -6,7 +6,7 @@ use Rattle.yspec.specs.schema.Schema.{module_at, row_at, node_at, children_of}
 use Rattle.yspec.specs.document.Reading.{named_in, value_visit, first_wrong}
 use Rattle.yspec.specs.plain.Reading.{member_visits}
 use Rattle.yschema.specs.Layout.{number_of}
-use Rattle.yschema.specs.View.{view, node_view, kind_view}
+use Rattle.yschema.specs.View.{view, node_view}
 use Rattle.ytree.specs.View.{place_view, step_view, Means}
 use Rattle.ytree.specs.Told.{refused_at}
 use Rattle.ytree.proofs.VisitLemmas.{member_right, member_wrong, all_right, judged, told_same, object_inside, object_at_leaf, other_visit, as_before, refused_child, refused_node}
@@ -55,22 +55,22 @@ visit_member-returns-in-Err-clause-told t c =
     told_same c.in-Err.fault _ _ (refused_child s i steps d read (subst (λ m. Means s m read) c.in-Child.is c.in_ok-id.ensures)
     ∙ ap (λ q. refused_at s i q d) (sym with_stored)) c.in-Err.ensures.told
 
-pub visit_node-returns-in-Container-clause-told : goal.visit_node-returns-in-Container-clause-told
-visit_node-returns-in-Container-clause-told t c =
+pub visit_node-returns-in-Object-2-clause-told : goal.visit_node-returns-in-Object-2-clause-told
+visit_node-returns-in-Object-2-clause-told t c =
     let s = view c.args.schema.now in
     let i = c.args.id.0 in
     let n = node_view i c.in-Some.node.now in
     let steps = place_view c.args.place.now.items in
     let d = json.view c.args.value.now in
-    let ms = json.members_view c.in-Object.members.entries in
+    let ms = json.members_view c.in-Object-2.members.entries in
     let at : node_at s i ≡ Some n = sym c.kind.ensures ∙ ap (option_map (λ m. node_view i m.now)) c.in-Some.is in
     let of_module = ap (λ m. first_wrong (member_visits s m (children_of s i) steps ms)) (sym (ap (option_map (λ m. m.module_number)) at)) in
     judged c.visit_members.result _ _ (refused_node s i n steps d at
-    ∙ (object_inside s n (children_of s i) steps d ms c.in-Container.presence (ap json.view c.in-Object.is ∙ view-Object c.in-Object.members) (ap kind_view c.in-Container.is)
+    ∙ (object_inside s n (children_of s i) steps d ms (ap json.view c.in-Object-2.is ∙ view-Object c.in-Object-2.members) (sym c.has_value.ensures ∙ c.if-has_value.false)
     ∙ of_module)) c.visit_members.ensures.told
 
-pub visit_node-returns-in-Leaf-clause-told : goal.visit_node-returns-in-Leaf-clause-told
-visit_node-returns-in-Leaf-clause-told t c =
+pub visit_node-returns-in-Object-clause-told : goal.visit_node-returns-in-Object-clause-told
+visit_node-returns-in-Object-clause-told t c =
     let s = view c.args.schema.now in
     let i = c.args.id.0 in
     let n = node_view i c.in-Some.node.now in
@@ -79,7 +79,7 @@ visit_node-returns-in-Leaf-clause-told t c =
     let at : node_at s i ≡ Some n = sym c.kind.ensures ∙ ap (option_map (λ m. node_view i m.now)) c.in-Some.is in
     let steps = ap place_view c.deref.ensures.value in
     told_same c.refused.result _ _ (refused_node s i n place d at
-    ∙ (object_at_leaf s n (children_of s i) place d (json.members_view c.in-Object.members.entries) _ _ (ap json.view c.in-Object.is ∙ view-Object c.in-Object.members) (ap kind_view c.in-Leaf.is)
+    ∙ (object_at_leaf s n (children_of s i) place d (json.members_view c.in-Object.field-0.entries) (ap json.view c.in-Object.is ∙ view-Object c.in-Object.field-0) (sym c.has_value.ensures ∙ c.if-has_value.true)
     ∙ ap (λ p. Some (record { code = 5; place = p })) (sym steps))) c.refused.ensures
 
 pub visit_node-returns-in_default-value : goal.visit_node-returns-in_default-value
