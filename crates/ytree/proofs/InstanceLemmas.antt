@@ -1,9 +1,8 @@
 -- The instances of a schema node, as they lie in a row.
-use Rattle.std.proofs.Common.{◌≡◌, ℕ, suc, ◌+◌, ◌≤◌, ◌<◌, Bool, true, false, cond, not, eqb, List, [], ◌∷◌, take, drop, length, Some, None, refl, ap, ◌∙◌, arith}
+use Rattle.std.proofs.Common.{◌≡◌, ℕ, suc, ◌+◌, ◌≤◌, Bool, true, false, cond, not, eqb, List, [], ◌∷◌, take, drop, length, Some, None, refl, ap, ◌∙◌, arith}
 use Rattle.std.specs.Prelude.{nat_le, nat_lt, position, unwrap_or}
 use Rattle.std.specs.List.{position_or_len}
 use Rattle.yspec.specs.Forest.{end, node}
-use Rattle.yspec.specs.document.Document.{Tree}
 use Rattle.yspec.specs.document.Sorting.{from_number}
 use Rattle.ytree.specs.View.{view, row_view}
 use Rattle.ytree.specs.Walk.{is_not_before, is_other, before_first, from_first, front, behind}

@@ -1,7 +1,7 @@
 -- What the walk puts in is what is written of the stored row.
-use Rattle.std.proofs.Common.{◌≡◌, ℕ, suc, ◌+◌, ◌≤◌, ◌<◌, Bool, true, false, cond, eqb, ltb, List, [], ◌∷◌, Option, Some, None, refl, sym, ap, ap₂, ◌∙◌, arith}
+use Rattle.std.proofs.Common.{◌≡◌, ℕ, suc, ◌+◌, ◌≤◌, ◌<◌, Bool, true, false, cond, eqb, [], ◌∷◌, Option, Some, refl, sym, ap, ap₂, ◌∙◌, arith}
 use Rattle.std.proofs.lemmas.Bool.{eqb-true, lt-ltb}
-use Rattle.serde_json.specs.Data.{Data, Members, no_members, Items, no_items, item, array, put}
+use Rattle.serde_json.specs.Data.{Members, no_members, item, array, put}
 use Rattle.yspec.specs.Forest.{Forest, end, node, size}
 use Rattle.yspec.specs.schema.Schema.{Schema, SchemaNode, Kind, is_data, is_many, written_name}
 use Rattle.yspec.specs.text.Text.{Text}

@@ -2,14 +2,13 @@
 use Rattle.std.proofs.Common.{◌≡◌, ℕ, ◌+◌, ◌≤◌, ◌<◌, Bool, true, false, cond, List, [], ◌∷◌, ◌++◌, length, drop, get_or, Option, Some, None, Ok, refl, sym, ap, ap₂, ◌∙◌, arith}
 use Rattle.std.proofs.lemmas.List.{at_drop_more, at_drop_all}
 use Rattle.std.specs.Str.{IsUtf8}
-use Rattle.serde_json.specs.Data.{Data, Members, no_members, Items, no_items, item, array, object, put, depth}
+use Rattle.serde_json.specs.Data.{Data, Members, no_members, Items, no_items, item, object, depth}
 use Rattle.serde_json.specs.Read.{read, max_depth}
 use Rattle.serde_json.specs.Written.{has_float, compact_text}
 use Rattle.serde_json.specs.View as json
 use Rattle.serde_json.specs.declared.value.Value.{Value}
 use Rattle.yspec.specs.Forest.{Forest, end, node, levels, size}
-use Rattle.yspec.specs.text.Text.{Text}
-use Rattle.yspec.specs.schema.Schema.{Schema, SchemaNode, Kind, is_data, is_many, written_name}
+use Rattle.yspec.specs.schema.Schema.{Schema, SchemaNode, Kind, is_data, written_name}
 use Rattle.yspec.specs.schema.Breaks.{level_limit}
 use Rattle.yspec.specs.document.Document.{Tree, document_limit}
 use Rattle.yspec.specs.document.Reading.{document_of}

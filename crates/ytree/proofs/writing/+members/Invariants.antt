@@ -1,4 +1,4 @@
-use Rattle.std.proofs.Common.{◌≡◌, ◌+◌, ◌*◌, ◌≤◌, Some, drop, length}
+use Rattle.std.proofs.Common.{◌≡◌, ◌+◌, ◌*◌, ◌≤◌, Some, drop}
 use Rattle.serde_json.specs.View as json
 use Rattle.yspec.specs.Forest.{size}
 use Rattle.yspec.specs.document.Writing.{written_items}
