@@ -127,7 +127,7 @@ walked_on s parent (node n below after) k t rest found numbered sorted left =
     by true passed same later =
         let first : IsLeft n.number rest t = λ m from. left m (omega (arith, from, numbered.0)) in
         let put_in = ap (λ x. with_instances name n.kind inner x found) (mine_left n.number rest t sorted first)
-            ∙ instances_same inner inside same name n.kind (instances n.number t) found (sorted_instances n.number t sorted) in
+        ∙ instances_same inner inside same name n.kind (instances n.number t) found (sorted_instances n.number t sorted) in
         let behind_it = left_others n.number (k + 1 + size below) rest t (omega (arith, numbered.0)) first in
         let rest_of = later (with_instances name n.kind inner (mine n.number rest) found) (others n.number rest) behind_it in (
           rest_of.0 ∙ ap (row_members s parent after t) put_in,

@@ -55,8 +55,11 @@ Left = Members × Tree
 unfoldable pub walked : Schema → Option ℕ → Forest SchemaNode → Left → Left
 walked schema parent end left = left
 walked schema parent (node n below after) left = walked schema parent after (if is_data n.kind
-    then (with_instances (written_name schema parent n) n.kind (λ inner. (walked schema (Some n.module_number) below (no_members, inner)).0)
-    (mine n.number left.1) left.0, others n.number left.1)
+    then (
+      with_instances (written_name schema parent n) n.kind (λ inner. (walked schema (Some n.module_number) below (no_members, inner)).0)
+          (mine n.number left.1) left.0,
+      others n.number left.1,
+    )
     else walked schema parent below left)
 
 -- the members of a stored row alone

@@ -98,7 +98,8 @@ fn put_child<'a>(
         put_instances(alloc, schema, parent_module, child, found, members)?;
         Ok(behind)
     } else {
-        put_row(alloc, schema, parent_module, child.children(), rest, members)
+        let inside = child.children();
+        put_row(alloc, schema, parent_module, inside, rest, members)
     }
 }
 

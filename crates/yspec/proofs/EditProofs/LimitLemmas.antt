@@ -57,7 +57,7 @@ module _ (schema : Schema) (tree : Tree) (within : IsWithin tree) where
   removed_within : (t : Target) → If IsWithin (removed schema tree t)
   removed_within t = anyway IsWithin (last_meant schema t) _ (λ step.
       let less = shrunk_at t.above (without step) tree (λ u.
-          shrunk (is_of step.schema_number) (place_of step) (λ s below after. after) u (λ s below after. omega arith)) in
+      shrunk (is_of step.schema_number) (place_of step) (λ s below after. after) u (λ s below after. omega arith)) in
       omega (arith, less, within))
 
   applied_within : (e : Edit) → If IsWithin (applied schema tree e)

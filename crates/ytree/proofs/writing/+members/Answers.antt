@@ -35,7 +35,7 @@ put_child-returns-else-is_data t c =
     inside_walked (schema_view.view c.args.schema.now) c.args.parent_module (schema_view.label_of c.args.child) (schema_view.below_of c.args.child)
     (json.members_view c.args.members.now.entries, row_view c.args.rest.now) (json.members_view c.put_row.new.members.entries, row_view behind.now)
     (sym (ap (λ x. is_data x.kind) c.node.ensures) ∙ (sym c.is_data.ensures ∙ c.if-is_data.false))
-    (sym (ap (λ f. walked (schema_view.view c.args.schema.now) c.args.parent_module f (json.members_view c.args.members.now.entries, row_view c.args.rest.now)) c.children.ensures) ∙ so))
+    (sym (ap (λ f. walked (schema_view.view c.args.schema.now) c.args.parent_module f (json.members_view c.args.members.now.entries, row_view c.args.rest.now)) c.children-inside.ensures) ∙ so))
     c.put_row.ensures
 
 pub put_row-loop-child-preserved : goal.put_row-loop-child-preserved
