@@ -1,5 +1,7 @@
+pub mod InstanceLemmas
 pub mod ReadLemmas
 pub mod RowLemmas
 pub mod ValueLemmas
 pub mod VisitLemmas
+pub mod WalkLemmas
 pub mod WriteLemmas

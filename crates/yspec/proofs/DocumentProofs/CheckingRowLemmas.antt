@@ -218,12 +218,12 @@ module _ (times : Times) (schema : Schema) where
       let implied = row_faults times schema (row_times schema end) [] below end in
       let inside = row_faults times schema row (cases (instances_in t) n.kind below) below t in
       let instance = λ (s : Stored) (b : Tree) (same : s.schema_number ≡ n.number).
-          ap₂ ◌++◌ (ap (λ k. option_map_or (λ (x : SchemaNode). own_faults times row x x.kind s.value (tuple schema s b)) (node_at schema k) []) same
-          ∙ ap (λ (o : Option SchemaNode). option_map_or (λ (x : SchemaNode). own_faults times row x x.kind s.value (tuple schema s b)) o []) has.0)
-          (ap (λ k. woven (in_play (instances_in b) (children_of schema k)) (told_in times (row_times schema b) schema b)) same
-          ∙ (ap (λ (f : Forest SchemaNode). woven (in_play (instances_in b) f) (told_in times (row_times schema b) schema b)) has.1
-          ∙ (woven_rows below (row_times schema b) [] b [] (told_in times (row_times schema b) schema b) has.2 (λ m some. (refl, refl))
-          ∙ map-id (row_faults times schema (row_times schema b) [] below b)))) in
+      ap₂ ◌++◌ (ap (λ k. option_map_or (λ (x : SchemaNode). own_faults times row x x.kind s.value (tuple schema s b)) (node_at schema k) []) same
+      ∙ ap (λ (o : Option SchemaNode). option_map_or (λ (x : SchemaNode). own_faults times row x x.kind s.value (tuple schema s b)) o []) has.0)
+      (ap (λ k. woven (in_play (instances_in b) (children_of schema k)) (told_in times (row_times schema b) schema b)) same
+      ∙ (ap (λ (f : Forest SchemaNode). woven (in_play (instances_in b) f) (told_in times (row_times schema b) schema b)) has.1
+      ∙ (woven_rows below (row_times schema b) [] b [] (told_in times (row_times schema b) schema b) has.2 (λ m some. (refl, refl))
+      ∙ map-id (row_faults times schema (row_times schema b) [] below b)))) in
       flat_map-append (item_faults tolds) (node_items (instances_in t) chosen above n n.kind below
       (items_in_play (stored_inside n.kind (instances_in t)) (cases (instances_in t) n.kind below) (steps_inside n.kind above n.number) below))
       (items_in_play (instances_in t) chosen above after)

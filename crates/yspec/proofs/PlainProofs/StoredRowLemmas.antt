@@ -54,10 +54,10 @@ module _ (Held : SchemaNode → Option Raw → Type 0) where
   behind_first n below after k least (node s b a) plain numbered behind fits =
       let found = fits.0 in
       let whole : child_in (node n below after) s.schema_number ≡ Some found =
-          ap (λ f. child_in f s.schema_number) (sym (data_row_same (node n below after) plain)) ∙ fits.1 in
+      ap (λ f. child_in f s.schema_number) (sym (data_row_same (node n below after) plain)) ∙ fits.1 in
       let other : eqb n.number s.schema_number ≡ false = eqb_other n.number s.schema_number (λ e. absurd (omega (arith, e, behind, fits.2))) in
       let later : child_in after s.schema_number ≡ Some found =
-          sym (ap (λ c. cond c (Some (n, below)) (child_in after s.schema_number)) other) ∙ whole in
+      sym (ap (λ c. cond c (Some (n, below)) (child_in after s.schema_number)) other) ∙ whole in
       let child = is_child (node n below after) k s.schema_number found plain numbered whole in
       let next : next_after found.0 ≡ suc found.0.number = ap (λ c. cond c found.0.number (suc found.0.number)) (plain_is_one found.0.kind child.2) in (
         found,
@@ -95,13 +95,13 @@ module _ (Held : SchemaNode → Option Raw → Type 0) where
       go true same inner rest =
           let is : n.number ≡ s.schema_number = eqb-true n.number s.schema_number same in
           let here : (n, below) ≡ found =
-              ap (λ o. unwrap_or o found) (sym (ap (λ c. cond c (Some (n, below)) (child_in after s.schema_number)) same) ∙ whole) in
+          ap (λ o. unwrap_or o found) (sym (ap (λ c. cond c (Some (n, below)) (child_in after s.schema_number)) same) ∙ whole) in
           is_stored (sym is) (subst (λ (x : Found). Held x.0 s.value) (sym here) fits.3)
           (inner (subst (λ (x : Found). FitsBy Held x.1 0 b) (sym here) fits.4))
           (rest (next_after found.0) a (behind_first n below after k (next_after found.0) a plain numbered (omega (arith, next, child.0, is)) fits.5))
       go false other inner rest =
           let later : child_in after s.schema_number ≡ Some found =
-              sym (ap (λ c. cond c (Some (n, below)) (child_in after s.schema_number)) other) ∙ whole in
+          sym (ap (λ c. cond c (Some (n, below)) (child_in after s.schema_number)) other) ∙ whole in
           let there = is_child after (k + 1 + size below) s.schema_number found plain.2 numbered.2 later in
           not_stored (rest s.schema_number (node s b a) (
             found,

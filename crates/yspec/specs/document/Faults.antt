@@ -115,7 +115,7 @@ told_in times row schema end = []
 told_in times row schema (node s below after) = record {
   schema_number = s.schema_number;
   faults = faults_at times row schema s below
-    ++ woven (in_play (instances_in below) (children_of schema s.schema_number)) (told_in times (row_times schema below) schema below);
+      ++ woven (in_play (instances_in below) (children_of schema s.schema_number)) (told_in times (row_times schema below) schema below);
 } ∷ told_in times row schema after
 
 -- the faults of a tree, where the questions to the whole document have these answers
