@@ -3,7 +3,7 @@
 use crate::building::{FIRST, SECOND, module_text, modules_of, schema_of, with_line_feeds};
 use crate::telling::{is_refusal_of_modules, number_of};
 use std::alloc::{AllocError, Global};
-use yschema::{Child, Children, Kind, Schema, SchemaId, compile};
+use yschema::{Absence, Child, Children, Kind, Schema, SchemaId, compile};
 
 // Whether that is the node of a number, or none for `-`.
 fn is_node(found: Option<SchemaId>, wanted: &str) -> Option<bool> {
@@ -61,12 +61,13 @@ fn children_by_name(rt: HostRuntime) {
 
 fn kind_name(kind: &Kind) -> &'static str {
     match kind {
-        Kind::Container { .. } => "container",
+        _ if kind.is_many() || !kind.is_data() => "other",
         Kind::Leaf {
-            mandatory: true,
+            absence: Absence::Mandatory,
             ..
         } => "mandatory",
-        Kind::Leaf { .. } => "optional",
+        _ if kind.has_value() => "optional",
+        _ => "container",
     }
 }
 

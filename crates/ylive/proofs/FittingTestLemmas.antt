@@ -1,12 +1,11 @@
 -- The test of what fits is the definition's.
-use Rattle.std.proofs.Common.{◌≡◌, ℕ, ◌≤◌, Bool, true, false, Option, Some, None, refl, sym, ap, ◌∙◌, leb-true, le-leb}
+use Rattle.std.proofs.Common.{◌≡◌, ℕ, Bool, true, false, Option, Some, None, Result, Ok, Err, IfOk, refl, ap, ◌∙◌, leb-true, le-leb}
 use Rattle.std.specs.Prelude.{◌&&◌, nat_le}
 use Rattle.std.specs.Option.{option_map_or}
 use Rattle.std.proofs.lemmas.Bool.{and_from, and_parts}
 use Rattle.yspec.specs.Forest.{Forest, end, node}
-use Rattle.yspec.specs.types.Types.{Raw}
 use Rattle.yspec.specs.schema.Schema.{Schema, SchemaNode, data_row, child_in}
-use Rattle.yspec.specs.document.Document.{Stored, Tree}
+use Rattle.yspec.specs.document.Document.{Tree}
 use Rattle.yspec.specs.document.Fitting.{FitsBy, Fits, next_after}
 use Rattle.ylive.specs.Kept.{row_fits, fits}
 
@@ -50,3 +49,8 @@ fits_is schema tree h = row_is schema.nodes 0 tree h
 
 pub fits_true : (schema : Schema) (tree : Tree) → Fits schema tree → fits schema tree ≡ true
 fits_true schema tree h = row_true schema.nodes 0 tree h
+
+-- where what was answered fits, it passes the test
+pub fits_if : {X E : Type 0} (schema : Schema) (see : X → Tree) (r : Result X E) → IfOk r (λ x. Fits schema (see x)) → IfOk r (λ x. fits schema (see x) ≡ true)
+fits_if schema see (Ok x) h = fits_true schema (see x) h
+fits_if schema see (Err e) h = tt

@@ -29,9 +29,11 @@ impl Live {
     ghost use Rattle.std.specs.Prelude.{◌≡◌, true, is_none, IfOk, IfErr, OnOk, OnErr};
     ghost use Rattle.yspec.specs.document.Fitting.{Fits};
     ghost use Rattle.yspec.specs.edit.Live.{opened, made_stale, made_anew};
+    ghost use Rattle.yspec.specs.Results.{Gives};
+    ghost use Rattle.yinst.specs.Applying.{told_by};
     ghost use Rattle.yinst.specs.EditView.{edit_view};
     ghost use Rattle.ylive.specs.View.{view};
-    ghost use Rattle.ylive.specs.Answers.{Edits, Lists, known_count};
+    ghost use Rattle.ylive.specs.Answers.{Edits, Lists, answer_to, known_count};
 
     /// A document with its schema, under which it was read or made. Where memory runs out both are given back.
     pub fn open(alloc: Global, schema: Schema, tree: Tree) -> Result<Live, (Schema, Tree)>
@@ -59,7 +61,7 @@ impl Live {
         let Some(before) = self.faults else {
             return Err(Refused::Stale);
         };
-        match apply(self.alloc, &self.schema, &self.tree, edit) {
+        match self.edited(edit) {
             Ok(tree) => match count_of(self.alloc, &self.schema, &tree) {
                 Ok(after) => {
                     self.tree = tree;
@@ -77,6 +79,14 @@ impl Live {
             }
             Err(fault) => Err(Refused::Edit(fault)),
         }
+    }
+
+    /// The document after an edit, or why it is refused.
+    fn edited(&self, edit: &Edit) -> Result<Tree, EditFault>
+        ensures answer { Gives tree_view told_by result (answer_to (edit_view edit.now) (view self.now)) }
+        ensures fitting { IfOk result (λ tree. fits (schema_view.view self.now.schema) (tree_view tree) ≡ true) }
+    {
+        apply(self.alloc, &self.schema, &self.tree, edit)
     }
 
     /// All faults of the document, in order.

@@ -2,7 +2,6 @@ pub mod ReadingLemmas
 pub mod RowLemmas
 pub mod StoredRowLemmas
 pub mod FaultLemmas
-pub mod WritingLemmas
 pub mod InstanceLemmas
 pub mod ChangeLemmas
 pub mod PathLemmas

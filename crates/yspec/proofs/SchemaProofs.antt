@@ -4,4 +4,3 @@ pub mod NumberLemmas
 pub mod CompiledLemmas
 pub mod CompiledShapeLemmas
 pub mod CompiledNameLemmas
-pub mod FindingLemmas

@@ -1,8 +1,9 @@
 //! Worked examples of documents of every kind of node, under schemas written out as values: from bytes to the lines that are printed.
 
-ghost use Rattle.std.specs.Prelude.{◌≡◌, ◌++◌, [], ◌∷◌, codes, Some};
+ghost use Rattle.std.specs.Prelude.{◌≡◌, ◌++◌, [], ◌∷◌, codes, Some, None};
+ghost use Rattle.yspec.specs.document.Document.{step_to, step_at};
 ghost use Rattle.yspec.specs.program.Output.{found, failed};
-ghost use Rattle.yspec.specs.program.SchemaExamples.{net_schema, k_schema, v_schema, y_schema, w_schema, t_schema, m_schema, shown_under, hosts, one_host, two_hosts, entries};
+ghost use Rattle.yspec.specs.program.SchemaExamples.{net_schema, k_schema, v_schema, y_schema, w_schema, t_schema, m_schema, shown_under, refused_within, hosts, one_host, two_hosts, entries};
 
 /// How many entries a list has: too few, too many, and as many as it may.
 pub fn amounts()
@@ -87,4 +88,13 @@ pub fn refused_forms()
         ≡ failed 2 (codes "d.json: J5 /ex-net:net/host[1]") }
     ensures choice_is_no_member { shown_under net_schema (hosts (codes "{\"name\":\"a\",\"mode\":{}}"))
         ≡ failed 2 (codes "d.json: J3 /ex-net:net/host[1]") }
+{}
+
+/// The limit of nodes counts right ones in the order of reading, and is told before what comes behind it.
+pub fn limited_rooms()
+    ensures room_for_all { refused_within 3 w_schema (codes "{\"w:c\":{\"tag\":[\"a\",\"b\"]}}") ≡ None }
+    ensures one_too_many { refused_within 2 w_schema (codes "{\"w:c\":{\"tag\":[\"a\",\"b\"]}}") ≡ Some (record { code = 7; place = [] }) }
+    ensures refused_before { refused_within 2 w_schema (codes "{\"w:c\":{\"tag\":[\"a\",{}]}}")
+        ≡ Some (record { code = 5; place = step_to 0 ∷ step_at 1 2 ∷ [] }) }
+    ensures refused_behind { refused_within 1 w_schema (codes "{\"w:c\":{\"tag\":[\"a\",{}]}}") ≡ Some (record { code = 7; place = [] }) }
 {}

@@ -7,13 +7,11 @@ ghost use Rattle.yspec.specs.schema.Breaks.{node_limit};
 ghost use Rattle.yspec.specs.document.Document.{Tree};
 ghost use Rattle.yspec.specs.document.Reading.{document_of};
 ghost use Rattle.yspec.specs.document.Fitting.{IsNumbered, Fits};
-ghost use Rattle.yspec.specs.document.Writing.{written_text};
 ghost use Rattle.yspec.specs.document.Faults.{faults_of};
 ghost use Rattle.yspec.specs.edit.EditText.{Edit};
 ghost use Rattle.yspec.specs.edit.Editing.{applied};
 ghost use Rattle.yspec.specs.plain.Kinds.{ArePlain};
 ghost use Rattle.yspec.specs.plain.Reading as plain_reading;
-ghost use Rattle.yspec.specs.plain.Writing as plain_writing;
 ghost use Rattle.yspec.specs.plain.RowFaults.{row_faults};
 ghost use Rattle.yspec.specs.plain.Editing as plain_editing;
 
@@ -21,12 +19,6 @@ ghost use Rattle.yspec.specs.plain.Editing as plain_editing;
 pub fn plain_documents()
     ensures { (schema : Schema) (bytes : List ℕ) → ArePlain schema.nodes → size schema.nodes ≤ node_limit
         → document_of schema bytes ≡ plain_reading.document_of schema bytes }
-{}
-
-/// What is written.
-pub fn plain_texts()
-    ensures { (schema : Schema) (tree : Tree) → ArePlain schema.nodes → IsNumbered 0 schema.nodes → Fits schema tree
-        → written_text schema tree ≡ plain_writing.written_text schema tree }
 {}
 
 /// The faults.

@@ -3,6 +3,7 @@
 
 mod copying;
 mod fault;
+mod instances;
 mod names;
 mod reading;
 mod tree;

@@ -1,12 +1,10 @@
 -- What holds of an answer, where there is one.
-use Rattle.std.proofs.Common.{◌≡◌, ℕ, Bool, true, false, cond, List, [], ◌∷◌, Result, Ok, Err, refl}
-use Rattle.std.proofs.Common.{ltb}
+use Rattle.std.proofs.Common.{◌≡◌, ℕ, Bool, true, false, cond, ltb, List, [], ◌∷◌, Result, Ok, Err, refl}
 use Rattle.yspec.specs.Results.{◌>>=◌}
-use Rattle.yspec.specs.schema.Schema.{Schema, SchemaNode}
+use Rattle.yspec.specs.schema.Schema.{Schema, SchemaNode, keys_in}
 use Rattle.yspec.specs.document.Document.{Tree, Step, instances_in}
 use Rattle.yspec.specs.edit.EditText.{Predicate, unsaid, at_position, with_keys, Edit}
 use Rattle.yspec.specs.edit.Editing.{EditRefusal, the_one, positions_where, fits_keys, instance_meant, applied, tree_or, after}
-use Rattle.yspec.specs.schema.Schema.{keys_in}
 
 abbrev pub If : {A E : Type 0} → (A → Type 0) → Result A E → Type 0
 If P (Ok x) = P x

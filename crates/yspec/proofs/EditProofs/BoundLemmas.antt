@@ -1,12 +1,12 @@
 -- The steps of a path that are bound: each is a child of the one before it, which the schema has under its number.
-use Rattle.std.proofs.Common.{◌≡◌, ℕ, ◌+◌, ◌≤◌, Bool, true, false, cond, List, [], ◌∷◌, Option, Some, None, Result, Ok, Err, refl, sym, ap, ◌∙◌, subst}
+use Rattle.std.proofs.Common.{◌≡◌, ℕ, ◌+◌, Bool, true, false, cond, List, [], ◌∷◌, Option, Some, None, refl, ap, subst}
 use Rattle.yspec.specs.Forest.{Forest, end, node, join}
 use Rattle.yspec.specs.text.Text.{Text, is_text}
 use Rattle.yspec.specs.schema.Schema.{Schema, SchemaNode, is_data, data_row, child_in, node_at, children_of, written_name, other_name}
 use Rattle.yspec.specs.document.Reading.{Named, child, other_form, unknown, named, named_in, other_or}
 use Rattle.yspec.specs.document.Fitting.{IsNumbered}
-use Rattle.yspec.specs.edit.EditText.{Predicate, NamedStep, Path}
-use Rattle.yspec.specs.edit.Editing.{EditRefusal, refused, BoundStep, bound_named, bound_steps, are_in_place, in_place, is_spelled, bound}
+use Rattle.yspec.specs.edit.EditText.{Path}
+use Rattle.yspec.specs.edit.Editing.{BoundStep, bound_named, bound_steps, are_in_place, is_spelled, bound}
 use Rattle.yspec.proofs.DocumentProofs.CheckingRowLemmas.{Has}
 use Rattle.yspec.proofs.DocumentProofs.DataRowLemmas.{Rises, data_rises, AreFound, data_found}
 use Rattle.yspec.proofs.EditProofs.AnswerLemmas.{If, if_then, if_cond}

@@ -1,5 +1,5 @@
 -- An accepted edit keeps a document's fit, in its values too.
-use Rattle.std.proofs.Common.{◌≡◌, ℕ, zero, suc, ◌+◌, ◌≤◌, ◌<◌, Bool, true, false, cond, not, ◌&&◌, eqb, ltb, List, [], ◌∷◌, Option, Some, None, Result, Ok, Err, refl, sym, ap, ap₂, ◌∙◌, subst, arith}
+use Rattle.std.proofs.Common.{◌≡◌, ℕ, zero, suc, ◌≤◌, Bool, true, false, cond, not, ◌&&◌, eqb, ltb, List, [], ◌∷◌, Option, Some, None, Result, Ok, refl, sym, ap, ◌∙◌, subst, arith}
 use Rattle.std.proofs.lemmas.Bool.{eqb-true, eqb-false, ltb-true, ltb-false}
 use Rattle.std.specs.Prelude.{unwrap_or}
 use Rattle.std.specs.Option.{option_map_or}
@@ -8,7 +8,7 @@ use Rattle.yspec.specs.Forest.{Forest, end, node, size, change_nth}
 use Rattle.yspec.specs.Forest as forest
 use Rattle.yspec.specs.text.Text.{Text}
 use Rattle.yspec.specs.types.Types.{Raw}
-use Rattle.yspec.specs.schema.Schema.{Schema, SchemaNode, is_many, data_row, child_in, node_at, children_of}
+use Rattle.yspec.specs.schema.Schema.{Schema, SchemaNode, is_many, data_row, child_in}
 use Rattle.yspec.specs.document.Document.{Stored, Tree, Step, instances_in, document_limit}
 use Rattle.yspec.specs.document.Reading.{Refusal, first_wrong, instance_visits, json_of, members_of, raw_in, stored_rows}
 use Rattle.yspec.specs.document.Fitting.{IsNumbered, next_after, FitsBy, Fits}
@@ -16,8 +16,8 @@ use Rattle.yspec.specs.document.Writing.{AllDiffer, NamesDiffer, HasForm, IsDocu
 use Rattle.yspec.specs.edit.Edit.{is_of, place_of, edit_at}
 use Rattle.yspec.specs.edit.EditText.{Path, Edit, create, replace, remove}
 use Rattle.yspec.specs.Results.{◌>>=◌}
-use Rattle.yspec.specs.edit.Editing.{EditRefusal, refused, value_refused, BoundStep, Target, target, lower, row_at, Branch, branch, fitting_branch, branch_at, branch_of, with_branch, with_instead, without, within_limit, is_there, created, replaced, removed, last_meant, instance_meant, target_of, bound, applied, after}
-use Rattle.yspec.proofs.DocumentProofs.FittingLemmas.{instances-cons, first_is_other, none_of_others}
+use Rattle.yspec.specs.edit.Editing.{EditRefusal, refused, value_refused, BoundStep, Target, target, lower, row_at, Branch, fitting_branch, branch_at, branch_of, with_branch, with_instead, without, within_limit, is_there, created, replaced, removed, last_meant, instance_meant, target_of, bound, applied, after}
+use Rattle.yspec.proofs.DocumentProofs.FittingLemmas.{first_is_other, none_of_others}
 use Rattle.yspec.proofs.DocumentProofs.SortingLemmas.{child_number, not_before}
 use Rattle.yspec.proofs.DocumentProofs.HeldNodeLemmas.{schema_has_all}
 use Rattle.yspec.proofs.DocumentProofs.VisitLemmas.{EachDiffers, BelowDiffers, each_differs}

@@ -20,7 +20,8 @@ use Rattle.yspec.specs.plain.Editing as plain
 use Rattle.yspec.specs.plain.Reading.{node_visits}
 use Rattle.yspec.proofs.DocumentProofs.SortingLemmas.{fits_sorted}
 use Rattle.yspec.proofs.PlainProofs.StoredRowLemmas.{plain_is_one}
-use Rattle.yspec.proofs.PlainProofs.InstanceLemmas.{instance_same, rows_same}
+use Rattle.yspec.proofs.PlainProofs.InstanceLemmas.{instance_same}
+use Rattle.yspec.proofs.PlainProofs.ReadingLemmas.{plain_rows}
 use Rattle.yspec.proofs.PlainProofs.ChangeLemmas.{none_stored, some_stored, row_stored, under_sorted, without_same, with_new_same, with_instead_same, edit_same}
 use Rattle.yspec.proofs.PlainProofs.PathLemmas.{IsPlace, ArePlaces, AreUnsaid, way_from, PathMeant, path_refused, path_bound, path_meant}
 
@@ -34,7 +35,7 @@ fitting_same : (s : Schema) (n : SchemaNode) (d : Data) → IsPlace s n → wide
 fitting_same s n d place =
     ap₂ (λ vs rows. option_map_or (λ (r : Refusal). value_refused r.code) (first_wrong vs) (Ok (record { label = stored_node n d; below = rows })))
     (instance_same s n (children_of s n.number) [] d place.1 place.2)
-    (rows_same s (Some n.module_number) (children_of s n.number) (members_of d) place.2)
+    (plain_rows s (Some n.module_number) (children_of s n.number) (members_of d) place.2)
 
 branch_at_same : (s : Schema) (n : SchemaNode) (d : Data) → IsPlace s n → wide.branch_at s n.number d ≡ plain.branch_at s n.number d
 branch_at_same s n d place = rw place.0 (fitting_same s n d place)

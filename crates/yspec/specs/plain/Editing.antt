@@ -1,6 +1,6 @@
 -- What an edit does to a document under a schema of containers and leafs alone, as the compiler makes them today, or why
 -- it is refused.
-use Rattle.std.specs.Prelude.{ℕ, ◌==◌, ◌++◌, Bool, true, false, List, [], ◌∷◌, map, Option, Some, None, is_some, option_and_then, Result, Ok, Err, if◌then◌else◌, nat_lt}
+use Rattle.std.specs.Prelude.{ℕ, ◌==◌, ◌++◌, Bool, true, false, List, [], ◌∷◌, map, Option, Some, None, is_some, option_and_then, Result, Ok, if◌then◌else◌, nat_lt}
 use Rattle.std.specs.Option.{option_map_or}
 use Rattle.serde_json.specs.Data.{Data}
 use Rattle.yspec.specs.Forest.{end, node}

@@ -6,7 +6,7 @@ use Rattle.yspec.specs.types.Ranges.{Part}
 use Rattle.yspec.specs.types.Types.{Base, integer_base, decimal_base, string_base, boolean_base, empty_base, uint8, uint16, uint32, uint64, Shape, single, union, YangType, plain, Val, value, number_value}
 use Rattle.yspec.specs.schema.Schema.{Schema, SchemaModule, SchemaNode, Kind, container, leaf, leaf_list, list, choice, case, LeafType, own_type, allowed, default_used, mandatory, key, Amount, current}
 use Rattle.yspec.specs.document.Document.{Tree}
-use Rattle.yspec.specs.document.Reading.{Refusal, document_of}
+use Rattle.yspec.specs.document.Reading.{Refusal, json_of, visits, first_refusal, document_of}
 use Rattle.yspec.specs.document.Writing.{written_text}
 use Rattle.yspec.specs.document.Faults.{faults_of}
 use Rattle.yspec.specs.edit.EditText.{Edit}
@@ -132,6 +132,10 @@ m_schema = record {
 -- what is printed of a document under a schema
 abbrev pub shown_under : Schema → Text → Outcome
 shown_under schema document = with_tree schema (codes "d.json") (document_of schema document) (judged schema)
+
+-- the first refusal of a document where there is room for so many nodes
+abbrev pub refused_within : ℕ → Schema → Text → Option Refusal
+refused_within room schema document = option_and_then (λ d. first_refusal room (visits schema d)) (json_of document)
 
 -- what comes of each edit that lines spell, and the lines of faults after them
 abbrev pub reported_after : Schema → List Edit → Result Tree Refusal → Option (List Decision × Text)

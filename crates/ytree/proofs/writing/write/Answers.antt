@@ -4,7 +4,7 @@ use Rattle.std.proofs.lemmas.Str.{IsUtf8-string_bytes}
 use Rattle.serde_json.specs.View as json
 use Rattle.yschema.specs.View as schema_view
 use Rattle.ytree.specs.View.{tree_view}
-use Rattle.yschema.proofs.CallerLemmas.{numbered, names_differ, leafs_are_bare, not_deep, kinds_are_plain}
+use Rattle.yschema.proofs.CallerLemmas.{numbered, names_differ, leafs_are_bare, not_deep}
 use Rattle.ytree.proofs.WriteLemmas.{text_of, text_read}
 use Rattle.ytree.proofs.writing.write.Goals as goal
 
@@ -12,12 +12,12 @@ pub returns-clause-text : goal.returns-clause-text
 returns-clause-text c =
     let s = c.args.schema.now in
     IfOk-weaker c.to_string.result _ _ (λ text. text_of (schema_view.view s) (tree_view c.args.tree.now) (json.view c.in_ok-value_of_tree.field-0) (string_bytes text)
-    (kinds_are_plain s) (numbered s) c.in_ok-value_of_tree.ensures)
+    (numbered s) c.in_ok-value_of_tree.ensures)
     c.to_string.ensures.text
 
 pub returns-clause-reads_back : goal.returns-clause-reads_back
 returns-clause-reads_back c =
     let s = c.args.schema.now in
     IfOk-weaker c.to_string.result _ _ (λ text reads. text_read (schema_view.view s) (tree_view c.args.tree.now) (json.view c.in_ok-value_of_tree.field-0) (string_bytes text)
-    (kinds_are_plain s) (numbered s) (names_differ s) (leafs_are_bare s) (not_deep s) c.in_ok-value_of_tree.ensures (IsUtf8-string_bytes text) reads)
+    (numbered s) (names_differ s) (leafs_are_bare s) (not_deep s) c.in_ok-value_of_tree.ensures (IsUtf8-string_bytes text) reads)
     c.to_string.ensures.reads_back
