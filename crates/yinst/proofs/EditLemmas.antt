@@ -6,10 +6,8 @@ use Rattle.std.proofs.lemmas.Option.{same_Some}
 use Rattle.serde_json.specs.Data.{Data}
 use Rattle.yspec.specs.Forest.{Forest}
 use Rattle.yspec.specs.schema.Schema.{Schema, SchemaNode, node_at, children_of}
-use Rattle.yspec.specs.document.Reading.{Refusal, json_of, first_wrong, stored_node, members_of}
-use Rattle.yspec.specs.plain.Reading.{node_visits, stored_rows}
-use Rattle.yspec.specs.edit.Editing.{EditRefusal, Branch, refused, value_refused, applied}
-use Rattle.yspec.specs.plain.Editing.{fitting_branch, branch, branch_at, branch_of}
+use Rattle.yspec.specs.document.Reading.{Refusal, json_of, instance_visits, first_wrong, stored_node, stored_rows, members_of}
+use Rattle.yspec.specs.edit.Editing.{EditRefusal, Branch, refused, value_refused, fitting_branch, branch, branch_at, branch_of, applied}
 use Rattle.yspec.specs.plain.Editing as plain
 use Rattle.yspec.specs.plain.Kinds.{ArePlain}
 use Rattle.yspec.specs.edit.EditText.{Edit}
@@ -42,12 +40,12 @@ branch_denoted s i d p right is = by (node_at s i) refl right is
     made : SchemaNode → Forest SchemaNode → Option Refusal → Result Branch EditRefusal
     made n f wrong = option_map_or (λ r. value_refused r.code) wrong (Ok (record { label = (held n f).0; below = (held n f).1 }))
 
-    by : (o : Option SchemaNode) → node_at s i ≡ o → option_and_then (λ n. first_wrong (node_visits s n (children_of s i) [] d)) o ≡ None
+    by : (o : Option SchemaNode) → node_at s i ≡ o → option_and_then (λ n. first_wrong (instance_visits s n (children_of s i) [] d)) o ≡ None
         → Some p ≡ option_map (λ n. (stored_node n d, stored_rows s (Some n.module_number) (children_of s i) (members_of d))) o
         → option_map_or (λ n. fitting_branch s n d) o (refused 2) ≡ Ok (record { label = p.0; below = p.1 })
     by None e right is = absurd cc
     by (Some n) e right is =
-        ap (λ k. made n (children_of s k) (first_wrong (node_visits s n (children_of s k) [] d))) (number_at s.nodes i n e)
+        ap (λ k. made n (children_of s k) (first_wrong (instance_visits s n (children_of s k) [] d))) (number_at s.nodes i n e)
         ∙ (ap (made n (children_of s i)) right
         ∙ ap (λ (q : Labelled). Ok (record { label = q.0; below = q.1 })) (sym (same_Some p (held n (children_of s i)) is)))
 
@@ -55,11 +53,11 @@ branch_denoted s i d p right is = by (node_at s i) refl right is
 pub branch_refused : (s : Schema) (i : ℕ) (d : Data) (r : Refusal) → refused_at s i [] d ≡ Some r → branch_at s i d ≡ value_refused r.code
 branch_refused s i d r is = by (node_at s i) refl is
   where
-    by : (o : Option SchemaNode) → node_at s i ≡ o → option_and_then (λ n. first_wrong (node_visits s n (children_of s i) [] d)) o ≡ Some r
+    by : (o : Option SchemaNode) → node_at s i ≡ o → option_and_then (λ n. first_wrong (instance_visits s n (children_of s i) [] d)) o ≡ Some r
         → option_map_or (λ n. fitting_branch s n d) o (refused 2) ≡ value_refused r.code
     by None e is = absurd cc
     by (Some n) e is =
-        ap (λ k. option_map_or (λ r. value_refused r.code) (first_wrong (node_visits s n (children_of s k) [] d)) (Ok (branch s n d))) (number_at s.nodes i n e)
+        ap (λ k. option_map_or (λ r. value_refused r.code) (first_wrong (instance_visits s n (children_of s k) [] d)) (Ok (branch s n d))) (number_at s.nodes i n e)
         ∙ ap (λ o. option_map_or (λ r. value_refused r.code) o (Ok (branch s n d))) is
 
 -- what the plain definition gives is what every schema's gives, of a document that fits

@@ -2,7 +2,7 @@
 
 ghost use Rattle.std.specs.Prelude.{◌≡◌, IfOk};
 ghost use Rattle.serde_json.specs.View as json;
-ghost use Rattle.yspec.specs.plain.Editing as spec;
+ghost use Rattle.yspec.specs.edit.Editing as spec;
 ghost use Rattle.yschema.specs.View as schema_view;
 ghost use Rattle.yspec.specs.Results.{Gives};
 ghost use Rattle.yinst.specs.Applying.{told_by};

@@ -1,8 +1,6 @@
-pub mod ReadingLemmas
 pub mod RowLemmas
 pub mod StoredRowLemmas
 pub mod FaultLemmas
-pub mod InstanceLemmas
 pub mod ChangeLemmas
 pub mod PathLemmas
 pub mod EditingLemmas

@@ -1,5 +1,4 @@
 -- The same of schemas whose nodes are containers and leafs alone, as the compiler makes them today.
 pub mod Kinds
-pub mod Reading
 pub mod RowFaults
 pub mod Editing

@@ -7,7 +7,7 @@ use Rattle.yspec.specs.Results.{◌>>=◌}
 use Rattle.yspec.specs.text.Text.{Text}
 use Rattle.yspec.specs.schema.Schema.{Schema, SchemaNode, node_at, children_of}
 use Rattle.yspec.specs.document.Document.{Tree, Step, step_to, instances_in}
-use Rattle.yspec.specs.document.Reading.{Refusal, first_wrong, json_of, members_of, stored_node}
+use Rattle.yspec.specs.document.Reading.{Refusal, instance_visits, first_wrong, json_of, members_of, stored_node}
 use Rattle.yspec.specs.document.Fitting.{IsNumbered, Fits}
 use Rattle.yspec.specs.document.Sorting.{IsSorted}
 use Rattle.yspec.specs.edit.Edit.{edit_at, place_of}
@@ -17,11 +17,8 @@ use Rattle.yspec.specs.edit.Editing as wide
 use Rattle.yspec.specs.plain.Kinds.{ArePlain}
 use Rattle.yspec.specs.plain.Editing.{Way, stored_in, row_under, meant}
 use Rattle.yspec.specs.plain.Editing as plain
-use Rattle.yspec.specs.plain.Reading.{node_visits}
 use Rattle.yspec.proofs.DocumentProofs.SortingLemmas.{fits_sorted}
 use Rattle.yspec.proofs.PlainProofs.StoredRowLemmas.{plain_is_one}
-use Rattle.yspec.proofs.PlainProofs.InstanceLemmas.{instance_same}
-use Rattle.yspec.proofs.PlainProofs.ReadingLemmas.{plain_rows}
 use Rattle.yspec.proofs.PlainProofs.ChangeLemmas.{none_stored, some_stored, row_stored, under_sorted, without_same, with_new_same, with_instead_same, edit_same}
 use Rattle.yspec.proofs.PlainProofs.PathLemmas.{IsPlace, ArePlaces, AreUnsaid, way_from, PathMeant, path_refused, path_bound, path_meant}
 
@@ -31,38 +28,22 @@ bind_same : {A B : Type 0} (r : Result A EditRefusal) (f g : A → Result B Edit
 bind_same (Ok x) f g same = same x refl
 bind_same (Err e) f g same = refl
 
-fitting_same : (s : Schema) (n : SchemaNode) (d : Data) → IsPlace s n → wide.fitting_branch s n d ≡ plain.fitting_branch s n d
-fitting_same s n d place =
-    ap₂ (λ vs rows. option_map_or (λ (r : Refusal). value_refused r.code) (first_wrong vs) (Ok (record { label = stored_node n d; below = rows })))
-    (instance_same s n (children_of s n.number) [] d place.1 place.2)
-    (plain_rows s (Some n.module_number) (children_of s n.number) (members_of d) place.2)
-
-branch_at_same : (s : Schema) (n : SchemaNode) (d : Data) → IsPlace s n → wide.branch_at s n.number d ≡ plain.branch_at s n.number d
-branch_at_same s n d place = rw place.0 (fitting_same s n d place)
-
-branch_same : (s : Schema) (n : SchemaNode) (text : Text) → IsPlace s n → wide.branch_of s n.number text ≡ plain.branch_of s n.number text
-branch_same s n text place = by (json_of text)
+fitting_number : (s : Schema) (n : SchemaNode) (d : Data) (b : Branch) → wide.fitting_branch s n d ≡ Ok b → b.label.schema_number ≡ n.number
+fitting_number s n d b e = by (first_wrong (instance_visits s n (children_of s n.number) [] d)) e
   where
-    by : (o : Option Data) → option_map_or (wide.branch_at s n.number) o (refused 9) ≡ option_map_or (plain.branch_at s n.number) o (refused 9)
-    by None = refl
-    by (Some d) = branch_at_same s n d place
-
-fitting_number : (s : Schema) (n : SchemaNode) (d : Data) (b : Branch) → plain.fitting_branch s n d ≡ Ok b → b.label.schema_number ≡ n.number
-fitting_number s n d b e = by (first_wrong (node_visits s n (children_of s n.number) [] d)) e
-  where
-    by : (o : Option Refusal) → option_map_or (λ (r : Refusal). value_refused r.code) o (Ok (plain.branch s n d)) ≡ Ok b → b.label.schema_number ≡ n.number
-    by None e = let is : plain.branch s n d ≡ b = cc in ap (λ (c : Branch). c.label.schema_number) (sym is)
+    by : (o : Option Refusal) → option_map_or (λ (r : Refusal). value_refused r.code) o (Ok (wide.branch s n d)) ≡ Ok b → b.label.schema_number ≡ n.number
+    by None e = let is : wide.branch s n d ≡ b = cc in ap (λ (c : Branch). c.label.schema_number) (sym is)
     by (Some r) e = absurd cc
 
-branch_number : (s : Schema) (n : SchemaNode) (text : Text) (b : Branch) → IsPlace s n → plain.branch_of s n.number text ≡ Ok b → b.label.schema_number ≡ n.number
+branch_number : (s : Schema) (n : SchemaNode) (text : Text) (b : Branch) → IsPlace s n → wide.branch_of s n.number text ≡ Ok b → b.label.schema_number ≡ n.number
 branch_number s n text b place e = by (json_of text) e
   where
-    at : (d : Data) (o : Option SchemaNode) → node_at s n.number ≡ o → option_map_or (λ m. plain.fitting_branch s m d) o (refused 2) ≡ Ok b → b.label.schema_number ≡ n.number
+    at : (d : Data) (o : Option SchemaNode) → node_at s n.number ≡ o → option_map_or (λ m. wide.fitting_branch s m d) o (refused 2) ≡ Ok b → b.label.schema_number ≡ n.number
     at d None is e = absurd cc
     at d (Some m) is e =
         fitting_number s m d b e ∙ ap (λ (o : Option SchemaNode). (unwrap_or o n).number) (sym is ∙ place.0)
 
-    by : (o : Option Data) → option_map_or (plain.branch_at s n.number) o (refused 9) ≡ Ok b → b.label.schema_number ≡ n.number
+    by : (o : Option Data) → option_map_or (wide.branch_at s n.number) o (refused 9) ≡ Ok b → b.label.schema_number ≡ n.number
     by None e = absurd cc
     by (Some d) e = at d (node_at s n.number) refl e
 
@@ -181,8 +162,7 @@ module _ (s : Schema) (tree : Tree) (sorted : IsSorted tree) (ns : List ℕ) (ro
       → ((b : Branch) → b.label.schema_number ≡ number → put b row ≡ plain.with_branch b row)
       → (wide.branch_of s number text >>= (λ b. within_limit (edit_at (map step_to ns) (put b) tree))) ≡ plain.with_value s tree text plain_target
   value_same text put same =
-      ap (λ r. r >>= (λ b. within_limit (edit_at (map step_to ns) (put b) tree))) (branch_same s last.schema_node text place)
-      ∙ bind_same (plain.branch_of s number text) (λ b. within_limit (edit_at (map step_to ns) (put b) tree)) (λ b. within_limit (edit_at (map step_to ns) (plain.with_branch b) tree))
+      bind_same (wide.branch_of s number text) (λ b. within_limit (edit_at (map step_to ns) (put b) tree)) (λ b. within_limit (edit_at (map step_to ns) (plain.with_branch b) tree))
       (λ b e. ap within_limit (edit_same tree ns row (put b) (plain.with_branch b) under (same b (branch_number s last.schema_node text b place e))))
 
   created_so : (text : Text) → wide.created s tree text wide_target ≡ plain.created s tree text plain_target

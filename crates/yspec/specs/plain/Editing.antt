@@ -2,17 +2,14 @@
 -- it is refused.
 use Rattle.std.specs.Prelude.{ℕ, ◌==◌, ◌++◌, Bool, true, false, List, [], ◌∷◌, map, Option, Some, None, is_some, option_and_then, Result, Ok, if◌then◌else◌, nat_lt}
 use Rattle.std.specs.Option.{option_map_or}
-use Rattle.serde_json.specs.Data.{Data}
 use Rattle.yspec.specs.Forest.{end, node}
 use Rattle.yspec.specs.Results.{◌>>=◌}
 use Rattle.yspec.specs.text.Text.{Text}
-use Rattle.yspec.specs.schema.Schema.{Schema, SchemaNode, node_at, children_of, child_written}
+use Rattle.yspec.specs.schema.Schema.{Schema, child_written}
 use Rattle.yspec.specs.document.Document.{Tree, step_to}
-use Rattle.yspec.specs.document.Reading.{first_wrong, json_of, stored_node, members_of}
-use Rattle.yspec.specs.plain.Reading.{node_visits, stored_rows}
 use Rattle.yspec.specs.edit.Edit.{edit_at}
 use Rattle.yspec.specs.edit.EditText.{Path, Edit, create, replace, remove}
-use Rattle.yspec.specs.edit.Editing.{EditRefusal, refused, value_refused, says_nothing, has_zero, Branch, within_limit}
+use Rattle.yspec.specs.edit.Editing.{EditRefusal, refused, says_nothing, has_zero, Branch, branch_of, within_limit}
 
 -- ---- what the steps of a path mean
 
@@ -72,27 +69,6 @@ target tree w = option_map_or (λ row. Ok (target_in w row)) (row_under tree w.a
 -- the tree, with the row in which the target stands, or would stand, changed
 abbrev pub with_row : Target → (Tree → Tree) → Tree → Tree
 with_row t change tree = edit_at (map step_to t.above) change tree
-
--- ---- the value
-
-abbrev pub branch : Schema → SchemaNode → Data → Branch
-branch schema n d = record {
-  label = stored_node n d;
-  below = stored_rows schema (Some n.module_number) (children_of schema n.number) (members_of d);
-}
-
--- E10: a value doesn't fit its node, with the first refusal of a document
-abbrev pub fitting_branch : Schema → SchemaNode → Data → Result Branch EditRefusal
-fitting_branch schema n d = option_map_or (λ r. value_refused r.code)
-    (first_wrong (node_visits schema n (children_of schema n.number) [] d)) (Ok (branch schema n d))
-
--- a number that the schema gave has its node
-abbrev pub branch_at : Schema → ℕ → Data → Result Branch EditRefusal
-branch_at schema number d = option_map_or (λ n. fitting_branch schema n d) (node_at schema number) (refused 2)
-
--- E9: the text is no JSON
-abbrev pub branch_of : Schema → ℕ → Text → Result Branch EditRefusal
-branch_of schema number text = option_map_or (branch_at schema number) (json_of text) (refused 9)
 
 -- ---- changes of a row
 
