@@ -101,7 +101,7 @@ impl Schema {
         self.index.get(parent, Some(module), name)
     }
 
-    /// The child of a node, or the top node, whose name a document writes so.
+    /// The child of a node, or the top node, whose name a document writes so; choices and cases are passed through.
     pub fn child_written(&self, parent: Option<SchemaId>, name: &str) -> Option<SchemaId>
         ensures { number_of result ≡ child_written (view self.now) (number_of parent) name.now }
     {
