@@ -19,7 +19,7 @@ any_joined test (node n below after) g =
     ap (λ b. test n || b) (any_joined test after g) ∙ either (test n) (list_any test (row after)) (list_any test (row g))
 
 -- of the first node of a row, and of the others
-pub any_first : (test : SchemaNode → Bool) (n : SchemaNode) (below after : Forest SchemaNode)
+any_first : (test : SchemaNode → Bool) (n : SchemaNode) (below after : Forest SchemaNode)
     → list_any test (row (data_row (node n below after))) ≡ (list_any test (row (data_row (node n below end))) || list_any test (row (data_row after)))
 any_first test n below after = by (is_data n.kind)
   where
@@ -28,10 +28,6 @@ any_first test n below after = by (is_data n.kind)
     by true = ap (λ b. b || list_any test (row (data_row after))) (sym (or_false (test n)))
     by false = any_joined test (data_row below) (data_row after)
         ∙ ap (λ f. list_any test (row f) || list_any test (row (data_row after))) (sym (join_end (data_row below)))
-
-pub any_at_data : (test : SchemaNode → Bool) (n : SchemaNode) (below : Forest SchemaNode) → is_data n.kind ≡ true
-    → list_any test (row (data_row (node n below end))) ≡ test n
-any_at_data test n below is = ap (λ b. list_any test (row (cond b (node n below end) (join (data_row below) end)))) is ∙ or_false (test n)
 
 pub any_within : (test : SchemaNode → Bool) (n : SchemaNode) (below : Forest SchemaNode) → is_data n.kind ≡ false
     → list_any test (row (data_row (node n below end))) ≡ list_any test (row (data_row below))

@@ -19,7 +19,7 @@ use Rattle.ytree.specs.Told.{inner_rows, stored_first}
 use Rattle.ytree.specs.declared.tree.Stored.{Stored}
 
 -- a row that has got one more node
-pub join_last : (done : List Stored) (s : Stored) (l : spec.Stored) (below rest : Tree) → view s ≡ (l, below)
+join_last : (done : List Stored) (s : Stored) (l : spec.Stored) (below rest : Tree) → view s ≡ (l, below)
     → join (row_view (done ++ s ∷ [])) rest ≡ join (row_view done) (node l below rest)
 join_last [] s l below rest is = ap (λ p. node p.0 p.1 rest) is
 join_last (d ∷ done) s l below rest is = ap (node (view d).0 (view d).1) (join_last done s l below rest is)
@@ -31,7 +31,7 @@ row_pushed done later s l below more is = ap row_view more ∙ (sym (join_end (r
 -- ---- rows of schema nodes
 
 -- no members, no nodes
-pub rows_of_none : (s : Schema) (parent : Option ℕ) (f : Forest SchemaNode) → stored_rows s parent f no_members ≡ end
+rows_of_none : (s : Schema) (parent : Option ℕ) (f : Forest SchemaNode) → stored_rows s parent f no_members ≡ end
 unfolding stored_rows
 rows_of_none s parent end = refl
 rows_of_none s parent (node n below after) = ap₂ join (by (is_data n.kind) (rows_of_none s parent below)) (rows_of_none s parent after)
@@ -79,14 +79,9 @@ at_none s parent n below ms found done later stands here none same =
     at_data s parent n below ms found done later stands here
     (same ∙ (sym (join_end done) ∙ ap (λ o. join done (instance_row n (inner_rows s n below) o)) (sym none)))
 
-pub at_choice : (s : Schema) (parent : Option ℕ) (n : SchemaNode) (below : Forest SchemaNode) (ms : Members) (done later : Tree)
-    → is_data n.kind ≡ false → later ≡ join done (stored_rows s parent below ms) → later ≡ join done (stored_first s parent n below ms)
-at_choice s parent n below ms done later other put =
-    put ∙ ap (join done) (sym (ap (λ b. cond b (instance_row n (inner_rows s n below) (get_member (written_name s parent n) ms)) (stored_rows s parent below ms)) other))
-
 -- ---- instances
 
-pub at_items : (n : SchemaNode) (inner : Data → Tree) (d : Data) (ds : Items) (done later : Tree) → is_many n.kind ≡ true → items_of d ≡ ds
+at_items : (n : SchemaNode) (inner : Data → Tree) (d : Data) (ds : Items) (done later : Tree) → is_many n.kind ≡ true → items_of d ≡ ds
     → later ≡ join done (item_row n inner ds) → later ≡ join done (instance_row n inner (Some d))
 at_items n inner d ds done later many is put =
     put ∙ ap (join done) (ap (item_row n inner) (sym is) ∙ sym (ap (λ b. cond b (item_row n inner (items_of d)) (node (stored_node n d) (inner d) end)) many))
@@ -94,11 +89,6 @@ at_items n inner d ds done later many is put =
 pub at_no_items : (n : SchemaNode) (inner : Data → Tree) (d : Data) (done : Tree) → is_many n.kind ≡ true → items_of d ≡ no_items
     → done ≡ join done (instance_row n inner (Some d))
 at_no_items n inner d done many is = at_items n inner d no_items done done many is (sym (join_end done))
-
-pub at_one : (n : SchemaNode) (inner : Data → Tree) (d : Data) (done later : Tree) → is_many n.kind ≡ false
-    → later ≡ join done (node (stored_node n d) (inner d) end) → later ≡ join done (instance_row n inner (Some d))
-at_one n inner d done later one put =
-    put ∙ ap (join done) (sym (ap (λ b. cond b (item_row n inner (items_of d)) (node (stored_node n d) (inner d) end)) one))
 
 -- the next item
 pub item_on : (n : SchemaNode) (inner : Data → Tree) (items : List Value) (i : ℕ) (v : Value) (done later whole : Tree) → i < length items → v ≡ get_or items i v

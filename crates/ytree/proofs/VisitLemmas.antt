@@ -1,6 +1,6 @@
 -- What is told of visits, one after another and within the room for right nodes.
 use Rattle.std.proofs.Common.{◌≡◌, ℕ, ◌+◌, ◌≤◌, ◌<◌, Bool, true, false, cond, List, [], ◌∷◌, ◌++◌, length, drop, get_or, Option, Some, None, Result, Ok, Err, OnOk, rules, refl, sym, ap, ◌∙◌, subst}
-use Rattle.std.specs.Prelude.{option_map, option_and_then, unwrap_or}
+use Rattle.std.specs.Prelude.{option_and_then}
 use Rattle.std.specs.Option.{option_map_or}
 use Rattle.std.proofs.lemmas.List.{append_assoc, append-nil, at_drop_more, at_drop_all}
 use Rattle.serde_json.specs.Data.{Data, null, boolean, number, string, array, object, Items, item, Members, no_members, member}
@@ -12,7 +12,7 @@ use Rattle.yspec.specs.text.Text.{Text}
 use Rattle.yspec.specs.schema.Schema.{Schema, SchemaNode, Kind, is_many, has_value, node_at, children_of}
 use Rattle.yspec.specs.types.Types.{Raw}
 use Rattle.yspec.specs.document.Document.{Step, step_to, step_at, below_place}
-use Rattle.yspec.specs.document.Reading.{Refusal, Visit, right, wrong, named, at_named, raw_of, refused_value, leaf_visit, value_visit, object_visit, member_visits, node_visits, item_visits, instance_visits, first_wrong, Named, child}
+use Rattle.yspec.specs.document.Reading.{Refusal, Visit, right, wrong, named, at_named, raw_of, refused_value, leaf_visit, value_visit, object_visit, member_visits, node_visits, item_visits, instance_visits, first_wrong}
 use Rattle.yspec.proofs.DocumentProofs.VisitLemmas.{one_visited, other_visited}
 use Rattle.yspec.proofs.SchemaProofs.NumberLemmas.{number_at}
 use Rattle.ytree.specs.Told.{Tells, Judges, leaf_refusal, refused_at, visits_at, told_within, Walks}
@@ -35,9 +35,6 @@ pub walks_wrong : (room : Option ℕ) (vs : List Visit) (code : ℕ) (place : Li
     → Tells f (Some (record { code = code; place = place })) → Walks room vs (Err f)
 walks_wrong room vs code place f is told others =
     told_same f (told_within room (vs ++ others)) _ (ap (λ (ws : List Visit). told_within room (ws ++ others)) is ∙ wrong_told room code place others) told
-
-pub walks_nothing : (room : Option ℕ) (vs : List Visit) → vs ≡ [] → Walks room vs (Ok room)
-walks_nothing room vs is others = ap (λ (ws : List Visit). told_within room (ws ++ others)) is
 
 -- a right node, and then others
 pub walks_then : (room left : Option ℕ) (place : List Step) (rest : List Visit) (r : Result (Option ℕ) DocFault)
@@ -101,25 +98,12 @@ no_member s parent children place left is = ap (λ (ms : Members). member_visits
 
 -- ---- nodes by their numbers
 
-pub visits_none : (s : Schema) (i : ℕ) (visits : SchemaNode → Forest SchemaNode → List Visit) → node_at s i ≡ None → visits_at s i visits ≡ []
-visits_none s i visits is = ap (λ (o : Option SchemaNode). option_map_or (λ n. visits n (children_of s i)) o []) is
-
-pub visits_some : (s : Schema) (i : ℕ) (n : SchemaNode) (visits : SchemaNode → Forest SchemaNode → List Visit) → node_at s i ≡ Some n
+visits_some : (s : Schema) (i : ℕ) (n : SchemaNode) (visits : SchemaNode → Forest SchemaNode → List Visit) → node_at s i ≡ Some n
     → visits_at s i visits ≡ visits n (children_of s i)
 visits_some s i n visits is = ap (λ (o : Option SchemaNode). option_map_or (λ n. visits n (children_of s i)) o []) is
 
--- those of the child that a name means
-pub visits_child : (s : Schema) (i : ℕ) (read : Named) (place : List Step) (visits : SchemaNode → Forest SchemaNode → List Visit)
-    → option_map (λ n. child n (children_of s i)) (node_at s i) ≡ Some read → at_named read place visits ≡ visits_at s i visits
-visits_child s i read place visits e = by (node_at s i) e
-  where
-    by : (o : Option SchemaNode) → option_map (λ n. child n (children_of s i)) o ≡ Some read
-        → at_named read place visits ≡ option_map_or (λ n. visits n (children_of s i)) o []
-    by None e = absurd cc
-    by (Some n) e = ap (λ o. at_named (unwrap_or o read) place visits) (sym e)
-
 -- what is refused at one instance
-pub refused_one : (s : Schema) (i : ℕ) (place : List Step) (d : Data)
+refused_one : (s : Schema) (i : ℕ) (place : List Step) (d : Data)
     → refused_at s i place d ≡ told_within None (visits_at s i (λ n below. instance_visits s n below place d))
 refused_one s i place d = by (node_at s i)
   where
