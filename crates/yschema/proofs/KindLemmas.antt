@@ -1,5 +1,5 @@
 -- The kind of a leaf, from the texts of its substatements.
-use Rattle.std.proofs.Common.{◌≡◌, Bool, false, cond, [], Option, Some, None, codes, unwrap_or, option_and_then, refl, sym, ap, ap₂, ◌∙◌}
+use Rattle.std.proofs.Common.{◌≡◌, false, cond, [], Option, Some, None, codes, unwrap_or, option_and_then, refl, sym, ap, ap₂, ◌∙◌}
 use Rattle.std.specs.Option.{option_map_or}
 use Rattle.yspec.specs.Forest.{Forest}
 use Rattle.yspec.specs.text.Text.{Text, is_text}

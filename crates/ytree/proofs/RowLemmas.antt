@@ -18,7 +18,7 @@ use Rattle.ytree.specs.View.{view, row_view}
 use Rattle.ytree.specs.Told.{inner_rows, stored_first}
 use Rattle.ytree.specs.declared.tree.Stored.{Stored}
 
--- a row that has got one more node
+-- a row that has got one more node; `yinst` cites it too
 pub join_last : (done : List Stored) (s : Stored) (l : spec.Stored) (below rest : Tree) → view s ≡ (l, below)
     → join (row_view (done ++ s ∷ [])) rest ≡ join (row_view done) (node l below rest)
 join_last [] s l below rest is = ap (λ p. node p.0 p.1 rest) is

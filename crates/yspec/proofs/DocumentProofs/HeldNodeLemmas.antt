@@ -1,7 +1,7 @@
 -- A schema whose nodes are numbered in preorder has each of them under its number.
-use Rattle.std.proofs.Common.{◌≡◌, ◌≢◌, ℕ, ◌+◌, ◌≤◌, ◌<◌, Bool, true, false, cond, eqb, Option, Some, None, refl, ap, ap₂, ◌∙◌, arith}
+use Rattle.std.proofs.Common.{◌≡◌, ℕ, ◌+◌, ◌≤◌, ◌<◌, true, false, cond, eqb, Option, Some, None, refl, ap, ap₂, ◌∙◌, arith}
 use Rattle.std.specs.Prelude.{unwrap_or}
-use Rattle.std.proofs.lemmas.Bool.{eqb-true, eq-eqb}
+use Rattle.std.proofs.lemmas.Bool.{eq-eqb}
 use Rattle.yspec.specs.Forest.{Forest, end, node, size, first_of, joined_below, find_below}
 use Rattle.yspec.specs.schema.Schema.{Schema, SchemaNode, node_in}
 use Rattle.yspec.specs.document.Fitting.{IsNumbered}

@@ -1,5 +1,5 @@
 -- Under a schema of containers and leafs alone, what an edit does to a document that fits is what the plain definition says.
-use Rattle.std.proofs.Common.{◌≡◌, ℕ, Bool, true, false, cond, ltb, List, [], ◌∷◌, ◌++◌, map, Option, Some, None, Result, Ok, Err, refl, sym, ap, ap₂, ◌∙◌, append_assoc, lt-ltb, append-nil}
+use Rattle.std.proofs.Common.{◌≡◌, ℕ, Bool, true, false, cond, ltb, List, [], ◌∷◌, ◌++◌, map, Option, Some, None, Result, Ok, Err, refl, sym, ap, ◌∙◌, append_assoc, lt-ltb, append-nil}
 use Rattle.std.specs.Prelude.{is_some, unwrap_or}
 use Rattle.std.specs.Option.{option_map_or}
 use Rattle.serde_json.specs.Data.{Data}
@@ -7,7 +7,7 @@ use Rattle.yspec.specs.Results.{◌>>=◌}
 use Rattle.yspec.specs.text.Text.{Text}
 use Rattle.yspec.specs.schema.Schema.{Schema, SchemaNode, node_at, children_of}
 use Rattle.yspec.specs.document.Document.{Tree, Step, step_to, instances_in}
-use Rattle.yspec.specs.document.Reading.{Refusal, instance_visits, first_wrong, json_of, members_of, stored_node}
+use Rattle.yspec.specs.document.Reading.{Refusal, instance_visits, first_wrong, json_of}
 use Rattle.yspec.specs.document.Fitting.{IsNumbered, Fits}
 use Rattle.yspec.specs.document.Sorting.{IsSorted}
 use Rattle.yspec.specs.edit.Edit.{edit_at, place_of}

@@ -1,10 +1,10 @@
 -- Under a schema of containers and leafs alone, the walk from the front of a row finds what the simpler one finds.
-use Rattle.std.proofs.Common.{◌≡◌, ℕ, ◌+◌, ◌≤◌, ◌<◌, Bool, true, false, cond, eqb, ltb, List, [], ◌∷◌, ◌++◌, map, Option, Some, None, is_some, refl, sym, ap, ap₂, ◌∙◌, subst, arith}
+use Rattle.std.proofs.Common.{◌≡◌, ℕ, ◌+◌, ◌≤◌, Bool, true, false, cond, eqb, ltb, List, [], ◌∷◌, ◌++◌, map, Option, Some, None, is_some, refl, sym, ap, ap₂, ◌∙◌, arith}
 use Rattle.std.proofs.lemmas.Bool.{eq-eqb, lt-ltb, ltb-true}
 use Rattle.std.proofs.lemmas.List.{append-nil}
 use Rattle.std.specs.Option.{option_map_or}
 use Rattle.yspec.specs.Forest.{Forest, end, node, size}
-use Rattle.yspec.specs.types.Types.{Raw, Val, YangType, taken, app_tag_of}
+use Rattle.yspec.specs.types.Types.{Raw, Val, taken, app_tag_of}
 use Rattle.yspec.specs.schema.Schema as spec
 use Rattle.yspec.specs.schema.Schema.{Schema, SchemaNode, Kind, container, leaf, leaf_list, list, choice, case, LeafType, Absence}
 use Rattle.yspec.specs.document.Document.{Stored, Tree, step_to, instances_in}

@@ -1,10 +1,10 @@
 -- In a document that fits a schema of containers and leafs alone, each node of a schema row is stored once or not at all.
-use Rattle.std.proofs.Common.{◌≡◌, ◌≢◌, ℕ, suc, ◌+◌, ◌≤◌, ◌<◌, Bool, true, false, cond, eqb, Option, Some, None, refl, sym, ap, ◌∙◌, subst, arith}
+use Rattle.std.proofs.Common.{◌≡◌, ℕ, suc, ◌+◌, ◌≤◌, ◌<◌, Bool, true, false, cond, eqb, Option, Some, refl, sym, ap, ◌∙◌, subst, arith}
 use Rattle.std.proofs.lemmas.Bool.{eqb-true}
 use Rattle.std.specs.Prelude.{unwrap_or}
 use Rattle.yspec.specs.Forest.{Forest, end, node, size}
 use Rattle.yspec.specs.types.Types.{Raw}
-use Rattle.yspec.specs.schema.Schema.{SchemaNode, Kind, container, leaf, leaf_list, list, choice, case, is_many, data_row, child_in}
+use Rattle.yspec.specs.schema.Schema.{SchemaNode, Kind, container, leaf, leaf_list, list, choice, case, is_many, child_in}
 use Rattle.yspec.specs.document.Document.{Stored, Tree}
 use Rattle.yspec.specs.document.Fitting.{IsNumbered, next_after, FitsBy}
 use Rattle.yspec.specs.plain.Kinds.{IsPlainKind, ArePlain}

@@ -3,7 +3,7 @@ use Rattle.std.specs.Prelude.{◌≡◌, ◌≤◌, ℕ, suc, ◌+◌, true, Opt
 use Rattle.yspec.specs.Forest.{Forest, end, node, size}
 use Rattle.yspec.specs.types.Types.{Raw}
 use Rattle.yspec.specs.schema.Schema.{Schema, SchemaNode, Kind, is_many, has_value, data_row, child_in}
-use Rattle.yspec.specs.document.Document.{Stored, Tree}
+use Rattle.yspec.specs.document.Document.{Tree}
 
 -- the numbers count up in preorder, from the first
 abbrev pub IsNumbered : ℕ → Forest SchemaNode → Type 0

@@ -10,7 +10,7 @@ use Rattle.yspec.specs.types.Ranges.{Part, lies_in}
 use Rattle.yspec.specs.types.Types.{Raw, text, int, bool, empty}
 use Rattle.yspec.specs.text.Text.{Text, is_text}
 use Rattle.yspec.specs.schema.Schema.{Schema, SchemaNode, Kind, is_data, is_many, has_value, data_row, written_name, other_name}
-use Rattle.yspec.specs.document.Document.{Stored, Tree, Step, step_to, below_place, instance_place, document_limit}
+use Rattle.yspec.specs.document.Document.{Stored, Tree, Step, below_place, instance_place, document_limit}
 
 -- why a document isn't read: the number behind the `J`, and the place
 pub record Refusal : Type 0 where

@@ -1,5 +1,5 @@
 -- Worked examples: schemas written out as values, and what is shown of documents and edits under them.
-use Rattle.std.specs.Prelude.{ℕ, pos, Bool, true, false, List, ◌++◌, [], ◌∷◌, codes, Option, Some, None, option_and_then, Result, Ok, Err}
+use Rattle.std.specs.Prelude.{ℕ, pos, true, false, List, ◌++◌, [], ◌∷◌, codes, Option, Some, None, option_and_then, Result, Ok, Err}
 use Rattle.yspec.specs.Forest.{Forest, end, node}
 use Rattle.yspec.specs.text.Text.{Text}
 use Rattle.yspec.specs.types.Ranges.{Part}
