@@ -1,4 +1,5 @@
 pub mod CutLemmas
 pub mod PathLemmas
+pub mod BindingLemmas
 pub mod EditLemmas
 pub mod RowChangeLemmas

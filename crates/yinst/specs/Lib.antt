@@ -1,4 +1,5 @@
 pub mod Applying
+pub mod Binding
 pub mod EditView
 pub mod Rows
 pub mod Ways

@@ -13,7 +13,7 @@ ghost use Rattle.yinst.specs.Applying.{told_by};
 ghost use Rattle.yinst.specs.Rows.{change_view};
 ghost use Rattle.yinst.specs.Ways.{target_view};
 
-use crate::branch::branch_of;
+use crate::branch::part;
 use crate::edit::{Edit, EditCode, EditFault};
 use crate::rows::{Change, changed, is_over};
 use crate::way::{Target, refused, target_of};
@@ -112,7 +112,7 @@ fn with_value(
 ) -> Result<Tree, EditFault>
     ensures { Gives tree_view told_by result (spec.with_value (schema_view.view schema.now) (tree_view tree.now) value.now (target_view target.now)) }
 {
-    match branch_of(alloc, schema, target.id, value) {
+    match part(alloc, schema, target.id, value) {
         Ok(branch) => within_limit(with_row(alloc, tree, target, Change::Put(branch))?),
         Err(fault) => Err(fault),
     }

@@ -15,13 +15,9 @@ use std::alloc::Global;
 use yschema::{Schema, SchemaId};
 use ytree::{DocFault, Stored, read_node};
 
-/// The node that a JSON text denotes at a schema node: E9, E10 with the first refusal of a document.
-pub(crate) fn branch_of(
-    alloc: Global,
-    schema: &Schema,
-    id: SchemaId,
-    text: &str,
-) -> Result<Stored, EditFault>
+/// The node that a JSON text denotes at a schema node, with what stands below it: E9 of a text that is no JSON, E10 with
+/// the first refusal of a document. Of a list or leaf-list the text is that of one entry or item.
+pub fn part(alloc: Global, schema: &Schema, id: SchemaId, text: &str) -> Result<Stored, EditFault>
     ensures { Gives branch_view told_by result (spec.branch_of (schema_view.view schema.now) id.0 text.now) }
 {
     match Value::from_slice(alloc, text.as_bytes()) {

@@ -2,6 +2,7 @@
 #![tactic(auto)]
 
 mod applying;
+mod binding;
 mod branch;
 mod cut;
 mod edit;
@@ -10,5 +11,7 @@ mod rows;
 mod way;
 
 pub use applying::apply;
+pub use binding::{Bound, BoundStep};
+pub use branch::part;
 pub use edit::{Edit, EditCode, EditFault, Key, NamedStep, Path, Predicate};
 pub use ytree::{DocCode, DocFault, Step, Stored, Tree, read, write};

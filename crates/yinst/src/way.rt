@@ -84,7 +84,7 @@ fn meant(alloc: Global, schema: &Schema, steps: &[NamedStep]) -> Result<Way, Edi
 }
 
 /// Whether a step bears the position 0; positions count from 1.
-fn has_zero(steps: &[NamedStep]) -> bool
+pub(crate) fn has_zero(steps: &[NamedStep]) -> bool
     ensures { result ≡ editing.has_zero (steps_view steps.now) }
 {
     for step in steps {
@@ -146,7 +146,7 @@ fn says_which(steps: &[NamedStep]) -> bool
     false
 }
 
-fn says(predicate: &Predicate) -> bool
+pub(crate) fn says(predicate: &Predicate) -> bool
     ensures { result ≡ not (editing.says_nothing (predicate_view predicate.now)) }
 {
     match predicate {

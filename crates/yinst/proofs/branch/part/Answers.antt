@@ -3,7 +3,7 @@ use Rattle.yschema.specs.View as schema_view
 use Rattle.yinst.specs.Rows.{branch_view}
 use Rattle.yspec.proofs.DocumentProofs.JsonLemmas.{json_found}
 use Rattle.yinst.proofs.EditLemmas.{answers_same, branch_of_value}
-use Rattle.yinst.proofs.branch.branch_of.Goals as goal
+use Rattle.yinst.proofs.branch.part.Goals as goal
 
 pub returns-in-Ok : goal.returns-in-Ok
 returns-in-Ok c =
