@@ -8,6 +8,8 @@ mod documents;
 #[cfg(test)]
 mod edits;
 #[cfg(test)]
+mod halves;
+#[cfg(test)]
 mod lives;
 #[cfg(test)]
 mod memory;
