@@ -7,13 +7,8 @@ use Rattle.serde_json.specs.Data.{Data}
 use Rattle.yspec.specs.Forest.{Forest}
 use Rattle.yspec.specs.schema.Schema.{Schema, SchemaNode, node_at, children_of}
 use Rattle.yspec.specs.document.Reading.{Refusal, json_of, instance_visits, first_wrong, stored_node, stored_rows, members_of}
-use Rattle.yspec.specs.edit.Editing.{EditRefusal, Branch, refused, value_refused, fitting_branch, branch, branch_at, branch_of, applied}
-use Rattle.yspec.specs.plain.Editing as plain
-use Rattle.yspec.specs.plain.Kinds.{ArePlain}
-use Rattle.yspec.specs.edit.EditText.{Edit}
+use Rattle.yspec.specs.edit.Editing.{EditRefusal, Branch, refused, value_refused, fitting_branch, branch, branch_at, branch_of}
 use Rattle.yspec.specs.document.Document.{Tree}
-use Rattle.yspec.specs.document.Fitting.{IsNumbered, Fits}
-use Rattle.yspec.proofs.PlainProofs.EditingLemmas.{edits_are_plain}
 use Rattle.yspec.proofs.EditProofs.AnswerLemmas.{If}
 use Rattle.yspec.proofs.SchemaProofs.NumberLemmas.{number_at}
 use Rattle.ytree.specs.View.{Labelled, tree_view}
@@ -59,12 +54,6 @@ branch_refused s i d r is = by (node_at s i) refl is
     by (Some n) e is =
         ap (λ k. option_map_or (λ r. value_refused r.code) (first_wrong (instance_visits s n (children_of s k) [] d)) (Ok (branch s n d))) (number_at s.nodes i n e)
         ∙ ap (λ o. option_map_or (λ r. value_refused r.code) o (Ok (branch s n d))) is
-
--- what the plain definition gives is what every schema's gives, of a document that fits
-pub wide_if_applied : (given : Result tree.Tree EditFault) (s : Schema) (before : Tree) (e : Edit) → ArePlain s.nodes → IsNumbered 0 s.nodes
-    → Gives tree_view told_by given (plain.applied s before e) → Fits s before → Gives tree_view told_by given (applied s before e)
-wide_if_applied given s before e are numbered is fits =
-    answers_same tree_view given (applied s before e) (plain.applied s before e) (edits_are_plain s before e are numbered fits) is
 
 -- what holds of the definition's answer holds of what is given
 pub if_given : (P : Tree → Type 0) (given : Result tree.Tree EditFault) (answer : Result Tree EditRefusal) → Gives tree_view told_by given answer

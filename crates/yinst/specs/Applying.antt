@@ -5,7 +5,7 @@ use Rattle.yschema.specs.declared.node.SchemaId.{SchemaId}
 use Rattle.ytree.specs.Told.{code_number}
 use Rattle.ytree.specs.declared.fault.DocCode.{DocCode}
 use Rattle.yinst.specs.declared.edit.EditCode.{EditCode}
-use Rattle.yinst.specs.declared.edit.EditCode.TheVariants.{E1, E2, E3, E4, E7, E8, E9, E10, E11}
+use Rattle.yinst.specs.declared.edit.EditCode.TheVariants.{E1, E2, E3, E4, E5, E6, E7, E8, E9, E10, E11}
 use Rattle.yinst.specs.declared.edit.EditFault.{EditFault}
 use Rattle.yinst.specs.declared.edit.EditFault.TheVariants.{Refused, Memory}
 
@@ -14,6 +14,8 @@ edit_number E1 = 1
 edit_number E2 = 2
 edit_number E3 = 3
 edit_number E4 = 4
+edit_number E5 = 5
+edit_number E6 = 6
 edit_number E7 = 7
 edit_number E8 = 8
 edit_number E9 = 9

@@ -1,5 +1,5 @@
 pub mod Applying
 pub mod Binding
 pub mod EditView
+pub mod Locating
 pub mod Rows
-pub mod Ways

@@ -1,13 +1,14 @@
 -- Changes of rows of stored nodes.
-use Rattle.std.specs.Prelude.{ℕ, ◌==◌, List, [], ◌∷◌, Bool, nat_le, if◌then◌else◌}
+use Rattle.std.specs.Prelude.{ℕ, zero, suc, ◌+◌, ◌==◌, List, [], ◌∷◌, Bool, nat_lt, if◌then◌else◌}
 use Rattle.yspec.specs.Forest.{end, node}
+use Rattle.yspec.specs.document.Document as document
 use Rattle.yspec.specs.document.Document.{Tree}
-use Rattle.yspec.specs.edit.Editing.{Branch}
-use Rattle.yspec.specs.plain.Editing.{with_branch, without}
+use Rattle.yspec.specs.edit.Editing.{Branch, with_branch, with_instead, without}
 use Rattle.ytree.specs.View.{view}
 use Rattle.ytree.specs.declared.tree.Stored.{Stored}
+use Rattle.yinst.specs.Locating.{spot_view}
 use Rattle.yinst.specs.declared.rows.Change.{Change}
-use Rattle.yinst.specs.declared.rows.Change.TheVariants.{Put, TakeAway}
+use Rattle.yinst.specs.declared.rows.Change.TheVariants.{Add, Put, TakeAway}
 
 abbrev pub number_of : Stored → ℕ
 number_of s = (view s).0.schema_number
@@ -15,8 +16,8 @@ number_of s = (view s).0.schema_number
 abbrev pub has_number : ℕ → Stored → Bool
 has_number number s = number_of s == number
 
-abbrev pub is_not_before : ℕ → Stored → Bool
-is_not_before number s = nat_le number (number_of s)
+abbrev pub is_behind : ℕ → Stored → Bool
+is_behind number s = nat_lt number (number_of s)
 
 -- the nodes of a row before the first that passes a test, and those from it on
 abbrev pub before_first : (Stored → Bool) → List Stored → List Stored
@@ -30,12 +31,24 @@ from_first test (s ∷ ss) = if test s then s ∷ ss else from_first test ss
 abbrev pub branch_view : Stored → Branch
 branch_view s = record { label = (view s).0; below = (view s).1 }
 
+-- the place in a row of the instance of a schema node at a place among those of that node, or the row's length
+abbrev pub nth_place : ℕ → ℕ → List Stored → ℕ
+nth_place number place [] = 0
+nth_place number zero (s ∷ ss) = if has_number number s then 0 else 1 + nth_place number zero ss
+nth_place number (suc place) (s ∷ ss) =
+    1 + (if has_number number s then nth_place number place ss else nth_place number (suc place) ss)
+
+-- a row with its first node changed, given what stands below and after it
+abbrev pub change_first : (document.Stored → Tree → Tree → Tree) → Tree → Tree
+change_first change end = end
+change_first change (node s below after) = change s below after
+
+abbrev pub behind_first : Tree → Tree
+behind_first end = end
+behind_first (node s below after) = after
+
 -- what a change makes of a row
 abbrev pub change_view : Change → Tree → Tree
-change_view (Put s) row = with_branch (branch_view s) row
-change_view (TakeAway id) row = without id.0 row
-
--- a row without its first node, if that is of this schema node
-abbrev pub without_first : ℕ → Tree → Tree
-without_first number end = end
-without_first number (node s below after) = if s.schema_number == number then after else node s below after
+change_view (Add s) row = with_branch (branch_view s) row
+change_view (Put spot s) row = with_instead (spot_view spot) (branch_view s) row
+change_view (TakeAway spot) row = without (spot_view spot) row

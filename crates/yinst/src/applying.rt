@@ -1,35 +1,37 @@
 //! What an edit makes of a document.
 
-ghost use Rattle.std.specs.Prelude.{◌≡◌, None, IfOk};
+ghost use Rattle.std.specs.Prelude.{◌≡◌, IfOk, nat_lt};
+ghost use Rattle.yspec.specs.schema.Schema as schemas;
+ghost use Rattle.yspec.specs.document.Document.{instances_in};
 ghost use Rattle.yspec.specs.document.Fitting.{Fits};
 ghost use Rattle.yspec.specs.document.Writing.{IsDocument};
-ghost use Rattle.yspec.specs.edit.Editing as editing;
-ghost use Rattle.yspec.specs.plain.Editing as spec;
+ghost use Rattle.yspec.specs.edit.Edit.{edit_at};
+ghost use Rattle.yspec.specs.edit.Editing as spec;
 ghost use Rattle.yschema.specs.View as schema_view;
-ghost use Rattle.ytree.specs.View.{tree_view};
-ghost use Rattle.yinst.specs.EditView.{edit_view};
+ghost use Rattle.ytree.specs.View.{tree_view, row_view};
+ghost use Rattle.yinst.specs.EditView.{edit_view, path_view};
 ghost use Rattle.yspec.specs.Results.{Gives};
 ghost use Rattle.yinst.specs.Applying.{told_by};
-ghost use Rattle.yinst.specs.Rows.{change_view};
-ghost use Rattle.yinst.specs.Ways.{target_view};
+ghost use Rattle.yinst.specs.Binding.{node_of};
+ghost use Rattle.yinst.specs.Locating.{spot_view, spots_view, located_view};
+ghost use Rattle.yinst.specs.Rows.{branch_view, change_view};
 
+use crate::binding::{bind_path, refused};
 use crate::branch::part;
-use crate::edit::{Edit, EditCode, EditFault};
+use crate::edit::{Edit, EditCode, EditFault, Path};
+use crate::locating::{Located, Spot, count_of, instance_meant, locate};
 use crate::rows::{Change, changed, is_over};
-use crate::way::{Target, refused, target_of};
 use std::alloc::{AllocError, Global};
-use yschema::Schema;
-use ytree::Tree;
+use yschema::{Schema, SchemaId};
+use ytree::{Stored, Tree};
 
 /// A document has at most so many nodes.
 const NODE_LIMIT: usize = 1_000_000;
 
 /// The document after an edit, or the first refusal: of the path's steps E1, of its names E2 and its predicates E3, of
-/// where it stands E4, E7 and E8, of its value E9 and E10, and E11. The document that is given stays as it is.
+/// where it stands E4 to E8, of its value E9 and E10, and E11. The document that is given stays as it is.
 pub fn apply(alloc: Global, schema: &Schema, tree: &Tree, edit: &Edit) -> Result<Tree, EditFault>
-    // of a document that fits its schema, as one that is read under it does
-    ensures answer { let s = schema_view.view schema.now in
-        Fits s (tree_view tree.now) → Gives tree_view told_by result (editing.applied s (tree_view tree.now) (edit_view edit.now)) }
+    ensures answer { Gives tree_view told_by result (spec.applied (schema_view.view schema.now) (tree_view tree.now) (edit_view edit.now)) }
     ensures fitting { let s = schema_view.view schema.now in Fits s (tree_view tree.now) → IfOk result (λ t. Fits s (tree_view t)) }
     // in values as in shape
     ensures whole { let s = schema_view.view schema.now in
@@ -39,94 +41,161 @@ pub fn apply(alloc: Global, schema: &Schema, tree: &Tree, edit: &Edit) -> Result
 }
 
 /// The document after an edit.
-#[tactic(auto, unfolding(yspec::specs::plain::Editing::applied))]
+#[tactic(auto, unfolding(yspec::specs::edit::Editing::applied))]
 fn edited(alloc: Global, schema: &Schema, tree: &Tree, edit: &Edit) -> Result<Tree, EditFault>
     ensures { Gives tree_view told_by result (spec.applied (schema_view.view schema.now) (tree_view tree.now) (edit_view edit.now)) }
 {
     match edit {
-        Edit::Create { path, value } => match target_of(alloc, schema, tree, path) {
-            Ok(target) => create(alloc, schema, tree, target, value.as_str()),
+        Edit::Create { path, value } => match target_of(alloc, schema, tree, true, path) {
+            Ok(target) => create(alloc, schema, tree, &target, value.as_str()),
             Err(fault) => Err(fault),
         },
-        Edit::Replace { path, value } => match target_of(alloc, schema, tree, path) {
-            Ok(target) => replace(alloc, schema, tree, target, value.as_str()),
+        Edit::Replace { path, value } => match target_of(alloc, schema, tree, false, path) {
+            Ok(target) => replace(alloc, schema, tree, &target, value.as_str()),
             Err(fault) => Err(fault),
         },
-        Edit::Remove { path } => match target_of(alloc, schema, tree, path) {
-            Ok(target) => remove(alloc, tree, target),
+        Edit::Remove { path } => match target_of(alloc, schema, tree, false, path) {
+            Ok(target) => remove(alloc, schema, tree, &target),
             Err(fault) => Err(fault),
         },
     }
 }
 
-/// E8 of what is there.
-fn create(
+/// Where a path leads in a document.
+fn target_of<'t, 'e>(
     alloc: Global,
     schema: &Schema,
-    tree: &Tree,
-    target: Target,
-    value: &str,
-) -> Result<Tree, EditFault>
-    ensures { Gives tree_view told_by result (spec.created (schema_view.view schema.now) (tree_view tree.now) value.now (target_view target)) }
+    tree: &'t Tree,
+    is_create: bool,
+    path: &'e Path,
+) -> Result<Located<'t, 'e>, EditFault>
+    ensures { let s = schema_view.view schema.now in
+        Gives (located_view s) told_by result (spec.target_of s (tree_view tree.entry.now) is_create (path_view path.entry.now)) }
 {
-    if target.is_stored {
-        return Err(refused(EditCode::E8));
-    }
-    with_value(alloc, schema, tree, &target, value)
-}
-
-/// E7 of what isn't there.
-fn replace(
-    alloc: Global,
-    schema: &Schema,
-    tree: &Tree,
-    target: Target,
-    value: &str,
-) -> Result<Tree, EditFault>
-    ensures { Gives tree_view told_by result (spec.replaced (schema_view.view schema.now) (tree_view tree.now) value.now (target_view target)) }
-{
-    if !target.is_stored {
-        return Err(refused(EditCode::E7));
-    }
-    with_value(alloc, schema, tree, &target, value)
-}
-
-/// E7 of what isn't there.
-fn remove(alloc: Global, tree: &Tree, target: Target) -> Result<Tree, EditFault>
-    ensures { Gives tree_view told_by result (spec.removed (tree_view tree.now) (target_view target)) }
-{
-    if !target.is_stored {
-        return Err(refused(EditCode::E7));
-    }
-    let change = Change::TakeAway(target.id);
-    Ok(with_row(alloc, tree, &target, change)?)
-}
-
-/// The document with a value in its place: E9, E10, and E11 of the whole.
-fn with_value(
-    alloc: Global,
-    schema: &Schema,
-    tree: &Tree,
-    target: &Target,
-    value: &str,
-) -> Result<Tree, EditFault>
-    ensures { Gives tree_view told_by result (spec.with_value (schema_view.view schema.now) (tree_view tree.now) value.now (target_view target.now)) }
-{
-    match part(alloc, schema, target.id, value) {
-        Ok(branch) => within_limit(with_row(alloc, tree, target, Change::Put(branch))?),
+    match bind_path(alloc, schema, is_create, path) {
+        Ok(bound) => locate(alloc, schema, tree.nodes(), bound.steps.as_slice()),
         Err(fault) => Err(fault),
     }
 }
 
-/// A copy of a document with a change in the target's row.
-fn with_row(alloc: Global, tree: &Tree, target: &Target, change: Change) -> Result<Tree, AllocError>
-    ensures { IfOk result (λ t. tree_view t ≡ spec.with_row (target_view target.now) (change_view change) (tree_view tree.now)) }
+/// E8 of a container or leaf that is there.
+fn create(
+    alloc: Global,
+    schema: &Schema,
+    tree: &Tree,
+    target: &Located<'_, '_>,
+    value: &str,
+) -> Result<Tree, EditFault>
+    ensures { let s = schema_view.view schema.now in
+        Gives tree_view told_by result (spec.created s (tree_view tree.now) value.now (located_view s target.now)) }
 {
-    Ok(Tree::new(changed(alloc, tree.nodes(), &target.above, change)?))
+    if is_there(schema, target) {
+        return Err(refused(EditCode::E8));
+    }
+    match part_at(alloc, schema, target.last.id, value) {
+        Ok(branch) => bounded(alloc, tree, target.above.as_slice(), Change::Add(branch)),
+        Err(fault) => Err(fault),
+    }
+}
+
+/// Whether a container or leaf that is to be created is there.
+fn is_there(schema: &Schema, target: &Located<'_, '_>) -> bool
+    ensures { result ≡ spec.is_there (located_view (schema_view.view schema.now) target.now) }
+{
+    !is_many(schema, target.last.id) && is_stored(schema, target.row, target.last.id)
+}
+
+fn is_many(schema: &Schema, id: SchemaId) -> bool
+    ensures { result ≡ schemas.is_many (node_of (schema_view.view schema.now) id.0).kind }
+{
+    match schema.kind(id) {
+        Some(node) => node.kind.is_many(),
+        None => false,
+    }
+}
+
+/// Whether a row has an instance of a schema node.
+fn is_stored(schema: &Schema, row: &[Stored], id: SchemaId) -> bool
+    ensures { result ≡ nat_lt 0 (instances_in (row_view row.now) (node_of (schema_view.view schema.now) id.0).number) }
+{
+    0 < count_of(row, id)
+}
+
+/// The value at a schema node: E9, E10.
+fn part_at(alloc: Global, schema: &Schema, id: SchemaId, text: &str) -> Result<Stored, EditFault>
+    ensures { let s = schema_view.view schema.now in
+        Gives branch_view told_by result (spec.branch_of s (node_of s id.0).number text.now) }
+{
+    part(alloc, schema, id, text)
+}
+
+fn replace(
+    alloc: Global,
+    schema: &Schema,
+    tree: &Tree,
+    target: &Located<'_, '_>,
+    value: &str,
+) -> Result<Tree, EditFault>
+    ensures { let s = schema_view.view schema.now in
+        Gives tree_view told_by result (spec.replaced s (tree_view tree.now) value.now (located_view s target.now)) }
+{
+    match last_meant(alloc, schema, target) {
+        Ok(spot) => match part_at(alloc, schema, target.last.id, value) {
+            Ok(branch) => bounded(
+                alloc,
+                tree,
+                target.above.as_slice(),
+                Change::Put(spot, branch),
+            ),
+            Err(fault) => Err(fault),
+        },
+        Err(fault) => Err(fault),
+    }
+}
+
+fn remove(
+    alloc: Global,
+    schema: &Schema,
+    tree: &Tree,
+    target: &Located<'_, '_>,
+) -> Result<Tree, EditFault>
+    ensures { let s = schema_view.view schema.now in
+        Gives tree_view told_by result (spec.removed s (tree_view tree.now) (located_view s target.now)) }
+{
+    match last_meant(alloc, schema, target) {
+        Ok(spot) => {
+            let change = Change::TakeAway(spot);
+            Ok(with_row(alloc, tree, &target.above, change)?)
+        }
+        Err(fault) => Err(fault),
+    }
+}
+
+/// The node that the last step means: E5 to E7.
+fn last_meant(alloc: Global, schema: &Schema, target: &Located<'_, '_>) -> Result<Spot, EditFault>
+    ensures { let s = schema_view.view schema.now in
+        Gives spot_view told_by result (spec.last_meant s (located_view s target.now)) }
+{
+    instance_meant(alloc, schema, EditCode::E7, target.row, target.last)
+}
+
+/// A copy of a document with a change in a row.
+fn with_row(alloc: Global, tree: &Tree, above: &[Spot], change: Change) -> Result<Tree, AllocError>
+    ensures { IfOk result (λ t. tree_view t ≡ edit_at (spots_view above.now) (change_view change) (tree_view tree.now)) }
+{
+    Ok(Tree::new(changed(alloc, tree.nodes(), above, change)?))
+}
+
+/// The same, where the document has room for it: E11.
+fn bounded(alloc: Global, tree: &Tree, above: &[Spot], change: Change) -> Result<Tree, EditFault>
+    ensures { Gives tree_view told_by result
+        (spec.within_limit (edit_at (spots_view above.now) (change_view change) (tree_view tree.now))) }
+{
+    within_limit(with_row(alloc, tree, above, change)?)
 }
 
 fn within_limit(tree: Tree) -> Result<Tree, EditFault>
-    ensures { Gives tree_view told_by result (editing.within_limit (tree_view tree)) }
+    ensures { Gives tree_view told_by result (spec.within_limit (tree_view tree)) }
 {
     if is_over(tree.nodes(), NODE_LIMIT) {
         Err(refused(EditCode::E11))

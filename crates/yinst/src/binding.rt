@@ -1,17 +1,17 @@
 //! What the steps of a path mean, and whether their predicates are in place.
 
-ghost use Rattle.std.specs.Prelude.{◌≡◌, None, [], ◌∷◌};
+ghost use Rattle.std.specs.Prelude.{◌≡◌, not, None, [], ◌∷◌};
 ghost use Rattle.yspec.specs.edit.Editing as spec;
 ghost use Rattle.yschema.specs.Layout.{kind_view, numbers_of};
 ghost use Rattle.yschema.specs.View as schema_view;
 ghost use Rattle.yspec.specs.Results.{Gives};
 ghost use Rattle.yinst.specs.Applying.{told_by};
+ghost use Rattle.yinst.specs.declared.edit.EditFault.TheVariants.{Refused};
 ghost use Rattle.yinst.specs.Binding as binding;
 ghost use Rattle.yinst.specs.Binding.{bound_view, node_of};
 ghost use Rattle.yinst.specs.EditView.{predicate_view, keys_view, steps_view, path_view};
 
 use crate::edit::{Edit, EditCode, EditFault, Key, NamedStep, Path, Predicate};
-use crate::way::{has_zero, refused, says};
 use std::alloc::Global;
 use yschema::{Kind, Schema, SchemaId};
 
@@ -50,7 +50,7 @@ impl Edit {
 }
 
 /// What a path means to an edit.
-fn bind_path<'e>(
+pub(crate) fn bind_path<'e>(
     alloc: Global,
     schema: &Schema,
     is_create: bool,
@@ -212,11 +212,40 @@ fn is_named(schema: &Schema, id: SchemaId, keys: &[Key]) -> bool
 }
 
 /// Whether a schema node has a name.
-fn has_name(schema: &Schema, name: &str, id: SchemaId) -> bool
+pub(crate) fn has_name(schema: &Schema, name: &str, id: SchemaId) -> bool
     ensures { result ≡ spec.has_name (schema_view.view schema.now) name.now id.0 }
 {
     match schema.kind(id) {
         Some(node) => name == node.name.as_str(),
         None => false,
+    }
+}
+
+/// A refusal that isn't a value's.
+pub(crate) fn refused(code: EditCode) -> EditFault
+    ensures { result ≡ Refused code None }
+{
+    EditFault::Refused { code, doc: None }
+}
+
+/// Whether a step bears the position 0; positions count from 1.
+fn has_zero(steps: &[NamedStep]) -> bool
+    ensures { result ≡ spec.has_zero (steps_view steps.now) }
+{
+    for step in steps {
+        if matches!(step.predicate, Predicate::Position(0)) {
+            return true;
+        }
+    }
+    false
+}
+
+/// Whether a predicate says anything.
+fn says(predicate: &Predicate) -> bool
+    ensures { result ≡ not (spec.says_nothing (predicate_view predicate.now)) }
+{
+    match predicate {
+        Predicate::Unsaid => false,
+        Predicate::Position(_) | Predicate::Keys(_) => true,
     }
 }

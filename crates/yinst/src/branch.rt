@@ -8,8 +8,8 @@ ghost use Rattle.yspec.specs.Results.{Gives};
 ghost use Rattle.yinst.specs.Applying.{told_by};
 ghost use Rattle.yinst.specs.Rows.{branch_view};
 
+use crate::binding::refused;
 use crate::edit::{EditCode, EditFault};
-use crate::way::refused;
 use serde_json::Value;
 use std::alloc::Global;
 use yschema::{Schema, SchemaId};

@@ -51,10 +51,15 @@ pub enum EditCode {
     E1 = 1,
     /// A step's name isn't there, or has its module's name in front where none is due, or lacks it where it is.
     E2 = 2,
-    /// A step says which of several instances it means, and its node has but one.
+    /// A step says which of several instances it means where its node has but one, or doesn't say it as its node is to be
+    /// told.
     E3 = 3,
-    /// A container before the last step isn't stored.
+    /// A node before the last step isn't stored.
     E4 = 4,
+    /// A position is past the last instance.
+    E5 = 5,
+    /// Several entries have these keys.
+    E6 = 6,
     /// What is to be replaced or removed isn't stored.
     E7 = 7,
     /// What is to be created is stored.

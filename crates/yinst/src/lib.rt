@@ -6,9 +6,9 @@ mod binding;
 mod branch;
 mod cut;
 mod edit;
+mod locating;
 mod paths;
 mod rows;
-mod way;
 
 pub use applying::apply;
 pub use binding::{Bound, BoundStep};

@@ -1,16 +1,16 @@
 //! Changes of rows, on copies.
 
-ghost use Rattle.std.specs.Prelude.{◌≡◌, ◌+◌, ◌<◌, MatchOption, length, map, position, nat_lt, is_some, IfOk, IfSome, OnOk, option_map};
+ghost use Rattle.std.specs.Prelude.{◌≡◌, ◌+◌, ◌<◌, ◌≤◌, MatchOption, length, take, drop, position, nat_lt, IfOk, IfSome, OnOk};
 ghost use Rattle.yspec.specs.Forest.{node, join, size};
 ghost use Rattle.yspec.specs.edit.Edit.{change_below, edit_at};
-ghost use Rattle.yspec.specs.plain.Editing as spec;
-ghost use Rattle.yspec.specs.document.Document.{step_to};
-ghost use Rattle.yspec.specs.plain.Editing.{stored_in};
+ghost use Rattle.yspec.specs.edit.Edit as edits;
+ghost use Rattle.yspec.specs.edit.Editing as spec;
 ghost use Rattle.ytree.specs.View.{view, row_view};
-ghost use Rattle.yinst.specs.Applying.{numbers};
-ghost use Rattle.yinst.specs.Rows.{has_number, is_not_before, before_first, from_first, branch_view, change_view};
+ghost use Rattle.yinst.specs.Locating.{spot_view, spots_view};
+ghost use Rattle.yinst.specs.Rows.{is_behind, before_first, from_first, branch_view, change_view, behind_first};
 ghost use Rattle.yinst.specs.Rows as rows;
 
+use crate::locating::{Spot, place_of};
 use std::alloc::{AllocError, Global};
 use yschema::SchemaId;
 use ytree::Stored;
@@ -18,71 +18,54 @@ use ytree::Stored;
 /// What is done in a row.
 #[derive(Debug, Drop)]
 pub(crate) enum Change {
-    /// A node is put in its place, instead of the one of the same schema node.
-    Put(Stored),
-    /// The node of a schema node is taken away.
-    TakeAway(SchemaId),
+    /// A node is put behind all of its schema node and of earlier ones.
+    Add(Stored),
+    /// A node is put instead of another.
+    Put(Spot, Stored),
+    /// A node is taken away.
+    TakeAway(Spot),
 }
 
-/// The row below the last of some nodes, each of which is stored below the one before it.
-pub(crate) fn row_under<'t>(top: &'t [Stored], above: &[SchemaId]) -> Option<&'t [Stored]>
-    ensures { option_map (λ row. row_view row.now) result ≡ spec.row_under (row_view top.entry.now) (numbers above.now) }
+/// The nodes of a row before the one that a spot means, and those from it on.
+fn split_at_spot(row: &[Stored], spot: Spot) -> (&[Stored], &[Stored])
+    ensures before { result.0.now ≡ take (rows.nth_place spot.id.0 (edits.place_of (spot_view spot)) row.entry.now) row.entry.now }
+    ensures from { result.1.now ≡ drop (rows.nth_place spot.id.0 (edits.place_of (spot_view spot)) row.entry.now) row.entry.now }
 {
-    let mut row = top;
-    for id in above {
-        row = below_in(row, *id)?;
+    row.split_at(nth_place(row, spot))
+}
+
+/// The place in a row of the node that a spot means, or the row's length.
+fn nth_place(row: &[Stored], spot: Spot) -> usize
+    ensures place { result ≡ rows.nth_place spot.id.0 (edits.place_of (spot_view spot)) row.now }
+    ensures within { result ≤ length row.now }
+{
+    let mut left = place_of(spot);
+    let mut at = 0;
+    for stored in row {
+        if stored.id() == spot.id {
+            if left == 0 {
+                return at;
+            }
+            left -= 1;
+        }
+        at += 1;
     }
-    Some(row)
+    at
 }
 
-/// What stands below the stored node of a schema node in a row.
-fn below_in(row: &[Stored], id: SchemaId) -> Option<&[Stored]>
-    ensures { option_map (λ below. row_view below.now) result ≡ stored_in (row_view row.entry.now) id.0 }
+/// The nodes of a row up to the last that doesn't stand behind a schema node, and those from the first that does.
+fn split_behind(row: &[Stored], id: SchemaId) -> (&[Stored], &[Stored])
+    ensures before { result.0.now ≡ before_first (is_behind id.0) row.entry.now }
+    ensures from { result.1.now ≡ from_first (is_behind id.0) row.entry.now }
 {
-    let (_, from) = split_at_node(row, id);
-    match from.split_first() {
-        Some((stored, _)) => Some(stored.below()),
-        None => None,
-    }
+    row.split_at(place_behind(row, id).unwrap_or(row.len()))
 }
 
-/// Whether a row has a node of a schema node.
-pub(crate) fn is_stored_in(row: &[Stored], id: SchemaId) -> bool
-    ensures { result ≡ is_some (stored_in (row_view row.now) id.0) }
-{
-    below_in(row, id).is_some()
-}
-
-/// The nodes of a row before that of a schema node, and those from it on.
-fn split_at_node(row: &[Stored], id: SchemaId) -> (&[Stored], &[Stored])
-    ensures before { result.0.now ≡ before_first (has_number id.0) row.entry.now }
-    ensures from { result.1.now ≡ from_first (has_number id.0) row.entry.now }
-{
-    row.split_at(node_place(row, id).unwrap_or(row.len()))
-}
-
-/// The place of the node of a schema node in a row.
-fn node_place(row: &[Stored], id: SchemaId) -> Option<usize>
-    ensures place { result ≡ position (has_number id.0) row.now }
+fn place_behind(row: &[Stored], id: SchemaId) -> Option<usize>
+    ensures place { result ≡ position (is_behind id.0) row.now }
     ensures within { IfSome result (λ n. n < length row.now) }
 {
-    row.iter().position(|stored| stored.id() == id)
-}
-
-/// The nodes of a row before the place of a schema node's, and those from it on.
-fn split_at_place(row: &[Stored], id: SchemaId) -> (&[Stored], &[Stored])
-    ensures before { result.0.now ≡ before_first (is_not_before id.0) row.entry.now }
-    ensures from { result.1.now ≡ from_first (is_not_before id.0) row.entry.now }
-{
-    row.split_at(due_place(row, id).unwrap_or(row.len()))
-}
-
-/// The place of the first node of a row that doesn't stand before that of a schema node.
-fn due_place(row: &[Stored], id: SchemaId) -> Option<usize>
-    ensures place { result ≡ position (is_not_before id.0) row.now }
-    ensures within { IfSome result (λ n. n < length row.now) }
-{
-    row.iter().position(|stored| id <= stored.id())
+    row.iter().position(|stored| id < stored.id())
 }
 
 /// A copy of a row with a change made in the row below these nodes, each of which is stored below the one before it.
@@ -90,31 +73,31 @@ fn due_place(row: &[Stored], id: SchemaId) -> Option<usize>
 pub(crate) fn changed(
     alloc: Global,
     row: &[Stored],
-    above: &[SchemaId],
+    above: &[Spot],
     change: Change,
 ) -> Result<Vec<Stored>, AllocError>
     ensures { IfOk result (λ nodes. row_view nodes.items
-        ≡ edit_at (map step_to (numbers above.now)) (change_view change) (row_view row.now)) }
+        ≡ edit_at (spots_view above.now) (change_view change) (row_view row.now)) }
 {
     match above.split_first() {
-        Some((id, rest)) => changed_below(alloc, row, *id, rest, change),
+        Some((spot, rest)) => changed_below(alloc, row, *spot, rest, change),
         None => changed_here(alloc, row, change),
     }
 }
 
-/// A copy of a row with a change made below the node of a schema node.
+/// A copy of a row with a change made below a node of it.
 #[cycle(changed)]
 fn changed_below(
     alloc: Global,
     row: &[Stored],
-    id: SchemaId,
-    rest: &[SchemaId],
+    spot: Spot,
+    rest: &[Spot],
     change: Change,
 ) -> Result<Vec<Stored>, AllocError>
-    ensures { IfOk result (λ nodes. row_view nodes.items
-        ≡ change_below id.0 0 (edit_at (map step_to (numbers rest.now)) (change_view change)) (row_view row.now)) }
+    ensures { IfOk result (λ nodes. row_view nodes.items ≡ change_below spot.id.0 (edits.place_of (spot_view spot))
+        (edit_at (spots_view rest.now) (change_view change)) (row_view row.now)) }
 {
-    let (before, from) = split_at_node(row, id);
+    let (before, from) = split_at_spot(row, spot);
     let nodes = copies_of(alloc, before)?;
     match from.split_first() {
         Some((stored, after)) => {
@@ -144,37 +127,53 @@ fn changed_here(alloc: Global, row: &[Stored], change: Change) -> Result<Vec<Sto
     ensures { IfOk result (λ nodes. row_view nodes.items ≡ change_view change (row_view row.now)) }
 {
     match change {
-        Change::Put(branch) => with_branch(alloc, row, branch),
-        Change::TakeAway(id) => without(alloc, row, id),
+        Change::Add(branch) => with_branch(alloc, row, branch),
+        Change::Put(spot, branch) => with_instead(alloc, row, spot, branch),
+        Change::TakeAway(spot) => without(alloc, row, spot),
     }
 }
 
 fn with_branch(alloc: Global, row: &[Stored], branch: Stored) -> Result<Vec<Stored>, AllocError>
     ensures { IfOk result (λ nodes. row_view nodes.items ≡ spec.with_branch (branch_view branch) (row_view row.now)) }
 {
-    let (before, from) = split_at_place(row, branch.id());
-    let after = without_first(from, branch.id());
+    let (before, after) = split_behind(row, branch.id());
     let nodes = copies_of(alloc, before)?;
     with_more(nodes, branch, after)
 }
 
-/// A row without its first node, if that is of this schema node.
-fn without_first(row: &[Stored], id: SchemaId) -> &[Stored]
-    ensures { row_view result.now ≡ rows.without_first id.0 (row_view row.entry.now) }
+fn with_instead(
+    alloc: Global,
+    row: &[Stored],
+    spot: Spot,
+    branch: Stored,
+) -> Result<Vec<Stored>, AllocError>
+    ensures { IfOk result (λ nodes. row_view nodes.items ≡ spec.with_instead (spot_view spot) (branch_view branch) (row_view row.now)) }
 {
-    match row.split_first() {
-        Some((first, after)) if first.id() == id => after,
-        _ => row,
+    let (before, from) = split_at_spot(row, spot);
+    let nodes = copies_of(alloc, before)?;
+    match from.split_first() {
+        Some((_, after)) => with_more(nodes, branch, after),
+        None => Ok(nodes),
     }
 }
 
-fn without(alloc: Global, row: &[Stored], id: SchemaId) -> Result<Vec<Stored>, AllocError>
-    ensures { IfOk result (λ nodes. row_view nodes.items ≡ spec.without id.0 (row_view row.now)) }
+fn without(alloc: Global, row: &[Stored], spot: Spot) -> Result<Vec<Stored>, AllocError>
+    ensures { IfOk result (λ nodes. row_view nodes.items ≡ spec.without (spot_view spot) (row_view row.now)) }
 {
-    let (before, from) = split_at_node(row, id);
+    let (before, from) = split_at_spot(row, spot);
     let mut nodes = copies_of(alloc, before)?;
-    push_copies(&mut nodes, without_first(from, id))?;
+    push_copies(&mut nodes, behind_first(from))?;
     Ok(nodes)
+}
+
+/// The nodes of a row behind its first.
+fn behind_first(row: &[Stored]) -> &[Stored]
+    ensures { row_view result.now ≡ behind_first (row_view row.entry.now) }
+{
+    match row.split_first() {
+        Some((_, after)) => after,
+        None => row,
+    }
 }
 
 /// Copies of the nodes of a row.

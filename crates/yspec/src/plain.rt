@@ -5,20 +5,11 @@ ghost use Rattle.yspec.specs.schema.Schema.{Schema};
 ghost use Rattle.yspec.specs.document.Document.{Tree};
 ghost use Rattle.yspec.specs.document.Fitting.{IsNumbered, Fits};
 ghost use Rattle.yspec.specs.document.Faults.{faults_of};
-ghost use Rattle.yspec.specs.edit.EditText.{Edit};
-ghost use Rattle.yspec.specs.edit.Editing.{applied};
 ghost use Rattle.yspec.specs.plain.Kinds.{ArePlain};
 ghost use Rattle.yspec.specs.plain.RowFaults.{row_faults};
-ghost use Rattle.yspec.specs.plain.Editing as plain_editing;
 
 /// The faults.
 pub fn plain_faults()
     ensures { (schema : Schema) (tree : Tree) → ArePlain schema.nodes → IsNumbered 0 schema.nodes → Fits schema tree
         → faults_of schema tree ≡ row_faults schema.nodes tree }
-{}
-
-/// What an edit does.
-pub fn plain_edits()
-    ensures { (schema : Schema) (tree : Tree) (edit : Edit) → ArePlain schema.nodes → IsNumbered 0 schema.nodes → Fits schema tree
-        → applied schema tree edit ≡ plain_editing.applied schema tree edit }
 {}
