@@ -1,7 +1,6 @@
 -- A change of a row is made behind the nodes before its place.
-use Rattle.std.proofs.Common.{◌≡◌, ℕ, zero, suc, ◌+◌, ◌==◌, ◌≤◌, ◌<◌, Bool, true, false, not, cond, List, [], ◌∷◌, ◌++◌, length, take, drop, slice_index_or, Some, None, Result, Ok, Err, IfOk, refl, sym, ap, ap₂, ◌∙◌, arith}
-use Rattle.std.specs.Prelude.{nat_lt, position, unwrap_or}
-use Rattle.std.specs.List.{position_or_len}
+use Rattle.std.proofs.Common.{◌≡◌, ℕ, zero, suc, ◌+◌, ◌==◌, ◌<◌, Bool, true, false, cond, List, [], ◌∷◌, ◌++◌, length, take, drop, slice_index_or, Result, Ok, Err, IfOk, refl, sym, ap, ap₂, ◌∙◌, arith}
+use Rattle.std.specs.Prelude.{nat_lt}
 use Rattle.std.proofs.lemmas.List.{at_drop_more}
 use Rattle.yspec.specs.Forest.{end, node, join, size, change_nth}
 use Rattle.yspec.specs.document.Document as document
@@ -9,47 +8,11 @@ use Rattle.yspec.specs.document.Document.{Tree}
 use Rattle.yspec.specs.edit.Edit.{is_of, change_below}
 use Rattle.yspec.specs.edit.Editing.{Branch, with_branch}
 use Rattle.ytree.specs.View.{Labelled, view, row_view}
-use Rattle.yinst.specs.Rows.{number_of, is_behind, before_first, from_first, nth_place, change_first, behind_first, branch_view}
+use Rattle.ytree.specs.Walk.{before_first, from_first}
+use Rattle.yinst.specs.Rows.{number_of, is_behind, nth_place, change_first, behind_first, branch_view}
 use Rattle.ytree.specs.declared.tree.Stored.{Stored}
 use Rattle.yspec.proofs.ForestLemmas.{join_end}
 use Rattle.ytree.proofs.RowLemmas.{join_last}
-
--- the place of the first that passes, or the length
-pub place_or_len : {X : Type 0} (p : X → Bool) (xs : List X) → unwrap_or (position p xs) (length xs) ≡ position_or_len p xs
-place_or_len {X} p xs = by (nat_lt (position_or_len p xs) (length xs)) refl
-  where
-    one : (x : X) (xs : List X) (b : Bool) → position_or_len p xs ≤ length xs → cond (not b) (1 + position_or_len p xs) 0 ≤ suc (length xs)
-    one x xs true le = omega arith
-    one x xs false le = omega (arith, le)
-
-    most : (xs : List X) → position_or_len p xs ≤ length xs
-    most [] = omega arith
-    most (x ∷ xs) = one x xs (p x) (most xs)
-
-    by : (b : Bool) → nat_lt (position_or_len p xs) (length xs) ≡ b
-        → unwrap_or (cond b (Some (position_or_len p xs)) None) (length xs) ≡ position_or_len p xs
-    by true is = refl
-    by false is = grind (arith, is, most xs)
-
-pub before_place : (p : Stored → Bool) (xs : List Stored) → take (position_or_len p xs) xs ≡ before_first p xs
-before_place p [] = refl
-before_place p (x ∷ xs) = by (p x) (before_place p xs)
-  where
-    by : (b : Bool) → take (position_or_len p xs) xs ≡ before_first p xs
-        → take (cond (not b) (1 + position_or_len p xs) 0) (x ∷ xs) ≡ cond b [] (x ∷ before_first p xs)
-    by true h = refl
-    by false h = let next : 1 + position_or_len p xs ≡ suc (position_or_len p xs) = omega arith in
-        ap (λ n. take n (x ∷ xs)) next ∙ ap (λ ys. x ∷ ys) h
-
-pub from_place : (p : Stored → Bool) (xs : List Stored) → drop (position_or_len p xs) xs ≡ from_first p xs
-from_place p [] = refl
-from_place p (x ∷ xs) = by (p x) (from_place p xs)
-  where
-    by : (b : Bool) → drop (position_or_len p xs) xs ≡ from_first p xs
-        → drop (cond (not b) (1 + position_or_len p xs) 0) (x ∷ xs) ≡ cond b (x ∷ xs) (from_first p xs)
-    by true h = refl
-    by false h = let next : 1 + position_or_len p xs ≡ suc (position_or_len p xs) = omega arith in
-        ap (λ n. drop n (x ∷ xs)) next ∙ h
 
 -- a change of an instance is one of the first node from its place on
 pub nth_parts : (n k : ℕ) (change : document.Stored → Tree → Tree → Tree) (xs : List Stored) → change_nth (is_of n) k change (row_view xs)

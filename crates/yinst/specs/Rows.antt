@@ -19,15 +19,6 @@ has_number number s = number_of s == number
 abbrev pub is_behind : ℕ → Stored → Bool
 is_behind number s = nat_lt number (number_of s)
 
--- the nodes of a row before the first that passes a test, and those from it on
-abbrev pub before_first : (Stored → Bool) → List Stored → List Stored
-before_first test [] = []
-before_first test (s ∷ ss) = if test s then [] else s ∷ before_first test ss
-
-abbrev pub from_first : (Stored → Bool) → List Stored → List Stored
-from_first test [] = []
-from_first test (s ∷ ss) = if test s then s ∷ ss else from_first test ss
-
 abbrev pub branch_view : Stored → Branch
 branch_view s = record { label = (view s).0; below = (view s).1 }
 

@@ -7,7 +7,8 @@ ghost use Rattle.yspec.specs.edit.Edit as edits;
 ghost use Rattle.yspec.specs.edit.Editing as spec;
 ghost use Rattle.ytree.specs.View.{view, row_view};
 ghost use Rattle.yinst.specs.Locating.{spot_view, spots_view};
-ghost use Rattle.yinst.specs.Rows.{is_behind, before_first, from_first, branch_view, change_view, behind_first};
+ghost use Rattle.ytree.specs.Walk.{before_first, from_first};
+ghost use Rattle.yinst.specs.Rows.{is_behind, branch_view, change_view, behind_first};
 ghost use Rattle.yinst.specs.Rows as rows;
 
 use crate::locating::{Spot, place_of};

@@ -21,4 +21,3 @@ pub mod WrittenRowLemmas
 pub mod WrittenVisitLemmas
 pub mod ReadBackLemmas
 pub mod WrittenShapeLemmas
-pub mod WeakerFitLemmas

@@ -2,7 +2,7 @@
 use Rattle.std.proofs.Common.{◌≡◌, ℕ, Bool, true, false, cond, Option, Some, None, refl}
 use Rattle.std.specs.Prelude.{◌==◌, unwrap_or}
 use Rattle.yspec.specs.Forest.{Forest, end, node, find_below, joined_below}
-use Rattle.yspec.specs.schema.Schema.{Schema, SchemaNode, Kind, container, leaf, leaf_list, list, choice, case, is_data, is_many, data_row, row_at}
+use Rattle.yspec.specs.schema.Schema.{Schema, SchemaNode, Kind, container, leaf, leaf_list, list, choice, case, is_data, data_row, row_at}
 use Rattle.yspec.specs.plain.Kinds.{IsPlainKind, ArePlain}
 
 pub plain_is_data : (kind : Kind) → IsPlainKind kind → is_data kind ≡ true
@@ -12,14 +12,6 @@ plain_is_data (leaf_list type defaults amount) plain = absurd plain
 plain_is_data (list tuples amount) plain = absurd plain
 plain_is_data (choice default_case is_mandatory) plain = absurd plain
 plain_is_data case plain = absurd plain
-
-pub plain_is_single : (kind : Kind) → IsPlainKind kind → is_many kind ≡ false
-plain_is_single (container presence) plain = refl
-plain_is_single (leaf type absence) plain = refl
-plain_is_single (leaf_list type defaults amount) plain = absurd plain
-plain_is_single (list tuples amount) plain = absurd plain
-plain_is_single (choice default_case is_mandatory) plain = absurd plain
-plain_is_single case plain = absurd plain
 
 pub data_row_same : (f : Forest SchemaNode) → ArePlain f → data_row f ≡ f
 data_row_same end plain = refl
