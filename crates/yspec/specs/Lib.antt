@@ -2,6 +2,7 @@ pub mod Results
 pub mod Forest
 pub mod document
 pub mod edit
+pub mod linking
 pub mod plain
 pub mod program
 pub mod schema
