@@ -6,6 +6,11 @@ pub data Forest (L : Type 0) : Type 0 where
   end : Forest L
   node : L → Forest L → Forest L → Forest L
 
+pub record Family (L : Type 0) : Type 0 where
+  pub above : Option (L × Forest L)
+  pub label : L
+  pub below : Forest L
+
 module _ {L : Type 0} where
   -- how many labels there are
   abbrev pub size : Forest L → ℕ
@@ -25,6 +30,13 @@ module _ {L : Type 0} where
   abbrev pub preorder : Forest L → List L
   preorder end = []
   preorder (node l below after) = l ∷ (preorder below ++ preorder after)
+
+  -- ---- families: each label with the node above it, where there is one, and what stands below it
+
+  abbrev pub families : Option (L × Forest L) → Forest L → List (Family L)
+  families above end = []
+  families above (node l below after) = record { above = above; label = l; below = below }
+      ∷ (families (Some (l, below)) below ++ families above after)
 
   -- one row after another
   abbrev pub join : Forest L → Forest L → Forest L
@@ -96,6 +108,13 @@ module _ {L : Type 0} where
   abbrev pub row_to : List ((L → Bool) × ℕ) → Forest L → Option (Forest L)
   row_to [] f = Some f
   row_to ((test, place) ∷ steps) f = option_and_then (row_to steps) (below_nth test place f)
+
+module _ {L M : Type 0} where
+  -- the forest with what a function makes of each family in place of its label
+  abbrev pub made_of_families : (Family L → M) → Option (L × Forest L) → Forest L → Forest M
+  made_of_families make above end = end
+  made_of_families make above (node l below after) = node (make (record { above = above; label = l; below = below }))
+      (made_of_families make (Some (l, below)) below) (made_of_families make above after)
 
 -- ---- sums that a change leaves as they were but for one row and the node above it
 

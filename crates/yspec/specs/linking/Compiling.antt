@@ -1,0 +1,61 @@
+-- The phases of compiling a set of modules: which rule is told, and the schema where none is broken.
+use Rattle.std.specs.Prelude.{◌≡◌, ℕ, ◌++◌, ◌||◌, Bool, true, List, [], ◌∷◌, Option, Some, None, Result, Ok, Err, nat_lt, unwrap_or}
+use Rattle.std.specs.Option.{option_map_or}
+use Rattle.yspec.specs.Forest.{Forest, end, node, size, levels}
+use Rattle.yspec.specs.text.Statement.{Statement}
+use Rattle.yspec.specs.linking.Keyword as word
+use Rattle.yspec.specs.linking.Source.{Source, sources_of, argument_in, argument_with}
+use Rattle.yspec.specs.linking.StatementBreaks.{statement_phase}
+use Rattle.yspec.specs.linking.TypeStatements.{type_breaks}
+use Rattle.yspec.specs.linking.Prefixes.{prefix_breaks, type_name_breaks}
+use Rattle.yspec.specs.linking.Parts.{parts_of_modules}
+use Rattle.yspec.specs.linking.Planned.{Planned, Plan, planned}
+use Rattle.yspec.specs.linking.SchemaNodes.{schema_nodes}
+use Rattle.yspec.specs.linking.NodeBreaks.{name_breaks, node_breaks}
+use Rattle.yspec.specs.schema.Breaks.{Break, module_breaks, limit_breaks, node_limit, level_limit, first_broken}
+use Rattle.yspec.specs.schema.Schema.{Schema, SchemaModule}
+
+-- the nodes of a set of modules, in order of definition
+abbrev pub plan_of : Forest Source → Plan
+plan_of modules = record { modules = modules; nodes = planned 0 true (parts_of_modules modules) }
+
+abbrev pub schema_modules : Forest Source → List SchemaModule
+schema_modules end = []
+schema_modules (node s below after) =
+    record { name = argument_in s; prefix = unwrap_or (argument_with word.prefix_word below) [] } ∷ schema_modules after
+
+abbrev pub schema_of_plan : Plan → Schema
+schema_of_plan plan = record { modules = schema_modules plan.modules; nodes = schema_nodes plan }
+
+abbrev pub schema_of : Forest Statement → Schema
+schema_of modules = schema_of_plan (plan_of (sources_of modules))
+
+-- ---- the phases behind that of the table of statements
+
+-- too many nodes, or too many levels of them
+abbrev pub is_too_deep : Forest Planned → Bool
+is_too_deep nodes = nat_lt node_limit (size nodes) || nat_lt level_limit (levels nodes)
+
+abbrev pub phases_of_plan : Forest Statement → Plan → List (List Break)
+phases_of_plan modules plan = limit_breaks (nat_lt node_limit (size plan.nodes)) modules
+    ∷ name_breaks plan.nodes
+    ∷ node_breaks plan
+    ∷ limit_breaks (is_too_deep plan.nodes) modules ∷ []
+
+abbrev pub phases_of_sources : Forest Statement → Forest Source → List (List Break)
+phases_of_sources modules sources = (prefix_breaks sources ++ module_breaks 0 [] modules)
+    ∷ type_name_breaks sources
+    ∷ type_breaks sources
+    ∷ phases_of_plan modules (plan_of sources)
+
+-- The rules broken in each phase, of the row of `module` statements. A code is told only where no earlier phase has one.
+abbrev pub phases : Forest Statement → List (List Break)
+phases modules = statement_phase modules ∷ phases_of_sources modules (sources_of modules)
+
+-- the schema of a set of modules, or what is told
+unfoldable pub compiled : Forest Statement → Result Schema Break
+compiled modules = option_map_or Err (first_broken (phases modules)) (Ok (schema_of modules))
+
+-- the schema of some set of modules
+abbrev pub IsCompiled : Schema → Type 0
+IsCompiled schema = (modules : Forest Statement) × (compiled modules ≡ Ok schema)

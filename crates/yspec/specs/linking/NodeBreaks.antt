@@ -1,0 +1,180 @@
+-- The rules that planned nodes break: C11 to C13, C16 and C17 (RFC 7950, 6.2.1, 7.6 to 7.9, 7.21.1 and 9.9).
+use Rattle.std.specs.Prelude.{ℕ, zero, suc, ◌+◌, ◌++◌, ◌==◌, ◌&&◌, ◌||◌, Bool, true, false, not, List, [], ◌∷◌, map, length, Option, Some, None, is_some, option_map, option_and_then, unwrap_or, if◌then◌else◌, nat_lt}
+use Rattle.std.specs.List.{list_any, list_all, flat_map}
+use Rattle.std.specs.Option.{option_map_or}
+use Rattle.yspec.specs.Forest.{Forest, end, node, Family, families}
+use Rattle.yspec.specs.text.Text.{Text, is_text}
+use Rattle.yspec.specs.types.Types.{YangType, Val}
+use Rattle.yspec.specs.types.Order.{same_value}
+use Rattle.yspec.specs.types.Values.{value_of_text}
+use Rattle.yspec.specs.linking.Keyword.{Keyword}
+use Rattle.yspec.specs.linking.Keyword as word
+use Rattle.yspec.specs.linking.Source.{Source, argument_in}
+use Rattle.yspec.specs.linking.TypeStatements.{Meant, own, of_target, type_meant}
+use Rattle.yspec.specs.linking.Planned.{Planned, Plan, is_a, is_leaf_or_leaf_list, stated_in, target_meant, type_of, is_on_circle}
+use Rattle.yspec.specs.linking.Prefixes.{NodeName}
+use Rattle.yspec.specs.linking.SchemaNodes.{is_mandatory, least_of, key_names, child_of, key_nodes, key_numbers, unique_ways, default_texts, default_case, is_key}
+use Rattle.yspec.specs.schema.Breaks.{Break, broken, when}
+
+-- a rule that is broken is told at the node's statement
+abbrev pub broken_at : ℕ → Planned → List Break
+broken_at code p = broken code p.part.source.home p.part.source.statement.line
+
+-- ---- C13: names that come twice
+
+-- A node, and the number of the node whose children share its name: the data node above it, choices and cases passed
+-- through; of a case its choice.
+pub record Scoped : Type 0 where
+  pub scope : Option ℕ
+  pub planned : Planned
+
+-- the row of the nodes of one scope, which stand below a data node of another number or the same
+unfoldable pub scoped : Option ℕ → Option ℕ → Forest Planned → List Scoped
+scoped data_scope scope end = []
+scoped data_scope scope (node p below after) = record { scope = scope; planned = p }
+    ∷ ((if is_a word.choice_word p then scoped data_scope (Some p.number) below
+    else (if is_a word.case_word p then scoped data_scope data_scope below else scoped (Some p.number) (Some p.number) below))
+    ++ scoped data_scope scope after)
+
+abbrev pub same_scope : Option ℕ → Option ℕ → Bool
+same_scope None None = true
+same_scope None (Some n) = false
+same_scope (Some m) None = false
+same_scope (Some m) (Some n) = m == n
+
+abbrev pub same_name : Planned → Planned → Bool
+same_name p q = p.part.owner == q.part.owner && is_text (argument_in p.part.source) (argument_in q.part.source)
+
+abbrev pub is_like : Scoped → Scoped → Bool
+is_like a b = same_scope a.scope b.scope && same_name a.planned b.planned
+
+-- each of a list that an earlier one is like, `before` being earlier ones
+abbrev pub doubled : List Scoped → List Scoped → List Break
+doubled before [] = []
+doubled before (a ∷ others) =
+    when (list_any (is_like a) before) (broken_at 13 a.planned) ++ doubled (a ∷ before) others
+
+abbrev pub name_breaks : Forest Planned → List Break
+name_breaks nodes = doubled [] (scoped None None nodes)
+
+-- ---- C16: configuration below state, and a configuration list without a key
+
+abbrev pub config_breaks : Bool → Planned → List Break
+config_breaks above p = when (p.config && (not above || (is_a word.list_word p && not (is_some (stated_in word.key_word p)))))
+    (broken_at 16 p)
+
+-- ---- C12: keys and uniques
+
+abbrev pub is_key_leaf : Planned → Planned → Bool
+is_key_leaf list p = is_a word.leaf_word p && (p.part.owner == list.part.owner && same_config list.config p.config)
+  where
+    same_config : Bool → Bool → Bool
+    same_config true b = b
+    same_config false b = not b
+
+abbrev pub has_twice : List ℕ → Bool
+has_twice [] = false
+has_twice (n ∷ ns) = list_any (λ m. m == n) ns || has_twice ns
+
+-- each name is that of a leaf right below the list, and none comes twice
+abbrev pub is_wrong_key : Plan → Planned → Forest Planned → Bool
+is_wrong_key plan p below = not (list_all (λ name. option_map_or (is_key_leaf p) (child_of below name) false) (key_names plan p))
+    || has_twice (key_numbers plan p below)
+
+-- the leaf to which a way through containers leads
+abbrev pub leaf_behind : List Planned → Option Planned
+leaf_behind [] = None
+leaf_behind (p ∷ []) = if is_a word.leaf_word p then Some p else None
+leaf_behind (p ∷ q ∷ more) = if is_a word.container_word p then leaf_behind (q ∷ more) else None
+
+abbrev pub leaf_named : Option (List Planned) → Option Planned
+leaf_named found = option_and_then leaf_behind found
+
+abbrev pub is_config : Bool → Option Planned → Bool
+is_config true p = option_map_or (λ q. q.config) p false
+is_config false p = option_map_or (λ q. not q.config) p false
+
+-- its leafs are all configuration, or all state
+abbrev pub is_wrong_unique : List (Option (List Planned)) → Bool
+is_wrong_unique ways = let leafs = map leaf_named ways in
+    not (list_all (is_config true) leafs || list_all (is_config false) leafs)
+
+abbrev pub tuple_breaks : Plan → Planned → Forest Planned → List Break
+tuple_breaks plan p below = when (is_a word.list_word p && (is_wrong_key plan p below
+    || list_any is_wrong_unique (unique_ways plan p below))) (broken_at 12 p)
+
+-- ---- C17: leafrefs that lead nowhere, in a circle, or from configuration to state
+
+abbrev pub is_wrong_target : Planned → Bool → Option Planned → Bool
+is_wrong_target p required None = true
+is_wrong_target p required (Some target) = p.config && (required && not target.config)
+
+abbrev pub is_wrong_reference : Plan → Planned → Meant → Bool
+is_wrong_reference plan p (own type) = false
+is_wrong_reference plan p (of_target home steps required) =
+    is_wrong_target p required (target_meant plan p (of_target home steps required)) || is_on_circle plan p
+
+abbrev pub reference_breaks : Plan → Planned → List Break
+reference_breaks plan p = when (is_leaf_or_leaf_list p && option_map_or (is_wrong_reference plan p) (type_meant p.part.own) false)
+    (broken_at 17 p)
+
+-- ---- C11: defaults
+
+abbrev pub is_empty : List Text → Bool
+is_empty [] = true
+is_empty (t ∷ ts) = false
+
+abbrev pub is_refused : YangType → Text → Bool
+is_refused type text = not (is_some (value_of_text type text))
+
+-- of a leaf that is no key
+abbrev pub is_wrong_default : Planned → YangType → Bool
+is_wrong_default p type =
+    if is_mandatory p then not (is_empty (default_texts p)) else list_any (is_refused type) (default_texts p)
+
+abbrev pub same_default : YangType → Text → Text → Bool
+same_default type t u = option_map_or (λ v. option_map_or (same_value v) (value_of_text type u) false) (value_of_text type t) false
+
+abbrev pub has_equal : YangType → List Text → Bool
+has_equal type [] = false
+has_equal type (t ∷ ts) = list_any (same_default type t) ts || has_equal type ts
+
+abbrev pub are_wrong_defaults : Planned → YangType → Bool
+are_wrong_defaults p type = if nat_lt 0 (least_of p) then not (is_empty (default_texts p))
+    else list_any (is_refused type) (default_texts p) || (p.config && has_equal type (default_texts p))
+
+-- whether a node must be stored, given that of those below it; a case needn't (RFC 7950, 3)
+abbrev pub must_be : Planned → Bool → Bool
+must_be p inside = if is_a word.leaf_word p || is_a word.choice_word p then is_mandatory p
+    else (if is_a word.leaf_list_word p || is_a word.list_word p then nat_lt 0 (least_of p)
+    else (is_a word.container_word p && (not (is_some (stated_in word.presence_word p)) && inside)))
+
+abbrev pub has_mandatory : Forest Planned → Bool
+has_mandatory end = false
+has_mandatory (node p below after) = must_be p (has_mandatory below) || has_mandatory after
+
+abbrev pub is_wrong_case : Planned → Option (Planned × Forest Planned) → Bool
+is_wrong_case p None = true
+is_wrong_case p (Some found) = is_mandatory p || has_mandatory found.1
+
+abbrev pub is_default_wrong : Plan → Bool → Planned → Forest Planned → Bool
+is_default_wrong plan is_its_key p below = if is_a word.leaf_word p
+    then not is_its_key && option_map_or (is_wrong_default p) (type_of plan p) false
+    else (if is_a word.leaf_list_word p then option_map_or (are_wrong_defaults p) (type_of plan p) false
+    else (is_a word.choice_word p && (is_some (stated_in word.default_word p) && is_wrong_case p (default_case p below))))
+
+abbrev pub default_breaks : Plan → Bool → Planned → Forest Planned → List Break
+default_breaks plan is_its_key p below = when (is_default_wrong plan is_its_key p below) (broken_at 11 p)
+
+-- ---- all of them
+
+-- at the top stands configuration
+abbrev pub is_config_above : Option (Planned × Forest Planned) → Bool
+is_config_above above = option_map_or (λ p. p.0.config) above true
+
+abbrev pub family_breaks : Plan → Family Planned → List Break
+family_breaks plan f = config_breaks (is_config_above f.above) f.label ++ (tuple_breaks plan f.label f.below
+    ++ (reference_breaks plan f.label ++ default_breaks plan (is_key plan f) f.label f.below))
+
+abbrev pub node_breaks : Plan → List Break
+node_breaks plan = flat_map (family_breaks plan) (families None plan.nodes)

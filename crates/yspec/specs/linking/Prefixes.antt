@@ -1,0 +1,71 @@
+-- What prefixes and prefixed names mean (RFC 7950, 5.1.3 and 6.4), and where one means nothing.
+use Rattle.std.specs.Prelude.{ℕ, zero, suc, ◌++◌, ◌&&◌, Bool, false, not, List, [], ◌∷◌, Option, Some, None, is_some, option_map, option_and_then, unwrap_or, if◌then◌else◌}
+use Rattle.std.specs.List.{list_any, flat_map}
+use Rattle.std.specs.Option.{option_map_or}
+use Rattle.yspec.specs.Forest.{Forest, end, node, preorder}
+use Rattle.yspec.specs.text.Text.{Text, is_text}
+use Rattle.yspec.specs.linking.Keyword.{Keyword}
+use Rattle.yspec.specs.linking.Keyword as word
+use Rattle.yspec.specs.linking.Arguments.{Name, name_of, key_of, unique_of, leafref_path_of}
+use Rattle.yspec.specs.linking.Source.{Source, is_source_of, argument_in, argument_with}
+use Rattle.yspec.specs.linking.TypeStatements.{built_in_named}
+use Rattle.yspec.specs.schema.Breaks.{Break, broken, when}
+
+-- what stands below the `module` statement at a place of the set
+abbrev pub body_at : Forest Source → ℕ → Forest Source
+body_at end home = end
+body_at (node s below after) zero = below
+body_at (node s below after) (suc home) = body_at after home
+
+abbrev pub own_prefix : Forest Source → ℕ → Text
+own_prefix modules home = unwrap_or (argument_with word.prefix_word (body_at modules home)) []
+
+-- the place of the module that a prefix names in a module
+abbrev pub module_meant : Forest Source → ℕ → Text → Option ℕ
+module_meant modules home prefix = if is_text (own_prefix modules home) prefix then Some home else None
+
+-- the name of a schema node: the place of its module, where the prefix names one, and its identifier
+pub record NodeName : Type 0 where
+  pub module_number : Option ℕ
+  pub name : Text
+
+-- a name as it stands in a module; one without a prefix is of a module that is given
+abbrev pub node_name : Forest Source → ℕ → ℕ → Name → NodeName
+node_name modules home plain n = record {
+  module_number = option_map_or (module_meant modules home) n.prefix (Some plain);
+  name = n.identifier;
+}
+
+-- ---- C6: prefixes that name nothing
+
+abbrev pub is_unknown_prefix : Forest Source → ℕ → Name → Bool
+is_unknown_prefix modules home n = option_map_or (λ prefix. not (is_some (module_meant modules home prefix))) n.prefix false
+
+-- the names that a statement has as its argument
+abbrev pub names_given : Keyword → Text → List Name
+names_given word.type_word t = option_map_or (λ n. n ∷ []) (name_of t) []
+names_given word.key_word t = unwrap_or (key_of t) []
+names_given word.unique_word t = flat_map (λ path. path) (unwrap_or (unique_of t) [])
+names_given word.path_word t = unwrap_or (leafref_path_of t) []
+names_given _ t = []
+
+abbrev pub has_unknown_prefix : Forest Source → Source → Bool
+has_unknown_prefix modules s =
+    list_any (is_unknown_prefix modules s.home) (names_given s.keyword (argument_in s))
+
+abbrev pub prefix_break : Forest Source → Source → List Break
+prefix_break modules s = when (has_unknown_prefix modules s) (broken 6 s.home s.statement.line)
+
+abbrev pub prefix_breaks : Forest Source → List Break
+prefix_breaks modules = flat_map (prefix_break modules) (preorder modules)
+
+-- ---- C8: types that are not found
+
+abbrev pub is_not_found : Source → Bool
+is_not_found s = is_source_of word.type_word s && not (is_some (built_in_named (argument_in s)))
+
+abbrev pub type_name_break : Source → List Break
+type_name_break s = when (is_not_found s) (broken 8 s.home s.statement.line)
+
+abbrev pub type_name_breaks : Forest Source → List Break
+type_name_breaks modules = flat_map type_name_break (preorder modules)

@@ -1,0 +1,186 @@
+-- The types that `type` statements mean, and where one breaks a rule of its own (RFC 7950, 7.4 and 9).
+use Rattle.std.specs.Prelude.{ℕ, ℤ, pos, ◌++◌, Bool, true, false, List, [], ◌∷◌, codes, Option, Some, None, find, option_map, option_and_then, unwrap_or, if◌then◌else◌}
+use Rattle.std.specs.List.{list_any, list_all, flat_map}
+use Rattle.std.specs.Option.{option_map_or}
+use Rattle.yspec.specs.Forest.{Forest, end, node, row, Family, families}
+use Rattle.yspec.specs.text.Text.{Text, is_text}
+use Rattle.yspec.specs.types.Ranges.{Span}
+use Rattle.yspec.specs.types.Names.{Naming, Assigned, enum_names, bit_names}
+use Rattle.yspec.specs.types.Restriction.{Restriction, range, length, narrowed, union_type}
+use Rattle.yspec.specs.types.Types.{Integer, int8, int16, int32, int64, uint8, uint16, uint32, uint64, Base, decimal_base, boolean_base, empty_base, enumeration_base, bits_base, YangType, plain, integer_type, string_type}
+use Rattle.yspec.specs.linking.Keyword.{Keyword}
+use Rattle.yspec.specs.linking.Keyword as word
+use Rattle.yspec.specs.linking.Arguments.{Name, spans_of, leafref_path_of, value_of, count_of, fraction_digits_of}
+use Rattle.yspec.specs.linking.Source.{Source, is_source_of, argument_in, argument_with, first_with}
+use Rattle.yspec.specs.schema.Breaks.{Break, broken}
+
+-- ---- built-in types
+
+pub data BuiltIn : Type 0 where
+  integer : Integer → BuiltIn
+  decimal64 : BuiltIn
+  string : BuiltIn
+  boolean : BuiltIn
+  empty : BuiltIn
+  enumeration : BuiltIn
+  bits : BuiltIn
+  union : BuiltIn
+  leafref : BuiltIn
+
+abbrev pub built_in_types : List (Text × BuiltIn)
+built_in_types = (codes "int8", integer int8) ∷ (codes "int16", integer int16) ∷ (codes "int32", integer int32)
+    ∷ (codes "int64", integer int64) ∷ (codes "uint8", integer uint8) ∷ (codes "uint16", integer uint16)
+    ∷ (codes "uint32", integer uint32) ∷ (codes "uint64", integer uint64) ∷ (codes "decimal64", decimal64)
+    ∷ (codes "string", string) ∷ (codes "boolean", boolean) ∷ (codes "empty", empty)
+    ∷ (codes "enumeration", enumeration) ∷ (codes "bits", bits) ∷ (codes "union", union)
+    ∷ (codes "leafref", leafref) ∷ []
+
+unfoldable pub built_in_named : Text → Option BuiltIn
+built_in_named name = option_map (λ entry. entry.1) (find (λ entry. is_text name entry.0) built_in_types)
+
+-- ---- what a `type` statement means
+
+pub data Meant : Type 0 where
+  -- a type that refers to no other node
+  own : YangType → Meant
+  -- the type of the leaf or leaf-list to which a path leads, which stands in a module of the set, and whether an instance
+  -- is required (RFC 7950, 9.9)
+  of_target : ℕ → List Name → Bool → Meant
+
+pub data Verdict : Type 0 where
+  means : Meant → Verdict
+  -- it breaks a rule of its own
+  wrong : Verdict
+  -- it rests on a type that breaks one
+  unjudged : Verdict
+
+-- ---- restrictions
+
+-- the substatements that a built-in type may bear
+abbrev pub may_bear : BuiltIn → Keyword → Bool
+may_bear (integer i) word.range_word = true
+may_bear decimal64 word.fraction_digits_word = true
+may_bear decimal64 word.range_word = true
+may_bear string word.length_word = true
+may_bear enumeration word.enum_word = true
+may_bear bits word.bit_word = true
+may_bear union word.type_word = true
+may_bear leafref word.path_word = true
+may_bear leafref word.require_instance_word = true
+may_bear _ _ = false
+
+abbrev pub are_in_place : BuiltIn → Forest Source → Bool
+are_in_place type below = list_all (λ s. may_bear type s.keyword) (row below)
+
+-- the restriction that a `range` or a `length` of a row states, with its error-app-tag
+abbrev pub stated : Keyword → (List Span → Option Text → Restriction) → Forest Source → Option Restriction
+stated k restriction end = None
+stated k restriction (node s below after) = if is_source_of k s
+    then Some (restriction (unwrap_or (spans_of (argument_in s)) []) (argument_with word.error_app_tag_word below))
+    else stated k restriction after
+
+abbrev pub limited : Option Restriction → YangType → Option YangType
+limited None type = Some type
+limited (Some r) type = narrowed type r
+
+-- the names that statements of a row give, each with its number where one is stated
+abbrev pub namings : Keyword → (Forest Source → Option ℤ) → Forest Source → List Naming
+namings k number end = []
+namings k number (node s below after) = if is_source_of k s
+    then record { name = argument_in s; number = number below } ∷ namings k number after else namings k number after
+
+abbrev pub value_stated : Forest Source → Option ℤ
+value_stated below = option_and_then value_of (argument_with word.value_word below)
+
+abbrev pub position_stated : Forest Source → Option ℤ
+position_stated below = option_map pos (option_and_then count_of (argument_with word.position_word below))
+
+abbrev pub of_names : (List Assigned → Base) → (List Naming → Option (List Assigned)) → List Naming → Option YangType
+of_names base names [] = None
+of_names base names (n ∷ ns) = option_map (λ given. plain (base given)) (names (n ∷ ns))
+
+-- ---- types
+
+abbrev pub limited_range : Forest Source → YangType → Option YangType
+limited_range below type = limited (stated word.range_word range below) type
+
+-- a type that is no union and no leafref
+abbrev pub single_type : BuiltIn → Forest Source → Option YangType
+single_type (integer i) below = limited_range below (integer_type i)
+single_type decimal64 below = option_and_then (λ digits. limited_range below (plain (decimal_base digits)))
+    (option_and_then fraction_digits_of (argument_with word.fraction_digits_word below))
+single_type string below = limited (stated word.length_word length below) string_type
+single_type boolean below = Some (plain boolean_base)
+single_type empty below = Some (plain empty_base)
+single_type enumeration below = of_names enumeration_base enum_names (namings word.enum_word value_stated below)
+single_type bits below = of_names bits_base bit_names (namings word.bit_word position_stated below)
+single_type _ below = None
+
+-- the types of members, where each has one
+abbrev pub with_type : Verdict → Option (List YangType) → Option (List YangType)
+with_type (means (own type)) others = option_map (λ types. type ∷ types) others
+with_type _ others = None
+
+abbrev pub member_types : List Verdict → Option (List YangType)
+member_types [] = Some []
+member_types (v ∷ vs) = with_type v (member_types vs)
+
+abbrev pub union_verdict : List Verdict → Verdict
+union_verdict [] = wrong
+union_verdict (v ∷ vs) = option_map_or (λ types. means (own (union_type types))) (member_types (v ∷ vs)) unjudged
+
+-- an instance is required unless it is said otherwise
+abbrev pub is_required : Forest Source → Bool
+is_required below = option_map_or (λ t. is_text t (codes "true")) (argument_with word.require_instance_word below) true
+
+-- a member of a union is no leafref
+abbrev pub leafref_verdict : Bool → ℕ → Forest Source → Verdict
+leafref_verdict true home below = wrong
+leafref_verdict false home below = option_map_or (λ steps. means (of_target home steps (is_required below)))
+    (option_and_then leafref_path_of (argument_with word.path_word below)) wrong
+
+abbrev pub verdict_in_place : Bool → ℕ → BuiltIn → Forest Source → List Verdict → Verdict
+verdict_in_place is_member home union below members = union_verdict members
+verdict_in_place is_member home leafref below members = leafref_verdict is_member home below
+verdict_in_place is_member home type below members = option_map_or (λ t. means (own t)) (single_type type below) wrong
+
+-- `members` are the verdicts on the `type` statements below it
+abbrev pub verdict : Bool → Source → Forest Source → List Verdict → Verdict
+verdict is_member s below members = option_map_or (λ type. if are_in_place type below
+    then verdict_in_place is_member s.home type below members else wrong) (built_in_named (argument_in s)) unjudged
+
+-- the verdicts on the `type` statements of a row, which are members of a union or not
+unfoldable pub verdicts : Bool → Forest Source → List Verdict
+verdicts is_member end = []
+verdicts is_member (node s below after) = if is_source_of word.type_word s
+    then verdict is_member s below (verdicts true below) ∷ verdicts is_member after else verdicts is_member after
+
+-- what the `type` statement of a row means
+abbrev pub meaning_of : Verdict → Option Meant
+meaning_of (means m) = Some m
+meaning_of _ = None
+
+abbrev pub first_meant : List Verdict → Option Meant
+first_meant [] = None
+first_meant (v ∷ vs) = meaning_of v
+
+abbrev pub type_meant : Forest Source → Option Meant
+type_meant below = first_meant (verdicts false below)
+
+-- ---- C10
+
+abbrev pub told : Source → Verdict → List Break
+told s wrong = broken 10 s.home s.statement.line
+told s _ = []
+
+-- a `type` below a `type` is a member of a union
+abbrev pub is_type_above : Option (Source × Forest Source) → Bool
+is_type_above above = option_map_or (λ s. is_source_of word.type_word s.0) above false
+
+abbrev pub type_break : Family Source → List Break
+type_break f = if is_source_of word.type_word f.label
+    then told f.label (verdict (is_type_above f.above) f.label f.below (verdicts true f.below)) else []
+
+-- the `type` statements that break a rule of their own
+abbrev pub type_breaks : Forest Source → List Break
+type_breaks sources = flat_map type_break (families None sources)
