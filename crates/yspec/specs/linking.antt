@@ -4,3 +4,4 @@ pub mod Arguments
 pub mod Table
 pub mod StatementBreaks
 pub mod Source
+pub mod LinkingSamples
