@@ -1,6 +1,6 @@
 //! Worked examples of the table of statements: what each form of argument spells, each refusal once, and what is kept.
 
-ghost use Rattle.std.specs.Prelude.{◌≡◌, ◌+◌, ◌-◌, ◌^◌, [], ◌∷◌, codes, pos, negsuc, Some, None};
+ghost use Rattle.std.specs.Prelude.{◌≡◌, ◌-◌, ◌^◌, [], ◌∷◌, codes, pos, negsuc, Some, None};
 ghost use Rattle.yspec.specs.types.Ranges.{least, greatest, number};
 ghost use Rattle.yspec.specs.schema.Schema.{deprecated};
 ghost use Rattle.yspec.specs.linking.Keyword.{Keyword, keyword_named, keyword_text};
@@ -71,7 +71,7 @@ pub fn ranges_and_lengths()
     ensures point { spans_of (codes "-1.50 .. max")
         ≡ Some (record { first = number (negsuc 149) 2; last = greatest } ∷ []) }
     ensures far_out { spans_of (codes "99999999999999999999999999")
-        ≡ Some (record { first = number (pos (2 ^ 64 + 1)) 0; last = number (pos (2 ^ 64 + 1)) 0 } ∷ []) }
+        ≡ Some (record { first = number (pos (2 ^ 64)) 0; last = number (pos (2 ^ 64)) 0 } ∷ []) }
     ensures no_digit { spans_of (codes "1.") ≡ None }
     ensures zero_in_front { spans_of (codes "01..2") ≡ None }
     ensures three_bounds { spans_of (codes "1..2..3") ≡ None }
