@@ -11,3 +11,5 @@ pub mod Planned
 pub mod SchemaNodes
 pub mod NodeBreaks
 pub mod Compiling
+pub mod LinkingSamples
+pub mod CompilingSamples

@@ -9,6 +9,8 @@ pub mod compiling;
 pub mod documents;
 pub mod editing;
 pub mod examples;
+pub mod linking;
+pub mod modules;
 pub mod plain;
 pub mod reading;
 pub mod scripts;

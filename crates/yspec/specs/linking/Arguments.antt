@@ -155,7 +155,7 @@ fraction_digits_of t = option_and_then (between 1 18) (whole_of t)
 
 -- No type has a number as far from 0, or a number of as many digits after the point. What lies past is held as this.
 abbrev pub far : ℕ
-far = 2 ^ 64 + 1
+far = 2 ^ 64
 
 abbrev pub most_places : ℕ
 most_places = 19

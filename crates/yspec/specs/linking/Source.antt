@@ -1,5 +1,5 @@
 -- The statements that linking stands on: those of the table, each with its keyword, its number and its module.
-use Rattle.std.specs.Prelude.{ℕ, suc, ◌+◌, Bool, List, [], ◌∷◌, filter, find, Option, Some, None, option_map, option_and_then, unwrap_or, if◌then◌else◌}
+use Rattle.std.specs.Prelude.{ℕ, suc, ◌+◌, Bool, List, [], filter, find, Option, Some, None, option_map, option_and_then, unwrap_or, if◌then◌else◌}
 use Rattle.yspec.specs.Forest.{Forest, end, node, row, join, size}
 use Rattle.yspec.specs.text.Text.{Text}
 use Rattle.yspec.specs.text.Statement.{Statement}
@@ -36,7 +36,7 @@ unfoldable pub numbered : ℕ → ℕ → Forest (Keyword × Statement) → Fore
 numbered home number end = end
 numbered home number (node (k, s) below after) =
     node (record { keyword = k; statement = s; number = number; home = home }) (numbered home (number + 1) below)
-        (numbered home (number + suc (size below)) after)
+    (numbered home (number + suc (size below)) after)
 
 -- the top statements of a set, from a module and a number on
 unfoldable pub sources_from : ℕ → ℕ → Forest Statement → Forest Source

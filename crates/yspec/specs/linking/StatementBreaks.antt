@@ -1,5 +1,5 @@
 -- The rules of the table that statements break: C1 to C4.
-use Rattle.std.specs.Prelude.{ℕ, ◌+◌, ◌==◌, ◌&&◌, ◌||◌, Bool, false, not, List, [], ◌∷◌, ◌++◌, codes, position, Option, Some, None, is_some, option_and_then, if◌then◌else◌, nat_lt, count_by}
+use Rattle.std.specs.Prelude.{ℕ, ◌+◌, ◌==◌, ◌&&◌, Bool, false, not, List, [], ◌∷◌, ◌++◌, codes, position, Option, Some, None, is_some, if◌then◌else◌, count_by}
 use Rattle.std.specs.List.{list_any}
 use Rattle.std.specs.Option.{option_map_or}
 use Rattle.yspec.specs.Forest.{Forest, end, node, row}
@@ -8,7 +8,7 @@ use Rattle.yspec.specs.text.Statement.{Statement}
 use Rattle.yspec.specs.schema.Breaks.{Break, broken, when, is_wrong_count}
 use Rattle.yspec.specs.linking.Keyword.{Keyword, same_keyword, keyword_named, module_word, yang_version_word, extension_word, type_word}
 use Rattle.yspec.specs.linking.Arguments.{Form, fits}
-use Rattle.yspec.specs.linking.Table.{Allowed, Rule, rule_of}
+use Rattle.yspec.specs.linking.Table.{Allowed, rule_of}
 
 -- ---- statements that are passed over
 

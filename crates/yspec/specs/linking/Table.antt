@@ -47,7 +47,6 @@ amounts = perhaps min_elements_word ∷ perhaps max_elements_word ∷ []
 
 -- ---- the rows
 
-
 abbrev pub in_module : List Allowed
 in_module = one yang_version_word ∷ one namespace_word ∷ one prefix_word ∷ many import_word ∷ perhaps organization_word
     ∷ perhaps contact_word ∷ many revision_word ∷ many extension_word ∷ many augment_word ∷ (texts ++ definitions ++ nodes)
