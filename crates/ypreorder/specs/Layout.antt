@@ -1,0 +1,49 @@
+-- How the trees of a forest lie in rows: each node before those below it, with how many these are.
+use Rattle.std.specs.Prelude.{◌≡◌, ℕ, zero, suc, ◌+◌, length, take, drop, map, List, [], ◌∷◌, ◌++◌, Option, Some, None}
+use Rattle.yspec.specs.Forest.{Forest, end, node, size}
+use Rattle.ypreorder.specs.declared.row.Row.{Row}
+
+-- a node, the number of the one above it, and how many stand below it
+pub record Place (L : Type 0) : Type 0 where
+  pub parent : Option ℕ
+  pub label : L
+  pub below : ℕ
+
+-- the places of the trees of a forest below a node, counted from a number on
+abbrev pub places : {L : Type 0} → Option ℕ → ℕ → Forest L → List (Place L)
+places parent number end = []
+places parent number (node l below after) = record { parent = parent; label = l; below = size below }
+    ∷ (places (Some number) (number + 1) below ++ places parent (number + 1 + size below) after)
+
+abbrev pub place_of : {L : Type 0} → Row L → Place L
+place_of r = record { parent = r.parent; label = r.label; below = r.below }
+
+-- what lies in rows
+abbrev pub laid : {L : Type 0} → List (Row L) → List (Place L)
+laid rows = map place_of rows
+
+-- The forest whose nodes lie there in preorder. There are at most so many rows.
+unfoldable pub forest_within : {L : Type 0} → ℕ → List (Row L) → Forest L
+forest_within zero rows = end
+forest_within (suc n) [] = end
+forest_within (suc n) (r ∷ rows) =
+    node r.label (forest_within n (take r.below rows)) (forest_within n (drop r.below rows))
+
+abbrev pub forest_of : {L : Type 0} → List (Row L) → Forest L
+forest_of rows = forest_within (length rows) rows
+
+-- the parent of each row is the node that it stands below, and each says how many stand below it
+abbrev pub IsLaidOut : {L : Type 0} → List (Row L) → Type 0
+IsLaidOut rows = laid rows ≡ places None 0 (forest_of rows)
+
+-- ---- how a table grows
+
+-- a node with nothing below it yet
+abbrev pub opened : {L : Type 0} → Option ℕ → L → Place L
+opened parent label = record { parent = parent; label = label; below = 0 }
+
+-- the places once all behind one of them stand below it
+abbrev pub closed : {L : Type 0} → ℕ → List (Place L) → List (Place L)
+closed number [] = []
+closed zero (p ∷ ps) = record { parent = p.parent; label = p.label; below = length ps } ∷ ps
+closed (suc number) (p ∷ ps) = p ∷ closed number ps

@@ -1,0 +1,22 @@
+-- Rows of siblings as forests.
+use Rattle.std.specs.Prelude.{◌≡◌, Option, Some, None}
+use Rattle.yspec.specs.Forest.{Forest, end, node}
+use Rattle.ypreorder.specs.Layout.{forest_of}
+use Rattle.ypreorder.specs.declared.nodes.Nodes.{Nodes}
+use Rattle.ypreorder.specs.declared.nodes.Node.{Node}
+
+-- what is left of a row
+abbrev pub row_view : {L : Type 0} → Nodes L → Forest L
+row_view c = forest_of c.rows.now
+
+-- a node of a row, and what stands below it
+abbrev pub label_of : {L : Type 0} → Node L → L
+label_of c = c.label.now
+
+abbrev pub below_of : {L : Type 0} → Node L → Forest L
+below_of c = row_view c.children
+
+-- A step over a row: it gives the first node, with what stands below it, and leaves the others.
+abbrev pub TakesFirst : {L : Type 0} → Nodes L → Option (Node L) → Nodes L → Type 0
+TakesFirst before None after = (row_view before ≡ end) × (row_view after ≡ end)
+TakesFirst before (Some c) after = row_view before ≡ node (label_of c) (below_of c) (row_view after)

@@ -1,0 +1,79 @@
+//! A table of rows, and how one grows.
+
+ghost use Rattle.std.specs.Prelude.{◌≡◌, ◌++◌, ◌∷◌, [], ◌<◌, ◌^◌, Some, IfOk, OnOk, OnErr, length, vec_len, slice_get, option_map};
+
+use crate::nodes::Nodes;
+use crate::row::Row;
+use std::alloc::{AllocError, Global};
+
+/// The trees of a forest, in preorder. It grows node by node: one is opened, then those below it, and then it is closed.
+#[derive(Debug, Drop)]
+pub struct Table<L> {
+    rows: Vec<Row<L>>,
+    ghost numbered: { vec_len rows < 2 ^ 32 },
+}
+
+impl<L: Drop> Table<L> {
+    ghost use Rattle.std.specs.Prelude.{◌≡◌};
+    ghost use Rattle.ypreorder.specs.Layout.{forest_of, laid, closed, opened};
+    ghost use Rattle.ypreorder.specs.View.{row_view};
+
+    /// A table without rows.
+    pub fn new(alloc: Global) -> Table<L>
+        ensures { result.rows.items ≡ [] }
+    {
+        Table {
+            rows: Vec::new(alloc),
+        }
+    }
+
+    /// How many rows it has.
+    pub fn len(&self) -> usize
+        ensures { result ≡ length self.now.rows.items }
+    {
+        self.rows.len()
+    }
+
+    /// The rows.
+    pub fn rows(&self) -> &[Row<L>]
+        ensures { result.now ≡ self.now.rows.items }
+    {
+        self.rows.as_slice()
+    }
+
+    /// The top nodes, in order.
+    pub fn nodes(&self) -> Nodes<'_, L>
+        ensures row { row_view result ≡ forest_of self.now.rows.items }
+        ensures number { result.number ≡ 0 }
+    {
+        Nodes::new(self.rows.as_slice(), 0)
+    }
+
+    /// Adds a node behind all others, below one of them or at the top, with nothing below it yet. It answers its number;
+    /// there are at most 4,294,967,295.
+    pub fn open(&mut self, parent: Option<u32>, label: L) -> Result<u32, AllocError>
+        ensures laid { OnOk result (laid self.new.rows.items ≡ laid self.old.rows.items ++ opened parent label ∷ []) }
+        ensures number { IfOk result (λ number. number ≡ length self.old.rows.items) }
+    {
+        let number = self.rows.len() as u32;
+        if number == u32::MAX {
+            return Err(AllocError);
+        }
+        self.rows.push(Row {
+            parent,
+            label,
+            below: 0,
+        })?;
+        Ok(number)
+    }
+
+    /// All nodes behind that of a number stand below it.
+    pub fn close(&mut self, number: u32)
+        ensures { laid self.new.rows.items ≡ closed number (laid self.old.rows.items) }
+    {
+        let behind = self.rows.len() as u32;
+        if let Some(row) = self.rows.get_mut(number as usize) {
+            row.below = (behind - number - 1) as usize;
+        }
+    }
+}
