@@ -13,7 +13,7 @@ pub record Place (L : Type 0) : Type 0 where
 abbrev pub places : {L : Type 0} → Option ℕ → ℕ → Forest L → List (Place L)
 places parent number end = []
 places parent number (node l below after) = record { parent = parent; label = l; below = size below }
-    ∷ (places (Some number) (number + 1) below ++ places parent (number + 1 + size below) after)
+    ∷ (places (Some number) (number + 1) below ++ places parent (number + suc (size below)) after)
 
 abbrev pub place_of : {L : Type 0} → Row L → Place L
 place_of r = record { parent = r.parent; label = r.label; below = r.below }
@@ -47,3 +47,19 @@ abbrev pub closed : {L : Type 0} → ℕ → List (Place L) → List (Place L)
 closed number [] = []
 closed zero (p ∷ ps) = record { parent = p.parent; label = p.label; below = length ps } ∷ ps
 closed (suc number) (p ∷ ps) = p ∷ closed number ps
+
+-- ---- rows as other labels, which may depend on their numbers
+
+abbrev pub seen : {L M : Type 0} → (ℕ → L → M) → ℕ → List (Place L) → List (Place M)
+seen see number [] = []
+seen see number (p ∷ ps) =
+    record { parent = p.parent; label = see number p.label; below = p.below } ∷ seen see (number + 1) ps
+
+abbrev pub numbered_by : {L M : Type 0} → (ℕ → L → M) → ℕ → Forest L → Forest M
+numbered_by see number end = end
+numbered_by see number (node l below after) = node (see number l) (numbered_by see (number + 1) below)
+    (numbered_by see (number + suc (size below)) after)
+
+-- the rows lie as a forest of these labels does
+abbrev pub Shows : {L M : Type 0} → (ℕ → L → M) → List (Row L) → Forest M → Type 0
+Shows see rows f = seen see 0 (laid rows) ≡ places None 0 f
