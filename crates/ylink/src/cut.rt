@@ -2,7 +2,8 @@
 
 ghost use Rattle.std.specs.Prelude.{◌≡◌, ◌+◌, ◌<◌, ◌==◌, ◌&&◌, true, IfSome, IfNone, length, take, drop, slice_index, option_map, position};
 ghost use Rattle.std.specs.List.{slice_split};
-ghost use Rattle.yspec.specs.text.Text.{is_white, begins, point};
+ghost use Rattle.yspec.specs.text.Text.{is_white};
+ghost use Rattle.yspec.specs.types.Numerals.{is_point};
 ghost use Rattle.yspec.specs.edit.EditText.{behind};
 ghost use Rattle.yspec.specs.linking.Arguments.{after_white, before_white, trimmed, cut_at_dots};
 ghost use Rattle.ylink.specs.Cut.{sides, parts_of};
@@ -62,7 +63,7 @@ pub(crate) fn behind_slash(text: &str) -> Option<&str>
     ensures { option_map (λ t. t.now) result ≡ behind 47 text.now }
 {
     match text.as_bytes().first() {
-        Some(b'/') => Some(&text[1..]),
+        Some(b'/') => Some(around(text, 0).1),
         _ => None,
     }
 }
@@ -74,7 +75,7 @@ fn behind_white(text: &str) -> Option<&str>
     ensures none { IfNone result (after_white text.now ≡ text.now) }
 {
     match text.as_bytes().first() {
-        Some(byte) if is_white(*byte) => Some(&text[1..]),
+        Some(byte) if is_white(*byte) => Some(around(text, 0).1),
         _ => None,
     }
 }
@@ -85,9 +86,15 @@ fn without_white(text: &str) -> Option<&str>
     ensures shorter { IfSome result (λ t. length t.now < length text.now) }
     ensures none { IfNone result (before_white text.now ≡ text.now) }
 {
-    match text.as_bytes().last() {
-        Some(byte) if is_white(*byte) => Some(&text[..text.len() - 1]),
-        _ => None,
+    let bytes = text.as_bytes();
+    if bytes.is_empty() {
+        return None;
+    }
+    let last = bytes.len() - 1;
+    if is_white(bytes[last]) {
+        Some(around(text, last).0)
+    } else {
+        None
     }
 }
 
@@ -113,6 +120,12 @@ pub(crate) fn trimmed(text: &str) -> &str
     rest
 }
 
+fn are_dots(first: u8, second: u8) -> bool
+    ensures { result ≡ (is_point first && is_point second) }
+{
+    first == b'.' && second == b'.'
+}
+
 // Where the first `..` stands.
 fn dots_place(bytes: &[u8]) -> Option<usize>
     ensures value { option_map (λ n. (take n bytes.now, drop (n + 2) bytes.now)) result ≡ cut_at_dots bytes.now }
@@ -122,7 +135,7 @@ fn dots_place(bytes: &[u8]) -> Option<usize>
 {
     let mut at = 0;
     while at + 1 < bytes.len() {
-        if bytes[at] == b'.' && bytes[at + 1] == b'.' {
+        if are_dots(bytes[at], bytes[at + 1]) {
             return Some(at);
         }
         at += 1;
@@ -135,5 +148,5 @@ pub(crate) fn cut_at_dots(text: &str) -> Option<(&str, &str)>
     ensures { option_map sides result ≡ cut_at_dots text.now }
 {
     let at = dots_place(text.as_bytes())?;
-    Some((&text[..at], &text[at + 2..]))
+    Some((around(text, at).0, around(text, at + 1).1))
 }

@@ -3,5 +3,6 @@
 
 mod cut;
 mod keyword;
+mod name;
 
 pub use keyword::Keyword;
