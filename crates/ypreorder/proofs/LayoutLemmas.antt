@@ -1,7 +1,7 @@
 -- Rows that lie as a forest does.
 use Rattle.std.proofs.Common.{◌≡◌, ℕ, zero, suc, ◌+◌, ◌≤◌, List, [], ◌∷◌, ◌++◌, length, take, drop, Option, Some, None, refl, sym, ap, ap₂, ◌∙◌, append_assoc, arith, length-append, length-take}
 use Rattle.std.proofs.lemmas.List.{take_at, drop_at, append-nil, length-map}
-use Rattle.yspec.specs.Forest.{Forest, node, end, size}
+use Rattle.yspec.specs.Forest.{Forest, node, end, size, join}
 use Rattle.ypreorder.specs.declared.row.Row.{Row}
 use Rattle.ypreorder.specs.Layout.{Place, place_of, places, laid, opened, closed, seen, numbered_by, Shows, forest_of, IsLaidOut}
 use Rattle.ypreorder.proofs.RowLemmas.{forest_of-cons, no_node}
@@ -12,6 +12,14 @@ module _ {L : Type 0} where
   length-places p k end = refl
   length-places p k (node l below after) = ap suc (length-append (places (Some k) (k + 1) below) (places p (k + suc (size below)) after)
       ∙ ap₂ (λ a b. a + b) (length-places (Some k) (k + 1) below) (length-places p (k + suc (size below)) after))
+
+  pub places-join : (p : Option ℕ) (k : ℕ) (f g : Forest L) → places p k (join f g) ≡ places p k f ++ places p (k + size f) g
+  places-join p k end g = ap (λ n. places p n g) (omega arith)
+  places-join p k (node l below after) g =
+      let here : k + suc (size below) + size after ≡ k + suc (size below + size after) = omega arith in
+      ap (λ rest. record { parent = p; label = l; below = size below } ∷ rest)
+      (ap (λ rest. places (Some k) (k + 1) below ++ rest) (places-join p (k + suc (size below)) after g ∙ ap (λ n. places p (k + suc (size below)) after ++ places p n g) here)
+      ∙ sym (append_assoc (places (Some k) (k + 1) below) (places p (k + suc (size below)) after) (places p (k + suc (size below + size after)) g)))
 
   pub length-laid : (rows : List (Row L)) → length (laid rows) ≡ length rows
   length-laid rows = length-map rows place_of

@@ -1,7 +1,9 @@
 -- Rows of siblings as forests.
-use Rattle.std.specs.Prelude.{◌≡◌, Option, Some, None}
+use Rattle.std.specs.Prelude.{◌≡◌, List, Option, Some, None}
 use Rattle.yspec.specs.Forest.{Forest, end, node}
 use Rattle.ypreorder.specs.Layout.{forest_of}
+use Rattle.ypreorder.specs.declared.row.Row.{Row}
+use Rattle.ypreorder.specs.declared.table.Table.{Table}
 use Rattle.ypreorder.specs.declared.nodes.Nodes.{Nodes}
 use Rattle.ypreorder.specs.declared.nodes.Node.{Node}
 
@@ -20,3 +22,10 @@ below_of c = row_view c.children
 abbrev pub TakesFirst : {L : Type 0} → Nodes L → Option (Node L) → Nodes L → Type 0
 TakesFirst before None after = (row_view before ≡ end) × (row_view after ≡ end)
 TakesFirst before (Some c) after = row_view before ≡ node (label_of c) (below_of c) (row_view after)
+
+-- what lies in a table
+abbrev pub rows_in : {L : Type 0} → Table L → List (Row L)
+rows_in t = t.rows.items
+
+abbrev pub forest_in : {L : Type 0} → Table L → Forest L
+forest_in t = forest_of t.rows.items

@@ -15,12 +15,12 @@ pub struct Table<L> {
 
 impl<L: Drop> Table<L> {
     ghost use Rattle.std.specs.Prelude.{◌≡◌};
-    ghost use Rattle.ypreorder.specs.Layout.{forest_of, laid, closed, opened};
-    ghost use Rattle.ypreorder.specs.View.{row_view};
+    ghost use Rattle.ypreorder.specs.Layout.{laid, closed, opened};
+    ghost use Rattle.ypreorder.specs.View.{row_view, rows_in, forest_in};
 
     /// A table without rows.
     pub fn new(alloc: Global) -> Table<L>
-        ensures { result.rows.items ≡ [] }
+        ensures { rows_in result ≡ [] }
     {
         Table {
             rows: Vec::new(alloc),
@@ -29,21 +29,21 @@ impl<L: Drop> Table<L> {
 
     /// How many rows it has.
     pub fn len(&self) -> usize
-        ensures { result ≡ length self.now.rows.items }
+        ensures { result ≡ length (rows_in self.now) }
     {
         self.rows.len()
     }
 
     /// The rows.
     pub fn rows(&self) -> &[Row<L>]
-        ensures { result.now ≡ self.now.rows.items }
+        ensures { result.now ≡ rows_in self.now }
     {
         self.rows.as_slice()
     }
 
     /// The top nodes, in order.
     pub fn nodes(&self) -> Nodes<'_, L>
-        ensures row { row_view result ≡ forest_of self.now.rows.items }
+        ensures row { row_view result ≡ forest_in self.now }
         ensures number { result.number ≡ 0 }
     {
         Nodes::new(self.rows.as_slice(), 0)
@@ -52,8 +52,8 @@ impl<L: Drop> Table<L> {
     /// Adds a node behind all others, below one of them or at the top, with nothing below it yet. It answers its number;
     /// there are at most 4,294,967,295.
     pub fn open(&mut self, parent: Option<u32>, label: L) -> Result<u32, AllocError>
-        ensures laid { OnOk result (laid self.new.rows.items ≡ laid self.old.rows.items ++ opened parent label ∷ []) }
-        ensures number { IfOk result (λ number. number ≡ length self.old.rows.items) }
+        ensures laid { OnOk result (laid (rows_in self.new) ≡ laid (rows_in self.old) ++ opened parent label ∷ []) }
+        ensures number { IfOk result (λ number. number ≡ length (rows_in self.old)) }
     {
         let number = self.rows.len() as u32;
         if number == u32::MAX {
@@ -69,7 +69,7 @@ impl<L: Drop> Table<L> {
 
     /// All nodes behind that of a number stand below it.
     pub fn close(&mut self, number: u32)
-        ensures { laid self.new.rows.items ≡ closed number (laid self.old.rows.items) }
+        ensures { laid (rows_in self.new) ≡ closed number (laid (rows_in self.old)) }
     {
         let behind = self.rows.len() as u32;
         if let Some(row) = self.rows.get_mut(number as usize) {
