@@ -1,7 +1,7 @@
 -- Rows of siblings as forests.
-use Rattle.std.specs.Prelude.{◌≡◌, List, Option, Some, None}
-use Rattle.yspec.specs.Forest.{Forest, end, node}
-use Rattle.ypreorder.specs.Layout.{forest_of}
+use Rattle.std.specs.Prelude.{◌≡◌, ℕ, suc, ◌+◌, List, Option, Some, None}
+use Rattle.yspec.specs.Forest.{Forest, end, node, size}
+use Rattle.ypreorder.specs.Layout.{forest_of, numbered_by}
 use Rattle.ypreorder.specs.declared.row.Row.{Row}
 use Rattle.ypreorder.specs.declared.table.Table.{Table}
 use Rattle.ypreorder.specs.declared.nodes.Nodes.{Nodes}
@@ -18,10 +18,19 @@ label_of c = c.label.now
 abbrev pub below_of : {L : Type 0} → Node L → Forest L
 below_of c = row_view c.children
 
--- A step over a row: it gives the first node, with what stands below it, and leaves the others.
+-- A step over a row: it gives the first node, with its number and what stands below it, and leaves the others.
 abbrev pub TakesFirst : {L : Type 0} → Nodes L → Option (Node L) → Nodes L → Type 0
 TakesFirst before None after = (row_view before ≡ end) × (row_view after ≡ end)
-TakesFirst before (Some c) after = row_view before ≡ node (label_of c) (below_of c) (row_view after)
+TakesFirst before (Some c) after = (row_view before ≡ node (label_of c) (below_of c) (row_view after))
+    × (c.number ≡ before.number) × (c.children.number ≡ before.number + 1)
+    × (after.number ≡ before.number + suc (size (below_of c)))
+
+-- the row with other labels, which may depend on their numbers
+abbrev pub row_by : {L M : Type 0} → (ℕ → L → M) → Nodes L → Forest M
+row_by see c = numbered_by see c.number (row_view c)
+
+abbrev pub label_by : {L M : Type 0} → (ℕ → L → M) → Node L → M
+label_by see c = see c.number (label_of c)
 
 -- what lies in a table
 abbrev pub rows_in : {L : Type 0} → Table L → List (Row L)
