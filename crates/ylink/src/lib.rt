@@ -4,5 +4,7 @@
 mod cut;
 mod keyword;
 mod name;
+mod number;
+mod span;
 
 pub use keyword::Keyword;
