@@ -2,3 +2,4 @@ pub mod CutLemmas
 pub mod ListLemmas
 pub mod NumberLemmas
 pub mod SpanLemmas
+pub mod WordLemmas

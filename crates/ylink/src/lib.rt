@@ -2,9 +2,19 @@
 #![tactic(auto)]
 
 mod cut;
+mod fault;
+mod form;
+mod grammar;
 mod keyword;
 mod name;
 mod number;
 mod span;
+mod table;
+mod word;
 
+pub use fault::{Broken, TableCode};
 pub use keyword::Keyword;
+pub use name::{Name, absolute_path, key_names, leafref_path, name_of, relative_path, unique_paths};
+pub use number::{count, enum_value, fraction_digits, most};
+pub use span::spans;
+pub use word::{OrderedBy, Status, flag_of, is_date, ordered_by_of, status_of};

@@ -19,7 +19,7 @@ pub struct Name<'a> {
     pub identifier: &'a str,
 }
 
-fn colon_place(bytes: &[u8]) -> Option<usize>
+pub(crate) fn colon_place(bytes: &[u8]) -> Option<usize>
     ensures value { result ≡ position (λ x. x == colon) bytes.now }
     ensures within { IfSome result (λ n. (n < length bytes.now) × (slice_index bytes.now n ≡ 58)) }
 {
