@@ -1,3 +1,6 @@
 pub mod CutLemmas
 pub mod ListLemmas
 pub mod SourceLemmas
+pub mod NumberLemmas
+pub mod SpanLemmas
+pub mod WordLemmas

@@ -1,11 +1,12 @@
 -- Lists of which each item may be none, item by item.
-use Rattle.std.proofs.Common.{◌≡◌, ℕ, Bool, true, false, cond, List, [], ◌∷◌, ◌++◌, Option, Some, None, option_map, refl, sym, ap, ◌∙◌}
-use Rattle.std.specs.Prelude.{option_and_then, filter}
+use Rattle.std.proofs.Common.{◌≡◌, ℕ, Bool, true, false, cond, List, [], ◌∷◌, ◌++◌, Option, Some, None, option_map, length, refl, sym, ap, ◌∙◌}
+use Rattle.std.specs.Prelude.{option_and_then, filter, ◌==◌}
 use Rattle.std.specs.List.{slice_split}
 use Rattle.std.proofs.lemmas.List.{append_assoc, append-nil}
 use Rattle.yspec.specs.text.Text.{Text, is_white}
 use Rattle.yspec.specs.types.Names.{is_word}
 use Rattle.yspec.specs.edit.EditText.{all_or_none}
+use Rattle.yspec.specs.linking.Arguments.{words_between}
 
 -- some items, and more behind them
 abbrev pub with_more : {A : Type 0} → List A → Option (List A) → Option (List A)
@@ -58,3 +59,19 @@ pub unread_last : {A : Type 0} (f : Text → Option A) (test : ℕ → Bool) (t 
     → with_more xs (all_or_none f (slice_split test t)) ≡ whole → None ≡ whole
 unread_last f test t xs whole parts e so_far =
     no_first xs (f t) (Some []) whole e (sym (ap (λ ps. with_more xs (all_or_none f ps)) parts) ∙ so_far)
+
+-- ---- a text's words, each read
+
+abbrev words : List Text → List Text
+words = filter is_word
+
+word_first : (part : Text) (parts : List Text) → false ≡ (length part == 0) → words (part ∷ parts) ≡ part ∷ words parts
+word_first [] parts e = absurd cc
+word_first (x ∷ xs) parts e = refl
+
+pub read_word : {A : Type 0} (f : Text → Option A) (t part more : Text) (xs ys : List A) (x : A) (whole : Option (List A))
+    → slice_split is_white t ≡ part ∷ slice_split is_white more → false ≡ (length part == 0) → ys ≡ xs ++ x ∷ [] → Some x ≡ f part
+    → with_more xs (all_or_none f (words_between t)) ≡ whole → with_more ys (all_or_none f (words_between more)) ≡ whole
+read_word f t part more xs ys x whole parts some made e so_far =
+    some_first xs ys x (f part) (all_or_none f (words_between more)) whole made e
+    (sym (ap (λ ps. with_more xs (all_or_none f (words ps))) parts ∙ ap (λ ps. with_more xs (all_or_none f ps)) (word_first part (slice_split is_white more) some)) ∙ so_far)

@@ -56,6 +56,19 @@ pub enum Keyword {
 }
 
 impl Keyword {
+    fn number(self) -> u8
+        ensures { result ≡ spec.keyword_number (keyword_view self) }
+    {
+        self as u8
+    }
+
+    /// Whether two are the same.
+    pub fn is(self, other: Keyword) -> bool
+        ensures { result ≡ spec.same_keyword (keyword_view self) (keyword_view other) }
+    {
+        self.number() == other.number()
+    }
+
     /// The keyword that a text is, if it is one.
     pub fn named(text: &str) -> Option<Keyword>
         ensures { option_map keyword_view result ≡ spec.keyword_named text.now }

@@ -1,6 +1,6 @@
 //! Names in arguments: alone, in paths, and in rows (RFC 7950, 6.4, 6.5, 7.8.2, 7.8.3 and 9.9.2).
 
-ghost use Rattle.std.specs.Prelude.{◌≡◌, ◌+◌, ◌<◌, ◌==◌, false, IfOk, IfSome, option_map, length, position, take, drop, slice_index};
+ghost use Rattle.std.specs.Prelude.{◌≡◌, ◌+◌, ◌<◌, ◌==◌, false, IfOk, IfSome, option_map, map, length, position, take, drop, slice_index};
 ghost use Rattle.std.specs.List.{slice_split};
 ghost use Rattle.yspec.specs.text.Text.{colon};
 ghost use Rattle.yspec.specs.types.Names as names;
@@ -19,7 +19,7 @@ pub struct Name<'a> {
     pub identifier: &'a str,
 }
 
-fn colon_place(bytes: &[u8]) -> Option<usize>
+pub(crate) fn colon_place(bytes: &[u8]) -> Option<usize>
     ensures value { result ≡ position (λ x. x == colon) bytes.now }
     ensures within { IfSome result (λ n. (n < length bytes.now) × (slice_index bytes.now n ≡ 58)) }
 {
@@ -167,6 +167,39 @@ pub fn key_names<'a>(alloc: Global, text: &'a str) -> Result<Option<Vec<Name<'a>
         Some(name) => {
             key.push(name)?;
             Ok(Some(key))
+        }
+        None => Ok(None),
+    }
+}
+
+/// The ways to leafs that a unique spells.
+pub fn unique_paths<'a>(
+    alloc: Global,
+    text: &'a str,
+) -> Result<Option<Vec<Vec<Name<'a>>>>, AllocError>
+    ensures { IfOk result (λ unique. option_map (λ u. map (λ p. names_view p.items) u.items) unique ≡ spec.unique_of text.entry.now) }
+{
+    if !is_bare(text) {
+        return Ok(None);
+    }
+    let mut unique = Vec::new(alloc);
+    let mut rest = text;
+    while let Some((word, more)) = cut_at_white(rest) {
+        if !word.is_empty() {
+            match relative_path(alloc, word)? {
+                Some(path) => unique.push(path)?,
+                None => return Ok(None),
+            }
+        }
+        rest = more;
+    }
+    if rest.is_empty() {
+        return Ok(Some(unique));
+    }
+    match relative_path(alloc, rest)? {
+        Some(path) => {
+            unique.push(path)?;
+            Ok(Some(unique))
         }
         None => Ok(None),
     }
