@@ -2,6 +2,7 @@
 
 ghost use Rattle.std.specs.Prelude.{◌≡◌, option_map};
 ghost use Rattle.yspec.specs.linking.Keyword as spec;
+ghost use Rattle.yspec.specs.linking.Parts.{defines_node};
 ghost use Rattle.ylink.specs.KeywordView.{keyword_view};
 
 /// A keyword of the table of statements.
@@ -67,6 +68,21 @@ impl Keyword {
         ensures { result ≡ spec.same_keyword (keyword_view self) (keyword_view other) }
     {
         self.number() == other.number()
+    }
+
+    /// Whether its statements define schema nodes (RFC 7950, 7.5 to 7.9).
+    pub fn defines_node(self) -> bool
+        ensures { result ≡ defines_node (keyword_view self) }
+    {
+        matches!(
+            self,
+            Keyword::Container
+                | Keyword::Leaf
+                | Keyword::LeafList
+                | Keyword::List
+                | Keyword::Choice
+                | Keyword::Case
+        )
     }
 
     /// The keyword that a text is, if it is one.

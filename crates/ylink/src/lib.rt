@@ -8,6 +8,7 @@ mod form;
 mod grammar;
 mod keyword;
 mod name;
+mod row;
 mod source;
 mod sources;
 mod number;
@@ -17,6 +18,7 @@ mod word;
 
 pub use fault::{Broken, TableCode};
 pub use keyword::Keyword;
+pub use row::{argument_of, argument_with, first_with};
 pub use source::Source;
 pub use sources::Sources;
 pub use name::{Name, absolute_path, key_names, leafref_path, name_of, relative_path, unique_paths};

@@ -6,7 +6,7 @@ ghost use Rattle.ypreorder.specs.View.{rows_in};
 use crate::adding::add_statement;
 use crate::source::Source;
 use std::alloc::{AllocError, Global};
-use ypreorder::Table;
+use ypreorder::{Nodes, Table};
 use ytext::Module;
 
 /// The statements of a set of modules that a compiler looks at, in preorder: each of the table, but for `extension`.
@@ -20,6 +20,8 @@ impl<'a> Sources<'a> {
     ghost use Rattle.std.specs.Prelude.{◌≡◌, IfOk};
     ghost use Rattle.yspec.specs.linking.Source.{sources_of};
     ghost use Rattle.ytext.specs.View.{modules_view};
+    ghost use Rattle.ypreorder.specs.View.{row_by};
+    ghost use Rattle.ylink.specs.SourceView.{source_view};
     ghost use Rattle.ylink.specs.LinkView.{view};
 
     /// The statements of some modules.
@@ -31,5 +33,12 @@ impl<'a> Sources<'a> {
             add_statement(&mut table, None, home, &module.top)?;
         }
         Ok(Sources { table })
+    }
+
+    /// The `module` statements, in order.
+    pub fn modules(&self) -> Nodes<'_, Source<'a>>
+        ensures { row_by source_view result ≡ view self.now }
+    {
+        self.table.nodes()
     }
 }

@@ -39,7 +39,7 @@ impl<'a, L> Nodes<'a, L> {
 
 impl<'a, L> Node<'a, L> {
     ghost use Rattle.std.specs.Prelude.{◌≡◌};
-    ghost use Rattle.ypreorder.specs.View.{label_of, below_of, row_view};
+    ghost use Rattle.ypreorder.specs.View.{label_of};
 
     /// Its number in preorder.
     pub fn number(&self) -> u32
@@ -57,7 +57,7 @@ impl<'a, L> Node<'a, L> {
 
     /// Its children, in order.
     pub fn children(&self) -> Nodes<'a, L>
-        ensures { row_view result ≡ below_of self.now }
+        ensures { result ≡ self.now.children }
     {
         self.children
     }

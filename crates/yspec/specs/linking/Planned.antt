@@ -29,7 +29,7 @@ config_of above p = option_map_or is_said (argument_with word.config_word p.own)
 unfoldable pub planned : ℕ → Bool → Forest Part → Forest Planned
 planned next above end = end
 planned next above (node p below after) = node (record { number = next; config = config_of above p; part = p })
-    (planned (next + 1) (config_of above p) below) (planned (next + 1 + size below) above after)
+    (planned (next + 1) (config_of above p) below) (planned (next + suc (size below)) above after)
 
 -- ---- a planned node
 

@@ -1,0 +1,46 @@
+//! Questions to a row of statements.
+
+ghost use Rattle.std.specs.Prelude.{◌≡◌, option_map};
+ghost use Rattle.yspec.specs.linking.Source as spec;
+ghost use Rattle.ypreorder.specs.View.{row_by, label_by};
+ghost use Rattle.ylink.specs.KeywordView.{keyword_view};
+ghost use Rattle.ylink.specs.SourceView.{source_view};
+
+use crate::keyword::Keyword;
+use crate::source::Source;
+use ypreorder::{Node, Nodes};
+
+/// The first statement of a row with a keyword.
+pub fn first_with<'a, 't>(
+    keyword: Keyword,
+    statements: Nodes<'a, Source<'t>>,
+) -> Option<Node<'a, Source<'t>>>
+    ensures { option_map (label_by source_view) result ≡ spec.first_with (keyword_view keyword) (row_by source_view statements.entry) }
+{
+    for statement in statements {
+        if keyword.is(statement.label().keyword) {
+            return Some(statement);
+        }
+    }
+    None
+}
+
+/// The argument of a statement; no text where there is none.
+pub fn argument_of<'a, 't>(statement: Node<'a, Source<'t>>) -> &'t str
+    ensures { result.now ≡ spec.argument_in (label_by source_view statement.entry) }
+{
+    statement.label().statement.argument().unwrap_or("")
+}
+
+/// The argument of the first statement of a row with a keyword.
+pub fn argument_with<'a, 't>(
+    keyword: Keyword,
+    statements: Nodes<'a, Source<'t>>,
+) -> Option<&'t str>
+    ensures { option_map (λ text. text.now) result ≡ spec.argument_with (keyword_view keyword) (row_by source_view statements.entry) }
+{
+    match first_with(keyword, statements) {
+        Some(statement) => Some(argument_of(statement)),
+        None => None,
+    }
+}

@@ -1,0 +1,248 @@
+-- Parts, one after another, as they come into the table.
+use Rattle.std.proofs.Common.{◌≡◌, ℕ, zero, suc, ◌+◌, ◌≤◌, ◌<◌, Bool, true, false, cond, ◌&&◌, List, [], ◌∷◌, ◌++◌, length, Option, Some, None, refl, sym, ap, ap₂, ◌∙◌, append_assoc, arith, length-append, nat_le, ◌==◌, eqb}
+use Rattle.std.specs.Prelude.{find, option_map}
+use Rattle.std.specs.Option.{option_map_or}
+use Rattle.std.proofs.lemmas.Bool.{eqb-true}
+use Rattle.std.proofs.lemmas.List.{append-nil}
+use Rattle.yspec.specs.Forest.{Forest, node, end, size, join, row}
+use Rattle.yspec.specs.linking.Keyword.{Keyword, keyword_number, same_keyword, case_word, choice_word, module_word, yang_version_word, namespace_word, prefix_word, import_word, revision_date_word, organization_word, contact_word, description_word, reference_word, revision_word, extension_word, typedef_word, grouping_word, augment_word, container_word, leaf_word, leaf_list_word, list_word, uses_word, refine_word, type_word, fraction_digits_word, range_word, length_word, enum_word, bit_word, path_word, require_instance_word, error_message_word, error_app_tag_word, value_word, position_word, units_word, default_word, config_word, mandatory_word, presence_word, min_elements_word, max_elements_word, ordered_by_word, status_word, key_word, unique_word}
+use Rattle.yspec.specs.linking.Source as spec
+use Rattle.yspec.specs.linking.Source.{first_with, argument_with, argument_in, is_source_of}
+use Rattle.yspec.specs.linking.Parts.{Part, defines_node, own_of, part_of, parts, as_cases, case_for, within}
+use Rattle.yspec.specs.linking.Planned as plan
+use Rattle.yspec.specs.linking.Planned.{planned, is_said, config_of}
+use Rattle.ypreorder.specs.Layout.{Place, places, laid, opened, closed, seen}
+use Rattle.ypreorder.specs.View.{rows_in}
+use Rattle.ypreorder.specs.declared.table.Table.{Table}
+use Rattle.ypreorder.proofs.LayoutLemmas.{length-places, places-join, length-laid, length-seen, grown}
+use Rattle.yplan.specs.declared.planned.Planned.{Planned}
+use Rattle.yplan.specs.PlannedView.{planned_view, seen_rows, listed}
+
+-- ---- what a part states
+
+defines_by_number : (k : Keyword) → defines_node k ≡ (nat_le 15 (keyword_number k) && nat_le (keyword_number k) 20)
+defines_by_number module_word = refl
+defines_by_number yang_version_word = refl
+defines_by_number namespace_word = refl
+defines_by_number prefix_word = refl
+defines_by_number import_word = refl
+defines_by_number revision_date_word = refl
+defines_by_number organization_word = refl
+defines_by_number contact_word = refl
+defines_by_number description_word = refl
+defines_by_number reference_word = refl
+defines_by_number revision_word = refl
+defines_by_number extension_word = refl
+defines_by_number typedef_word = refl
+defines_by_number grouping_word = refl
+defines_by_number augment_word = refl
+defines_by_number container_word = refl
+defines_by_number leaf_word = refl
+defines_by_number leaf_list_word = refl
+defines_by_number list_word = refl
+defines_by_number choice_word = refl
+defines_by_number case_word = refl
+defines_by_number uses_word = refl
+defines_by_number refine_word = refl
+defines_by_number type_word = refl
+defines_by_number fraction_digits_word = refl
+defines_by_number range_word = refl
+defines_by_number length_word = refl
+defines_by_number enum_word = refl
+defines_by_number bit_word = refl
+defines_by_number path_word = refl
+defines_by_number require_instance_word = refl
+defines_by_number error_message_word = refl
+defines_by_number error_app_tag_word = refl
+defines_by_number value_word = refl
+defines_by_number position_word = refl
+defines_by_number units_word = refl
+defines_by_number default_word = refl
+defines_by_number config_word = refl
+defines_by_number mandatory_word = refl
+defines_by_number presence_word = refl
+defines_by_number min_elements_word = refl
+defines_by_number max_elements_word = refl
+defines_by_number ordered_by_word = refl
+defines_by_number status_word = refl
+defines_by_number key_word = refl
+defines_by_number unique_word = refl
+
+defines_same : (k j : Keyword) → same_keyword k j ≡ true → defines_node k ≡ defines_node j
+defines_same k j same =
+    let numbers : keyword_number k ≡ keyword_number j = eqb-true (keyword_number k) (keyword_number j) same in
+    defines_by_number k ∙ (ap (λ n. nat_le 15 n && nat_le n 20) numbers ∙ sym (defines_by_number j))
+
+-- a question about a statement that defines no node needn't pass over those that do
+pub own-first : (k : Keyword) → defines_node k ≡ false → (f : Forest spec.Source) → first_with k (own_of f) ≡ first_with k f
+own-first k other end = refl
+own-first k other (node s below after) = by (defines_node s.keyword) refl (same_keyword k s.keyword) refl (own-first k other after)
+  where
+    by : (d : Bool) → defines_node s.keyword ≡ d → (e : Bool) → same_keyword k s.keyword ≡ e → first_with k (own_of after) ≡ first_with k after
+        → first_with k (cond d (own_of after) (node s below (own_of after))) ≡ cond e (Some s) (first_with k after)
+    by true d true e h = let same = sym other ∙ (defines_same k s.keyword e ∙ d) in absurd cc
+    by true d false e h = h
+    by false d true e h = ap (λ b. cond b (Some s) (first_with k (own_of after))) e
+    by false d false e h = ap (λ b. cond b (Some s) (first_with k (own_of after))) e ∙ h
+
+pub own-argument : (k : Keyword) → defines_node k ≡ false → (f : Forest spec.Source) → argument_with k (own_of f) ≡ argument_with k f
+own-argument k other f = ap (option_map argument_in) (own-first k other f)
+
+pub config_is : (above : Bool) (p : Part) (f : Forest spec.Source) → p.own ≡ own_of f
+    → config_of above p ≡ option_map_or is_said (argument_with config_word f) above
+config_is above p f own = ap (λ o. option_map_or is_said o above) (ap (argument_with config_word) own ∙ own-argument config_word refl f)
+
+-- ---- one after another
+
+abbrev pub chosen : Bool → Forest Part → Forest Part
+chosen in_choice f = cond in_choice (as_cases f) f
+
+pub parts-first : (s : spec.Source) (below after : Forest spec.Source) → parts (node s below after) ≡ join (parts (node s below end)) (parts after)
+unfolding parts
+parts-first s below after = by (defines_node s.keyword)
+  where
+    by : (d : Bool) → cond d (node (part_of s below) (within s (parts below)) (parts after)) (parts after)
+        ≡ join (cond d (node (part_of s below) (within s (parts below)) end) end) (parts after)
+    by true = refl
+    by false = refl
+
+pub as_cases-join : (f g : Forest Part) → as_cases (join f g) ≡ join (as_cases f) (as_cases g)
+as_cases-join end g = refl
+as_cases-join (node p below after) g = by (same_keyword case_word p.source.keyword) (as_cases-join after g)
+  where
+    by : (b : Bool) → as_cases (join after g) ≡ join (as_cases after) (as_cases g)
+        → cond b (node p below (as_cases (join after g))) (node (case_for p) (node p below end) (as_cases (join after g)))
+        ≡ join (cond b (node p below (as_cases after)) (node (case_for p) (node p below end) (as_cases after))) (as_cases g)
+    by true h = ap (node p below) h
+    by false h = ap (node (case_for p) (node p below end)) h
+
+chosen-join : (c : Bool) (f g : Forest Part) → chosen c (join f g) ≡ join (chosen c f) (chosen c g)
+chosen-join true f g = as_cases-join f g
+chosen-join false f g = refl
+
+pub chosen-first : (c : Bool) (s : spec.Source) (below after : Forest spec.Source)
+    → chosen c (parts (node s below after)) ≡ join (chosen c (parts (node s below end))) (chosen c (parts after))
+chosen-first c s below after = ap (chosen c) (parts-first s below after) ∙ chosen-join c (parts (node s below end)) (parts after)
+
+pub no_part : (c : Bool) (s : spec.Source) (below : Forest spec.Source) → defines_node s.keyword ≡ false → chosen c (parts (node s below end)) ≡ end
+unfolding parts
+no_part true s below other = ap (λ d. as_cases (cond d (node (part_of s below) (within s (parts below)) end) end)) other
+no_part false s below other = ap (λ d. cond d (node (part_of s below) (within s (parts below)) end) end) other
+
+one_part : (s : spec.Source) (below : Forest spec.Source) → defines_node s.keyword ≡ true
+    → parts (node s below end) ≡ node (part_of s below) (within s (parts below)) end
+unfolding parts
+one_part s below stands = ap (λ d. cond d (node (part_of s below) (within s (parts below)) end) end) stands
+
+-- a single node of a choice
+pub implied_part : (s : spec.Source) (below : Forest spec.Source) → defines_node s.keyword ≡ true → same_keyword case_word s.keyword ≡ false
+    → chosen true (parts (node s below end)) ≡ node (case_for (part_of s below)) (node (part_of s below) (within s (parts below)) end) end
+implied_part s below stands other =
+    let p = part_of s below in
+    let inside = within s (parts below) in
+    ap as_cases (one_part s below stands) ∙ ap (λ b. cond b (node p inside end) (node (case_for p) (node p inside end) end)) other
+
+-- any other
+pub own_part : (c : Bool) (s : spec.Source) (below : Forest spec.Source) → defines_node s.keyword ≡ true
+    → (c ≡ true → same_keyword case_word s.keyword ≡ true)
+    → chosen c (parts (node s below end)) ≡ node (part_of s below) (within s (parts below)) end
+own_part false s below stands other = one_part s below stands
+own_part true s below stands other =
+    let p = part_of s below in
+    let inside = within s (parts below) in
+    ap as_cases (one_part s below stands) ∙ ap (λ b. cond b (node p inside end) (node (case_for p) (node p inside end) end)) (other refl)
+
+-- ---- as they are planned
+
+pub size-planned : (k : ℕ) (above : Bool) (f : Forest Part) → size (planned k above f) ≡ size f
+unfolding planned
+size-planned k above end = refl
+size-planned k above (node p below after) =
+    ap₂ (λ a b. suc (a + b)) (size-planned (k + 1) (config_of above p) below) (size-planned (k + suc (size below)) above after)
+
+pub planned-join : (k : ℕ) (above : Bool) (f g : Forest Part) → planned k above (join f g) ≡ join (planned k above f) (planned (k + size f) above g)
+unfolding planned
+planned-join k above end g = ap (λ n. planned n above g) (omega arith)
+planned-join k above (node p below after) g =
+    let here : k + suc (size below) + size after ≡ k + suc (size below + size after) = omega arith in
+    ap (λ rest. node (record { number = k; config = config_of above p; part = p }) (planned (k + 1) (config_of above p) below) rest)
+    (planned-join (k + suc (size below)) above after g ∙ ap (λ n. join (planned (k + suc (size below)) above after) (planned n above g)) here)
+
+pub listed-join : (p : Option ℕ) (k : ℕ) (above : Bool) (f g : Forest Part) → listed p k above (join f g) ≡ listed p k above f ++ listed p (k + size f) above g
+listed-join p k above f g =
+    ap (places p k) (planned-join k above f g) ∙ (places-join p k (planned k above f) (planned (k + size f) above g)
+    ∙ ap (λ n. listed p k above f ++ places p (k + n) (planned (k + size f) above g)) (size-planned k above f))
+
+pub listed-one : (p : Option ℕ) (k : ℕ) (above : Bool) (x : Part) (below : Forest Part)
+    → listed p k above (node x below end)
+    ≡ record { parent = p; label = record { number = k; config = config_of above x; part = x }; below = size below } ∷ listed (Some k) (k + 1) (config_of above x) below
+unfolding planned
+listed-one p k above x below =
+    let label : plan.Planned = record { number = k; config = config_of above x; part = x } in
+    ap (λ n. record { parent = p; label = label; below = n } ∷ (listed (Some k) (k + 1) (config_of above x) below ++ [])) (size-planned (k + 1) (config_of above x) below)
+    ∙ ap (λ rest. record { parent = p; label = label; below = size below } ∷ rest) (append-nil (listed (Some k) (k + 1) (config_of above x) below))
+
+pub listed-none : (p : Option ℕ) (k : ℕ) (above : Bool) → listed p k above end ≡ []
+unfolding planned
+listed-none p k above = refl
+
+pub length_added : (old new : Table Planned) (more : List (Place plan.Planned)) → seen_rows new ≡ seen_rows old ++ more
+    → length (rows_in new) ≡ length (rows_in old) + length more
+length_added old new more added =
+    let whole = ap length added ∙ length-append (seen_rows old) more in
+    omega (arith, whole, length-seen planned_view 0 (laid (rows_in new)), length-laid (rows_in new), length-seen planned_view 0 (laid (rows_in old)), length-laid (rows_in old))
+
+-- some are added, and others follow
+pub then_others : (old new : Table Planned) (p : Option ℕ) (above : Bool) (f g : Forest Part) (whole : List (Place plan.Planned))
+    → seen_rows new ≡ seen_rows old ++ listed p (length (rows_in old)) above f
+    → seen_rows old ++ listed p (length (rows_in old)) above (join f g) ≡ whole
+    → seen_rows new ++ listed p (length (rows_in new)) above g ≡ whole
+then_others old new p above f g whole added so =
+    let k = length (rows_in old) in
+    let count : length (rows_in new) ≡ k + size f = length_added old new (listed p k above f) added
+    ∙ ap (λ n. k + n) (length-places p k (planned k above f) ∙ size-planned k above f) in
+    ap₂ (λ a n. a ++ listed p n above g) added count
+    ∙ (append_assoc (seen_rows old) (listed p k above f) (listed p (k + size f) above g)
+    ∙ (ap (λ rest. seen_rows old ++ rest) (sym (listed-join p k above f g)) ∙ so))
+
+pub nothing_added : (old : Table Planned) (p : Option ℕ) (above : Bool) (f : Forest Part) → f ≡ end
+    → seen_rows old ≡ seen_rows old ++ listed p (length (rows_in old)) above f
+nothing_added old p above f none =
+    sym (ap (λ g. seen_rows old ++ listed p (length (rows_in old)) above g) none
+    ∙ (ap (λ ps. seen_rows old ++ ps) (listed-none p (length (rows_in old)) above) ∙ append-nil (seen_rows old)))
+
+-- a node is opened, all below it is added, and it is closed
+pub added : (old mid full new : Table Planned) (p : Option ℕ) (l : Planned) (n : ℕ) (above : Bool) (x : Part) (f : Forest Part)
+    → laid (rows_in mid) ≡ laid (rows_in old) ++ opened p l ∷ [] → n ≡ length (rows_in old)
+    → seen_rows full ≡ seen_rows mid ++ listed (Some n) (length (rows_in mid)) (config_of above x) f
+    → laid (rows_in new) ≡ closed n (laid (rows_in full))
+    → planned_view (length (rows_in old)) l ≡ record { number = length (rows_in old); config = config_of above x; part = x }
+    → seen_rows new ≡ seen_rows old ++ listed p (length (rows_in old)) above (node x f end)
+added old mid full new p l n above x f mid_is n_is full_is new_is label_is =
+    let k = length (rows_in old) in
+    let c = config_of above x in
+    let label : plan.Planned = record { number = k; config = c; part = x } in
+    let next : length (rows_in mid) ≡ k + 1 = sym (length-laid (rows_in mid)) ∙ (ap length mid_is ∙ (length-append (laid (rows_in old)) (opened p l ∷ []) ∙ omega (arith, length-laid (rows_in old)))) in
+    grown planned_view (rows_in old) (rows_in mid) (rows_in full) (rows_in new) p l n (planned (length (rows_in mid)) c f) mid_is n_is full_is new_is
+    ∙ ap (λ ps. seen_rows old ++ ps)
+    (ap₂ (λ y m. record { parent = p; label = y; below = m } ∷ places (Some n) (n + 1) (planned (length (rows_in mid)) c f)) label_is (size-planned (length (rows_in mid)) c f)
+    ∙ (ap₂ (λ m j. record { parent = p; label = label; below = size f } ∷ places (Some m) (m + 1) (planned j c f)) n_is next
+    ∙ sym (listed-one p k above x f)))
+
+-- one more statement of a row
+pub next_statement : (old new : Table Planned) (p : Option ℕ) (above c : Bool) (s : spec.Source) (below after row : Forest spec.Source) (whole : List (Place plan.Planned))
+    → row ≡ node s below after
+    → seen_rows new ≡ seen_rows old ++ listed p (length (rows_in old)) above (chosen c (parts (node s below end)))
+    → seen_rows old ++ listed p (length (rows_in old)) above (chosen c (parts row)) ≡ whole
+    → seen_rows new ++ listed p (length (rows_in new)) above (chosen c (parts after)) ≡ whole
+next_statement old new p above c s below after row whole is added so =
+    then_others old new p above (chosen c (parts (node s below end))) (chosen c (parts after)) whole added
+    (ap (λ f. seen_rows old ++ listed p (length (rows_in old)) above f) (sym (ap (λ r. chosen c (parts r)) is ∙ chosen-first c s below after)) ∙ so)
+
+-- none is left
+pub all_added : (rows : Table Planned) (p : Option ℕ) (above c : Bool) (f : Forest spec.Source) (whole : List (Place plan.Planned)) → f ≡ end
+    → seen_rows rows ++ listed p (length (rows_in rows)) above (chosen c (parts f)) ≡ whole → seen_rows rows ≡ whole
+unfolding parts
+all_added rows p above true f whole none so =
+    nothing_added rows p above (as_cases (parts f)) (ap (λ g. as_cases (parts g)) none) ∙ so
+all_added rows p above false f whole none so = nothing_added rows p above (parts f) (ap parts none) ∙ so

@@ -1,0 +1,30 @@
+-- Planned nodes as the specification's.
+use Rattle.std.specs.Prelude.{ℕ, Bool, true, false, List, Option}
+use Rattle.yspec.specs.Forest.{Forest}
+use Rattle.yspec.specs.linking.Parts.{Part, part_of, case_for}
+use Rattle.yspec.specs.linking.Planned as spec
+use Rattle.yspec.specs.linking.Planned.{planned}
+use Rattle.ypreorder.specs.Layout.{Place, places, laid, seen}
+use Rattle.ypreorder.specs.View.{rows_in, row_by, label_by}
+use Rattle.ypreorder.specs.declared.table.Table.{Table}
+use Rattle.ylink.specs.SourceView.{source_view}
+use Rattle.yplan.specs.declared.planned.Planned.{Planned}
+
+-- a part, or the case that it stands for
+abbrev pub implied_or : Bool → Part → Part
+implied_or true p = case_for p
+implied_or false p = p
+
+abbrev pub part_at : Planned → Part
+part_at p = implied_or p.is_implied (part_of (label_by source_view p.source) (row_by source_view p.source.children))
+
+-- the planned node of a number
+abbrev pub planned_view : ℕ → Planned → spec.Planned
+planned_view number p = record { number = number; config = p.config; part = part_at p }
+
+abbrev pub seen_rows : Table Planned → List (Place spec.Planned)
+seen_rows t = seen planned_view 0 (laid (rows_in t))
+
+-- how the nodes of parts lie below one, from a number on
+abbrev pub listed : Option ℕ → ℕ → Bool → Forest Part → List (Place spec.Planned)
+listed parent number above parts = places parent number (planned number above parts)

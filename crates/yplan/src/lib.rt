@@ -1,0 +1,8 @@
+//! The schema nodes that modules define, planned before they are made: numbered, with the names by which they refer to
+//! one another, and the rules that they break.
+#![tactic(auto)]
+
+mod planned;
+mod planning;
+
+pub use planned::Planned;

@@ -1,0 +1,120 @@
+//! How nodes are planned.
+
+ghost use Rattle.std.specs.Prelude.{◌≡◌, ◌++◌, OnOk, length, if◌then◌else◌};
+ghost use Rattle.yspec.specs.Forest.{end, node};
+ghost use Rattle.std.specs.Option.{option_map_or};
+ghost use Rattle.yspec.specs.linking.Keyword.{config_word};
+ghost use Rattle.yspec.specs.linking.Source.{argument_with};
+ghost use Rattle.yspec.specs.linking.Parts.{part_of, parts, as_cases, case_for, within};
+ghost use Rattle.yspec.specs.linking.Planned.{is_said};
+ghost use Rattle.ypreorder.specs.View.{rows_in, row_by, label_by};
+ghost use Rattle.ylink.specs.SourceView.{source_view};
+ghost use Rattle.yplan.specs.PlannedView.{seen_rows, listed, part_at};
+
+use crate::planned::Planned;
+use std::alloc::AllocError;
+use ylink::{Keyword, Source, argument_with};
+use ypreorder::{Node, Nodes, Table};
+
+/// Whether a node with these substatements is configuration, below one that is or isn't.
+fn config_of(above: bool, own: Nodes<'_, Source<'_>>) -> bool
+    ensures { result ≡ option_map_or is_said (argument_with config_word (row_by source_view own.entry)) above }
+{
+    match argument_with(Keyword::Config, own) {
+        Some(text) => text == "true",
+        None => above,
+    }
+}
+
+/// Adds the nodes that some statements define, with all below them. In a choice single nodes stand for cases.
+#[cycle(nodes)]
+fn add_nodes<'a, 't>(
+    table: &mut Table<Planned<'a, 't>>,
+    parent: Option<u32>,
+    above: bool,
+    in_choice: bool,
+    statements: Nodes<'a, Source<'t>>,
+) -> Result<(), AllocError>
+    ensures { let nodes = parts (row_by source_view statements.entry) in OnOk result (seen_rows table.new ≡ seen_rows table.old
+        ++ listed parent (length (rows_in table.old)) above (if in_choice then as_cases nodes else nodes)) }
+{
+    for statement in statements {
+        add_statement(table, parent, above, in_choice, statement)?;
+    }
+    Ok(())
+}
+
+/// Adds what a statement defines, if it is a node, with all below it.
+#[cycle(nodes)]
+fn add_statement<'a, 't>(
+    table: &mut Table<Planned<'a, 't>>,
+    parent: Option<u32>,
+    above: bool,
+    in_choice: bool,
+    statement: Node<'a, Source<'t>>,
+) -> Result<(), AllocError>
+    ensures { let s = label_by source_view statement.entry in let below = row_by source_view statement.entry.children in
+        let nodes = parts (node s below end) in OnOk result (seen_rows table.new ≡ seen_rows table.old
+        ++ listed parent (length (rows_in table.old)) above (if in_choice then as_cases nodes else nodes)) }
+{
+    let keyword = statement.label().keyword;
+    if !keyword.defines_node() {
+        return Ok(());
+    }
+    if in_choice && !Keyword::Case.is(keyword) {
+        return add_case(table, parent, above, statement);
+    }
+    add_node(table, parent, above, statement)
+}
+
+/// Adds the node that a statement defines, with all below it.
+#[cycle(nodes)]
+fn add_node<'a, 't>(
+    table: &mut Table<Planned<'a, 't>>,
+    parent: Option<u32>,
+    above: bool,
+    statement: Node<'a, Source<'t>>,
+) -> Result<(), AllocError>
+    ensures { let s = label_by source_view statement.entry in let below = row_by source_view statement.entry.children in
+        OnOk result (seen_rows table.new ≡ seen_rows table.old
+        ++ listed parent (length (rows_in table.old)) above (node (part_of s below) (within s (parts below)) end)) }
+{
+    let own = statement.children();
+    let config = config_of(above, own);
+    let number = table.open(
+        parent,
+        Planned {
+            source: statement,
+            is_implied: false,
+            config,
+        },
+    )?;
+    add_nodes(table, Some(number), config, Keyword::Choice.is(statement.label().keyword), own)?;
+    table.close(number);
+    Ok(())
+}
+
+/// Adds the case for which a single node stands, with that node in it.
+#[cycle(nodes)]
+fn add_case<'a, 't>(
+    table: &mut Table<Planned<'a, 't>>,
+    parent: Option<u32>,
+    above: bool,
+    statement: Node<'a, Source<'t>>,
+) -> Result<(), AllocError>
+    ensures { let s = label_by source_view statement.entry in let below = row_by source_view statement.entry.children in
+        let part = part_of s below in OnOk result (seen_rows table.new ≡ seen_rows table.old
+        ++ listed parent (length (rows_in table.old)) above (node (case_for part) (node part (within s (parts below)) end) end)) }
+{
+    let number = table.open(
+        parent,
+        Planned {
+            source: statement,
+            is_implied: true,
+            config: above,
+        },
+    )?;
+    add_node(table, Some(number), above, statement)?;
+    table.close(number);
+    Ok(())
+}
