@@ -3,3 +3,4 @@ pub mod ListLemmas
 pub mod NumberLemmas
 pub mod SpanLemmas
 pub mod WordLemmas
+pub mod GrammarLemmas
