@@ -4,3 +4,4 @@ pub mod SourceLemmas
 pub mod NumberLemmas
 pub mod SpanLemmas
 pub mod WordLemmas
+pub mod GrammarLemmas

@@ -1,6 +1,6 @@
 //! The rules of the table that statements break (RFC 7950, 7 and 14).
 
-ghost use Rattle.std.specs.Prelude.{◌≡◌, ◌&&◌, ◌++◌, ◌∷◌, [], false, true, not, IfOk, is_some, option_map, position};
+ghost use Rattle.std.specs.Prelude.{◌≡◌, ◌&&◌, ◌++◌, ◌∷◌, [], false, true, not, None, IfOk, is_some, option_map, position};
 ghost use Rattle.std.specs.List.{list_any};
 ghost use Rattle.std.specs.Option.{option_map_or};
 ghost use Rattle.yspec.specs.Forest.{row};
@@ -14,7 +14,7 @@ ghost use Rattle.ylink.specs.KeywordView.{keyword_view};
 ghost use Rattle.ylink.specs.FormView.{form_view};
 ghost use Rattle.ylink.specs.TableView.{count_view, allowed_view, allowed_views, rule_view};
 ghost use Rattle.ylink.specs.Named as named_as;
-ghost use Rattle.ylink.specs.Named.{keyword_views, named_row, counted, is_miscounted_among};
+ghost use Rattle.ylink.specs.Named.{keyword_views, named_row, counted, is_miscounted_among, allowed_word};
 ghost use Rattle.ylink.specs.BreakView.{break_view, seen};
 
 use crate::fault::{Broken, TableCode, least, least_when};
@@ -170,4 +170,169 @@ fn has_fitting_argument(
         Some(text) => fits(alloc, form, text),
         None => Ok(false),
     }
+}
+
+fn judge_argument(
+    alloc: Global,
+    module: usize,
+    form: Form,
+    statement: &Stmt,
+    so_far: Option<Broken>,
+) -> Result<Option<Broken>, AllocError>
+    ensures { IfOk result (λ told. seen told ≡ least_from (seen so_far)
+        (spec.argument_breaks «module» (form_view form) (view statement.now).0)) }
+{
+    let fits = has_fitting_argument(alloc, form, statement)?;
+    Ok(least_when(
+        !fits,
+        so_far,
+        broken(TableCode::C3, module, statement),
+    ))
+}
+
+// Whether there are too many or too few of a substatement.
+#[tactic(auto, using(crate::proofs::GrammarLemmas::miscounted_rows))]
+fn is_miscounted(
+    alloc: Global,
+    allowed: &[Allowed],
+    statement: &Stmt,
+) -> Result<bool, AllocError>
+    ensures { IfOk result (λ b. b ≡ list_any (spec.is_miscounted (view statement.now).1) (allowed_views allowed.now)) }
+{
+    let keywords = keywords_of(alloc, statement.substatements())?;
+    Ok(has_wrong_counts(allowed, &keywords))
+}
+
+// The rules that a statement breaks, apart from those that its substatements break.
+#[tactic(auto, using(yspec::proofs::SchemaProofs::LeastLemmas::least_of_both))]
+fn judge_alone(
+    alloc: Global,
+    module: usize,
+    keyword: Keyword,
+    statement: &Stmt,
+    so_far: Option<Broken>,
+) -> Result<Option<Broken>, AllocError>
+    ensures { IfOk result (λ told. seen told ≡ least_from (seen so_far)
+        (spec.own_breaks «module» (keyword_view keyword) (view statement.now).0 (view statement.now).1)) }
+{
+    let rule = rule_of(keyword);
+    let told = judge_argument(alloc, module, rule.form, statement, so_far)?;
+    let outside = is_type_outside(keyword, statement);
+    let told = least_when(outside, told, broken(TableCode::C1, module, statement));
+    let unversioned = is_unversioned(keyword, statement);
+    let told = least_when(
+        unversioned,
+        told,
+        broken(TableCode::C4, module, statement),
+    );
+    let miscounted = is_miscounted(alloc, rule.substatements, statement)?;
+    Ok(least_when(
+        miscounted,
+        told,
+        broken(TableCode::C2, module, statement),
+    ))
+}
+
+// The keyword of a statement, where it may stand there.
+fn allowed_keyword(allowed: &[Allowed], statement: &Stmt) -> Option<Keyword>
+    ensures { option_map keyword_view result ≡ allowed_word (allowed_views allowed.now) (keyword_named (view statement.now).0.keyword) }
+{
+    let keyword = Keyword::named(statement.keyword())?;
+    if is_allowed(keyword, allowed) {
+        Some(keyword)
+    } else {
+        None
+    }
+}
+
+// The least rule broken by a statement that stands where these are allowed, and below it.
+#[cycle(judge)]
+fn judge(
+    alloc: Global,
+    module: usize,
+    allowed: &[Allowed],
+    statement: &Stmt,
+    so_far: Option<Broken>,
+) -> Result<Option<Broken>, AllocError>
+    ensures { let s = view statement.now in IfOk result (λ told. seen told ≡ least_from (seen so_far)
+        (spec.breaks_at «module» (allowed_views allowed.now) s.0 s.1 (spec.row_breaks «module» (spec.substatements_of s.0.keyword) s.1))) }
+{
+    if is_prefixed(statement) {
+        return Ok(so_far);
+    }
+    match allowed_keyword(allowed, statement) {
+        None => Ok(least(so_far, broken(TableCode::C1, module, statement))),
+        Some(keyword) => {
+            if keyword.is(Keyword::Extension) {
+                return Ok(so_far);
+            }
+            let told = judge_alone(alloc, module, keyword, statement, so_far)?;
+            let rule = rule_of(keyword);
+            judge_row(
+                alloc,
+                module,
+                rule.substatements,
+                statement.substatements(),
+                told,
+            )
+        }
+    }
+}
+
+// The least rule broken by statements that stand in one block, and below them.
+#[cycle(judge)]
+#[tactic(auto, unfolding(yspec::specs::linking::StatementBreaks::row_breaks))]
+fn judge_row(
+    alloc: Global,
+    module: usize,
+    allowed: &[Allowed],
+    statements: &[Stmt],
+    so_far: Option<Broken>,
+) -> Result<Option<Broken>, AllocError>
+    ensures { IfOk result (λ told. seen told ≡ least_from (seen so_far)
+        (spec.row_breaks «module» (allowed_views allowed.now) (row_view statements.now))) }
+{
+    let mut told = so_far;
+    for statement in statements {
+        told = judge(alloc, module, allowed, statement, told)?;
+    }
+    Ok(told)
+}
+
+// The least rule broken by the top statement of a module, and below it.
+fn judge_top(
+    alloc: Global,
+    module: usize,
+    statement: &Stmt,
+    so_far: Option<Broken>,
+) -> Result<Option<Broken>, AllocError>
+    ensures { let s = view statement.now in IfOk result (λ told. seen told ≡ least_from (seen so_far) (spec.top_breaks «module» s.0 s.1)) }
+{
+    if !has_keyword(statement, Keyword::Module) {
+        return Ok(least(so_far, broken(TableCode::C1, module, statement)));
+    }
+    let told = judge_alone(alloc, module, Keyword::Module, statement, so_far)?;
+    let rule = rule_of(Keyword::Module);
+    judge_row(
+        alloc,
+        module,
+        rule.substatements,
+        statement.substatements(),
+        told,
+    )
+}
+
+/// The least rule of the table that modules break, by module, line and number.
+#[tactic(auto, unfolding(yspec::specs::linking::StatementBreaks::breaks_from))]
+pub fn statement_fault(
+    alloc: Global,
+    modules: &[Module],
+) -> Result<Option<Broken>, AllocError>
+    ensures { IfOk result (λ told. seen told ≡ least_from None (spec.statement_phase (modules_view modules.now))) }
+{
+    let mut told = None;
+    for (module, text) in modules.iter().enumerate() {
+        told = judge_top(alloc, module, &text.top, told)?;
+    }
+    Ok(told)
 }

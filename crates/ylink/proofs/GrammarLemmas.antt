@@ -1,0 +1,138 @@
+-- What is broken at statements, by their keywords.
+use Rattle.std.proofs.Common.{◌≡◌, ℕ, suc, ◌+◌, ◌<◌, Bool, true, false, cond, List, [], ◌∷◌, ◌++◌, length, get_or, drop, Option, Some, None, refl, sym, ap, ap₂, subst, ◌∙◌}
+use Rattle.std.specs.Prelude.{filter, map, ◌||◌}
+use Rattle.std.specs.Prelude.{Result, Ok, Err, IfOk}
+use Rattle.std.specs.Option.{option_map_or}
+use Rattle.std.proofs.lemmas.List.Sums.{length-filter}
+use Rattle.std.specs.List.{list_any}
+use Rattle.std.proofs.lemmas.List.{at_drop_more}
+use Rattle.yspec.specs.Forest.{Forest, end, node, row}
+use Rattle.yspec.specs.text.Statement.{Statement}
+use Rattle.yspec.specs.linking.StatementBreaks.{has_keyword, occurrences, is_miscounted}
+use Rattle.yspec.specs.linking.Keyword.{Keyword, same_keyword, keyword_named, extension_word, module_word}
+use Rattle.yspec.specs.linking.Table.{Allowed, Rule, rule_of}
+use Rattle.yspec.specs.schema.Breaks.{Break, broken, least_from}
+use Rattle.yspec.specs.linking.StatementBreaks.{is_prefixed, is_allowed, own_breaks, breaks_at, named_breaks, known_breaks, substatements_of, row_breaks, top_breaks, breaks_from}
+use Rattle.yspec.proofs.SchemaProofs.LeastLemmas.{least_of_both}
+use Rattle.ytext.specs.View.{view, row_view, modules_view}
+use Rattle.ytext.specs.declared.statement.Stmt.{Stmt}
+use Rattle.ytext.specs.declared.statement.Module.{Module}
+use Rattle.ytext.proofs.ViewLemmas.{row_view_at}
+use Rattle.ylink.specs.Named.{named_row, is_named, counted, is_miscounted_among, allowed_word}
+
+filtered_map : (test : Option Keyword → Bool) (xs : List Statement)
+    → length (filter test (map (λ (s : Statement). keyword_named s.keyword) xs)) ≡ length (filter (λ (s : Statement). test (keyword_named s.keyword)) xs)
+filtered_map test [] = refl
+filtered_map test (x ∷ xs) = step (test (keyword_named x.keyword)) (filtered_map test xs)
+  where
+    step : (b : Bool) → length (filter test (map (λ (s : Statement). keyword_named s.keyword) xs)) ≡ length (filter (λ (s : Statement). test (keyword_named s.keyword)) xs)
+        → length (cond b (keyword_named x.keyword ∷ filter test (map (λ (s : Statement). keyword_named s.keyword) xs)) (filter test (map (λ (s : Statement). keyword_named s.keyword) xs)))
+        ≡ length (cond b (x ∷ filter (λ (s : Statement). test (keyword_named s.keyword)) xs) (filter (λ (s : Statement). test (keyword_named s.keyword)) xs))
+    step true e = ap suc e
+    step false e = e
+
+-- what a fallible call answers, where that is another way to say it
+pub if_ok_then : {A E : Type 0} (P Q : A → Type 0) (r : Result A E) → ((x : A) → P x → Q x) → IfOk r P → IfOk r Q
+if_ok_then P Q (Ok x) h p = h x p
+if_ok_then P Q (Err e) h p = tt
+
+pub counted_row : (k : Keyword) (f : Forest Statement) → counted k (named_row f) ≡ occurrences k f
+counted_row k f =
+    sym (length-filter (is_named k) (named_row f)) ∙ filtered_map (is_named k) (row f) ∙ length-filter (has_keyword k) (row f)
+
+miscounted_row : (f : Forest Statement) (a : Allowed) → is_miscounted_among (named_row f) a ≡ is_miscounted f a
+miscounted_row f a = rw (counted_row a.keyword f) refl
+
+pub miscounted_rows : (f : Forest Statement) (allowed : List Allowed) → list_any (is_miscounted_among (named_row f)) allowed ≡ list_any (is_miscounted f) allowed
+miscounted_rows f [] = refl
+miscounted_rows f (a ∷ others) = ap₂ (λ x y. x || y) (miscounted_row f a) (miscounted_rows f others)
+
+-- ---- a statement where it stands
+
+pub breaks_prefixed : (m : ℕ) (allowed : List Allowed) (s : Statement) (below : Forest Statement) (inner : List Break) → is_prefixed s.keyword ≡ true
+    → [] ≡ breaks_at m allowed s below inner
+breaks_prefixed m allowed s below inner e = rw e refl
+
+refused_word : (m : ℕ) (allowed : List Allowed) (o : Option Keyword) (s : Statement) (below : Forest Statement) (inner : List Break) → None ≡ allowed_word allowed o
+    → broken 1 m s.line ≡ named_breaks m allowed o s below inner
+refused_word m allowed None s below inner e = refl
+refused_word m allowed (Some k) s below inner e = go (is_allowed k allowed) refl
+  where
+    go : (b : Bool) → is_allowed k allowed ≡ b → broken 1 m s.line ≡ known_breaks m allowed k s below inner
+    go true is = let clash : None ≡ Some k = rw is at e in absurd cc
+    go false is = rw is refl
+
+pub breaks_refused : (m : ℕ) (allowed : List Allowed) (s : Statement) (below : Forest Statement) (inner : List Break) → is_prefixed s.keyword ≡ false
+    → None ≡ allowed_word allowed (keyword_named s.keyword) → broken 1 m s.line ≡ breaks_at m allowed s below inner
+breaks_refused m allowed s below inner e none = rw e (refused_word m allowed (keyword_named s.keyword) s below inner none)
+
+pub known_word : (allowed : List Allowed) (o : Option Keyword) (k : Keyword) → Some k ≡ allowed_word allowed o → (o ≡ Some k) × (is_allowed k allowed ≡ true)
+known_word allowed None k e = absurd cc
+known_word allowed (Some j) k e = go (is_allowed j allowed) refl
+  where
+    go : (b : Bool) → is_allowed j allowed ≡ b → (Some j ≡ Some k) × (is_allowed k allowed ≡ true)
+    go true is = let same : Some k ≡ Some j = rw is at e in (sym same, subst (λ (o : Option Keyword). option_map_or (λ i. is_allowed i allowed) o false ≡ true) (sym same) is)
+    go false is = let clash : Some k ≡ None = rw is at e in absurd cc
+
+pub breaks_extension : (m : ℕ) (allowed : List Allowed) (s : Statement) (below : Forest Statement) (inner : List Break) (k : Keyword) → is_prefixed s.keyword ≡ false
+    → Some k ≡ allowed_word allowed (keyword_named s.keyword) → same_keyword k extension_word ≡ true → [] ≡ breaks_at m allowed s below inner
+breaks_extension m allowed s below inner k e some same =
+    let known = known_word allowed (keyword_named s.keyword) k some in rw (e, known.0, known.1, same) refl
+
+pub breaks_known : (m : ℕ) (allowed : List Allowed) (s : Statement) (below : Forest Statement) (k : Keyword) → is_prefixed s.keyword ≡ false
+    → Some k ≡ allowed_word allowed (keyword_named s.keyword) → same_keyword k extension_word ≡ false
+    → breaks_at m allowed s below (row_breaks m (substatements_of s.keyword) below) ≡ own_breaks m k s below ++ row_breaks m (rule_of k).substatements below
+breaks_known m allowed s below k e some other =
+    let known = known_word allowed (keyword_named s.keyword) k some in rw (e, known.0, known.1, other) refl
+
+-- first the statement's own, then those below it
+pub judged_known : (m : ℕ) (allowed : List Allowed) (s : Statement) (below row : Forest Statement) (k : Keyword) (r : Rule) (so_far told result : Option Break)
+    → is_prefixed s.keyword ≡ false → Some k ≡ allowed_word allowed (keyword_named s.keyword) → same_keyword k extension_word ≡ false
+    → told ≡ least_from so_far (own_breaks m k s below) → row ≡ below → r ≡ rule_of k
+    → result ≡ least_from told (row_breaks m r.substatements row)
+    → result ≡ least_from so_far (breaks_at m allowed s below (row_breaks m (substatements_of s.keyword) below))
+judged_known m allowed s below row k r so_far told result plain some other alone same ruled under =
+    under ∙ ap (λ (x : Rule). least_from told (row_breaks m x.substatements row)) ruled ∙ ap (λ t. least_from t (row_breaks m (rule_of k).substatements row)) alone
+    ∙ ap (λ f. least_from (least_from so_far (own_breaks m k s below)) (row_breaks m (rule_of k).substatements f)) same
+    ∙ sym (least_of_both so_far (own_breaks m k s below) (row_breaks m (rule_of k).substatements below))
+    ∙ ap (least_from so_far) (sym (breaks_known m allowed s below k plain some other))
+
+-- one statement of a row, and the others
+pub judged_row : (m : ℕ) (allowed : List Allowed) (ss : List Stmt) (i : ℕ) (s : Stmt) (told result whole : Option Break)
+    → i < length ss → s ≡ get_or ss i s
+    → result ≡ least_from told (breaks_at m allowed (view s).0 (view s).1 (row_breaks m (substatements_of (view s).0.keyword) (view s).1))
+    → least_from told (row_breaks m allowed (row_view (drop i ss))) ≡ whole
+    → least_from result (row_breaks m allowed (row_view (drop (i + 1) ss))) ≡ whole
+unfolding row_breaks
+judged_row m allowed ss i s told result whole within is judged so =
+    ap (λ t. least_from t (row_breaks m allowed (row_view (drop (i + 1) ss)))) judged
+    ∙ sym (least_of_both told (breaks_at m allowed (view s).0 (view s).1 (row_breaks m (substatements_of (view s).0.keyword) (view s).1)) (row_breaks m allowed (row_view (drop (i + 1) ss))))
+    ∙ ap (λ f. least_from told (row_breaks m allowed f)) (sym (row_view_at ss i s within is)) ∙ so
+
+-- a module of a set, and the others
+pub judged_top : (m : ℕ) (s : Statement) (below row : Forest Statement) (r : Rule) (so_far told result : Option Break)
+    → has_keyword module_word s ≡ true → told ≡ least_from so_far (own_breaks m module_word s below) → row ≡ below → r ≡ rule_of module_word
+    → result ≡ least_from told (row_breaks m r.substatements row)
+    → result ≡ least_from so_far (top_breaks m s below)
+judged_top m s below row r so_far told result top alone same ruled under =
+    under ∙ ap (λ (x : Rule). least_from told (row_breaks m x.substatements row)) ruled ∙ ap (λ t. least_from t (row_breaks m (rule_of module_word).substatements row)) alone
+    ∙ ap (λ f. least_from (least_from so_far (own_breaks m module_word s below)) (row_breaks m (rule_of module_word).substatements f)) same
+    ∙ sym (least_of_both so_far (own_breaks m module_word s below) (row_breaks m (rule_of module_word).substatements below))
+    ∙ rw top refl
+
+modules_view_at : (ms : List Module) (i : ℕ) (m : Module) → i < length ms → m ≡ get_or ms i m
+    → modules_view (drop i ms) ≡ node (view m.top).0 (view m.top).1 (modules_view (drop (i + 1) ms))
+modules_view_at ms i m within is =
+    at_drop_more modules_view ms i m within ∙ ap (λ (x : Module). node (view x.top).0 (view x.top).1 (modules_view (drop (i + 1) ms))) (sym is)
+
+pub judged_module : (ms : List Module) (i : ℕ) (m : Module) (told result whole : Option Break)
+    → i < length ms → m ≡ get_or ms i m
+    → result ≡ least_from told (top_breaks i (view m.top).0 (view m.top).1)
+    → least_from told (breaks_from i (modules_view (drop i ms))) ≡ whole
+    → least_from result (breaks_from (i + 1) (modules_view (drop (i + 1) ms))) ≡ whole
+unfolding breaks_from
+judged_module ms i m told result whole within is judged so =
+    let own = top_breaks i (view m.top).0 (view m.top).1 in
+    let others = breaks_from (i + 1) (modules_view (drop (i + 1) ms)) in
+    ap (λ t. least_from t others) judged ∙ sym (least_of_both told own others)
+    ∙ ap (λ f. least_from told (breaks_from i f)) (sym (modules_view_at ms i m within is)) ∙ so

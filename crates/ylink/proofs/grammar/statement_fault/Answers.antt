@@ -1,0 +1,9 @@
+use Rattle.std.proofs.Common.{arith, rules}
+use Rattle.ylink.specs.BreakView.{seen}
+use Rattle.ylink.proofs.GrammarLemmas.{judged_module}
+use Rattle.ylink.proofs.grammar.statement_fault.Goals as goal
+
+pub loop-module-preserved : goal.loop-module-preserved
+loop-module-preserved c =
+    judged_module c.args.modules.now c.loop-module.module c.index-modules-module.result (seen c.loop-module.told) (seen c.in_ok-told.told) _
+    (omega arith) c.index-modules-module.is c.in_ok-told.ensures c.loop-module.invariant
