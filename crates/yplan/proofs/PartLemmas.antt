@@ -10,7 +10,7 @@ use Rattle.yspec.specs.linking.Source as spec
 use Rattle.yspec.specs.linking.Source.{first_with, argument_with, argument_in, is_source_of}
 use Rattle.yspec.specs.linking.Parts.{Part, defines_node, own_of, part_of, parts, as_cases, case_for, within}
 use Rattle.yspec.specs.linking.Planned as plan
-use Rattle.yspec.specs.linking.Planned.{planned, is_said, config_of}
+use Rattle.yspec.specs.linking.Planned.{Around, around_below, planned_node, planned, is_said, config_of}
 use Rattle.ypreorder.specs.Layout.{Place, places, laid, opened, closed, seen}
 use Rattle.ypreorder.specs.View.{rows_in}
 use Rattle.ypreorder.specs.declared.table.Table.{Table}
@@ -154,37 +154,36 @@ own_part true s below stands other =
 
 -- ---- as they are planned
 
-pub size-planned : (k : ℕ) (above : Bool) (f : Forest Part) → size (planned k above f) ≡ size f
+pub size-planned : (k : ℕ) (a : Around) (f : Forest Part) → size (planned k a f) ≡ size f
 unfolding planned
-size-planned k above end = refl
-size-planned k above (node p below after) =
-    ap₂ (λ a b. suc (a + b)) (size-planned (k + 1) (config_of above p) below) (size-planned (k + suc (size below)) above after)
+size-planned k a end = refl
+size-planned k a (node p below after) =
+    ap₂ (λ m n. suc (m + n)) (size-planned (k + 1) (around_below k a p) below) (size-planned (k + suc (size below)) a after)
 
-pub planned-join : (k : ℕ) (above : Bool) (f g : Forest Part) → planned k above (join f g) ≡ join (planned k above f) (planned (k + size f) above g)
+pub planned-join : (k : ℕ) (a : Around) (f g : Forest Part) → planned k a (join f g) ≡ join (planned k a f) (planned (k + size f) a g)
 unfolding planned
-planned-join k above end g = ap (λ n. planned n above g) (omega arith)
-planned-join k above (node p below after) g =
+planned-join k a end g = ap (λ n. planned n a g) (omega arith)
+planned-join k a (node p below after) g =
     let here : k + suc (size below) + size after ≡ k + suc (size below + size after) = omega arith in
-    ap (λ rest. node (record { number = k; config = config_of above p; part = p }) (planned (k + 1) (config_of above p) below) rest)
-    (planned-join (k + suc (size below)) above after g ∙ ap (λ n. join (planned (k + suc (size below)) above after) (planned n above g)) here)
+    ap (λ rest. node (planned_node k a p) (planned (k + 1) (around_below k a p) below) rest)
+    (planned-join (k + suc (size below)) a after g ∙ ap (λ n. join (planned (k + suc (size below)) a after) (planned n a g)) here)
 
-pub listed-join : (p : Option ℕ) (k : ℕ) (above : Bool) (f g : Forest Part) → listed p k above (join f g) ≡ listed p k above f ++ listed p (k + size f) above g
-listed-join p k above f g =
-    ap (places p k) (planned-join k above f g) ∙ (places-join p k (planned k above f) (planned (k + size f) above g)
-    ∙ ap (λ n. listed p k above f ++ places p (k + n) (planned (k + size f) above g)) (size-planned k above f))
+pub listed-join : (k : ℕ) (a : Around) (f g : Forest Part) → listed k a (join f g) ≡ listed k a f ++ listed (k + size f) a g
+listed-join k a f g =
+    ap (places a.parent k) (planned-join k a f g) ∙ (places-join a.parent k (planned k a f) (planned (k + size f) a g)
+    ∙ ap (λ n. listed k a f ++ places a.parent (k + n) (planned (k + size f) a g)) (size-planned k a f))
 
-pub listed-one : (p : Option ℕ) (k : ℕ) (above : Bool) (x : Part) (below : Forest Part)
-    → listed p k above (node x below end)
-    ≡ record { parent = p; label = record { number = k; config = config_of above x; part = x }; below = size below } ∷ listed (Some k) (k + 1) (config_of above x) below
+pub listed-one : (k : ℕ) (a : Around) (x : Part) (below : Forest Part)
+    → listed k a (node x below end)
+    ≡ record { parent = a.parent; label = planned_node k a x; below = size below } ∷ listed (k + 1) (around_below k a x) below
 unfolding planned
-listed-one p k above x below =
-    let label : plan.Planned = record { number = k; config = config_of above x; part = x } in
-    ap (λ n. record { parent = p; label = label; below = n } ∷ (listed (Some k) (k + 1) (config_of above x) below ++ [])) (size-planned (k + 1) (config_of above x) below)
-    ∙ ap (λ rest. record { parent = p; label = label; below = size below } ∷ rest) (append-nil (listed (Some k) (k + 1) (config_of above x) below))
+listed-one k a x below =
+    ap (λ n. record { parent = a.parent; label = planned_node k a x; below = n } ∷ (listed (k + 1) (around_below k a x) below ++ [])) (size-planned (k + 1) (around_below k a x) below)
+    ∙ ap (λ rest. record { parent = a.parent; label = planned_node k a x; below = size below } ∷ rest) (append-nil (listed (k + 1) (around_below k a x) below))
 
-pub listed-none : (p : Option ℕ) (k : ℕ) (above : Bool) → listed p k above end ≡ []
+pub listed-none : (k : ℕ) (a : Around) → listed k a end ≡ []
 unfolding planned
-listed-none p k above = refl
+listed-none k a = refl
 
 pub length_added : (old new : Table Planned) (more : List (Place plan.Planned)) → seen_rows new ≡ seen_rows old ++ more
     → length (rows_in new) ≡ length (rows_in old) + length more
@@ -193,56 +192,56 @@ length_added old new more added =
     omega (arith, whole, length-seen planned_view 0 (laid (rows_in new)), length-laid (rows_in new), length-seen planned_view 0 (laid (rows_in old)), length-laid (rows_in old))
 
 -- some are added, and others follow
-pub then_others : (old new : Table Planned) (p : Option ℕ) (above : Bool) (f g : Forest Part) (whole : List (Place plan.Planned))
-    → seen_rows new ≡ seen_rows old ++ listed p (length (rows_in old)) above f
-    → seen_rows old ++ listed p (length (rows_in old)) above (join f g) ≡ whole
-    → seen_rows new ++ listed p (length (rows_in new)) above g ≡ whole
-then_others old new p above f g whole added so =
+pub then_others : (old new : Table Planned) (a : Around) (f g : Forest Part) (whole : List (Place plan.Planned))
+    → seen_rows new ≡ seen_rows old ++ listed (length (rows_in old)) a f
+    → seen_rows old ++ listed (length (rows_in old)) a (join f g) ≡ whole
+    → seen_rows new ++ listed (length (rows_in new)) a g ≡ whole
+then_others old new a f g whole added so =
     let k = length (rows_in old) in
-    let count : length (rows_in new) ≡ k + size f = length_added old new (listed p k above f) added
-    ∙ ap (λ n. k + n) (length-places p k (planned k above f) ∙ size-planned k above f) in
-    ap₂ (λ a n. a ++ listed p n above g) added count
-    ∙ (append_assoc (seen_rows old) (listed p k above f) (listed p (k + size f) above g)
-    ∙ (ap (λ rest. seen_rows old ++ rest) (sym (listed-join p k above f g)) ∙ so))
+    let count : length (rows_in new) ≡ k + size f = length_added old new (listed k a f) added
+    ∙ ap (λ n. k + n) (length-places a.parent k (planned k a f) ∙ size-planned k a f) in
+    ap₂ (λ ps n. ps ++ listed n a g) added count
+    ∙ (append_assoc (seen_rows old) (listed k a f) (listed (k + size f) a g)
+    ∙ (ap (λ rest. seen_rows old ++ rest) (sym (listed-join k a f g)) ∙ so))
 
-pub nothing_added : (old : Table Planned) (p : Option ℕ) (above : Bool) (f : Forest Part) → f ≡ end
-    → seen_rows old ≡ seen_rows old ++ listed p (length (rows_in old)) above f
-nothing_added old p above f none =
-    sym (ap (λ g. seen_rows old ++ listed p (length (rows_in old)) above g) none
-    ∙ (ap (λ ps. seen_rows old ++ ps) (listed-none p (length (rows_in old)) above) ∙ append-nil (seen_rows old)))
+pub nothing_added : (old : Table Planned) (a : Around) (f : Forest Part) → f ≡ end
+    → seen_rows old ≡ seen_rows old ++ listed (length (rows_in old)) a f
+nothing_added old a f none =
+    sym (ap (λ g. seen_rows old ++ listed (length (rows_in old)) a g) none
+    ∙ (ap (λ ps. seen_rows old ++ ps) (listed-none (length (rows_in old)) a) ∙ append-nil (seen_rows old)))
 
 -- a node is opened, all below it is added, and it is closed
-pub added : (old mid full new : Table Planned) (p : Option ℕ) (l : Planned) (n : ℕ) (above : Bool) (x : Part) (f : Forest Part)
-    → laid (rows_in mid) ≡ laid (rows_in old) ++ opened p l ∷ [] → n ≡ length (rows_in old)
-    → seen_rows full ≡ seen_rows mid ++ listed (Some n) (length (rows_in mid)) (config_of above x) f
+pub added : (old mid full new : Table Planned) (l : Planned) (n : ℕ) (a inside : Around) (x : Part) (f : Forest Part)
+    → laid (rows_in mid) ≡ laid (rows_in old) ++ opened a.parent l ∷ [] → n ≡ length (rows_in old)
+    → inside ≡ around_below n a x
+    → seen_rows full ≡ seen_rows mid ++ listed (length (rows_in mid)) inside f
     → laid (rows_in new) ≡ closed n (laid (rows_in full))
-    → planned_view (length (rows_in old)) l ≡ record { number = length (rows_in old); config = config_of above x; part = x }
-    → seen_rows new ≡ seen_rows old ++ listed p (length (rows_in old)) above (node x f end)
-added old mid full new p l n above x f mid_is n_is full_is new_is label_is =
+    → planned_view (length (rows_in old)) l ≡ planned_node (length (rows_in old)) a x
+    → seen_rows new ≡ seen_rows old ++ listed (length (rows_in old)) a (node x f end)
+added old mid full new l n a inside x f mid_is n_is inside_is full_is new_is label_is =
     let k = length (rows_in old) in
-    let c = config_of above x in
-    let label : plan.Planned = record { number = k; config = c; part = x } in
-    let next : length (rows_in mid) ≡ k + 1 = sym (length-laid (rows_in mid)) ∙ (ap length mid_is ∙ (length-append (laid (rows_in old)) (opened p l ∷ []) ∙ omega (arith, length-laid (rows_in old)))) in
-    grown planned_view (rows_in old) (rows_in mid) (rows_in full) (rows_in new) p l n (planned (length (rows_in mid)) c f) mid_is n_is full_is new_is
+    let next : length (rows_in mid) ≡ k + 1 = sym (length-laid (rows_in mid)) ∙ (ap length mid_is ∙ (length-append (laid (rows_in old)) (opened a.parent l ∷ []) ∙ omega (arith, length-laid (rows_in old)))) in
+    let m = length (rows_in mid) in
+    grown planned_view (rows_in old) (rows_in mid) (rows_in full) (rows_in new) a.parent l n (planned m (around_below n a x) f) mid_is n_is
+    (full_is ∙ ap (λ b. seen_rows mid ++ listed m b f) inside_is) new_is
     ∙ ap (λ ps. seen_rows old ++ ps)
-    (ap₂ (λ y m. record { parent = p; label = y; below = m } ∷ places (Some n) (n + 1) (planned (length (rows_in mid)) c f)) label_is (size-planned (length (rows_in mid)) c f)
-    ∙ (ap₂ (λ m j. record { parent = p; label = label; below = size f } ∷ places (Some m) (m + 1) (planned j c f)) n_is next
-    ∙ sym (listed-one p k above x f)))
+    (ap₂ (λ y i. record { parent = a.parent; label = y; below = i } ∷ places (Some n) (n + 1) (planned m (around_below n a x) f)) label_is (size-planned m (around_below n a x) f)
+    ∙ (ap₂ (λ i j. record { parent = a.parent; label = planned_node k a x; below = size f } ∷ places (Some i) (i + 1) (planned j (around_below i a x) f)) n_is next
+    ∙ sym (listed-one k a x f)))
 
 -- one more statement of a row
-pub next_statement : (old new : Table Planned) (p : Option ℕ) (above c : Bool) (s : spec.Source) (below after row : Forest spec.Source) (whole : List (Place plan.Planned))
+pub next_statement : (old new : Table Planned) (a : Around) (c : Bool) (s : spec.Source) (below after row : Forest spec.Source) (whole : List (Place plan.Planned))
     → row ≡ node s below after
-    → seen_rows new ≡ seen_rows old ++ listed p (length (rows_in old)) above (chosen c (parts (node s below end)))
-    → seen_rows old ++ listed p (length (rows_in old)) above (chosen c (parts row)) ≡ whole
-    → seen_rows new ++ listed p (length (rows_in new)) above (chosen c (parts after)) ≡ whole
-next_statement old new p above c s below after row whole is added so =
-    then_others old new p above (chosen c (parts (node s below end))) (chosen c (parts after)) whole added
-    (ap (λ f. seen_rows old ++ listed p (length (rows_in old)) above f) (sym (ap (λ r. chosen c (parts r)) is ∙ chosen-first c s below after)) ∙ so)
+    → seen_rows new ≡ seen_rows old ++ listed (length (rows_in old)) a (chosen c (parts (node s below end)))
+    → seen_rows old ++ listed (length (rows_in old)) a (chosen c (parts row)) ≡ whole
+    → seen_rows new ++ listed (length (rows_in new)) a (chosen c (parts after)) ≡ whole
+next_statement old new a c s below after row whole is added so =
+    then_others old new a (chosen c (parts (node s below end))) (chosen c (parts after)) whole added
+    (ap (λ f. seen_rows old ++ listed (length (rows_in old)) a f) (sym (ap (λ r. chosen c (parts r)) is ∙ chosen-first c s below after)) ∙ so)
 
 -- none is left
-pub all_added : (rows : Table Planned) (p : Option ℕ) (above c : Bool) (f : Forest spec.Source) (whole : List (Place plan.Planned)) → f ≡ end
-    → seen_rows rows ++ listed p (length (rows_in rows)) above (chosen c (parts f)) ≡ whole → seen_rows rows ≡ whole
+pub all_added : (rows : Table Planned) (a : Around) (c : Bool) (f : Forest spec.Source) (whole : List (Place plan.Planned)) → f ≡ end
+    → seen_rows rows ++ listed (length (rows_in rows)) a (chosen c (parts f)) ≡ whole → seen_rows rows ≡ whole
 unfolding parts
-all_added rows p above true f whole none so =
-    nothing_added rows p above (as_cases (parts f)) (ap (λ g. as_cases (parts g)) none) ∙ so
-all_added rows p above false f whole none so = nothing_added rows p above (parts f) (ap parts none) ∙ so
+all_added rows a true f whole none so = nothing_added rows a (as_cases (parts f)) (ap (λ g. as_cases (parts g)) none) ∙ so
+all_added rows a false f whole none so = nothing_added rows a (parts f) (ap parts none) ∙ so

@@ -2,6 +2,7 @@
 use Rattle.std.specs.Prelude.{ℕ, Bool, true, false, List, Option}
 use Rattle.yspec.specs.Forest.{Forest}
 use Rattle.yspec.specs.linking.Parts.{Part, part_of, case_for}
+use Rattle.yspec.specs.linking.Keyword as words
 use Rattle.yspec.specs.linking.Planned as spec
 use Rattle.yspec.specs.linking.Planned.{planned}
 use Rattle.ypreorder.specs.Layout.{Place, places, laid, seen}
@@ -9,22 +10,32 @@ use Rattle.ypreorder.specs.View.{rows_in, row_by, label_by}
 use Rattle.ypreorder.specs.declared.table.Table.{Table}
 use Rattle.ylink.specs.SourceView.{source_view}
 use Rattle.yplan.specs.declared.planned.Planned.{Planned}
+use Rattle.yplan.specs.declared.planned.Around.{Around}
 
 -- a part, or the case that it stands for
 abbrev pub implied_or : Bool → Part → Part
 implied_or true p = case_for p
 implied_or false p = p
 
+-- the keyword of that
+abbrev pub shown_keyword : Bool → words.Keyword → words.Keyword
+shown_keyword true k = words.case_word
+shown_keyword false k = k
+
 abbrev pub part_at : Planned → Part
 part_at p = implied_or p.is_implied (part_of (label_by source_view p.source) (row_by source_view p.source.children))
 
 -- the planned node of a number
 abbrev pub planned_view : ℕ → Planned → spec.Planned
-planned_view number p = record { number = number; config = p.config; part = part_at p }
+planned_view number p =
+    record { number = number; parent = p.parent; scope = p.scope; config = p.config; part = part_at p }
+
+abbrev pub around_view : Around → spec.Around
+around_view a = record { parent = a.parent; data_parent = a.data_parent; scope = a.scope; config = a.config }
 
 abbrev pub seen_rows : Table Planned → List (Place spec.Planned)
 seen_rows t = seen planned_view 0 (laid (rows_in t))
 
--- how the nodes of parts lie below one, from a number on
-abbrev pub listed : Option ℕ → ℕ → Bool → Forest Part → List (Place spec.Planned)
-listed parent number above parts = places parent number (planned number above parts)
+-- how the nodes of parts lie below what stands around them, from a number on
+abbrev pub listed : ℕ → spec.Around → Forest Part → List (Place spec.Planned)
+listed number around parts = places around.parent number (planned number around parts)

@@ -5,13 +5,15 @@ ghost use Rattle.yspec.specs.Forest.{end, node};
 ghost use Rattle.std.specs.Option.{option_map_or};
 ghost use Rattle.yspec.specs.linking.Keyword.{config_word};
 ghost use Rattle.yspec.specs.linking.Source.{argument_with};
-ghost use Rattle.yspec.specs.linking.Parts.{part_of, parts, as_cases, case_for, within};
+ghost use Rattle.yspec.specs.linking.Parts.{Part, part_of, parts, as_cases, case_for, within};
+ghost use Rattle.yspec.specs.linking.Planned as spec;
 ghost use Rattle.yspec.specs.linking.Planned.{is_said};
 ghost use Rattle.ypreorder.specs.View.{rows_in, row_by, label_by};
+ghost use Rattle.ylink.specs.KeywordView.{keyword_view};
 ghost use Rattle.ylink.specs.SourceView.{source_view};
-ghost use Rattle.yplan.specs.PlannedView.{seen_rows, listed, part_at};
+ghost use Rattle.yplan.specs.PlannedView.{seen_rows, listed, around_view, shown_keyword};
 
-use crate::planned::Planned;
+use crate::planned::{Around, Planned};
 use std::alloc::AllocError;
 use ylink::{Keyword, Source, argument_with};
 use ypreorder::{Node, Nodes, Table};
@@ -26,20 +28,45 @@ fn config_of(above: bool, own: Nodes<'_, Source<'_>>) -> bool
     }
 }
 
+/// What stands around the nodes below one of a number.
+fn around_below(
+    number: u32,
+    around: Around,
+    keyword: Keyword,
+    is_implied: bool,
+    config: bool,
+) -> Around
+    ensures { (p : Part) → p.source.keyword ≡ shown_keyword is_implied (keyword_view keyword) → config ≡ spec.config_of around.config p
+        → around_view result ≡ spec.around_below number (around_view around) p }
+{
+    let is_choice = !is_implied && Keyword::Choice.is(keyword);
+    let is_case = is_implied || Keyword::Case.is(keyword);
+    let data_parent = if is_choice || is_case {
+        around.data_parent
+    } else {
+        Some(number)
+    };
+    Around {
+        parent: Some(number),
+        data_parent,
+        scope: if is_choice { Some(number) } else { data_parent },
+        config,
+    }
+}
+
 /// Adds the nodes that some statements define, with all below them. In a choice single nodes stand for cases.
 #[cycle(nodes)]
 fn add_nodes<'a, 't>(
     table: &mut Table<Planned<'a, 't>>,
-    parent: Option<u32>,
-    above: bool,
+    around: Around,
     in_choice: bool,
     statements: Nodes<'a, Source<'t>>,
 ) -> Result<(), AllocError>
     ensures { let nodes = parts (row_by source_view statements.entry) in OnOk result (seen_rows table.new ≡ seen_rows table.old
-        ++ listed parent (length (rows_in table.old)) above (if in_choice then as_cases nodes else nodes)) }
+        ++ listed (length (rows_in table.old)) (around_view around) (if in_choice then as_cases nodes else nodes)) }
 {
     for statement in statements {
-        add_statement(table, parent, above, in_choice, statement)?;
+        add_statement(table, around, in_choice, statement)?;
     }
     Ok(())
 }
@@ -48,48 +75,50 @@ fn add_nodes<'a, 't>(
 #[cycle(nodes)]
 fn add_statement<'a, 't>(
     table: &mut Table<Planned<'a, 't>>,
-    parent: Option<u32>,
-    above: bool,
+    around: Around,
     in_choice: bool,
     statement: Node<'a, Source<'t>>,
 ) -> Result<(), AllocError>
     ensures { let s = label_by source_view statement.entry in let below = row_by source_view statement.entry.children in
         let nodes = parts (node s below end) in OnOk result (seen_rows table.new ≡ seen_rows table.old
-        ++ listed parent (length (rows_in table.old)) above (if in_choice then as_cases nodes else nodes)) }
+        ++ listed (length (rows_in table.old)) (around_view around) (if in_choice then as_cases nodes else nodes)) }
 {
     let keyword = statement.label().keyword;
     if !keyword.defines_node() {
         return Ok(());
     }
     if in_choice && !Keyword::Case.is(keyword) {
-        return add_case(table, parent, above, statement);
+        return add_case(table, around, statement);
     }
-    add_node(table, parent, above, statement)
+    add_node(table, around, statement)
 }
 
 /// Adds the node that a statement defines, with all below it.
 #[cycle(nodes)]
 fn add_node<'a, 't>(
     table: &mut Table<Planned<'a, 't>>,
-    parent: Option<u32>,
-    above: bool,
+    around: Around,
     statement: Node<'a, Source<'t>>,
 ) -> Result<(), AllocError>
     ensures { let s = label_by source_view statement.entry in let below = row_by source_view statement.entry.children in
         OnOk result (seen_rows table.new ≡ seen_rows table.old
-        ++ listed parent (length (rows_in table.old)) above (node (part_of s below) (within s (parts below)) end)) }
+        ++ listed (length (rows_in table.old)) (around_view around) (node (part_of s below) (within s (parts below)) end)) }
 {
+    let keyword = statement.label().keyword;
     let own = statement.children();
-    let config = config_of(above, own);
+    let config = config_of(around.config, own);
     let number = table.open(
-        parent,
+        around.parent,
         Planned {
             source: statement,
             is_implied: false,
+            parent: around.parent,
+            scope: around.scope,
             config,
         },
     )?;
-    add_nodes(table, Some(number), config, Keyword::Choice.is(statement.label().keyword), own)?;
+    let inside = around_below(number, around, keyword, false, config);
+    add_nodes(table, inside, Keyword::Choice.is(keyword), own)?;
     table.close(number);
     Ok(())
 }
@@ -98,23 +127,26 @@ fn add_node<'a, 't>(
 #[cycle(nodes)]
 fn add_case<'a, 't>(
     table: &mut Table<Planned<'a, 't>>,
-    parent: Option<u32>,
-    above: bool,
+    around: Around,
     statement: Node<'a, Source<'t>>,
 ) -> Result<(), AllocError>
     ensures { let s = label_by source_view statement.entry in let below = row_by source_view statement.entry.children in
         let part = part_of s below in OnOk result (seen_rows table.new ≡ seen_rows table.old
-        ++ listed parent (length (rows_in table.old)) above (node (case_for part) (node part (within s (parts below)) end) end)) }
+        ++ listed (length (rows_in table.old)) (around_view around) (node (case_for part) (node part (within s (parts below)) end) end)) }
 {
+    let keyword = statement.label().keyword;
     let number = table.open(
-        parent,
+        around.parent,
         Planned {
             source: statement,
             is_implied: true,
-            config: above,
+            parent: around.parent,
+            scope: around.scope,
+            config: around.config,
         },
     )?;
-    add_node(table, Some(number), above, statement)?;
+    let inside = around_below(number, around, keyword, true, around.config);
+    add_node(table, inside, statement)?;
     table.close(number);
     Ok(())
 }

@@ -110,11 +110,9 @@ module _ {L : Type 0} where
   row_to ((test, place) ∷ steps) f = option_and_then (row_to steps) (below_nth test place f)
 
 module _ {L M : Type 0} where
-  -- the forest with what a function makes of each family in place of its label
-  abbrev pub made_of_families : (Family L → M) → Option (L × Forest L) → Forest L → Forest M
-  made_of_families make above end = end
-  made_of_families make above (node l below after) = node (make (record { above = above; label = l; below = below }))
-      (made_of_families make (Some (l, below)) below) (made_of_families make above after)
+  abbrev pub relabelled : (L → M) → Forest L → Forest M
+  relabelled label end = end
+  relabelled label (node l below after) = node (label l) (relabelled label below) (relabelled label after)
 
 -- ---- sums that a change leaves as they were but for one row and the node above it
 

@@ -9,7 +9,7 @@ use Rattle.yspec.specs.linking.StatementBreaks.{statement_phase}
 use Rattle.yspec.specs.linking.TypeStatements.{type_breaks}
 use Rattle.yspec.specs.linking.Prefixes.{prefix_breaks, type_name_breaks}
 use Rattle.yspec.specs.linking.Parts.{parts_of_modules}
-use Rattle.yspec.specs.linking.Planned.{Planned, Plan, planned}
+use Rattle.yspec.specs.linking.Planned.{Planned, Plan, at_top, planned}
 use Rattle.yspec.specs.linking.SchemaNodes.{schema_nodes}
 use Rattle.yspec.specs.linking.NodeBreaks.{name_breaks, node_breaks}
 use Rattle.yspec.specs.schema.Breaks.{Break, module_breaks, limit_breaks, node_limit, level_limit, first_broken}
@@ -17,7 +17,7 @@ use Rattle.yspec.specs.schema.Schema.{Schema, SchemaModule}
 
 -- the nodes of a set of modules, in order of definition
 abbrev pub plan_of : Forest Source → Plan
-plan_of modules = record { modules = modules; nodes = planned 0 true (parts_of_modules modules) }
+plan_of modules = record { modules = modules; nodes = planned 0 at_top (parts_of_modules modules) }
 
 abbrev pub schema_modules : Forest Source → List SchemaModule
 schema_modules end = []
@@ -38,7 +38,7 @@ is_too_deep nodes = nat_lt node_limit (size nodes) || nat_lt level_limit (levels
 
 abbrev pub phases_of_plan : Forest Statement → Plan → List (List Break)
 phases_of_plan modules plan = limit_breaks (nat_lt node_limit (size plan.nodes)) modules
-    ∷ name_breaks plan.nodes
+    ∷ name_breaks plan
     ∷ node_breaks plan
     ∷ limit_breaks (is_too_deep plan.nodes) modules ∷ []
 

@@ -2,7 +2,7 @@
 use Rattle.std.specs.Prelude.{ℕ, zero, suc, ◌+◌, ◌++◌, ◌==◌, ◌&&◌, ◌||◌, Bool, true, false, not, List, [], ◌∷◌, map, length, Option, Some, None, is_some, option_map, option_and_then, unwrap_or, if◌then◌else◌, nat_lt}
 use Rattle.std.specs.List.{list_any, list_all, flat_map}
 use Rattle.std.specs.Option.{option_map_or}
-use Rattle.yspec.specs.Forest.{Forest, end, node, Family, families}
+use Rattle.yspec.specs.Forest.{Forest, end, node, find_below}
 use Rattle.yspec.specs.text.Text.{Text, is_text}
 use Rattle.yspec.specs.types.Types.{YangType, Val}
 use Rattle.yspec.specs.types.Order.{same_value}
@@ -11,9 +11,9 @@ use Rattle.yspec.specs.linking.Keyword.{Keyword}
 use Rattle.yspec.specs.linking.Keyword as word
 use Rattle.yspec.specs.linking.Source.{Source, argument_in}
 use Rattle.yspec.specs.linking.TypeStatements.{Meant, own, of_target, type_meant}
-use Rattle.yspec.specs.linking.Planned.{Planned, Plan, is_a, is_leaf_or_leaf_list, stated_in, target_meant, type_of, is_on_circle}
+use Rattle.yspec.specs.linking.Planned.{Planned, Plan, same_number, nodes_of, node_of, child_called, is_a, is_leaf_or_leaf_list, stated_in, target_meant, type_of, is_on_circle}
 use Rattle.yspec.specs.linking.Prefixes.{NodeName}
-use Rattle.yspec.specs.linking.SchemaNodes.{is_mandatory, least_of, key_names, child_of, key_nodes, key_numbers, unique_ways, default_texts, default_case, is_key}
+use Rattle.yspec.specs.linking.SchemaNodes.{is_mandatory, least_of, key_names, key_numbers, unique_ways, default_texts, default_case, is_key}
 use Rattle.yspec.specs.schema.Breaks.{Break, broken, when}
 
 -- a rule that is broken is told at the node's statement
@@ -22,45 +22,27 @@ broken_at code p = broken code p.part.source.home p.part.source.statement.line
 
 -- ---- C13: names that come twice
 
--- A node, and the number of the node whose children share its name: the data node above it, choices and cases passed
--- through; of a case its choice.
-pub record Scoped : Type 0 where
-  pub scope : Option ℕ
-  pub planned : Planned
-
--- the row of the nodes of one scope, which stand below a data node of another number or the same
-unfoldable pub scoped : Option ℕ → Option ℕ → Forest Planned → List Scoped
-scoped data_scope scope end = []
-scoped data_scope scope (node p below after) = record { scope = scope; planned = p }
-    ∷ ((if is_a word.choice_word p then scoped data_scope (Some p.number) below
-    else (if is_a word.case_word p then scoped data_scope data_scope below else scoped (Some p.number) (Some p.number) below))
-    ++ scoped data_scope scope after)
-
-abbrev pub same_scope : Option ℕ → Option ℕ → Bool
-same_scope None None = true
-same_scope None (Some n) = false
-same_scope (Some m) None = false
-same_scope (Some m) (Some n) = m == n
-
 abbrev pub same_name : Planned → Planned → Bool
 same_name p q = p.part.owner == q.part.owner && is_text (argument_in p.part.source) (argument_in q.part.source)
 
-abbrev pub is_like : Scoped → Scoped → Bool
-is_like a b = same_scope a.scope b.scope && same_name a.planned b.planned
+abbrev pub is_like : Planned → Planned → Bool
+is_like p q = same_number p.scope q.scope && same_name p q
 
 -- each of a list that an earlier one is like, `before` being earlier ones
-abbrev pub doubled : List Scoped → List Scoped → List Break
+abbrev pub doubled : List Planned → List Planned → List Break
 doubled before [] = []
-doubled before (a ∷ others) =
-    when (list_any (is_like a) before) (broken_at 13 a.planned) ++ doubled (a ∷ before) others
+doubled before (p ∷ others) = when (list_any (is_like p) before) (broken_at 13 p) ++ doubled (p ∷ before) others
 
-abbrev pub name_breaks : Forest Planned → List Break
-name_breaks nodes = doubled [] (scoped None None nodes)
+abbrev pub name_breaks : Plan → List Break
+name_breaks plan = doubled [] (nodes_of plan)
 
 -- ---- C16: configuration below state, and a configuration list without a key
 
-abbrev pub config_breaks : Bool → Planned → List Break
-config_breaks above p = when (p.config && (not above || (is_a word.list_word p && not (is_some (stated_in word.key_word p)))))
+abbrev pub is_config_above : Plan → Planned → Bool
+is_config_above plan p = option_map_or (λ above. above.config) (option_and_then (node_of plan) p.parent) true
+
+abbrev pub config_breaks : Plan → Planned → List Break
+config_breaks plan p = when (p.config && (not (is_config_above plan p) || (is_a word.list_word p && not (is_some (stated_in word.key_word p)))))
     (broken_at 16 p)
 
 -- ---- C12: keys and uniques
@@ -77,9 +59,9 @@ has_twice [] = false
 has_twice (n ∷ ns) = list_any (λ m. m == n) ns || has_twice ns
 
 -- each name is that of a leaf right below the list, and none comes twice
-abbrev pub is_wrong_key : Plan → Planned → Forest Planned → Bool
-is_wrong_key plan p below = not (list_all (λ name. option_map_or (is_key_leaf p) (child_of below name) false) (key_names plan p))
-    || has_twice (key_numbers plan p below)
+abbrev pub is_wrong_key : Plan → Planned → Bool
+is_wrong_key plan p = not (list_all (λ name. option_map_or (is_key_leaf p) (child_called plan (Some p.number) name) false) (key_names plan p))
+    || has_twice (key_numbers plan p)
 
 -- the leaf to which a way through containers leads
 abbrev pub leaf_behind : List Planned → Option Planned
@@ -99,9 +81,9 @@ abbrev pub is_wrong_unique : List (Option (List Planned)) → Bool
 is_wrong_unique ways = let leafs = map leaf_named ways in
     not (list_all (is_config true) leafs || list_all (is_config false) leafs)
 
-abbrev pub tuple_breaks : Plan → Planned → Forest Planned → List Break
-tuple_breaks plan p below = when (is_a word.list_word p && (is_wrong_key plan p below
-    || list_any is_wrong_unique (unique_ways plan p below))) (broken_at 12 p)
+abbrev pub tuple_breaks : Plan → Planned → List Break
+tuple_breaks plan p = when (is_a word.list_word p && (is_wrong_key plan p || list_any is_wrong_unique (unique_ways plan p)))
+    (broken_at 12 p)
 
 -- ---- C17: leafrefs that lead nowhere, in a circle, or from configuration to state
 
@@ -153,28 +135,28 @@ abbrev pub has_mandatory : Forest Planned → Bool
 has_mandatory end = false
 has_mandatory (node p below after) = must_be p (has_mandatory below) || has_mandatory after
 
-abbrev pub is_wrong_case : Planned → Option (Planned × Forest Planned) → Bool
-is_wrong_case p None = true
-is_wrong_case p (Some found) = is_mandatory p || has_mandatory found.1
+-- what stands below the node of a number
+abbrev pub row_below : Plan → ℕ → Forest Planned
+row_below plan number = unwrap_or (find_below (λ p. p.number == number) plan.nodes) end
 
-abbrev pub is_default_wrong : Plan → Bool → Planned → Forest Planned → Bool
-is_default_wrong plan is_its_key p below = if is_a word.leaf_word p
-    then not is_its_key && option_map_or (is_wrong_default p) (type_of plan p) false
+abbrev pub is_wrong_case : Plan → Planned → Option Planned → Bool
+is_wrong_case plan p None = true
+is_wrong_case plan p (Some found) = is_mandatory p || has_mandatory (row_below plan found.number)
+
+abbrev pub is_default_wrong : Plan → Planned → Bool
+is_default_wrong plan p = if is_a word.leaf_word p
+    then not (is_key plan p) && option_map_or (is_wrong_default p) (type_of plan p) false
     else (if is_a word.leaf_list_word p then option_map_or (are_wrong_defaults p) (type_of plan p) false
-    else (is_a word.choice_word p && (is_some (stated_in word.default_word p) && is_wrong_case p (default_case p below))))
+    else (is_a word.choice_word p && (is_some (stated_in word.default_word p) && is_wrong_case plan p (default_case plan p))))
 
-abbrev pub default_breaks : Plan → Bool → Planned → Forest Planned → List Break
-default_breaks plan is_its_key p below = when (is_default_wrong plan is_its_key p below) (broken_at 11 p)
+abbrev pub default_breaks : Plan → Planned → List Break
+default_breaks plan p = when (is_default_wrong plan p) (broken_at 11 p)
 
 -- ---- all of them
 
--- at the top stands configuration
-abbrev pub is_config_above : Option (Planned × Forest Planned) → Bool
-is_config_above above = option_map_or (λ p. p.0.config) above true
-
-abbrev pub family_breaks : Plan → Family Planned → List Break
-family_breaks plan f = config_breaks (is_config_above f.above) f.label ++ (tuple_breaks plan f.label f.below
-    ++ (reference_breaks plan f.label ++ default_breaks plan (is_key plan f) f.label f.below))
+abbrev pub own_breaks : Plan → Planned → List Break
+own_breaks plan p =
+    config_breaks plan p ++ (tuple_breaks plan p ++ (reference_breaks plan p ++ default_breaks plan p))
 
 abbrev pub node_breaks : Plan → List Break
-node_breaks plan = flat_map (family_breaks plan) (families None plan.nodes)
+node_breaks plan = flat_map (own_breaks plan) (nodes_of plan)

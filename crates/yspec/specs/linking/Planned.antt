@@ -1,7 +1,7 @@
 -- Parts with the numbers of their schema nodes, and what one finds by name among them (RFC 7950, 6.5, 7.8 and 9.9).
-use Rattle.std.specs.Prelude.{ℕ, zero, suc, ◌+◌, ◌==◌, ◌&&◌, ◌||◌, Bool, true, false, List, [], ◌∷◌, map, codes, Option, Some, None, is_some, find, option_map, option_and_then, if◌then◌else◌}
-use Rattle.std.specs.Option.{option_map_or}
-use Rattle.yspec.specs.Forest.{Forest, end, node, size, join}
+use Rattle.std.specs.Prelude.{ℕ, zero, suc, ◌+◌, ◌==◌, ◌&&◌, ◌||◌, Bool, true, false, not, List, [], ◌∷◌, map, codes, Option, Some, None, is_some, find, option_map, option_and_then, if◌then◌else◌}
+use Rattle.std.specs.Option.{option_map_or, option_eq}
+use Rattle.yspec.specs.Forest.{Forest, end, node, size, preorder}
 use Rattle.yspec.specs.text.Text.{Text, is_text}
 use Rattle.yspec.specs.types.Types.{YangType}
 use Rattle.yspec.specs.linking.Keyword.{Keyword}
@@ -12,9 +12,15 @@ use Rattle.yspec.specs.linking.Parts.{Part}
 use Rattle.yspec.specs.linking.Prefixes.{NodeName, node_name}
 use Rattle.yspec.specs.linking.TypeStatements.{Meant, own, of_target, type_meant}
 
--- a part, the number of its schema node, and whether that is configuration (RFC 7950, 7.21.1)
+-- a part as it will be a schema node
 pub record Planned : Type 0 where
   pub number : ℕ
+  -- the number of the node above it
+  pub parent : Option ℕ
+  -- the number of the node whose children share its name: the data node above it, choices and cases passed through; of a
+  -- case its choice
+  pub scope : Option ℕ
+  -- whether it is configuration (RFC 7950, 7.21.1)
   pub config : Bool
   pub part : Part
 
@@ -25,11 +31,44 @@ is_said t = is_text t (codes "true")
 abbrev pub config_of : Bool → Part → Bool
 config_of above p = option_map_or is_said (argument_with word.config_word p.own) above
 
+-- what stands around the nodes of a row: the node above them, the data node above them, the node whose children share
+-- their names, and whether the node above them is configuration
+pub record Around : Type 0 where
+  pub parent : Option ℕ
+  pub data_parent : Option ℕ
+  pub scope : Option ℕ
+  pub config : Bool
+
+abbrev pub at_top : Around
+at_top = record { parent = None; data_parent = None; scope = None; config = true }
+
+abbrev pub data_parent_below : ℕ → Around → Part → Option ℕ
+data_parent_below number around p = if is_source_of word.choice_word p.source || is_source_of word.case_word p.source
+    then around.data_parent else Some number
+
+-- what stands around the nodes below one
+abbrev pub around_below : ℕ → Around → Part → Around
+around_below number around p = record {
+  parent = Some number;
+  data_parent = data_parent_below number around p;
+  scope = if is_source_of word.choice_word p.source then Some number else data_parent_below number around p;
+  config = config_of around.config p;
+}
+
+abbrev pub planned_node : ℕ → Around → Part → Planned
+planned_node number around p = record {
+  number = number;
+  parent = around.parent;
+  scope = around.scope;
+  config = config_of around.config p;
+  part = p;
+}
+
 -- numbered in preorder from a number on
-unfoldable pub planned : ℕ → Bool → Forest Part → Forest Planned
-planned next above end = end
-planned next above (node p below after) = node (record { number = next; config = config_of above p; part = p })
-    (planned (next + 1) (config_of above p) below) (planned (next + suc (size below)) above after)
+unfoldable pub planned : ℕ → Around → Forest Part → Forest Planned
+planned next around end = end
+planned next around (node p below after) = node (planned_node next around p)
+    (planned (next + 1) (around_below next around p) below) (planned (next + suc (size below)) around after)
 
 -- ---- a planned node
 
@@ -51,35 +90,46 @@ is_of_module p (Some m) = p.part.owner == m
 abbrev pub is_called : NodeName → Planned → Bool
 is_called name p = is_of_module p name.module_number && is_text (argument_in p.part.source) name.name
 
--- the first node of a row that has a name, with what stands below it
-abbrev pub child_called : NodeName → Forest Planned → Option (Planned × Forest Planned)
-child_called name end = None
-child_called name (node p below after) = if is_called name p then Some (p, below) else child_called name after
-
--- the nodes along a way down from a row, choices and cases being nodes as others
-abbrev pub way : List NodeName → Forest Planned → Option (List Planned)
-way [] nodes = Some []
-way (name ∷ names) nodes =
-    option_and_then (λ found. option_map (λ more. found.0 ∷ more) (way names found.1)) (child_called name nodes)
-
--- the data nodes of a row, those reached through choices and cases included
-abbrev pub data_nodes : Forest Planned → Forest Planned
-data_nodes end = end
-data_nodes (node p below after) = if is_a word.choice_word p || is_a word.case_word p
-    then join (data_nodes below) (data_nodes after) else node p below (data_nodes after)
-
--- the data node to which a path from the top leads
-abbrev pub data_node_at : List NodeName → Forest Planned → Option Planned
-data_node_at [] nodes = None
-data_node_at (name ∷ []) nodes = option_map (λ found. found.0) (child_called name (data_nodes nodes))
-data_node_at (name ∷ next ∷ names) nodes =
-    option_and_then (λ found. data_node_at (next ∷ names) found.1) (child_called name (data_nodes nodes))
-
 -- ---- a whole set: the row of `module` statements, and the nodes that are planned
 
 pub record Plan : Type 0 where
   pub modules : Forest Source
   pub nodes : Forest Planned
+
+abbrev pub same_number : Option ℕ → Option ℕ → Bool
+same_number = option_eq (λ m n. m == n)
+
+abbrev pub nodes_of : Plan → List Planned
+nodes_of plan = preorder plan.nodes
+
+-- the node of a number
+abbrev pub node_of : Plan → ℕ → Option Planned
+node_of plan number = find (λ p. p.number == number) (nodes_of plan)
+
+-- the first node of a name below a node, or at the top, choices and cases being nodes as others
+abbrev pub child_called : Plan → Option ℕ → NodeName → Option Planned
+child_called plan parent name = find (λ p. same_number p.parent parent && is_called name p) (nodes_of plan)
+
+-- the nodes along a way down
+abbrev pub way : Plan → Option ℕ → List NodeName → Option (List Planned)
+way plan parent [] = Some []
+way plan parent (name ∷ names) =
+    option_and_then (λ p. option_map (λ more. p ∷ more) (way plan (Some p.number) names)) (child_called plan parent name)
+
+abbrev pub is_data : Planned → Bool
+is_data p = not (is_a word.choice_word p || is_a word.case_word p)
+
+-- the first data node of a name below a data node, or at the top, choices and cases passed through
+abbrev pub data_child_called : Plan → Option ℕ → NodeName → Option Planned
+data_child_called plan scope name =
+    find (λ p. same_number p.scope scope && (is_data p && is_called name p)) (nodes_of plan)
+
+-- the data node to which a path leads
+abbrev pub data_node_at : Plan → Option ℕ → List NodeName → Option Planned
+data_node_at plan scope [] = None
+data_node_at plan scope (name ∷ []) = data_child_called plan scope name
+data_node_at plan scope (name ∷ next ∷ names) =
+    option_and_then (λ p. data_node_at plan (Some p.number) (next ∷ names)) (data_child_called plan scope name)
 
 -- ---- leafrefs
 
@@ -89,7 +139,7 @@ leaf_found found = option_and_then (λ p. if is_leaf_or_leaf_list p then Some p 
 abbrev pub target_meant : Plan → Planned → Meant → Option Planned
 target_meant plan p (own type) = None
 target_meant plan p (of_target home steps required) =
-    leaf_found (data_node_at (map (node_name plan.modules home p.part.owner) steps) plan.nodes)
+    leaf_found (data_node_at plan None (map (node_name plan.modules home p.part.owner) steps))
 
 -- the leaf or leaf-list to which a leafref refers
 abbrev pub target_of : Plan → Planned → Option Planned

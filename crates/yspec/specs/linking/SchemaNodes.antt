@@ -2,7 +2,7 @@
 use Rattle.std.specs.Prelude.{ℕ, zero, suc, ◌+◌, ◌==◌, ◌&&◌, Bool, true, false, List, [], ◌∷◌, map, codes, Option, Some, None, is_some, find, filter, option_map, option_and_then, option_to_list, unwrap_or, if◌then◌else◌}
 use Rattle.std.specs.List.{list_any, filter_map, flat_map}
 use Rattle.std.specs.Option.{option_map_or}
-use Rattle.yspec.specs.Forest.{Forest, end, node, Family, made_of_families}
+use Rattle.yspec.specs.Forest.{Forest, relabelled}
 use Rattle.yspec.specs.text.Text.{Text, is_text}
 use Rattle.yspec.specs.types.Types.{YangType, Val, string_type}
 use Rattle.yspec.specs.types.Values.{value_of_text}
@@ -11,7 +11,7 @@ use Rattle.yspec.specs.linking.Keyword as word
 use Rattle.yspec.specs.linking.Arguments.{Name, key_of, unique_of, count_of, most_of, status_of}
 use Rattle.yspec.specs.linking.Source.{Source, argument_in, argument_with, all_with, is_source_of}
 use Rattle.yspec.specs.linking.Prefixes.{NodeName, node_name}
-use Rattle.yspec.specs.linking.Planned.{Planned, Plan, is_said, is_a, stated_in, child_called, way, target_of, type_of}
+use Rattle.yspec.specs.linking.Planned.{Planned, Plan, is_said, stated_in, node_of, child_called, way, target_of, type_of}
 use Rattle.yspec.specs.schema.Schema.{SchemaNode, Kind, container, leaf, leaf_list, list, choice, case, LeafType, Absence, allowed, default_used, mandatory, key, Amount, Tuples, LeafPath, Status, current}
 
 abbrev pub is_mandatory : Planned → Bool
@@ -37,30 +37,26 @@ abbrev pub key_names : Plan → Planned → List NodeName
 key_names plan p = flat_map (λ s. nodes_named plan p s (unwrap_or (key_of (argument_in s)) []))
     (all_with word.key_word p.part.own)
 
-abbrev pub child_of : Forest Planned → NodeName → Option Planned
-child_of below name = option_map (λ found. found.0) (child_called name below)
-
 -- the children that its key names
-abbrev pub key_nodes : Plan → Planned → Forest Planned → List Planned
-key_nodes plan p below = filter_map (child_of below) (key_names plan p)
+abbrev pub key_nodes : Plan → Planned → List Planned
+key_nodes plan p = filter_map (child_called plan (Some p.number)) (key_names plan p)
 
 abbrev pub number_in : Planned → ℕ
 number_in p = p.number
 
-abbrev pub key_numbers : Plan → Planned → Forest Planned → List ℕ
-key_numbers plan p below = map number_in (key_nodes plan p below)
+abbrev pub key_numbers : Plan → Planned → List ℕ
+key_numbers plan p = map number_in (key_nodes plan p)
 
 -- the ways to the leafs of each `unique`; none where a name isn't found
-abbrev pub unique_ways : Plan → Planned → Forest Planned → List (List (Option (List Planned)))
-unique_ways plan p below = map (λ s. map (λ names. way (nodes_named plan p s names) below) (unwrap_or (unique_of (argument_in s)) []))
+abbrev pub unique_ways : Plan → Planned → List (List (Option (List Planned)))
+unique_ways plan p = map (λ s. map (λ names. way plan (Some p.number) (nodes_named plan p s names)) (unwrap_or (unique_of (argument_in s)) []))
     (all_with word.unique_word p.part.own)
 
 abbrev pub leaf_path : Option (List Planned) → LeafPath
 leaf_path found = map number_in (unwrap_or found [])
 
-abbrev pub tuples_of : Plan → Planned → Forest Planned → Tuples
-tuples_of plan p below =
-    record { keys = key_numbers plan p below; uniques = map (map leaf_path) (unique_ways plan p below) }
+abbrev pub tuples_of : Plan → Planned → Tuples
+tuples_of plan p = record { keys = key_numbers plan p; uniques = map (map leaf_path) (unique_ways plan p) }
 
 -- ---- defaults (RFC 7950, 7.6.1, 7.7.2 and 7.9.3)
 
@@ -87,17 +83,11 @@ abbrev pub absence_of : Plan → Bool → Planned → Absence
 absence_of plan is_its_key p = if is_its_key then key
     else (if is_mandatory p then mandatory else absent_by (first_value (default_values plan p)))
 
-abbrev pub case_named : ℕ → Text → Planned → Bool
-case_named owner name p = p.part.owner == owner && is_text (argument_in p.part.source) name
-
--- the case of a choice that is its default, with what stands below it
-abbrev pub case_called : ℕ → Text → Forest Planned → Option (Planned × Forest Planned)
-case_called owner name end = None
-case_called owner name (node p below after) =
-    if case_named owner name p then Some (p, below) else case_called owner name after
-
-abbrev pub default_case : Planned → Forest Planned → Option (Planned × Forest Planned)
-default_case p cases = option_and_then (λ name. case_called p.part.owner name cases) (stated_in word.default_word p)
+-- the case of a choice that is its default: one of its own module
+abbrev pub default_case : Plan → Planned → Option Planned
+default_case plan p = option_and_then
+    (λ name. child_called plan (Some p.number) (record { module_number = Some p.part.owner; name = name }))
+    (stated_in word.default_word p)
 
 -- ---- kinds
 
@@ -106,32 +96,30 @@ abbrev pub leaf_type : Plan → Planned → LeafType
 leaf_type plan p =
     record { type = unwrap_or (type_of plan p) string_type; target = option_map number_in (target_of plan p) }
 
-abbrev pub kind_by : Plan → Bool → Planned → Forest Planned → Keyword → Kind
-kind_by plan is_its_key p below word.container_word = container (is_some (stated_in word.presence_word p))
-kind_by plan is_its_key p below word.leaf_word = leaf (leaf_type plan p) (absence_of plan is_its_key p)
-kind_by plan is_its_key p below word.leaf_list_word =
-    leaf_list (leaf_type plan p) (default_values plan p) (amount_of p)
-kind_by plan is_its_key p below word.list_word = list (tuples_of plan p below) (amount_of p)
-kind_by plan is_its_key p below word.choice_word =
-    choice (option_map (λ found. number_in found.0) (default_case p below)) (is_mandatory p)
-kind_by plan is_its_key p below _ = case
-
 abbrev pub is_among : List ℕ → Planned → Bool
 is_among numbers p = list_any (λ m. m == p.number) numbers
 
 -- whether a node is a key of the list right above it
-abbrev pub is_key : Plan → Family Planned → Bool
-is_key plan f = option_map_or (λ above. is_among (key_numbers plan above.0 above.1) f.label) f.above false
+abbrev pub is_key : Plan → Planned → Bool
+is_key plan p = option_map_or (λ above. is_among (key_numbers plan above) p) (option_and_then (node_of plan) p.parent) false
 
-abbrev pub schema_node : Plan → Family Planned → SchemaNode
-schema_node plan f = record {
-  number = f.label.number;
-  module_number = f.label.part.owner;
-  name = argument_in f.label.part.source;
-  config = f.label.config;
-  status = status_in f.label;
-  kind = kind_by plan (is_key plan f) f.label f.below f.label.part.source.keyword;
+abbrev pub kind_by : Plan → Planned → Keyword → Kind
+kind_by plan p word.container_word = container (is_some (stated_in word.presence_word p))
+kind_by plan p word.leaf_word = leaf (leaf_type plan p) (absence_of plan (is_key plan p) p)
+kind_by plan p word.leaf_list_word = leaf_list (leaf_type plan p) (default_values plan p) (amount_of p)
+kind_by plan p word.list_word = list (tuples_of plan p) (amount_of p)
+kind_by plan p word.choice_word = choice (option_map number_in (default_case plan p)) (is_mandatory p)
+kind_by plan p _ = case
+
+abbrev pub schema_node : Plan → Planned → SchemaNode
+schema_node plan p = record {
+  number = p.number;
+  module_number = p.part.owner;
+  name = argument_in p.part.source;
+  config = p.config;
+  status = status_in p;
+  kind = kind_by plan p p.part.source.keyword;
 }
 
 abbrev pub schema_nodes : Plan → Forest SchemaNode
-schema_nodes plan = made_of_families (schema_node plan) None plan.nodes
+schema_nodes plan = relabelled (schema_node plan) plan.nodes

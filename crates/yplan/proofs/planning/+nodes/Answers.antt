@@ -8,7 +8,7 @@ use Rattle.ypreorder.specs.View.{rows_in, row_by, label_by, row_view}
 use Rattle.ypreorder.proofs.RowLemmas.{takes_by, takes_none_by}
 use Rattle.ylink.specs.KeywordView.{keyword_view}
 use Rattle.ylink.specs.SourceView.{source_view}
-use Rattle.yplan.specs.PlannedView.{seen_rows, listed}
+use Rattle.yplan.specs.PlannedView.{seen_rows, listed, around_view}
 use Rattle.yplan.proofs.PartLemmas.{chosen, added, config_is, no_part, implied_part, own_part, nothing_added, next_statement, all_added}
 use Rattle.yplan.proofs.planning.+nodes.Goals as goal
 use Rattle.yplan.proofs.planning.+nodes.Goals.{add_statement-else-in_choice-via-then-in_choice+else-not-is, add_statement-else-in_choice-via-else-in_choice}
@@ -18,27 +18,32 @@ add_case-returns t c =
     let s = label_by source_view c.args.statement in
     let below = row_by source_view c.args.statement.children in
     let p = part_of s below in
-    added c.args.table.now c.open.new.self c.add_node.new.table c.close.new.self c.args.parent _ c.in_ok-number.number c.args.above (case_for p)
-    (node p (within s (parts below)) end) c.in_ok-number.ensures.laid c.in_ok-number.ensures.number c.in_ok-add_node.ensures c.close.ensures refl
+    let a = around_view c.args.around in
+    let inside = c.around_below-inside.ensures (case_for p) refl refl in
+    added c.args.table.now c.open.new.self c.add_node.new.table c.close.new.self _ c.in_ok-number.number a (around_view c.around_below-inside.result) (case_for p)
+    (node p (within s (parts below)) end) c.in_ok-number.ensures.laid c.in_ok-number.ensures.number inside c.in_ok-add_node.ensures c.close.ensures refl
 
 pub add_node-returns : goal.add_node-returns
 add_node-returns t c =
     let s = label_by source_view c.args.statement in
     let below = row_by source_view c.args.statement.children in
     let p = part_of s below in
+    let a = around_view c.args.around in
     let own = row_by source_view c.children-own.result in
     let own_is : own ≡ below = ap (row_by source_view) c.children-own.ensures in
-    let config : c.config_of-config.result ≡ config_of c.args.above p = c.config_of-config.ensures ∙ sym (config_is c.args.above p own (ap own_of (sym own_is))) in
+    let config : c.config_of-config.result ≡ config_of a.config p = c.config_of-config.ensures ∙ sym (config_is a.config p own (ap own_of (sym own_is))) in
     let n = c.in_ok-number.number in
     let mid = c.open.new.self in
-    let choice : c.is.result ≡ same_keyword choice_word s.keyword = c.is.ensures ∙ ap (λ l. same_keyword choice_word (keyword_view l.keyword)) c.label.ensures in
-    let inside : cond c.is.result (as_cases (parts own)) (parts own) ≡ within s (parts below) =
+    let keyword : keyword_view c.label.result.now.keyword ≡ s.keyword = ap (λ l. keyword_view l.keyword) c.label.ensures in
+    let choice : c.is.result ≡ same_keyword choice_word s.keyword = c.is.ensures ∙ ap (same_keyword choice_word) keyword in
+    let chosen_is : cond c.is.result (as_cases (parts own)) (parts own) ≡ within s (parts below) =
     ap₂ (λ b f. cond b (as_cases (parts f)) (parts f)) choice own_is in
-    added c.args.table.now mid c.add_nodes.new.table c.close.new.self c.args.parent _ n c.args.above p (within s (parts below))
-    c.in_ok-number.ensures.laid c.in_ok-number.ensures.number
-    (c.in_ok-add_nodes.ensures ∙ ap₂ (λ b f. seen_rows mid ++ listed (Some n) (length (rows_in mid)) b f) config inside)
+    let inside = c.around_below-inside.ensures p (sym keyword) config in
+    added c.args.table.now mid c.add_nodes.new.table c.close.new.self _ n a (around_view c.around_below-inside.result) p (within s (parts below))
+    c.in_ok-number.ensures.laid c.in_ok-number.ensures.number inside
+    (c.in_ok-add_nodes.ensures ∙ ap (λ f. seen_rows mid ++ listed (length (rows_in mid)) (around_view c.around_below-inside.result) f) chosen_is)
     c.close.ensures
-    (ap (λ b. record { number = length (rows_in c.args.table.now); config = b; part = p }) config)
+    (ap (λ b. record { number = length (rows_in c.args.table.now); parent = a.parent; scope = a.scope; config = b; part = p }) config)
 
 pub add_nodes-loop-statement-preserved : goal.add_nodes-loop-statement-preserved
 add_nodes-loop-statement-preserved t c =
@@ -52,14 +57,14 @@ add_nodes-loop-statement-preserved t c =
       more = tt;
       ends = tt;
       smaller = omega (arith, sized, c.loop-statement.invariant.smaller);
-      so_far = next_statement c.loop-statement.table c.add_statement.new.table c.args.parent c.args.above c.args.in_choice s below (row_by source_view after)
+      so_far = next_statement c.loop-statement.table c.add_statement.new.table (around_view c.args.around) c.args.in_choice s below (row_by source_view after)
           (row_by source_view before) _ (takes_by source_view before after c.in-Some.statement taken) c.in_ok-add_statement.ensures c.loop-statement.invariant.so_far;
     }
 
 pub add_nodes-returns : goal.add_nodes-returns
 add_nodes-returns t c =
     let before = c.loop-statement.statement-iterator in
-    all_added c.loop-statement.table c.args.parent c.args.above c.args.in_choice (row_by source_view before) _
+    all_added c.loop-statement.table (around_view c.args.around) c.args.in_choice (row_by source_view before) _
     (takes_none_by source_view before c.next.new.self c.in-None.ensures.steps).0 c.loop-statement.invariant.so_far
 
 -- a choice's own question, by the keyword of the statement
@@ -69,7 +74,7 @@ add_statement-returns-then-not-defines_node t c =
     let below = row_by source_view c.args.statement.children in
     let keyword : c.defines_node.result ≡ defines_node s.keyword = c.defines_node.ensures ∙ ap (λ l. defines_node (keyword_view l.keyword)) c.label.ensures in
     let other : defines_node s.keyword ≡ false = sym keyword ∙ first_of (search rules, cc) in
-    nothing_added c.args.table.now c.args.parent c.args.above (chosen c.args.in_choice (parts (node s below end))) (no_part c.args.in_choice s below other)
+    nothing_added c.args.table.now (around_view c.args.around) (chosen c.args.in_choice (parts (node s below end))) (no_part c.args.in_choice s below other)
 
 pub add_statement-returns-then-not-is : goal.add_statement-returns-then-not-is
 add_statement-returns-then-not-is t c =
@@ -80,7 +85,7 @@ add_statement-returns-then-not-is t c =
     let case : c.is.result ≡ same_keyword case_word s.keyword = c.is.ensures ∙ ap (λ l. same_keyword case_word (keyword_view l.keyword)) c.label.ensures in
     let other : same_keyword case_word s.keyword ≡ false = sym case ∙ first_of (search rules, cc) in
     let k = length (rows_in c.args.table.now) in
-    on_ok_weaker c.add_case.result (λ e. e ∙ ap (λ f. seen_rows c.args.table.now ++ listed c.args.parent k c.args.above f)
+    on_ok_weaker c.add_case.result (λ e. e ∙ ap (λ f. seen_rows c.args.table.now ++ listed k (around_view c.args.around) f)
     (sym (ap (λ b. chosen b (parts (node s below end))) c.if-in_choice.true ∙ implied_part s below stands other))) c.add_case.ensures
 
 pub add_statement-returns : goal.add_statement-returns
@@ -96,5 +101,5 @@ add_statement-returns t c =
           sym case ∙ first_of (search rules, cc))
       | add_statement-else-in_choice-via-else-in_choice w ↦ (λ e. let f : false ≡ true = sym w.if-in_choice.false ∙ e in absurd cc)
     ] in
-    on_ok_weaker c.add_node.result (λ e. e ∙ ap (λ f. seen_rows c.args.table.now ++ listed c.args.parent k c.args.above f)
+    on_ok_weaker c.add_node.result (λ e. e ∙ ap (λ f. seen_rows c.args.table.now ++ listed k (around_view c.args.around) f)
     (sym (own_part c.args.in_choice s below stands other))) c.add_node.ensures
