@@ -120,7 +120,7 @@ judged_top m s below row r so_far told result top alone same ruled under =
     ∙ sym (least_of_both so_far (own_breaks m module_word s below) (row_breaks m (rule_of module_word).substatements below))
     ∙ rw top refl
 
-modules_view_at : (ms : List Module) (i : ℕ) (m : Module) → i < length ms → m ≡ get_or ms i m
+pub modules_view_at : (ms : List Module) (i : ℕ) (m : Module) → i < length ms → m ≡ get_or ms i m
     → modules_view (drop i ms) ≡ node (view m.top).0 (view m.top).1 (modules_view (drop (i + 1) ms))
 modules_view_at ms i m within is =
     at_drop_more modules_view ms i m within ∙ ap (λ (x : Module). node (view x.top).0 (view x.top).1 (modules_view (drop (i + 1) ms))) (sym is)

@@ -4,3 +4,5 @@ pub mod NumberLemmas
 pub mod SpanLemmas
 pub mod WordLemmas
 pub mod GrammarLemmas
+pub mod RowLemmas
+pub mod LaidLemmas

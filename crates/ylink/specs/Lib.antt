@@ -3,6 +3,8 @@ pub mod Cut
 pub mod FormView
 pub mod KeywordView
 pub mod NameView
+pub mod Laid
 pub mod Named
+pub mod SourceView
 pub mod TableView
 pub mod WordView
