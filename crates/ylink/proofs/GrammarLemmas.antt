@@ -6,7 +6,7 @@ use Rattle.std.specs.Option.{option_map_or}
 use Rattle.std.proofs.lemmas.List.Sums.{length-filter}
 use Rattle.std.specs.List.{list_any}
 use Rattle.std.proofs.lemmas.List.{at_drop_more}
-use Rattle.yspec.specs.Forest.{Forest, end, node, row}
+use Rattle.yspec.specs.Forest.{Forest, node, row}
 use Rattle.yspec.specs.text.Statement.{Statement}
 use Rattle.yspec.specs.linking.StatementBreaks.{has_keyword, occurrences, is_miscounted}
 use Rattle.yspec.specs.linking.Keyword.{Keyword, same_keyword, keyword_named, extension_word, module_word}

@@ -1,6 +1,6 @@
 -- Rows that lie as a set's statements do are those statements.
 use Rattle.std.proofs.Common.{◌≡◌, ℕ, suc, ◌+◌, ◌-◌, ◌≤◌, ◌<◌, List, [], ◌∷◌, ◌++◌, length, take, drop, get_or, Option, Some, None, refl, sym, ap, ap₂, ◌∙◌, append_assoc, arith, length-append, length-drop}
-use Rattle.std.specs.Prelude.{slice_set, map}
+use Rattle.std.specs.Prelude.{slice_set}
 use Rattle.std.proofs.lemmas.List.{take_at, drop_at, append-nil, map-append, map-set, length-map, set_at, take-map, drop-map, drop-drop, at_drop_all}
 use Rattle.ytext.specs.View.{view, row_view, modules_view}
 use Rattle.ytext.specs.declared.statement.Stmt.{Stmt}
@@ -59,9 +59,9 @@ unfolding kept
 statement_added old pushed new r z home at count k s f below push at_is count_is is same new_is z_is =
     let inner = places home (kept below) in
     let lies : laid new ≡ laid old ++ (place_of r ∷ inner) =
-        new_is ∙ ap₂ (λ a b. a ++ places home (kept b)) (ap laid push ∙ map-append place_of old (r ∷ [])) same ∙ append_assoc (laid old) (place_of r ∷ []) inner in
+    new_is ∙ ap₂ (λ a b. a ++ places home (kept b)) (ap laid push ∙ map-append place_of old (r ∷ [])) same ∙ append_assoc (laid old) (place_of r ∷ []) inner in
     let sized : length new ≡ length old + suc (length inner) =
-        sym (length-map new place_of) ∙ ap length lies ∙ length-append (laid old) (place_of r ∷ inner) ∙ ap (λ n. n + suc (length inner)) (length-map old place_of) in
+    sym (length-map new place_of) ∙ ap length lies ∙ length-append (laid old) (place_of r ∷ inner) ∙ ap (λ n. n + suc (length inner)) (length-map old place_of) in
     let counted : count - at - 1 ≡ size (kept below) = omega (arith, sized, count_is, at_is, length-places home (kept below)) in
     map-set place_of new at z ∙ ap (λ ps. slice_set ps at (place_of z)) lies
     ∙ set_at (laid old) (place_of r) inner (place_of z) at (length-map old place_of ∙ sym at_is)
@@ -107,16 +107,16 @@ forest_after (node l below after) home k (r ∷ rows) others e =
     let below_is : r.below ≡ size below = ap (λ p. p.below) parts.0 in
     let lies : laid rows ≡ places home below ++ (places home after ++ others) = parts.1 ∙ append_assoc (places home below) (places home after) others in
     let inner : laid (take (size below) rows) ≡ places home below ++ [] =
-        sym (take-map place_of (size below) rows) ∙ ap (take (size below)) lies ∙ take_at (places home below) (places home after ++ others) (size below) (length-places home below)
-        ∙ sym (append-nil (places home below)) in
+    sym (take-map place_of (size below) rows) ∙ ap (take (size below)) lies ∙ take_at (places home below) (places home after ++ others) (size below) (length-places home below)
+    ∙ sym (append-nil (places home below)) in
     let outer : laid (drop (size below) rows) ≡ places home after ++ others =
-        sym (drop-map place_of (size below) rows) ∙ ap (drop (size below)) lies ∙ drop_at (places home below) (places home after ++ others) (size below) (length-places home below) in
+    sym (drop-map place_of (size below) rows) ∙ ap (drop (size below)) lies ∙ drop_at (places home below) (places home after ++ others) (size below) (length-places home below) in
     let taken : length (take (size below) rows) ≡ size below =
-        sym (length-map (take (size below) rows) place_of) ∙ ap length (inner ∙ append-nil (places home below)) ∙ length-places home below in
+    sym (length-map (take (size below) rows) place_of) ∙ ap length (inner ∙ append-nil (places home below)) ∙ length-places home below in
     let nothing : forest_of (k + 1 + size below) (drop (size below) (take (size below) rows)) ≡ end =
-        no_node (k + 1 + size below) (drop (size below) (take (size below) rows)) (omega (arith, taken, length-drop (size below) (take (size below) rows))) in
+    no_node (k + 1 + size below) (drop (size below) (take (size below) rows)) (omega (arith, taken, length-drop (size below) (take (size below) rows))) in
     let first : forest_of (k + 1) (take (size below) rows) ≡ numbered home (k + 1) below =
-        forest_after below home (k + 1) (take (size below) rows) [] inner ∙ ap (join (numbered home (k + 1) below)) nothing ∙ join-end (numbered home (k + 1) below) in
+    forest_after below home (k + 1) (take (size below) rows) [] inner ∙ ap (join (numbered home (k + 1) below)) nothing ∙ join-end (numbered home (k + 1) below) in
     let number : k + 1 + size below ≡ k + suc (size below) = omega arith in
     let last : k + 1 + size below + size after ≡ k + suc (size below + size after) = omega arith in
     forest_of-cons k r rows
@@ -134,6 +134,6 @@ forest_from end home k (r ∷ rows) e = absurd cc
 forest_from (node s below after) home k rows e =
     let g = kept (node s below end) in
     let outer : laid (drop (size g) rows) ≡ places_from (home + 1) after =
-        sym (drop-map place_of (size g) rows) ∙ ap (drop (size g)) e ∙ drop_at (places home g) (places_from (home + 1) after) (size g) (length-places home g) in
+    sym (drop-map place_of (size g) rows) ∙ ap (drop (size g)) e ∙ drop_at (places home g) (places_from (home + 1) after) (size g) (length-places home g) in
     forest_after g home k rows (places_from (home + 1) after) e
     ∙ ap (join (numbered home k g)) (forest_from after (home + 1) (k + size g) (drop (size g) rows) outer)

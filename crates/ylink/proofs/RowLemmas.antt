@@ -6,6 +6,7 @@ use Rattle.yspec.specs.linking.Source as spec
 use Rattle.ylink.specs.declared.sources.Row.{Row}
 use Rattle.std.specs.Prelude.{IfNone}
 use Rattle.ylink.specs.SourceView.{source_view, forest_within, forest_of}
+
 -- any bound on the number of rows will do
 pub forest_within-enough : (n m k : ℕ) (rows : List Row) → length rows ≤ n → length rows ≤ m → forest_within n k rows ≡ forest_within m k rows
 unfolding forest_within

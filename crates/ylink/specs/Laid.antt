@@ -30,4 +30,3 @@ places home (node l below after) =
 abbrev pub places_from : ℕ → Forest Statement → List Place
 places_from home end = []
 places_from home (node s below after) = places home (kept (node s below end)) ++ places_from (home + 1) after
-

@@ -49,11 +49,7 @@ pub(crate) fn least(so_far: Option<Broken>, found: Broken) -> Option<Broken>
 }
 
 /// The least so far, and another where a condition holds.
-pub(crate) fn least_when(
-    condition: bool,
-    so_far: Option<Broken>,
-    found: Broken,
-) -> Option<Broken>
+pub(crate) fn least_when(condition: bool, so_far: Option<Broken>, found: Broken) -> Option<Broken>
     ensures { seen result ≡ least_from (seen so_far) (when condition (break_view found ∷ [])) }
 {
     if condition {

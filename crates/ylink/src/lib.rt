@@ -15,7 +15,9 @@ mod word;
 
 pub use fault::{Broken, TableCode};
 pub use keyword::Keyword;
-pub use name::{Name, absolute_path, key_names, leafref_path, name_of, relative_path, unique_paths};
+pub use name::{
+    Name, absolute_path, key_names, leafref_path, name_of, relative_path, unique_paths,
+};
 pub use number::{count, enum_value, fraction_digits, most};
 pub use sources::{Source, SourceRow, Sources};
 pub use span::spans;

@@ -1,5 +1,4 @@
-use Rattle.std.proofs.Common.{refl, ◌∙◌, arith, rules}
-use Rattle.std.proofs.lemmas.Result.{on_ok_weaker}
+use Rattle.std.proofs.Common.{refl, arith, rules}
 use Rattle.ytext.specs.View.{view, row_view}
 use Rattle.ylink.specs.KeywordView.{keyword_view}
 use Rattle.ylink.specs.Laid.{laid}

@@ -1,4 +1,3 @@
-use Rattle.std.proofs.Common.{arith}
 use Rattle.ytext.specs.View.{modules_view}
 use Rattle.ylink.specs.Laid.{laid}
 use Rattle.ylink.proofs.LaidLemmas.{modules_added, forest_from}
