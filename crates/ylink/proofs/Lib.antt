@@ -6,3 +6,4 @@ pub mod WordLemmas
 pub mod GrammarLemmas
 pub mod RowLemmas
 pub mod LaidLemmas
+pub mod KeywordLemmas

@@ -2,6 +2,7 @@ pub mod BreakView
 pub mod Cut
 pub mod FormView
 pub mod KeywordView
+pub mod Lengths
 pub mod NameView
 pub mod Laid
 pub mod Named
