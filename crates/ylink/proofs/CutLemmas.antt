@@ -75,7 +75,7 @@ dots_start (Some (before, rest)) = refl
 dots_open : (bs : Text) (i : ℕ) → i < length bs
     → dots_behind (take i bs) (cut_at_dots (drop i bs))
     ≡ dots_behind (take i bs) (cond (is_point (get_or bs i 0) && begins point (drop (i + 1) bs)) (Some ([], drop 1 (drop (i + 1) bs)))
-        (option_map (longer (get_or bs i 0)) (cut_at_dots (drop (i + 1) bs))))
+    (option_map (longer (get_or bs i 0)) (cut_at_dots (drop (i + 1) bs))))
 unfolding cut_at_dots
 dots_open bs i h = at_drop_more (λ (t : Text). dots_behind (take i bs) (cut_at_dots t)) bs i 0 h
 
@@ -87,7 +87,7 @@ pub dots_more : (bs : Text) (i : ℕ) → i + 1 < length bs → (is_point (get_o
 dots_more bs i h e =
     dots_open bs i (omega (arith, h))
     ∙ ap (λ (c : Bool). dots_behind (take i bs) (cond c (Some ([], drop 1 (drop (i + 1) bs))) (option_map (longer (get_or bs i 0)) (cut_at_dots (drop (i + 1) bs)))))
-        (ap (λ c. is_point (get_or bs i 0) && c) (second_at bs i h) ∙ e)
+    (ap (λ c. is_point (get_or bs i 0) && c) (second_at bs i h) ∙ e)
     ∙ dots_longer (take i bs) (get_or bs i 0) (cut_at_dots (drop (i + 1) bs))
     ∙ ap (λ (t : Text). dots_behind t (cut_at_dots (drop (i + 1) bs))) (sym (take_more bs i 0 (omega (arith, h))))
 
@@ -96,7 +96,7 @@ pub dots_here : (bs : Text) (i : ℕ) → i + 1 < length bs → (is_point (get_o
 dots_here bs i h e =
     dots_open bs i (omega (arith, h))
     ∙ ap (λ (c : Bool). dots_behind (take i bs) (cond c (Some ([], drop 1 (drop (i + 1) bs))) (option_map (longer (get_or bs i 0)) (cut_at_dots (drop (i + 1) bs)))))
-        (ap (λ c. is_point (get_or bs i 0) && c) (second_at bs i h) ∙ e)
+    (ap (λ c. is_point (get_or bs i 0) && c) (second_at bs i h) ∙ e)
     ∙ ap (λ (t : Text). Some (t, drop 1 (drop (i + 1) bs))) (append-nil (take i bs))
     ∙ ap (λ (t : Text). Some (take i bs, t)) (two_dropped bs i)
   where
@@ -136,7 +136,7 @@ pub white_cut : (t bs out : Text) → bs ≡ t → false ≡ (length bs == 0) �
 white_cut t bs out e some cut white =
     ap before_white (cut ∙ ap (λ (b : Text). take (length b - 1) t) e)
     ∙ white_end t (length t - 1) 0 (some_length (length t) (some ∙ ap (λ (b : Text). length b == 0) e))
-        (sym (white ∙ ap (λ (b : Text). is_white (get_or b (length b - 1) 0)) e))
+    (sym (white ∙ ap (λ (b : Text). is_white (get_or b (length b - 1) 0)) e))
 
 pub white_left : (t bs : Text) → bs ≡ t → false ≡ (length bs == 0) → false ≡ is_white (get_or bs (length bs - 1) 0) → before_white t ≡ t
 white_left t bs e some white =

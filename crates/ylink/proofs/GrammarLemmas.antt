@@ -6,7 +6,7 @@ use Rattle.std.specs.Option.{option_map_or}
 use Rattle.std.proofs.lemmas.List.Sums.{length-filter}
 use Rattle.std.specs.List.{list_any}
 use Rattle.std.proofs.lemmas.List.{at_drop_more}
-use Rattle.yspec.specs.Forest.{Forest, end, node, row}
+use Rattle.yspec.specs.Forest.{Forest, node, row}
 use Rattle.yspec.specs.text.Statement.{Statement}
 use Rattle.yspec.specs.linking.StatementBreaks.{has_keyword, occurrences, is_miscounted}
 use Rattle.yspec.specs.linking.Keyword.{Keyword, same_keyword, keyword_named, extension_word, module_word}
@@ -120,7 +120,7 @@ judged_top m s below row r so_far told result top alone same ruled under =
     ∙ sym (least_of_both so_far (own_breaks m module_word s below) (row_breaks m (rule_of module_word).substatements below))
     ∙ rw top refl
 
-modules_view_at : (ms : List Module) (i : ℕ) (m : Module) → i < length ms → m ≡ get_or ms i m
+pub modules_view_at : (ms : List Module) (i : ℕ) (m : Module) → i < length ms → m ≡ get_or ms i m
     → modules_view (drop i ms) ≡ node (view m.top).0 (view m.top).1 (modules_view (drop (i + 1) ms))
 modules_view_at ms i m within is =
     at_drop_more modules_view ms i m within ∙ ap (λ (x : Module). node (view x.top).0 (view x.top).1 (modules_view (drop (i + 1) ms))) (sym is)

@@ -5,3 +5,4 @@ pub mod NumberLemmas
 pub mod SpanLemmas
 pub mod WordLemmas
 pub mod GrammarLemmas
+pub mod KeywordLemmas

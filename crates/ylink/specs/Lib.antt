@@ -2,9 +2,10 @@ pub mod BreakView
 pub mod Cut
 pub mod FormView
 pub mod KeywordView
-pub mod NameView
-pub mod SourceView
+pub mod Lengths
 pub mod LinkView
+pub mod NameView
 pub mod Named
+pub mod SourceView
 pub mod TableView
 pub mod WordView

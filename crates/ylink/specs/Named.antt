@@ -1,7 +1,6 @@
 -- The keywords of a row of statements, and how many there are of each.
 use Rattle.std.specs.Prelude.{ℕ, Bool, false, List, Option, Some, None, if◌then◌else◌, map, count_by, option_map}
 use Rattle.std.specs.Option.{option_map_or}
-use Rattle.std.specs.List.{list_any}
 use Rattle.yspec.specs.Forest.{Forest, row}
 use Rattle.yspec.specs.text.Statement.{Statement}
 use Rattle.yspec.specs.schema.Breaks.{is_wrong_count}

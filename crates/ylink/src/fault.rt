@@ -1,12 +1,12 @@
-//! Which rule of the table a set of modules breaks.
+//! Which rules a set of modules breaks.
 
 ghost use Rattle.std.specs.Prelude.{◌≡◌, [], ◌∷◌};
 ghost use Rattle.yspec.specs.schema.Breaks.{least_from, when};
 ghost use Rattle.ylink.specs.BreakView.{break_view, seen};
 
-/// A rule of the table of statements.
+/// Which rule a set of modules breaks.
 #[derive(Clone, Copy, Debug, PartialEq, Eq, PartialOrd, Ord)]
-pub enum TableCode {
+pub enum CompileCode {
     /// A statement or a type that isn't known, or that may not stand there.
     C1 = 1,
     /// Too many or too few of a substatement.
@@ -15,6 +15,34 @@ pub enum TableCode {
     C3 = 3,
     /// `yang-version` is missing or not `1.1`.
     C4 = 4,
+    /// An import names no module of the set, or another revision than its newest.
+    C5 = 5,
+    /// A prefix is given twice, or names nothing.
+    C6 = 6,
+    /// Two modules or two definitions of one name.
+    C7 = 7,
+    /// A type or a grouping isn't found.
+    C8 = 8,
+    /// Imports, typedefs or groupings lead in a circle.
+    C9 = 9,
+    /// A type breaks a rule of its own.
+    C10 = 10,
+    /// A default isn't taken, or may not stand there.
+    C11 = 11,
+    /// A key or a `unique` names no fitting leaf.
+    C12 = 12,
+    /// Two children of one name.
+    C13 = 13,
+    /// A refine or an augment without a fitting target.
+    C14 = 14,
+    /// A mandatory node is added to another module's node.
+    C15 = 15,
+    /// Configuration below state, or a configuration list without a key.
+    C16 = 16,
+    /// A leafref leads nowhere, in a circle, or from configuration to state.
+    C17 = 17,
+    /// A limit is passed.
+    C18 = 18,
 }
 
 /// A broken rule. The order is that in which one is told before another: by module, line and number.
@@ -22,7 +50,7 @@ pub enum TableCode {
 pub struct Broken {
     pub module: usize,
     pub line: u32,
-    pub code: TableCode,
+    pub code: CompileCode,
 }
 
 impl Broken {
@@ -39,7 +67,7 @@ impl Broken {
 }
 
 /// The lesser of one so far and another.
-pub(crate) fn least(so_far: Option<Broken>, found: Broken) -> Option<Broken>
+pub fn least(so_far: Option<Broken>, found: Broken) -> Option<Broken>
     ensures { seen result ≡ least_from (seen so_far) (break_view found ∷ []) }
 {
     match so_far {
@@ -49,11 +77,7 @@ pub(crate) fn least(so_far: Option<Broken>, found: Broken) -> Option<Broken>
 }
 
 /// The least so far, and another where a condition holds.
-pub(crate) fn least_when(
-    condition: bool,
-    so_far: Option<Broken>,
-    found: Broken,
-) -> Option<Broken>
+pub fn least_when(condition: bool, so_far: Option<Broken>, found: Broken) -> Option<Broken>
     ensures { seen result ≡ least_from (seen so_far) (when condition (break_view found ∷ [])) }
 {
     if condition {

@@ -17,7 +17,7 @@ ghost use Rattle.ylink.specs.Named as named_as;
 ghost use Rattle.ylink.specs.Named.{keyword_views, named_row, counted, is_miscounted_among, allowed_word};
 ghost use Rattle.ylink.specs.BreakView.{break_view, seen};
 
-use crate::fault::{Broken, TableCode, least, least_when};
+use crate::fault::{Broken, CompileCode, least, least_when};
 use crate::form::{Form, fits};
 use crate::keyword::Keyword;
 use crate::name::colon_place;
@@ -25,7 +25,7 @@ use crate::table::{Allowed, Count, Rule, rule_of};
 use std::alloc::{AllocError, Global};
 use ytext::{Module, Stmt};
 
-fn broken(code: TableCode, module: usize, statement: &Stmt) -> Broken
+fn broken(code: CompileCode, module: usize, statement: &Stmt) -> Broken
     ensures { result ≡ record { code = code; «module» = «module»; line = (view statement.now).0.line } }
 {
     Broken {
@@ -52,10 +52,7 @@ fn has_keyword(statement: &Stmt, keyword: Keyword) -> bool
 }
 
 // The keywords of the statements of a row.
-fn keywords_of(
-    alloc: Global,
-    statements: &[Stmt],
-) -> Result<Vec<Option<Keyword>>, AllocError>
+fn keywords_of(alloc: Global, statements: &[Stmt]) -> Result<Vec<Option<Keyword>>, AllocError>
     ensures { IfOk result (λ keywords. keyword_views keywords.items ≡ named_row (row_view statements.now)) }
 {
     let mut keywords = Vec::new(alloc);
@@ -159,11 +156,7 @@ fn is_type_outside(keyword: Keyword, statement: &Stmt) -> bool
         )
 }
 
-fn has_fitting_argument(
-    alloc: Global,
-    form: Form,
-    statement: &Stmt,
-) -> Result<bool, AllocError>
+fn has_fitting_argument(alloc: Global, form: Form, statement: &Stmt) -> Result<bool, AllocError>
     ensures { IfOk result (λ b. b ≡ option_map_or (arguments.fits (form_view form)) (view statement.now).0.argument false) }
 {
     match statement.argument() {
@@ -183,20 +176,12 @@ fn judge_argument(
         (spec.argument_breaks «module» (form_view form) (view statement.now).0)) }
 {
     let fits = has_fitting_argument(alloc, form, statement)?;
-    Ok(least_when(
-        !fits,
-        so_far,
-        broken(TableCode::C3, module, statement),
-    ))
+    Ok(least_when(!fits, so_far, broken(CompileCode::C3, module, statement)))
 }
 
 // Whether there are too many or too few of a substatement.
 #[tactic(auto, using(crate::proofs::GrammarLemmas::miscounted_rows))]
-fn is_miscounted(
-    alloc: Global,
-    allowed: &[Allowed],
-    statement: &Stmt,
-) -> Result<bool, AllocError>
+fn is_miscounted(alloc: Global, allowed: &[Allowed], statement: &Stmt) -> Result<bool, AllocError>
     ensures { IfOk result (λ b. b ≡ list_any (spec.is_miscounted (view statement.now).1) (allowed_views allowed.now)) }
 {
     let keywords = keywords_of(alloc, statement.substatements())?;
@@ -218,19 +203,11 @@ fn judge_alone(
     let rule = rule_of(keyword);
     let told = judge_argument(alloc, module, rule.form, statement, so_far)?;
     let outside = is_type_outside(keyword, statement);
-    let told = least_when(outside, told, broken(TableCode::C1, module, statement));
+    let told = least_when(outside, told, broken(CompileCode::C1, module, statement));
     let unversioned = is_unversioned(keyword, statement);
-    let told = least_when(
-        unversioned,
-        told,
-        broken(TableCode::C4, module, statement),
-    );
+    let told = least_when(unversioned, told, broken(CompileCode::C4, module, statement));
     let miscounted = is_miscounted(alloc, rule.substatements, statement)?;
-    Ok(least_when(
-        miscounted,
-        told,
-        broken(TableCode::C2, module, statement),
-    ))
+    Ok(least_when(miscounted, told, broken(CompileCode::C2, module, statement)))
 }
 
 // The keyword of a statement, where it may stand there.
@@ -261,7 +238,7 @@ fn judge(
         return Ok(so_far);
     }
     match allowed_keyword(allowed, statement) {
-        None => Ok(least(so_far, broken(TableCode::C1, module, statement))),
+        None => Ok(least(so_far, broken(CompileCode::C1, module, statement))),
         Some(keyword) => {
             if keyword.is(Keyword::Extension) {
                 return Ok(so_far);
@@ -309,7 +286,7 @@ fn judge_top(
     ensures { let s = view statement.now in IfOk result (λ told. seen told ≡ least_from (seen so_far) (spec.top_breaks «module» s.0 s.1)) }
 {
     if !has_keyword(statement, Keyword::Module) {
-        return Ok(least(so_far, broken(TableCode::C1, module, statement)));
+        return Ok(least(so_far, broken(CompileCode::C1, module, statement)));
     }
     let told = judge_alone(alloc, module, Keyword::Module, statement, so_far)?;
     let rule = rule_of(Keyword::Module);
@@ -324,10 +301,7 @@ fn judge_top(
 
 /// The least rule of the table that modules break, by module, line and number.
 #[tactic(auto, unfolding(yspec::specs::linking::StatementBreaks::breaks_from))]
-pub fn statement_fault(
-    alloc: Global,
-    modules: &[Module],
-) -> Result<Option<Broken>, AllocError>
+pub fn statement_fault(alloc: Global, modules: &[Module]) -> Result<Option<Broken>, AllocError>
     ensures { IfOk result (λ told. seen told ≡ least_from None (spec.statement_phase (modules_view modules.now))) }
 {
     let mut told = None;

@@ -4,6 +4,7 @@ ghost use Rattle.std.specs.Prelude.{◌≡◌, option_map};
 ghost use Rattle.yspec.specs.linking.Keyword as spec;
 ghost use Rattle.yspec.specs.linking.Parts.{defines_node};
 ghost use Rattle.ylink.specs.KeywordView.{keyword_view};
+ghost use Rattle.ylink.specs.Lengths.{named_among, is_four, is_six, is_nine, is_short, is_middle, is_long};
 
 /// A keyword of the table of statements.
 #[derive(Clone, Copy, Debug, PartialEq, Eq, PartialOrd, Ord)]
@@ -85,58 +86,117 @@ impl Keyword {
         )
     }
 
-    /// The keyword that a text is, if it is one.
+    /// The keyword that a text is, if it is one. It is looked for among those of about its length.
     pub fn named(text: &str) -> Option<Keyword>
         ensures { option_map keyword_view result ≡ spec.keyword_named text.now }
     {
-        Some(match text {
-            "module" => Keyword::Module,
-            "yang-version" => Keyword::YangVersion,
-            "namespace" => Keyword::Namespace,
-            "prefix" => Keyword::Prefix,
-            "import" => Keyword::Import,
-            "revision-date" => Keyword::RevisionDate,
-            "organization" => Keyword::Organization,
-            "contact" => Keyword::Contact,
-            "description" => Keyword::Description,
-            "reference" => Keyword::Reference,
-            "revision" => Keyword::Revision,
-            "extension" => Keyword::Extension,
-            "typedef" => Keyword::Typedef,
-            "grouping" => Keyword::Grouping,
-            "augment" => Keyword::Augment,
-            "container" => Keyword::Container,
-            "leaf" => Keyword::Leaf,
-            "leaf-list" => Keyword::LeafList,
-            "list" => Keyword::List,
-            "choice" => Keyword::Choice,
-            "case" => Keyword::Case,
-            "uses" => Keyword::Uses,
-            "refine" => Keyword::Refine,
-            "type" => Keyword::Type,
-            "fraction-digits" => Keyword::FractionDigits,
-            "range" => Keyword::Range,
-            "length" => Keyword::Length,
-            "enum" => Keyword::Enum,
-            "bit" => Keyword::Bit,
-            "path" => Keyword::Path,
-            "require-instance" => Keyword::RequireInstance,
-            "error-message" => Keyword::ErrorMessage,
-            "error-app-tag" => Keyword::ErrorAppTag,
-            "value" => Keyword::Value,
-            "position" => Keyword::Position,
-            "units" => Keyword::Units,
-            "default" => Keyword::Default,
-            "config" => Keyword::Config,
-            "mandatory" => Keyword::Mandatory,
-            "presence" => Keyword::Presence,
-            "min-elements" => Keyword::MinElements,
-            "max-elements" => Keyword::MaxElements,
-            "ordered-by" => Keyword::OrderedBy,
-            "status" => Keyword::Status,
-            "key" => Keyword::Key,
-            "unique" => Keyword::Unique,
-            _ => return None,
-        })
+        let length = text.len();
+        if length == 4 {
+            of_four(text)
+        } else if length == 6 {
+            of_six(text)
+        } else if length == 9 {
+            of_nine(text)
+        } else if length < 6 {
+            of_short(text)
+        } else if length < 9 {
+            of_middle(text)
+        } else {
+            of_long(text)
+        }
     }
+}
+
+fn of_four(text: &str) -> Option<Keyword>
+    ensures { option_map keyword_view result ≡ named_among is_four text.now }
+{
+    Some(match text {
+        "leaf" => Keyword::Leaf,
+        "list" => Keyword::List,
+        "case" => Keyword::Case,
+        "uses" => Keyword::Uses,
+        "type" => Keyword::Type,
+        "enum" => Keyword::Enum,
+        "path" => Keyword::Path,
+        _ => return None,
+    })
+}
+
+fn of_six(text: &str) -> Option<Keyword>
+    ensures { option_map keyword_view result ≡ named_among is_six text.now }
+{
+    Some(match text {
+        "module" => Keyword::Module,
+        "prefix" => Keyword::Prefix,
+        "import" => Keyword::Import,
+        "choice" => Keyword::Choice,
+        "refine" => Keyword::Refine,
+        "length" => Keyword::Length,
+        "config" => Keyword::Config,
+        "status" => Keyword::Status,
+        "unique" => Keyword::Unique,
+        _ => return None,
+    })
+}
+
+fn of_nine(text: &str) -> Option<Keyword>
+    ensures { option_map keyword_view result ≡ named_among is_nine text.now }
+{
+    Some(match text {
+        "namespace" => Keyword::Namespace,
+        "reference" => Keyword::Reference,
+        "extension" => Keyword::Extension,
+        "container" => Keyword::Container,
+        "leaf-list" => Keyword::LeafList,
+        "mandatory" => Keyword::Mandatory,
+        _ => return None,
+    })
+}
+
+fn of_short(text: &str) -> Option<Keyword>
+    ensures { option_map keyword_view result ≡ named_among is_short text.now }
+{
+    Some(match text {
+        "range" => Keyword::Range,
+        "bit" => Keyword::Bit,
+        "value" => Keyword::Value,
+        "units" => Keyword::Units,
+        "key" => Keyword::Key,
+        _ => return None,
+    })
+}
+
+fn of_middle(text: &str) -> Option<Keyword>
+    ensures { option_map keyword_view result ≡ named_among is_middle text.now }
+{
+    Some(match text {
+        "contact" => Keyword::Contact,
+        "revision" => Keyword::Revision,
+        "typedef" => Keyword::Typedef,
+        "grouping" => Keyword::Grouping,
+        "augment" => Keyword::Augment,
+        "position" => Keyword::Position,
+        "default" => Keyword::Default,
+        "presence" => Keyword::Presence,
+        _ => return None,
+    })
+}
+
+fn of_long(text: &str) -> Option<Keyword>
+    ensures { option_map keyword_view result ≡ named_among is_long text.now }
+{
+    Some(match text {
+        "yang-version" => Keyword::YangVersion,
+        "revision-date" => Keyword::RevisionDate,
+        "organization" => Keyword::Organization,
+        "description" => Keyword::Description,
+        "fraction-digits" => Keyword::FractionDigits,
+        "require-instance" => Keyword::RequireInstance,
+        "error-message" => Keyword::ErrorMessage,
+        "error-app-tag" => Keyword::ErrorAppTag,
+        "min-elements" => Keyword::MinElements,
+        "max-elements" => Keyword::MaxElements,
+        "ordered-by" => Keyword::OrderedBy,
+        _ => return None,
+    })
 }

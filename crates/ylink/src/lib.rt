@@ -8,20 +8,23 @@ mod form;
 mod grammar;
 mod keyword;
 mod name;
+mod number;
 mod row;
 mod source;
 mod sources;
-mod number;
 mod span;
 mod table;
 mod word;
 
-pub use fault::{Broken, TableCode};
+pub use fault::{Broken, CompileCode, least, least_when};
+pub use grammar::statement_fault;
 pub use keyword::Keyword;
+pub use name::{
+    Name, absolute_path, key_names, leafref_path, name_of, relative_path, unique_paths,
+};
+pub use number::{count, enum_value, fraction_digits, most};
 pub use row::{argument_of, argument_with, first_with};
 pub use source::Source;
 pub use sources::Sources;
-pub use name::{Name, absolute_path, key_names, leafref_path, name_of, relative_path, unique_paths};
-pub use number::{count, enum_value, fraction_digits, most};
 pub use span::spans;
 pub use word::{OrderedBy, Status, flag_of, is_date, ordered_by_of, status_of};

@@ -67,10 +67,7 @@ fn is_bare(text: &str) -> bool
 }
 
 /// The names that a text spells with slashes between them.
-pub fn relative_path<'a>(
-    alloc: Global,
-    text: &'a str,
-) -> Result<Option<Vec<Name<'a>>>, AllocError>
+pub fn relative_path<'a>(alloc: Global, text: &'a str) -> Result<Option<Vec<Name<'a>>>, AllocError>
     ensures { IfOk result (λ path. option_map (λ p. names_view p.items) path ≡ spec.relative_path_of text.entry.now) }
 {
     let mut path = Vec::new(alloc);
@@ -92,10 +89,7 @@ pub fn relative_path<'a>(
 }
 
 /// The names that a text spells, each behind a slash.
-pub fn absolute_path<'a>(
-    alloc: Global,
-    text: &'a str,
-) -> Result<Option<Vec<Name<'a>>>, AllocError>
+pub fn absolute_path<'a>(alloc: Global, text: &'a str) -> Result<Option<Vec<Name<'a>>>, AllocError>
     ensures { IfOk result (λ path. option_map (λ p. names_view p.items) path ≡ spec.absolute_path_of text.entry.now) }
 {
     match behind_slash(text) {
@@ -127,10 +121,7 @@ fn spaced_path<'a>(alloc: Global, text: &'a str) -> Result<Option<Vec<Name<'a>>>
 }
 
 /// The names that the path of a leafref spells, each behind a slash, beside which white space may stand.
-pub fn leafref_path<'a>(
-    alloc: Global,
-    text: &'a str,
-) -> Result<Option<Vec<Name<'a>>>, AllocError>
+pub fn leafref_path<'a>(alloc: Global, text: &'a str) -> Result<Option<Vec<Name<'a>>>, AllocError>
     ensures { IfOk result (λ path. option_map (λ p. names_view p.items) path ≡ spec.leafref_path_of text.entry.now) }
 {
     if ends_white(text) {

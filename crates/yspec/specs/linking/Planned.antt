@@ -1,5 +1,5 @@
 -- Parts with the numbers of their schema nodes, and what one finds by name among them (RFC 7950, 6.5, 7.8 and 9.9).
-use Rattle.std.specs.Prelude.{ℕ, zero, suc, ◌+◌, ◌==◌, ◌&&◌, ◌||◌, Bool, true, false, not, List, [], ◌∷◌, map, codes, Option, Some, None, is_some, find, option_map, option_and_then, if◌then◌else◌}
+use Rattle.std.specs.Prelude.{ℕ, zero, suc, ◌+◌, ◌==◌, ◌&&◌, ◌||◌, Bool, true, false, not, List, [], ◌∷◌, map, codes, Option, Some, None, is_some, find, filter, option_map, option_and_then, if◌then◌else◌}
 use Rattle.std.specs.Option.{option_map_or, option_eq}
 use Rattle.yspec.specs.Forest.{Forest, end, node, size, preorder}
 use Rattle.yspec.specs.text.Text.{Text, is_text}
@@ -83,21 +83,17 @@ is_leaf_or_leaf_list p = is_a word.leaf_word p || is_a word.leaf_list_word p
 
 -- ---- by name
 
-abbrev pub is_of_module : Planned → Option ℕ → Bool
-is_of_module p None = false
-is_of_module p (Some m) = p.part.owner == m
+abbrev pub same_number : Option ℕ → Option ℕ → Bool
+same_number = option_eq (λ m n. m == n)
 
 abbrev pub is_called : NodeName → Planned → Bool
-is_called name p = is_of_module p name.module_number && is_text (argument_in p.part.source) name.name
+is_called name p = same_number name.module_number (Some p.part.owner) && is_text name.name (argument_in p.part.source)
 
 -- ---- a whole set: the row of `module` statements, and the nodes that are planned
 
 pub record Plan : Type 0 where
   pub modules : Forest Source
   pub nodes : Forest Planned
-
-abbrev pub same_number : Option ℕ → Option ℕ → Bool
-same_number = option_eq (λ m n. m == n)
 
 abbrev pub nodes_of : Plan → List Planned
 nodes_of plan = preorder plan.nodes
@@ -108,7 +104,7 @@ node_of plan number = find (λ p. p.number == number) (nodes_of plan)
 
 -- the first node of a name below a node, or at the top, choices and cases being nodes as others
 abbrev pub child_called : Plan → Option ℕ → NodeName → Option Planned
-child_called plan parent name = find (λ p. same_number p.parent parent && is_called name p) (nodes_of plan)
+child_called plan parent name = find (λ p. same_number parent p.parent && is_called name p) (nodes_of plan)
 
 -- the nodes along a way down
 abbrev pub way : Plan → Option ℕ → List NodeName → Option (List Planned)
@@ -119,10 +115,12 @@ way plan parent (name ∷ names) =
 abbrev pub is_data : Planned → Bool
 is_data p = not (is_a word.choice_word p || is_a word.case_word p)
 
+abbrev pub data_nodes : Plan → List Planned
+data_nodes plan = filter is_data (nodes_of plan)
+
 -- the first data node of a name below a data node, or at the top, choices and cases passed through
 abbrev pub data_child_called : Plan → Option ℕ → NodeName → Option Planned
-data_child_called plan scope name =
-    find (λ p. same_number p.scope scope && (is_data p && is_called name p)) (nodes_of plan)
+data_child_called plan scope name = find (λ p. same_number scope p.scope && is_called name p) (data_nodes plan)
 
 -- the data node to which a path leads
 abbrev pub data_node_at : Plan → Option ℕ → List NodeName → Option Planned

@@ -11,9 +11,9 @@ judge-returns-in_ok-told-in-Some t c =
     let s = c.args.statement.now in
     if_ok_then _ _ c.judge_row.result
     (λ told e. judged_known c.args.«module» (allowed_views c.args.allowed.now) (view s).0 (view s).1 (row_view c.substatements.result.now)
-        (keyword_view c.in-Some.keyword) (rule_view c.rule_of-rule.result) (seen c.args.so_far) (seen c.in_ok-told-in-Some.told) (seen told)
-        (sym c.if-is_prefixed.ensures) c.in-Some.ensures (sym c.if-is.ensures) c.in_ok-told-in-Some.ensures c.substatements.ensures.below
-        c.rule_of-rule.ensures e)
+    (keyword_view c.in-Some.keyword) (rule_view c.rule_of-rule.result) (seen c.args.so_far) (seen c.in_ok-told-in-Some.told) (seen told)
+    (sym c.if-is_prefixed.ensures) c.in-Some.ensures (sym c.if-is.ensures) c.in_ok-told-in-Some.ensures c.substatements.ensures.below
+    c.rule_of-rule.ensures e)
     c.judge_row.ensures
 
 pub judge_row-loop-statement-preserved : goal.judge_row-loop-statement-preserved

@@ -1,4 +1,4 @@
-use Rattle.std.proofs.Common.{sym, rules}
+use Rattle.std.proofs.Common.{rules}
 use Rattle.ytext.specs.View.{view, row_view}
 use Rattle.ylink.specs.TableView.{rule_view}
 use Rattle.ylink.specs.BreakView.{seen}
@@ -10,5 +10,5 @@ returns c =
     let s = c.args.statement.now in
     if_ok_then _ _ c.judge_row.result
     (λ told e. judged_top c.args.«module» (view s).0 (view s).1 (row_view c.substatements.result.now) (rule_view c.rule_of-rule.result) (seen c.args.so_far)
-        (seen c.in_ok-told.told) (seen told) (search rules) c.in_ok-told.ensures c.substatements.ensures.below c.rule_of-rule.ensures e)
+    (seen c.in_ok-told.told) (seen told) (search rules) c.in_ok-told.ensures c.substatements.ensures.below c.rule_of-rule.ensures e)
     c.judge_row.ensures

@@ -1,4 +1,4 @@
-use Rattle.std.proofs.Common.{arith, rules}
+use Rattle.std.proofs.Common.{arith}
 use Rattle.ylink.specs.BreakView.{seen}
 use Rattle.ylink.proofs.GrammarLemmas.{judged_module}
 use Rattle.ylink.proofs.grammar.statement_fault.Goals as goal
