@@ -12,11 +12,12 @@ use Rattle.yspec.specs.linking.Parts.{Part, defines_node, own_of, part_of, parts
 use Rattle.yspec.specs.linking.Planned as plan
 use Rattle.yspec.specs.linking.Planned.{Around, around_below, planned_node, planned, is_said, config_of}
 use Rattle.ypreorder.specs.Layout.{Place, places, laid, opened, closed, seen}
-use Rattle.ypreorder.specs.View.{rows_in}
+use Rattle.ypreorder.specs.View.{rows_in, row_by, label_by}
+use Rattle.ylink.specs.SourceView.{source_view}
 use Rattle.ypreorder.specs.declared.table.Table.{Table}
 use Rattle.ypreorder.proofs.LayoutLemmas.{length-places, places-join, length-laid, length-seen, grown}
 use Rattle.yplan.specs.declared.planned.Planned.{Planned}
-use Rattle.yplan.specs.PlannedView.{planned_view, seen_rows, listed}
+use Rattle.yplan.specs.PlannedView.{implied_or, planned_view, seen_rows, listed}
 
 -- ---- what a part states
 
@@ -245,3 +246,10 @@ pub all_added : (rows : Table Planned) (a : Around) (c : Bool) (f : Forest spec.
 unfolding parts
 all_added rows a true f whole none so = nothing_added rows a (as_cases (parts f)) (ap (λ g. as_cases (parts g)) none) ∙ so
 all_added rows a false f whole none so = nothing_added rows a (parts f) (ap parts none) ∙ so
+
+-- what a planned node states, from the substatements of its statement
+pub stated_is : (p : Planned) (k : Keyword) (number : ℕ) → p.is_implied ≡ false → defines_node k ≡ false
+    → argument_with k (row_by source_view p.source.children) ≡ plan.stated_in k (planned_view number p)
+stated_is p k number own other =
+    sym (own-argument k other (row_by source_view p.source.children))
+    ∙ ap (λ b. argument_with k (implied_or b (part_of (label_by source_view p.source) (row_by source_view p.source.children))).own) (sym own)

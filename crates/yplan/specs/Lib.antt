@@ -1,1 +1,2 @@
 pub mod PlannedView
+pub mod Finding

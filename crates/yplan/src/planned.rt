@@ -1,6 +1,6 @@
 //! Planned nodes.
 
-use ylink::Source;
+use ylink::{Keyword, Source, argument_of, argument_with};
 use ypreorder::Node;
 
 /// A schema node that a statement defines, or the case that a single node of a choice stands for (RFC 7950, 7.9.2).
@@ -16,6 +16,59 @@ pub struct Planned<'a, 't> {
     pub scope: Option<u32>,
     /// Whether it is configuration (RFC 7950, 7.21.1).
     pub config: bool,
+}
+
+impl<'a, 't> Planned<'a, 't> {
+    ghost use Rattle.std.specs.Prelude.{◌≡◌, false, option_map};
+    ghost use Rattle.yspec.specs.linking.Parts.{defines_node};
+    ghost use Rattle.yspec.specs.linking.Planned as spec;
+    ghost use Rattle.yspec.specs.linking.Source as sources;
+    ghost use Rattle.ylink.specs.KeywordView.{keyword_view};
+    ghost use Rattle.yplan.specs.PlannedView.{part_at, planned_view};
+
+    /// The keyword of its statement; that of a case, where one is implied.
+    pub fn keyword(&self) -> Keyword
+        ensures { keyword_view result ≡ (part_at self.now).source.keyword }
+    {
+        if self.is_implied {
+            Keyword::Case
+        } else {
+            self.source.label().keyword
+        }
+    }
+
+    /// The module to which it belongs, by its place in the set.
+    pub fn owner(&self) -> usize
+        ensures { result ≡ (part_at self.now).owner }
+    {
+        self.source.label().home
+    }
+
+    /// Its name.
+    pub fn name(&self) -> &'t str
+        ensures { result.now ≡ sources.argument_in (part_at self.now).source }
+    {
+        argument_of(self.source)
+    }
+
+    /// The argument of its first substatement with a keyword, which is none of those that define nodes.
+    pub fn stated(&self, keyword: Keyword) -> Option<&'t str>
+        requires { defines_node (keyword_view keyword) ≡ false }
+        ensures { (number : _) → option_map (λ text. text.now) result ≡ spec.stated_in (keyword_view keyword) (planned_view number self.now) }
+    {
+        if self.is_implied {
+            None
+        } else {
+            argument_with(keyword, self.source.children())
+        }
+    }
+
+    /// Whether it stands in documents: all but choices and cases.
+    pub fn is_data(&self) -> bool
+        ensures { (number : _) → result ≡ spec.is_data (planned_view number self.now) }
+    {
+        !matches!(self.keyword(), Keyword::Choice | Keyword::Case)
+    }
 }
 
 /// What stands around the nodes of a row.

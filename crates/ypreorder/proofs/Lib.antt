@@ -1,3 +1,4 @@
 pub mod RowLemmas
 pub mod TableLemmas
 pub mod LayoutLemmas
+pub mod LabelLemmas

@@ -60,6 +60,11 @@ numbered_by see number end = end
 numbered_by see number (node l below after) = node (see number l) (numbered_by see (number + 1) below)
     (numbered_by see (number + suc (size below)) after)
 
+-- the labels of rows, the first of which has a number
+abbrev pub labels_by : {L M : Type 0} → (ℕ → L → M) → ℕ → List (Row L) → List M
+labels_by see number [] = []
+labels_by see number (r ∷ rows) = see number r.label ∷ labels_by see (number + 1) rows
+
 -- the rows lie as a forest of these labels does
 abbrev pub Shows : {L M : Type 0} → (ℕ → L → M) → List (Row L) → Forest M → Type 0
 Shows see rows f = seen see 0 (laid rows) ≡ places None 0 f
