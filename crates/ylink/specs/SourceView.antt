@@ -41,3 +41,7 @@ below_of s = row_view s.substatements
 abbrev pub TakesFirst : SourceRow → Option Source → SourceRow → Type 0
 TakesFirst before None after = (row_view before ≡ end) × (row_view after ≡ end)
 TakesFirst before (Some s) after = row_view before ≡ node (label_of s) (below_of s) (row_view after)
+
+-- a statement of a row with what stands below it
+abbrev pub seen_source : Source → spec.Source × Forest spec.Source
+seen_source s = (label_of s, below_of s)

@@ -229,3 +229,21 @@ impl<'r, 'a> Source<'r, 'a> {
         self.substatements
     }
 }
+
+impl<'r, 'a> SourceRow<'r, 'a> {
+    ghost use Rattle.yspec.specs.linking.Source.{found_with, argument_with};
+    ghost use Rattle.ylink.specs.SourceView as lying;
+    ghost use Rattle.ylink.specs.SourceView.{seen_source};
+
+    /// The first of them with a keyword.
+    pub fn first_with(self, keyword: Keyword) -> Option<Source<'r, 'a>>
+        ensures { option_map seen_source result ≡ found_with (keyword_view keyword) (lying.row_view self.entry) }
+    {
+        for source in self {
+            if keyword.is(source.keyword()) {
+                return Some(source);
+            }
+        }
+        None
+    }
+}
