@@ -66,3 +66,8 @@ all_with k sources = filter (is_source_of k) (row sources)
 -- the argument of the first of a row with a keyword
 abbrev pub argument_with : Keyword → Forest Source → Option Text
 argument_with k sources = option_map argument_in (first_with k sources)
+
+-- the first of a row with a keyword, and what stands below it
+abbrev pub found_with : Keyword → Forest Source → Option (Source × Forest Source)
+found_with k end = None
+found_with k (node s below after) = if is_source_of k s then Some (s, below) else found_with k after
