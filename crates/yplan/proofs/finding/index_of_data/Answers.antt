@@ -25,8 +25,8 @@ loop-number-preserved c =
     ap (filter is_data) (labels_more planned_view rows i row within is) ∙ filter-last is_data (labels_by planned_view 0 (take i rows)) p in
     elim c.if-is_data.branch [
       | then-is_data+in_ok-hold w ↦
-          (let data : is_data p ≡ true = sym (c.is_data.ensures i) ∙ w.if-is_data.true in
-          let more : filter is_data (labels_by planned_view 0 (take (i + 1) rows)) ≡ done ++ p ∷ [] = step ∙ ap (λ b. done ++ cond b (p ∷ []) []) data in
+          (let stands : is_data p ≡ true = sym (c.is_data.ensures i) ∙ w.if-is_data.true in
+          let more : filter is_data (labels_by planned_view 0 (take (i + 1) rows)) ≡ done ++ p ∷ [] = step ∙ ap (λ b. done ++ cond b (p ∷ []) []) stands in
           subst (λ x. Finds x scope_in (filter is_data (labels_by planned_view 0 (take (i + 1) rows)))) (sym w.index-is)
           (subst (Finds w.hold.new.index scope_in) (sym more) (w.in_ok-hold.ensures scope_in done refl c.loop-number.invariant)))
       | else-is_data w ↦
