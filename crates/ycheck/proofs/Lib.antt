@@ -1,2 +1,1 @@
-pub mod FoundLemmas
 pub mod LineLemmas
