@@ -1,2 +1,3 @@
+pub mod CaseLemmas
 pub mod FoundLemmas
 pub mod LineLemmas

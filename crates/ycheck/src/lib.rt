@@ -1,6 +1,7 @@
 //! The check of a document: its faults, in order, and the line of each.
 #![tactic(auto)]
 
+mod cases;
 mod checking;
 mod fault;
 mod lines;
