@@ -1,1 +1,5 @@
+pub mod Cases
+pub mod Found
+pub mod Targets
 pub mod View
+pub mod Walk

@@ -1,0 +1,1 @@
+-- How the faults that are found grow.

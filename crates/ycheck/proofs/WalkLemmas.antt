@@ -1,0 +1,1 @@
+-- What the walk tells are the faults of the document.
