@@ -1,4 +1,6 @@
 pub mod CaseLemmas
 pub mod FoundLemmas
 pub mod LineLemmas
+pub mod MarkLemmas
+pub mod TargetLemmas
 pub mod WalkLemmas

@@ -5,19 +5,19 @@ use Rattle.std.specs.Option.{option_map_or}
 use Rattle.yspec.specs.Forest.{Forest, end, node, weigh_row}
 use Rattle.yspec.specs.text.Text.{Text}
 use Rattle.yspec.specs.types.Types.{Raw, Val, YangType, taken}
+use Rattle.yspec.specs.types.Order.{same_value}
 use Rattle.yspec.specs.schema.Schema.{Schema, SchemaNode, Kind, Tuples, LeafType, LeafPath, container, leaf, leaf_list, list, choice, case, is_data, is_many, has_value}
 use Rattle.yspec.specs.document.Document.{Stored, Tree, step_to, instances_in}
 use Rattle.yspec.specs.document.FaultCode.{V4, V5, V10}
 use Rattle.yspec.specs.document.Fault.{Fault, fault_with, choice_name, plain_fault}
 use Rattle.yspec.specs.document.Play.{stored_cases}
-use Rattle.yspec.specs.document.Instances.{Tuple, is_value, is_tuple, paths_of, tuple_of_paths}
+use Rattle.yspec.specs.document.Instances.{Tuple, is_value, is_tuple, paths_of, same_tuple, tuple_of_paths}
 use Rattle.yspec.specs.document.Faults.{Times, requires_instance, value_faults, tuple_info, tuple_code, under}
 use Rattle.yspec.specs.document.RowFaults.{absent_leaf_faults, wrong_amount}
-use Rattle.yschema.specs.declared.node.SchemaId.{SchemaId}
 use Rattle.ytree.specs.Walk.{mine, others}
-use Rattle.ytree.specs.View as tree_view
 use Rattle.ytree.specs.declared.tree.Stored as tree
-use Rattle.ycheck.specs.Cases.{how_many, is_chosen}
+use Rattle.ycheck.specs.Cases.{chosen_from, how_many, is_chosen}
+use Rattle.ycheck.specs.Repeated.{marks, values_of, tuples_of}
 use Rattle.ycheck.specs.Targets.{holds}
 use Rattle.ycheck.specs.declared.targets.Targets.{Targets}
 use Rattle.ycheck.specs.declared.cases.StoredCases.{StoredCases}
@@ -82,34 +82,28 @@ repetition is_item which =
 abbrev pub marks_told : Bool → ℕ → List Bool → List Fault
 marks_told is_item which [] = []
 marks_told is_item which (m ∷ ms) =
-    (if m then repetition is_item which ∷ [] else []) ++ marks_told is_item (suc which) ms
+    (if m then repetition is_item which ∷ [] else []) ++ marks_told is_item (which + 1) ms
 
 -- ---- the same of all instances as they lie, a list for each question
-
-abbrev pub is_tuple_repeated : Schema → Tuples → ℕ → Tree → tree.Stored → Bool
-is_tuple_repeated schema tuples u found s = has_tuple_twice schema tuples u found (tree_view.view s).1
-
-abbrev pub is_item_repeated : YangType → Tree → tree.Stored → Bool
-is_item_repeated type found s = has_item_twice type found (tree_view.view s).0
 
 abbrev pub tables_from : Schema → Tuples → List tree.Stored → ℕ → List (List LeafPath) → List (List Bool)
 tables_from schema tuples found u [] = []
 tables_from schema tuples found u (x ∷ xs) =
-    map (is_tuple_repeated schema tuples u (tree_view.row_view found)) found ∷ tables_from schema tuples found (suc u) xs
+    marks same_tuple (tuples_of schema tuples u found) ∷ tables_from schema tuples found (u + 1) xs
 
 abbrev pub entry_table : Schema → Tuples → List tree.Stored → List (List Bool)
-entry_table schema tuples found = map (is_tuple_repeated schema tuples 0 (tree_view.row_view found)) found
-    ∷ tables_from schema tuples found 1 tuples.uniques
+entry_table schema tuples found =
+    marks same_tuple (tuples_of schema tuples 0 found) ∷ tables_from schema tuples found 1 tuples.uniques
 
 abbrev pub table_of : Schema → Kind → Bool → List tree.Stored → List (List Bool)
 table_of schema (list tuples amount) config found = entry_table schema tuples found
 table_of schema (leaf_list type defaults amount) config found =
-    if config then map (is_item_repeated type.type (tree_view.row_view found)) found ∷ [] else []
+    if config then marks same_value (values_of type.type found) ∷ [] else []
 table_of schema _ config found = []
 
 -- the answers for the instance at a place
 abbrev pub marks_at : ℕ → List (List Bool) → List Bool
-marks_at index table = map (λ marks. get_or marks index false) table
+marks_at index table = map (λ answers. get_or answers index false) table
 
 -- ---- the instances of a data node
 
@@ -141,21 +135,21 @@ each_of said end = []
 each_of said (node s below after) = said s below ∷ each_of said after
 
 -- what an instance tells, given what is told of a row below it
-abbrev pub instance_told : Times → Schema → SchemaNode → (Tree → List Fault) → Tree → Stored → Tree → List Fault
-instance_told times schema n inside found s below = value_told times n.kind s.value
-    ++ (marks_told (has_value n.kind) 0 (marks_of schema n.kind n.config found s below) ++ inside below)
+abbrev pub instance_told : Times → Schema → SchemaNode → Kind → (Tree → List Fault) → Tree → Stored → Tree → List Fault
+instance_told times schema n kind inside found s below = value_told times kind s.value
+    ++ (marks_told (has_value kind) 0 (marks_of schema kind n.config found s below) ++ inside below)
 
-abbrev pub instances_told : Times → Schema → SchemaNode → (Tree → List Fault) → Tree → List Fault
-instances_told times schema n inside found =
-    each_told (is_many n.kind) n.number 1 (each_of (instance_told times schema n inside found) found)
+abbrev pub instances_told : Times → Schema → SchemaNode → Kind → (Tree → List Fault) → Tree → List Fault
+instances_told times schema n kind inside found =
+    each_told (is_many kind) n.number 1 (each_of (instance_told times schema n kind inside found) found)
 
 abbrev pub present_or : Tree → List Fault → List Fault → List Fault
 present_or end absent present = absent
 present_or (node s below after) absent present = present
 
-abbrev pub data_told : Times → Schema → SchemaNode → (Tree → List Fault) → Tree → List Fault
-data_told times schema n inside found = amount_told n.number n.kind (length (each_of (λ s below. s) found))
-    ++ present_or found (absent_told n.number n.kind (inside end)) (instances_told times schema n inside found)
+abbrev pub data_told : Times → Schema → SchemaNode → Kind → (Tree → List Fault) → Tree → List Fault
+data_told times schema n kind inside found = amount_told n.number kind (length (each_of (λ s below. s) found))
+    ++ present_or found (absent_told n.number kind (inside end)) (instances_told times schema n kind inside found)
 
 -- ---- choices
 
@@ -165,12 +159,6 @@ choice_told name is_mandatory count.Zero =
     if is_mandatory then fault_with (choice_name name) V4 [] ∷ [] else []
 choice_told name is_mandatory count.One = []
 choice_told name is_mandatory count.Several = fault_with (choice_name name) V5 [] ∷ []
-
--- the cases in play of a choice
-abbrev pub chosen_from : Option ℕ → StoredCases → Chosen
-chosen_from None count.Zero = chosen.NoCase
-chosen_from (Some number) count.Zero = chosen.Only (record { 0 = number })
-chosen_from default_case _ = chosen.EachStored
 
 -- of a choice or case, given what is told of its row where some cases of that row are chosen
 abbrev pub inside_told : SchemaNode → Kind → Chosen → Forest SchemaNode → (Chosen → Tree → List Fault) → Tree → List Fault
@@ -186,6 +174,6 @@ inside_told n _ c below inside rest = []
 unfoldable pub walked : Times → Schema → Chosen → Forest SchemaNode → Tree → List Fault
 walked times schema c end rest = []
 walked times schema c (node n below after) rest = (if is_data n.kind
-    then data_told times schema n (λ t. walked times schema chosen.NoCase below t) (mine n.number rest)
+    then data_told times schema n n.kind (λ t. walked times schema chosen.NoCase below t) (mine n.number rest)
     else inside_told n n.kind c below (λ d t. walked times schema d below t) (others n.number rest))
     ++ walked times schema c after (others n.number rest)

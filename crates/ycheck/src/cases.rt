@@ -10,7 +10,7 @@ ghost use Rattle.yspec.specs.document.Sorting.{IsSorted};
 ghost use Rattle.yschema.specs.Layout.{number_of};
 ghost use Rattle.yschema.specs.View as schema_view;
 ghost use Rattle.ytree.specs.View as document_view;
-ghost use Rattle.ycheck.specs.Cases.{one_more, how_many, is_chosen, Chooses};
+ghost use Rattle.ycheck.specs.Cases.{one_more, chosen_from, how_many, is_chosen, Chooses};
 
 use yschema::{Child, Children, SchemaId};
 use ytree::{Stored, instances_of};
@@ -65,7 +65,8 @@ pub(crate) enum Chosen {
 impl Chosen {
     /// The chosen cases of a choice of which so many have a stored data node.
     pub(crate) fn of(default_case: Option<SchemaId>, with_stored: StoredCases) -> Chosen
-        ensures { (stored : _) (k : _) (cases : Forest spec.SchemaNode) → IsNumbered k cases
+        ensures same { result ≡ chosen_from (number_of default_case) with_stored }
+        ensures chooses { (stored : _) (k : _) (cases : Forest spec.SchemaNode) → IsNumbered k cases
             → with_stored ≡ how_many (stored_cases stored cases)
             → Chooses result stored (or_default (number_of default_case) (stored_cases stored cases)) cases }
     {

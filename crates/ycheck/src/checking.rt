@@ -158,10 +158,11 @@ fn check_child<'a>(
     let (found, behind) = instances_of(rest, child.id());
     if child.node().kind.is_data() {
         check_data(schema, targets, child, found, findings)?;
+        Ok(behind)
     } else {
         check_inside(schema, targets, child, chosen, behind, findings)?;
+        Ok(behind)
     }
-    Ok(behind)
 }
 
 /// Checks a choice or a case against the stored nodes that are left.
@@ -234,7 +235,7 @@ fn check_data(
     findings: &mut Findings,
 ) -> Result<(), AllocError>
     ensures { let t = document_view.row_view found.now in IsSorted t → OnOk result (Adds findings.old findings.new
-        (data_told (times_of targets.now) (schema_view.view schema.now) (schema_view.label_of child.entry)
+        (data_told (times_of targets.now) (schema_view.view schema.now) (schema_view.label_of child.entry) (schema_view.label_of child.entry).kind
         (λ u. walked (times_of targets.now) (schema_view.view schema.now) variant.NoCase (schema_view.below_of child.entry) u) t)) }
 {
     check_amount(child, found.len(), findings)?;
@@ -334,7 +335,7 @@ fn check_found(
     findings: &mut Findings,
 ) -> Result<(), AllocError>
     ensures { let t = document_view.row_view found.now in IsSorted t → OnOk result (Adds findings.old findings.new
-        (instances_told (times_of targets.now) (schema_view.view schema.now) (schema_view.label_of child.entry)
+        (instances_told (times_of targets.now) (schema_view.view schema.now) (schema_view.label_of child.entry) (schema_view.label_of child.entry).kind
         (λ u. walked (times_of targets.now) (schema_view.view schema.now) variant.NoCase (schema_view.below_of child.entry) u) t)) }
 {
     let node = child.node();

@@ -1,10 +1,11 @@
 //! Entries and items that are there twice.
 
-ghost use Rattle.std.specs.Prelude.{◌≡◌, map, IfOk};
+ghost use Rattle.std.specs.Prelude.{◌≡◌, IfOk};
 ghost use Rattle.yschema.specs.Layout.{tuples_view};
 ghost use Rattle.yschema.specs.View as schema_view;
-ghost use Rattle.ytree.specs.View as document_view;
-ghost use Rattle.ycheck.specs.Walk.{is_tuple_repeated, is_item_repeated};
+ghost use Rattle.yspec.specs.types.Order.{same_value};
+ghost use Rattle.yspec.specs.document.Instances.{same_tuple};
+ghost use Rattle.ycheck.specs.Repeated.{marks, values_of, tuples_of};
 
 use std::alloc::{AllocError, Global};
 use yschema::{Schema, Tuples};
@@ -18,8 +19,8 @@ pub(crate) fn repeated_tuples(
     entries: &[Stored],
     u: usize,
 ) -> Result<Vec<bool>, AllocError>
-    ensures { IfOk result (λ marks. marks.items
-        ≡ map (is_tuple_repeated (schema_view.view schema.now) (tuples_view tuples.now) u (document_view.row_view entries.now)) entries.now) }
+    ensures { let s = schema_view.view schema.now in
+        IfOk result (λ found. found.items ≡ marks same_tuple (tuples_of s (tuples_view tuples.now) u entries.now)) }
 {
     let _schema = schema;
     let _tuples = tuples;
@@ -33,8 +34,7 @@ pub(crate) fn repeated_items(
     value_type: &YType,
     items: &[Stored],
 ) -> Result<Vec<bool>, AllocError>
-    ensures { IfOk result (λ marks. marks.items
-        ≡ map (is_item_repeated value_type.now (document_view.row_view items.now)) items.now) }
+    ensures { IfOk result (λ found. found.items ≡ marks same_value (values_of value_type.now items.now)) }
 {
     let _value_type = value_type;
     let _items = items;

@@ -17,11 +17,11 @@ pub(crate) struct Targets {
 
 impl Targets {
     ghost use Rattle.std.specs.Prelude.{◌≡◌, IfOk};
-    ghost use Rattle.ycheck.specs.Targets.{Counts, holds};
+    ghost use Rattle.ycheck.specs.Targets.{HasValues, holds};
 
     pub(crate) fn of(_alloc: Global, schema: &Schema, tree: &Tree) -> Result<Targets, AllocError>
         ensures { let s = schema_view.view schema.now in let t = document_view.tree_view tree.now in
-            IsSorted t → IfOk result (λ targets. Counts targets s t) }
+            IfOk result (λ targets. IsSorted t → HasValues targets s t) }
     {
         let _schema = schema;
         let _tree = tree;
