@@ -1,3 +1,4 @@
 pub mod CaseLemmas
 pub mod FoundLemmas
 pub mod LineLemmas
+pub mod RepeatedLemmas

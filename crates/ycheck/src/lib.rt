@@ -5,6 +5,7 @@ mod cases;
 mod checking;
 mod fault;
 mod lines;
+mod repeated;
 
 pub use checking::faults;
 pub use fault::{ErrorTag, Fault, FaultCode, Info};
