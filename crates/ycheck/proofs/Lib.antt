@@ -2,3 +2,4 @@ pub mod CaseLemmas
 pub mod FoundLemmas
 pub mod LineLemmas
 pub mod RepeatedLemmas
+pub mod ValueLemmas

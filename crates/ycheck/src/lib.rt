@@ -6,6 +6,7 @@ mod checking;
 mod fault;
 mod lines;
 mod repeated;
+mod values;
 
 pub use checking::faults;
 pub use fault::{ErrorTag, Fault, FaultCode, Info};
