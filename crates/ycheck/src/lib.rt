@@ -7,6 +7,7 @@ mod fault;
 mod lines;
 mod repeated;
 mod targets;
+mod values;
 
 pub use checking::faults;
 pub use fault::{ErrorTag, Fault, FaultCode, Info};
