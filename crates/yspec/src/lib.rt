@@ -9,7 +9,6 @@ pub mod compiling;
 pub mod documents;
 pub mod editing;
 pub mod examples;
-pub mod plain;
 pub mod reading;
 pub mod scripts;
 pub mod spelling;

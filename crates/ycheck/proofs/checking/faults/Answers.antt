@@ -3,7 +3,7 @@ use Rattle.yspec.specs.document.Sorting.{IsSorted}
 use Rattle.yschema.specs.View as schema_view
 use Rattle.yschema.proofs.CallerLemmas.{numbered}
 use Rattle.ytree.specs.View as document_view
-use Rattle.ycheck.proofs.TargetLemmas.{all_found}
+use Rattle.ycheck.proofs.ReferenceLemmas.{all_found}
 use Rattle.ycheck.proofs.checking.faults.Goals as goal
 
 pub returns : goal.returns
