@@ -49,13 +49,13 @@ numbered_row c = numbered_within (length c.rows.now) c.number c.rows.now (omega 
 
 -- ---- counts that agree from a number on
 
-among_same : (f : Forest SchemaNode) (k : ℕ) (s r : ℕ → ℕ) → IsNumbered k f → ((m : ℕ) → k ≤ m → s m ≡ r m) → stored_among s f ≡ stored_among r f
+pub among_same : (f : Forest SchemaNode) (k : ℕ) (s r : ℕ → ℕ) → IsNumbered k f → ((m : ℕ) → k ≤ m → s m ≡ r m) → stored_among s f ≡ stored_among r f
 among_same end k s r numbered same = refl
 among_same (node n below after) k s r numbered same = ap₂ ◌+◌
     (ap₂ (cond (is_data n.kind)) (same n.number (omega (arith, numbered.0))) (among_same below (k + 1) s r numbered.1 (λ m from. same m (omega (arith, from)))))
     (among_same after (k + 1 + size below) s r numbered.2 (λ m from. same m (omega (arith, from))))
 
-cases_same : (f : Forest SchemaNode) (k : ℕ) (s r : ℕ → ℕ) → IsNumbered k f → ((m : ℕ) → k ≤ m → s m ≡ r m) → stored_cases s f ≡ stored_cases r f
+pub cases_same : (f : Forest SchemaNode) (k : ℕ) (s r : ℕ → ℕ) → IsNumbered k f → ((m : ℕ) → k ≤ m → s m ≡ r m) → stored_cases s f ≡ stored_cases r f
 cases_same end k s r numbered same = refl
 cases_same (node n below after) k s r numbered same = ap₂ ◌++◌
     (ap (λ c. cond (ltb 0 c) (n.number ∷ []) []) (among_same below (k + 1) s r numbered.1 (λ m from. same m (omega (arith, from)))))
@@ -258,7 +258,7 @@ each_stored stored (node n below after) k before numbers numbered none is =
     other true m past = ap (λ c. c || false) (eqb_other n.number m (λ e. absurd (omega (arith, e, past))))
     other false m past = refl
 
-no_case : (stored : ℕ → ℕ) (f : Forest SchemaNode) → Chooses chosen.NoCase stored [] f
+pub no_case : (stored : ℕ → ℕ) (f : Forest SchemaNode) → Chooses chosen.NoCase stored [] f
 no_case stored end = tt
 no_case stored (node n below after) = (refl, no_case stored after)
 

@@ -1,3 +1,4 @@
 pub mod Cases
 pub mod Repeated
+pub mod Targets
 pub mod View

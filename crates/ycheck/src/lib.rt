@@ -6,6 +6,7 @@ mod checking;
 mod fault;
 mod lines;
 mod repeated;
+mod targets;
 mod values;
 
 pub use checking::faults;
