@@ -26,8 +26,16 @@ use Rattle.yspec.specs.document.Sorting.{IsSorted}
 use Rattle.ytree.specs.Walk.{others}
 use Rattle.yspec.specs.document.Instances.{is_value, value_of, times_in_use, times_below, times_at, times_in}
 use Rattle.yspec.specs.document.Play.{Item, tell, in_use, visit, visit_each, cases, stored_cases, or_default, choice_faults, absent_leaf, absent_items, exceeds, amount_faults, is_among, node_items, stored_inside, steps_inside, items_in_play}
+use Rattle.std.proofs.Common.{Vec}
+use Rattle.std.specs.Global.{Global}
+use Rattle.yschema.specs.declared.node.Kind as code
+use Rattle.yschema.specs.declared.node.LeafType as code_type
+use Rattle.yschema.specs.declared.node.Absence as code_absence
+use Rattle.yschema.specs.declared.node.Amount as code_amount
+use Rattle.yschema.specs.declared.node.Kind.TheVariants as kinds
+use Rattle.yschema.specs.Layout.{kind_view}
 use Rattle.ycheck.specs.Cases.{is_chosen, Chooses}
-use Rattle.ycheck.specs.Targets.{kept, is_kept, holds, Gathers, one_value, some_values, default_value, times_used, times_of_row, times_of_node, own_value, refers_to, is_target_in}
+use Rattle.ycheck.specs.Targets.{kept, is_kept, holds, Gathers, one_value, some_values, default_value, times_used, times_of_row, times_of_node, own_value, refers_to, is_target_in, HasValues}
 use Rattle.ycheck.specs.declared.cases.Chosen.{Chosen}
 use Rattle.ycheck.specs.declared.cases.Chosen.TheVariants as chosen
 use Rattle.ycheck.specs.declared.targets.Targets.{Targets}
@@ -475,14 +483,14 @@ values_unkept t m vs unkept = gathers_none t (some_values m vs) (λ number v her
 pub value_unkept : (t : Targets) (m : ℕ) (value : Val) → is_kept t m ≡ false → Gathers t t (one_value m value)
 value_unkept t m value unkept = gathers_none t (one_value m value) (λ number v here. by number v here (eqb m number) refl)
   where
-    by : (number : ℕ) (v : Val) → is_kept t number ≡ true → (b : Bool) → eqb m number ≡ b → cond b (cond (same_value v value) 1 0) 0 ≡ 0
+    by : (number : ℕ) (v : Val) → is_kept t number ≡ true → (b : Bool) → eqb m number ≡ b → cond {A = ℕ} b (cond (same_value v value) 1 0) 0 ≡ 0
     by number v here true e = absurd (true≢false (sym here ∙ (ap (is_kept t) (sym (eqb-true m number e)) ∙ unkept)))
     by number v here false e = refl
 
 pub own_unkept : (s : Schema) (st : Stored) (t : Targets) → is_kept t st.schema_number ≡ false → Gathers t t (own_value s st)
 own_unkept s st t unkept = gathers_none t (own_value s st) (λ number v here. by number v here (eqb st.schema_number number) refl)
   where
-    by : (number : ℕ) (v : Val) → is_kept t number ≡ true → (b : Bool) → eqb st.schema_number number ≡ b → cond b (cond (is_value v (value_of s st)) 1 0) 0 ≡ 0
+    by : (number : ℕ) (v : Val) → is_kept t number ≡ true → (b : Bool) → eqb st.schema_number number ≡ b → cond {A = ℕ} b (cond (is_value v (value_of s st)) 1 0) 0 ≡ 0
     by number v here true e = absurd (true≢false (sym here ∙ (ap (is_kept t) (sym (eqb-true st.schema_number number e)) ∙ unkept)))
     by number v here false e = refl
 
@@ -559,3 +567,63 @@ targets_ended m f now whole is so = by now ∙ (ap (λ g. now || is_target_in g 
     by : (b : Bool) → b ≡ (b || false)
     by true = refl
     by false = refl
+
+-- ---- kinds as the crate below has them
+
+pub data_kind : (k : code.Kind) → ((d : Option SchemaId) (m : Bool) → k ≡ kinds.Choice d m → ⊥) → (k ≡ kinds.Case → ⊥) → is_data (kind_view k) ≡ true
+data_kind (kinds.Container presence) choice_not case_not = refl
+data_kind (kinds.Leaf type absence) choice_not case_not = refl
+data_kind (kinds.LeafList type defaults amount) choice_not case_not = refl
+data_kind (kinds.List tuples amount) choice_not case_not = refl
+data_kind (kinds.Choice default_case flag) choice_not case_not = absurd (choice_not default_case flag refl)
+data_kind kinds.Case choice_not case_not = absurd (case_not refl)
+
+-- of a data node that isn't stored and is no container, leaf or leaf-list nothing is in use
+pub rest_unused : (number : ℕ) (v : Val) (n : SchemaNode) (below : Forest SchemaNode) (k : code.Kind) → n.kind ≡ kind_view k → is_data n.kind ≡ true
+    → ((presence : Bool) → k ≡ kinds.Container presence → ⊥) → ((type : code_type.LeafType) (absence : code_absence.Absence) → k ≡ kinds.Leaf type absence → ⊥)
+    → ((type : code_type.LeafType) (defaults : Vec Val Global) (amount : code_amount.Amount) → k ≡ kinds.LeafList type defaults amount → ⊥)
+    → times_used (instances_in end) [] (node n below end) number v ≡ 0
+rest_unused number v n below (kinds.Container presence) is data_node container_not leaf_not list_not = absurd (container_not presence refl)
+rest_unused number v n below (kinds.Leaf type absence) is data_node container_not leaf_not list_not = absurd (leaf_not type absence refl)
+rest_unused number v n below (kinds.LeafList type defaults amount) is data_node container_not leaf_not list_not = absurd (list_not type defaults amount refl)
+rest_unused number v n below (kinds.List tuples amount) is data_node container_not leaf_not list_not = at_kind number v n below (kind_view (kinds.List tuples amount)) is
+rest_unused number v n below (kinds.Choice default_case flag) is data_node container_not leaf_not list_not = absurd (true≢false (sym data_node ∙ ap (λ kind. is_data kind) is))
+rest_unused number v n below kinds.Case is data_node container_not leaf_not list_not = absurd (true≢false (sym data_node ∙ ap (λ kind. is_data kind) is))
+
+-- of a stored node: its value, and the row below it
+pub node_parts : (s : Schema) (st : Stored) (below t : Tree) (f : Forest SchemaNode) → f ≡ children_of s st.schema_number → t ≡ below → (number : ℕ) (v : Val)
+    → times_of_node s st below number v ≡ own_value s st number v + times_of_row s f t number v
+node_parts s st below t f f_is t_is number v =
+    let row = ap₂ (λ (g : Forest SchemaNode) (u : Tree). times_of_row s g u number v) f_is t_is in
+    omega (arith, row)
+
+-- nothing is left of a row
+pub stored_ended : (s : Schema) (t : Tree) (old now : Targets) (whole : Times) → t ≡ end → Still old now whole (left_times s t) → Gathers old now whole
+stored_ended s t old now whole is so = still_none_left old now whole (left_times s t) so (λ number v. ap (weigh_nodes (times_at s number v)) is)
+
+-- ---- the whole
+
+-- at first nothing is held
+pub nothing_held : (t : Targets) (number : ℕ) (v : Val) → t.sets.entries ≡ [] → holds t number v ≡ false
+nothing_held t number v none = ap (λ (es : List (SchemaId × BTreeSet Val)). option_map_or (λ values. contains value_cmp values v) (lookup (λ (k : SchemaId). eqb k.0 number) es) false) none
+
+pub nothing_kept : (t : Targets) (number : ℕ) → t.sets.entries ≡ [] → is_kept t number ≡ false
+nothing_kept t number none = ap (λ (es : List (SchemaId × BTreeSet Val)). is_some (lookup (λ (k : SchemaId). eqb k.0 number) es)) none
+
+-- in the end what instances of targets have
+pub has_values : (s : Schema) (tree t : Tree) (f g : Forest SchemaNode) (first kept_all done : Targets) → f ≡ s.nodes → g ≡ s.nodes → t ≡ tree → first.sets.entries ≡ []
+    → ((number : ℕ) → is_kept kept_all number ≡ (is_kept first number || is_target_in g number)) → ((number : ℕ) (v : Val) → holds kept_all number v ≡ holds first number v)
+    → Gathers kept_all done (times_of_row s f t) → HasValues done s tree
+has_values s tree t f g first kept_all done f_is g_is t_is none kept_is held gathered number v target =
+    let is_kept_now = kept_is number ∙ (ap₂ (λ b h. b || is_target_in h number) (nothing_kept first number none) g_is ∙ target) in
+    (gathered number v).1 ∙ (ap₂ (λ a b. a || (b && ltb 0 (times_of_row s f t number v))) (held number v ∙ nothing_held first number v none) is_kept_now
+    ∙ (ap₂ (λ (h : Forest SchemaNode) (u : Tree). ltb 0 (times_of_row s h u number v)) f_is t_is ∙ positive (times_in s tree number v)))
+  where
+    positive : (n : ℕ) → ltb 0 n ≡ not (eqb n 0)
+    positive n = grind (arith, nat_tests)
+
+-- where nothing is kept there is no target
+pub no_targets : (s : Schema) (tree : Tree) (g : Forest SchemaNode) (first kept_all : Targets) → g ≡ s.nodes → first.sets.entries ≡ [] → kept_all.sets.entries ≡ []
+    → ((number : ℕ) → is_kept kept_all number ≡ (is_kept first number || is_target_in g number)) → HasValues kept_all s tree
+no_targets s tree g first kept_all g_is none empty kept_is number v target =
+    absurd (true≢false (sym target ∙ (sym (ap₂ (λ b h. b || is_target_in h number) (nothing_kept first number none) g_is) ∙ (sym (kept_is number) ∙ nothing_kept kept_all number empty))))
