@@ -4,5 +4,6 @@ pub mod LineLemmas
 pub mod MarkLemmas
 pub mod ReferenceLemmas
 pub mod RepeatedLemmas
+pub mod TargetLemmas
 pub mod ValueLemmas
 pub mod WalkLemmas

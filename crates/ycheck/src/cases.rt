@@ -119,7 +119,7 @@ fn is_met(child: Child<'_>, rest: &[Stored]) -> bool
 }
 
 /// Whether a node is stored in a row in order: the first that doesn't stand before it is one.
-fn is_stored(id: SchemaId, rest: &[Stored]) -> bool
+pub(crate) fn is_stored(id: SchemaId, rest: &[Stored]) -> bool
     ensures { let t = document_view.row_view rest.now in IsSorted t → result ≡ nat_lt 0 (instances_in t id.0) }
 {
     for stored in rest {
