@@ -1,5 +1,5 @@
 -- What is gathered of the values of targets, part by part.
-use Rattle.std.proofs.Common.{◌≡◌, ℕ, zero, suc, ◌+◌, ◌<◌, ◌≤◌, Bool, true, false, cond, not, ◌&&◌, ◌||◌, eqb, ltb, List, [], ◌∷◌, ◌++◌, true≢false, length, drop, get_or, Option, Some, None, refl, sym, ap, ap₂, subst, ◌∙◌, append_assoc, arith}
+use Rattle.std.proofs.Common.{◌≡◌, ℕ, zero, suc, ◌+◌, ◌<◌, ◌≤◌, Bool, true, false, cond, not, ◌&&◌, ◌||◌, eqb, ltb, List, [], ◌∷◌, ◌++◌, true≢false, length, drop, get_or, Option, Some, None, refl, sym, ap, ap₂, subst, ◌∙◌, arith}
 use Rattle.std.specs.Prelude.{count_by, sum_by, is_some}
 use Rattle.std.specs.Option.{option_map_or}
 use Rattle.std.specs.Ordering.{is_eq, nat_cmp}
@@ -9,7 +9,7 @@ use Rattle.std.specs.BTreeSet.{BTreeSet, contains}
 use Rattle.std.proofs.lemmas.Bool.Decides.{nat_tests}
 use Rattle.ytype.specs.Laws.{same_value_equiv}
 use Rattle.yschema.specs.declared.node.SchemaId.{SchemaId}
-use Rattle.std.proofs.lemmas.Bool.{lt-ltb, ltb-true, ltb-false, eqb-true}
+use Rattle.std.proofs.lemmas.Bool.{lt-ltb, eqb-true}
 use Rattle.std.proofs.lemmas.List.Folds.{list_any-append}
 use Rattle.std.proofs.lemmas.List.{at_drop_more, at_drop_all, append-nil}
 use Rattle.std.proofs.lemmas.List.Sums.{sum_by-cons, sum_by-append}
@@ -24,7 +24,7 @@ use Rattle.yspec.specs.document.Faults.{Times}
 use Rattle.yspec.specs.document.Fitting.{IsNumbered}
 use Rattle.yspec.specs.document.Sorting.{IsSorted}
 use Rattle.ytree.specs.Walk.{others}
-use Rattle.yspec.specs.document.Instances.{is_value, value_of, times_in_use, times_below, times_at, times_in}
+use Rattle.yspec.specs.document.Instances.{is_value, value_of, times_in_use, times_at, times_in}
 use Rattle.yspec.specs.document.Play.{Item, tell, in_use, visit, visit_each, cases, stored_cases, or_default, choice_faults, absent_leaf, absent_items, exceeds, amount_faults, is_among, node_items, stored_inside, steps_inside, items_in_play}
 use Rattle.std.proofs.Common.{Vec}
 use Rattle.std.specs.Global.{Global}
@@ -72,8 +72,8 @@ still_more old now next whole rest added left so gathered parts number v =
     let more = gathered number v in (
       more.0 ∙ here.0,
       ap₂ (λ h k. h || (k && ltb 0 (left number v))) more.1 more.0
-      ∙ (or_sum (holds now number v) (is_kept now number) (added number v) (left number v)
-      ∙ (ap (λ x. holds now number v || (is_kept now number && ltb 0 x)) (sym (parts number v)) ∙ here.1)),
+          ∙ (or_sum (holds now number v) (is_kept now number) (added number v) (left number v)
+          ∙ (ap (λ x. holds now number v || (is_kept now number && ltb 0 x)) (sym (parts number v)) ∙ here.1)),
     )
 
 pub still_none_left : (old now : Targets) (whole rest : Times) → Still old now whole rest → ((number : ℕ) (v : Val) → rest number v ≡ 0) → Gathers old now whole
@@ -303,16 +303,16 @@ value_added old new id set w value was added put number v = by (eqb id.0 number)
         let before : kept (record { sets = old }) number ≡ Some set = ap (kept (record { sets = old })) (sym (eqb-true id.0 number e)) ∙ was in (
           ap is_some now ∙ sym (ap is_some before),
           ap (λ o. option_map_or (λ values. contains value_cmp values v) o false) now
-          ∙ (added v ∙ (ap (λ b. cond b true (contains value_cmp set v)) (same_value_equiv.symm value v)
-          ∙ (same (same_value v value) (contains value_cmp set v)
-          ∙ sym (ap₂ (λ o b. option_map_or (λ values. contains value_cmp values v) o false || (is_some o && ltb 0 (cond b (cond (same_value v value) 1 0) 0))) before e)))),
+              ∙ (added v ∙ (ap (λ b. cond b true (contains value_cmp set v)) (same_value_equiv.symm value v)
+              ∙ (same (same_value v value) (contains value_cmp set v)
+              ∙ sym (ap₂ (λ o b. option_map_or (λ values. contains value_cmp values v) o false || (is_some o && ltb 0 (cond b (cond (same_value v value) 1 0) 0))) before e)))),
         )
     by false e =
         let now = after ∙ ap (λ b. cond b (Some w) (kept (record { sets = old }) number)) e in (
           ap is_some now,
           ap (λ o. option_map_or (λ values. contains value_cmp values v) o false) now
-          ∙ (sym (or_none (holds (record { sets = old }) number v) (is_kept (record { sets = old }) number))
-          ∙ sym (ap (λ b. holds (record { sets = old }) number v || (is_kept (record { sets = old }) number && ltb 0 (cond b (cond (same_value v value) 1 0) 0))) e)),
+              ∙ (sym (or_none (holds (record { sets = old }) number v) (is_kept (record { sets = old }) number))
+              ∙ sym (ap (λ b. holds (record { sets = old }) number v || (is_kept (record { sets = old }) number && ltb 0 (cond b (cond (same_value v value) 1 0) 0))) e)),
         )
 
 pub key_found : (old : Sets) (m : ℕ) (set : BTreeSet Val) → Some set ≡ lookup (λ (k : SchemaId). is_eq (nat_cmp m k.0)) old.entries → kept (record { sets = old }) m ≡ Some set
@@ -533,7 +533,7 @@ use_next c f after below n k m rest left old now next whole numbers numbered is 
     let here : IsNumbered k (node n below after) = subst (IsNumbered k) is numbered in
     let chooses : Chooses c (instances_in rest) numbers (node n below after) = subst (Chooses c (instances_in rest) numbers) is so.1 in
     let same : (i : ℕ) → k + 1 + size below ≤ i → instances_in rest i ≡ instances_in left i =
-        λ i from. sym (ap (λ u. instances_in u i) left_is ∙ counts_others m i rest (omega (arith, number_is, here.0, from))) in (
+    λ i from. sym (ap (λ u. instances_in u i) left_is ∙ counts_others m i rest (omega (arith, number_is, here.0, from))) in (
       subst IsSorted (sym left_is) (sorted_others m rest so.0),
       chooses_same c after (k + 1 + size below) (instances_in rest) (instances_in left) numbers here.2 same chooses.1,
       still_more old now next whole (times_used (instances_in rest) numbers f) (times_used (instances_in rest) numbers (node n below end)) (times_used (instances_in left) numbers after)
