@@ -395,10 +395,6 @@ module _ (number : ℕ) (v : Val) where
       → some_values n.number defaults number v ≡ times_used (instances_in end) [] (node n below end) number v
   leaf_list_used n below type defaults amount is = sym (at_kind n below (leaf_list type defaults amount) is)
 
-  pub list_used : (n : SchemaNode) (below : Forest SchemaNode) (tuples : Tuples) (amount : Amount) → n.kind ≡ list tuples amount
-      → times_used (instances_in end) [] (node n below end) number v ≡ 0
-  list_used n below tuples amount is = at_kind n below (list tuples amount) is
-
 -- ---- counts that agree from a number on
 
 kind_inside : (kind : Kind) (s r : ℕ → ℕ) (k : ℕ) → ((m : ℕ) → k ≤ m → s m ≡ r m) → (m : ℕ) → k ≤ m → stored_inside kind s m ≡ stored_inside kind r m
@@ -469,36 +465,6 @@ pub values_none : (m : ℕ) (vs : List Val) (i : ℕ) → length vs ≤ i → (n
 values_none m vs i ended number v = at_drop_all (λ ws. some_values m ws number v) vs i ended ∙ by (eqb m number)
   where
     by : (b : Bool) → cond b (count_by (same_value v) []) 0 ≡ 0
-    by true = refl
-    by false = refl
-
--- nothing is kept of a schema node, so nothing of it counts
-pub values_unkept : (t : Targets) (m : ℕ) (vs : List Val) → is_kept t m ≡ false → Gathers t t (some_values m vs)
-values_unkept t m vs unkept = gathers_none t (some_values m vs) (λ number v here. by number v here (eqb m number) refl)
-  where
-    by : (number : ℕ) (v : Val) → is_kept t number ≡ true → (b : Bool) → eqb m number ≡ b → cond b (count_by (same_value v) vs) 0 ≡ 0
-    by number v here true e = absurd (true≢false (sym here ∙ (ap (is_kept t) (sym (eqb-true m number e)) ∙ unkept)))
-    by number v here false e = refl
-
-pub value_unkept : (t : Targets) (m : ℕ) (value : Val) → is_kept t m ≡ false → Gathers t t (one_value m value)
-value_unkept t m value unkept = gathers_none t (one_value m value) (λ number v here. by number v here (eqb m number) refl)
-  where
-    by : (number : ℕ) (v : Val) → is_kept t number ≡ true → (b : Bool) → eqb m number ≡ b → cond {A = ℕ} b (cond (same_value v value) 1 0) 0 ≡ 0
-    by number v here true e = absurd (true≢false (sym here ∙ (ap (is_kept t) (sym (eqb-true m number e)) ∙ unkept)))
-    by number v here false e = refl
-
-pub own_unkept : (s : Schema) (st : Stored) (t : Targets) → is_kept t st.schema_number ≡ false → Gathers t t (own_value s st)
-own_unkept s st t unkept = gathers_none t (own_value s st) (λ number v here. by number v here (eqb st.schema_number number) refl)
-  where
-    by : (number : ℕ) (v : Val) → is_kept t number ≡ true → (b : Bool) → eqb st.schema_number number ≡ b → cond {A = ℕ} b (cond (is_value v (value_of s st)) 1 0) 0 ≡ 0
-    by number v here true e = absurd (true≢false (sym here ∙ (ap (is_kept t) (sym (eqb-true st.schema_number number e)) ∙ unkept)))
-    by number v here false e = refl
-
-pub own_none : (s : Schema) (st : Stored) (t : Targets) → None ≡ value_of s st → Gathers t t (own_value s st)
-own_none s st t none = gathers_none t (own_value s st) (λ number v here.
-    ap (λ (o : Option Val). cond (eqb st.schema_number number) (cond (is_value v o) 1 0) 0) (sym none) ∙ by (eqb st.schema_number number))
-  where
-    by : (b : Bool) → cond {A = ℕ} b 0 0 ≡ 0
     by true = refl
     by false = refl
 
