@@ -124,22 +124,10 @@ left_ended ss i ended = at_drop_all row_view ss i ended
 abbrev pub IsPassed : ℕ → Tree → Tree → Type 0
 IsPassed m t rest = IsSorted t → IsSorted rest × (instances_in rest m ≡ instances_in t m)
 
-pub pass_one : (m : ℕ) (t rest : Tree) (s : Stored) (below after : Tree) → rest ≡ node s below after → ltb s.schema_number m ≡ true → IsPassed m t rest → IsPassed m t after
-pass_one m t rest s below after is before passed = λ sorted.
-    let so = passed sorted in
-    let here : IsSorted (node s below after) = subst IsSorted is so.0 in (
-      here.2,
-      sym (none_of_others s below after m (eqb_other s.schema_number m (λ e. absurd (omega (arith, e, ltb-true s.schema_number m before)))))
-          ∙ (ap (λ u. instances_in u m) (sym is) ∙ so.1),
-    )
-
 pub pass_found : (m : ℕ) (t rest : Tree) (s : Stored) (below after : Tree) → rest ≡ node s below after → m ≤ s.schema_number → IsPassed m t rest
     → IsSorted t → eqb s.schema_number m ≡ ltb 0 (instances_in t m)
 pass_found m t rest s below after is from passed sorted =
     let so = passed sorted in first_stored rest s below after m is so.0 from ∙ ap (ltb 0) so.1
-
-pub pass_all : (m : ℕ) (t rest : Tree) → rest ≡ end → IsPassed m t rest → IsSorted t → false ≡ ltb 0 (instances_in t m)
-pass_all m t rest is passed sorted = ap (λ u. ltb 0 (instances_in u m)) (sym is) ∙ ap (ltb 0) (passed sorted).1
 
 -- ---- how many cases
 
@@ -191,34 +179,6 @@ NoneYet t left whole = IsSorted t → stored_among (instances_in t) left ≡ sto
 
 among_first : (stored : ℕ → ℕ) (n : SchemaNode) (below after : Forest SchemaNode) → stored_among stored (node n below after) ≡ stored_among stored (node n below end) + stored_among stored after
 among_first stored n below after = omega arith
-
-pub none_yet : (t : Tree) (left whole after below : Forest SchemaNode) (n : SchemaNode) → left ≡ node n below after
-    → (IsSorted t → false ≡ ltb 0 (stored_among (instances_in t) (node n below end))) → NoneYet t left whole → NoneYet t after whole
-none_yet t left whole after below n is none so = λ sorted.
-    let zero_here = ltb-false 0 (stored_among (instances_in t) (node n below end)) (sym (none sorted)) in
-    let parts = among_first (instances_in t) n below after in
-    let first = ap (stored_among (instances_in t)) is in
-    omega (arith, zero_here, parts, first, so sorted)
-
-pub one_met : (t : Tree) (left whole after below : Forest SchemaNode) (n : SchemaNode) → left ≡ node n below after
-    → (IsSorted t → true ≡ ltb 0 (stored_among (instances_in t) (node n below end))) → NoneYet t left whole → IsSorted t → true ≡ ltb 0 (stored_among (instances_in t) whole)
-one_met t left whole after below n is met so sorted =
-    let some = ltb-true 0 (stored_among (instances_in t) (node n below end)) (sym (met sorted)) in
-    let parts = among_first (instances_in t) n below after in
-    let first = ap (stored_among (instances_in t)) is in
-    sym (lt-ltb 0 (stored_among (instances_in t) whole) (omega (arith, some, parts, first, so sorted)))
-
-pub none_met : (t : Tree) (left whole : Forest SchemaNode) → left ≡ end → NoneYet t left whole → IsSorted t → false ≡ ltb 0 (stored_among (instances_in t) whole)
-none_met t left whole is so sorted = ap (λ f. ltb 0 (stored_among (instances_in t) f)) (sym is) ∙ ap (ltb 0) (so sorted)
-
--- a data node is met where it is stored, and a choice or case where a node in it is
-pub data_met : (stored : ℕ → ℕ) (n : SchemaNode) (below : Forest SchemaNode) (b : Bool) → is_data n.kind ≡ true → b ≡ ltb 0 (stored n.number)
-    → b ≡ ltb 0 (stored_among stored (node n below end))
-data_met stored n below b is so = so ∙ ap (ltb 0) (sym (ap (λ c. cond c (stored n.number) (stored_among stored below) + 0) is ∙ omega arith))
-
-pub inside_met : (stored : ℕ → ℕ) (n : SchemaNode) (below : Forest SchemaNode) (b : Bool) → is_data n.kind ≡ false → b ≡ ltb 0 (stored_among stored below)
-    → b ≡ ltb 0 (stored_among stored (node n below end))
-inside_met stored n below b is so = so ∙ ap (ltb 0) (sym (ap (λ c. cond c (stored n.number) (stored_among stored below) + 0) is ∙ omega arith))
 
 -- ---- the chosen cases
 

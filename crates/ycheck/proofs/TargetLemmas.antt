@@ -98,9 +98,6 @@ gathers_same old new times other same gathered number v =
 -- ---- what is in use of a node
 
 module _ (number : ℕ) (v : Val) where
-  weigh : List Item → ℕ
-  weigh items = sum_by (times_in_use number v) items
-
   -- what is in use of a node that is stored or not, in play or not, by what is in use in it
   abbrev pub node_times : Bool → Bool → ℕ → Kind → ℕ → ℕ
   node_times stored in_play m (container presence) inside = cond stored 0 (cond presence 0 inside)
@@ -518,22 +515,6 @@ or_assoc : (a b c : Bool) → (a || (b || c)) ≡ ((a || b) || c)
 or_assoc true b c = refl
 or_assoc false b c = refl
 
-pub target_next : (m : ℕ) (f after below : Forest SchemaNode) (n : SchemaNode) (was met now whole : Bool) → f ≡ node n below after
-    → met ≡ (was || refers_to m n) → now ≡ (met || is_target_in below m) → (was || is_target_in f m) ≡ whole → (now || is_target_in after m) ≡ whole
-target_next m f after below n was met now whole is first second so =
-    ap (λ b. b || is_target_in after m) (second ∙ ap (λ b. b || is_target_in below m) first)
-    ∙ (sym (or_assoc (was || refers_to m n) (is_target_in below m) (is_target_in after m))
-    ∙ (sym (or_assoc was (refers_to m n) (is_target_in below m || is_target_in after m))
-    ∙ (ap (λ b. was || (refers_to m n || b)) (sym (list_any-append (refers_to m) (preorder below) (preorder after)))
-    ∙ (ap (λ g. was || is_target_in g m) (sym is) ∙ so))))
-
-pub targets_ended : (m : ℕ) (f : Forest SchemaNode) (now whole : Bool) → f ≡ end → (now || is_target_in f m) ≡ whole → now ≡ whole
-targets_ended m f now whole is so = by now ∙ (ap (λ g. now || is_target_in g m) (sym is) ∙ so)
-  where
-    by : (b : Bool) → b ≡ (b || false)
-    by true = refl
-    by false = refl
-
 -- ---- kinds as the crate below has them
 
 pub data_kind : (k : code.Kind) → ((d : Option SchemaId) (m : Bool) → k ≡ kinds.Choice d m → ⊥) → (k ≡ kinds.Case → ⊥) → is_data (kind_view k) ≡ true
@@ -575,21 +556,3 @@ nothing_held t number v none = ap (λ (es : List (SchemaId × BTreeSet Val)). op
 
 pub nothing_kept : (t : Targets) (number : ℕ) → t.sets.entries ≡ [] → is_kept t number ≡ false
 nothing_kept t number none = ap (λ (es : List (SchemaId × BTreeSet Val)). is_some (lookup (λ (k : SchemaId). eqb k.0 number) es)) none
-
--- in the end what instances of targets have
-pub has_values : (s : Schema) (tree t : Tree) (f g : Forest SchemaNode) (first kept_all done : Targets) → f ≡ s.nodes → g ≡ s.nodes → t ≡ tree → first.sets.entries ≡ []
-    → ((number : ℕ) → is_kept kept_all number ≡ (is_kept first number || is_target_in g number)) → ((number : ℕ) (v : Val) → holds kept_all number v ≡ holds first number v)
-    → Gathers kept_all done (times_of_row s f t) → HasValues done s tree
-has_values s tree t f g first kept_all done f_is g_is t_is none kept_is held gathered number v target =
-    let is_kept_now = kept_is number ∙ (ap₂ (λ b h. b || is_target_in h number) (nothing_kept first number none) g_is ∙ target) in
-    (gathered number v).1 ∙ (ap₂ (λ a b. a || (b && ltb 0 (times_of_row s f t number v))) (held number v ∙ nothing_held first number v none) is_kept_now
-    ∙ (ap₂ (λ (h : Forest SchemaNode) (u : Tree). ltb 0 (times_of_row s h u number v)) f_is t_is ∙ positive (times_in s tree number v)))
-  where
-    positive : (n : ℕ) → ltb 0 n ≡ not (eqb n 0)
-    positive n = grind (arith, nat_tests)
-
--- where nothing is kept there is no target
-pub no_targets : (s : Schema) (tree : Tree) (g : Forest SchemaNode) (first kept_all : Targets) → g ≡ s.nodes → first.sets.entries ≡ [] → kept_all.sets.entries ≡ []
-    → ((number : ℕ) → is_kept kept_all number ≡ (is_kept first number || is_target_in g number)) → HasValues kept_all s tree
-no_targets s tree g first kept_all g_is none empty kept_is number v target =
-    absurd (true≢false (sym target ∙ (sym (ap₂ (λ b h. b || is_target_in h number) (nothing_kept first number none) g_is) ∙ (sym (kept_is number) ∙ nothing_kept kept_all number empty))))
