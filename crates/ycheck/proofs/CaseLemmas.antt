@@ -14,7 +14,7 @@ use Rattle.yspec.proofs.DocumentProofs.FittingLemmas.{eqb_other, instances-cons,
 use Rattle.yschema.specs.declared.children.Row.{Row}
 use Rattle.yschema.specs.declared.children.Children.{Children}
 use Rattle.yschema.specs.declared.node.SchemaId.{SchemaId}
-use Rattle.yschema.specs.Layout.{forest_within, forest_of, number_of}
+use Rattle.yschema.specs.Layout.{forest_within}
 use Rattle.yschema.specs.View as schema_view
 use Rattle.yschema.proofs.QueryLemmas.{size_of_forest}
 use Rattle.ytree.specs.View.{view, row_view}
@@ -22,9 +22,8 @@ use Rattle.ytree.specs.Walk.{behind, others}
 use Rattle.ytree.specs.declared.tree.Stored as tree
 use Rattle.ycheck.specs.declared.cases.StoredCases.{StoredCases}
 use Rattle.ycheck.specs.declared.cases.StoredCases.TheVariants as count
-use Rattle.ycheck.specs.declared.cases.Chosen.{Chosen}
 use Rattle.ycheck.specs.declared.cases.Chosen.TheVariants as chosen
-use Rattle.ycheck.specs.Cases.{one_more, how_many, is_chosen, Chooses}
+use Rattle.ycheck.specs.Cases.{one_more, how_many, Chooses}
 
 -- ---- rows of schema nodes
 
@@ -34,13 +33,12 @@ numbered_within zero k rows within = tt
 numbered_within (suc n) k [] within = tt
 numbered_within (suc n) k (r ∷ rows) within =
     let fewer = length-take r.below rows in
-    let rest = length-drop r.below rows in
-    (
+    let rest = length-drop r.below rows in (
       refl,
       numbered_within n (k + 1) (take r.below rows) (omega (arith, fewer, within)),
       subst (λ j. IsNumbered (k + 1 + j) (forest_within n (k + 1 + length (take r.below rows)) (drop r.below rows)))
-      (sym (size_of_forest n (k + 1) (take r.below rows) (omega (arith, fewer, within))))
-      (numbered_within n (k + 1 + length (take r.below rows)) (drop r.below rows) (omega (arith, rest, within))),
+          (sym (size_of_forest n (k + 1) (take r.below rows) (omega (arith, fewer, within))))
+          (numbered_within n (k + 1 + length (take r.below rows)) (drop r.below rows) (omega (arith, rest, within))),
     )
 
 -- the nodes of any row count up from its number
@@ -126,22 +124,10 @@ left_ended ss i ended = at_drop_all row_view ss i ended
 abbrev pub IsPassed : ℕ → Tree → Tree → Type 0
 IsPassed m t rest = IsSorted t → IsSorted rest × (instances_in rest m ≡ instances_in t m)
 
-pub pass_one : (m : ℕ) (t rest : Tree) (s : Stored) (below after : Tree) → rest ≡ node s below after → ltb s.schema_number m ≡ true → IsPassed m t rest → IsPassed m t after
-pass_one m t rest s below after is before passed = λ sorted.
-    let so = passed sorted in
-    let here : IsSorted (node s below after) = subst IsSorted is so.0 in (
-      here.2,
-      sym (none_of_others s below after m (eqb_other s.schema_number m (λ e. absurd (omega (arith, e, ltb-true s.schema_number m before)))))
-      ∙ (ap (λ u. instances_in u m) (sym is) ∙ so.1),
-    )
-
 pub pass_found : (m : ℕ) (t rest : Tree) (s : Stored) (below after : Tree) → rest ≡ node s below after → m ≤ s.schema_number → IsPassed m t rest
     → IsSorted t → eqb s.schema_number m ≡ ltb 0 (instances_in t m)
 pass_found m t rest s below after is from passed sorted =
     let so = passed sorted in first_stored rest s below after m is so.0 from ∙ ap (ltb 0) so.1
-
-pub pass_all : (m : ℕ) (t rest : Tree) → rest ≡ end → IsPassed m t rest → IsSorted t → false ≡ ltb 0 (instances_in t m)
-pass_all m t rest is passed sorted = ap (λ u. ltb 0 (instances_in u m)) (sym is) ∙ ap (ltb 0) (passed sorted).1
 
 -- ---- how many cases
 
@@ -171,14 +157,14 @@ count_case c next b f after below n k number left rest numbered is number_is res
     let here : IsNumbered k (node n below after) = subst (IsNumbered k) is numbered in
     let rest_sorted : IsSorted rest = subst IsSorted (sym rest_is) (sorted_others number left sorted) in
     let same : (m : ℕ) → n.number < m → instances_in rest m ≡ instances_in left m =
-        λ m past. ap (λ u. instances_in u m) rest_is ∙ counts_others number m left (omega (arith, number_is, past)) in
+    λ m past. ap (λ u. instances_in u m) rest_is ∙ counts_others number m left (omega (arith, number_is, past)) in
     let among = among_same below (k + 1) (instances_in rest) (instances_in left) here.1 (λ m from. same m (omega (arith, from, here.0))) in
     let behind_it = cases_same after (k + 1 + size below) (instances_in rest) (instances_in left) here.2 (λ m from. same m (omega (arith, from, here.0))) in (
       rest_sorted,
       ap₂ with_more next_is behind_it
-      ∙ (by b (stored_cases (instances_in left) after)
-      ∙ (ap (λ x. with_more c (cond x (n.number ∷ []) [] ++ stored_cases (instances_in left) after)) (met rest_sorted ∙ ap (ltb 0) among)
-      ∙ ap (λ g. with_more c (stored_cases (instances_in left) g)) (sym is))),
+          ∙ (by b (stored_cases (instances_in left) after)
+          ∙ (ap (λ x. with_more c (cond x (n.number ∷ []) [] ++ stored_cases (instances_in left) after)) (met rest_sorted ∙ ap (ltb 0) among)
+          ∙ ap (λ g. with_more c (stored_cases (instances_in left) g)) (sym is))),
     )
   where
     by : (b : Bool) (ns : List ℕ) → with_more (cond b (one_more c) c) ns ≡ with_more c (cond b (n.number ∷ []) [] ++ ns)
@@ -193,34 +179,6 @@ NoneYet t left whole = IsSorted t → stored_among (instances_in t) left ≡ sto
 
 among_first : (stored : ℕ → ℕ) (n : SchemaNode) (below after : Forest SchemaNode) → stored_among stored (node n below after) ≡ stored_among stored (node n below end) + stored_among stored after
 among_first stored n below after = omega arith
-
-pub none_yet : (t : Tree) (left whole after below : Forest SchemaNode) (n : SchemaNode) → left ≡ node n below after
-    → (IsSorted t → false ≡ ltb 0 (stored_among (instances_in t) (node n below end))) → NoneYet t left whole → NoneYet t after whole
-none_yet t left whole after below n is none so = λ sorted.
-    let zero_here = ltb-false 0 (stored_among (instances_in t) (node n below end)) (sym (none sorted)) in
-    let parts = among_first (instances_in t) n below after in
-    let first = ap (stored_among (instances_in t)) is in
-    omega (arith, zero_here, parts, first, so sorted)
-
-pub one_met : (t : Tree) (left whole after below : Forest SchemaNode) (n : SchemaNode) → left ≡ node n below after
-    → (IsSorted t → true ≡ ltb 0 (stored_among (instances_in t) (node n below end))) → NoneYet t left whole → IsSorted t → true ≡ ltb 0 (stored_among (instances_in t) whole)
-one_met t left whole after below n is met so sorted =
-    let some = ltb-true 0 (stored_among (instances_in t) (node n below end)) (sym (met sorted)) in
-    let parts = among_first (instances_in t) n below after in
-    let first = ap (stored_among (instances_in t)) is in
-    sym (lt-ltb 0 (stored_among (instances_in t) whole) (omega (arith, some, parts, first, so sorted)))
-
-pub none_met : (t : Tree) (left whole : Forest SchemaNode) → left ≡ end → NoneYet t left whole → IsSorted t → false ≡ ltb 0 (stored_among (instances_in t) whole)
-none_met t left whole is so sorted = ap (λ f. ltb 0 (stored_among (instances_in t) f)) (sym is) ∙ ap (ltb 0) (so sorted)
-
--- a data node is met where it is stored, and a choice or case where a node in it is
-pub data_met : (stored : ℕ → ℕ) (n : SchemaNode) (below : Forest SchemaNode) (b : Bool) → is_data n.kind ≡ true → b ≡ ltb 0 (stored n.number)
-    → b ≡ ltb 0 (stored_among stored (node n below end))
-data_met stored n below b is so = so ∙ ap (ltb 0) (sym (ap (λ c. cond c (stored n.number) (stored_among stored below) + 0) is ∙ omega arith))
-
-pub inside_met : (stored : ℕ → ℕ) (n : SchemaNode) (below : Forest SchemaNode) (b : Bool) → is_data n.kind ≡ false → b ≡ ltb 0 (stored_among stored below)
-    → b ≡ ltb 0 (stored_among stored (node n below end))
-inside_met stored n below b is so = so ∙ ap (ltb 0) (sym (ap (λ c. cond c (stored n.number) (stored_among stored below) + 0) is ∙ omega arith))
 
 -- ---- the chosen cases
 
@@ -242,11 +200,11 @@ each_stored stored (node n below after) k before numbers numbered none is =
     let here : List ℕ = cond b (n.number ∷ []) [] in
     let rest = stored_cases stored after in (
       ap (λ ns. is_among ns n.number) is ∙ (list_any-append (λ j. eqb j n.number) before (here ++ rest)
-      ∙ (ap₂ ◌||◌ (none n.number (omega (arith, numbered.0))) (list_any-append (λ j. eqb j n.number) here rest)
-      ∙ own b (numbers_above stored after (k + 1 + size below) n.number numbered.2 (omega (arith, numbered.0))))),
+          ∙ (ap₂ ◌||◌ (none n.number (omega (arith, numbered.0))) (list_any-append (λ j. eqb j n.number) here rest)
+          ∙ own b (numbers_above stored after (k + 1 + size below) n.number numbered.2 (omega (arith, numbered.0))))),
       each_stored stored after (k + 1 + size below) (before ++ here) numbers numbered.2
-      (λ m from. list_any-append (λ j. eqb j m) before here ∙ ap₂ ◌||◌ (none m (omega (arith, from))) (other b m (omega (arith, from, numbered.0))))
-      (is ∙ sym (append_assoc before here rest)),
+          (λ m from. list_any-append (λ j. eqb j m) before here ∙ ap₂ ◌||◌ (none m (omega (arith, from))) (other b m (omega (arith, from, numbered.0))))
+          (is ∙ sym (append_assoc before here rest)),
     )
   where
     own : (b : Bool) → is_among (stored_cases stored after) n.number ≡ false

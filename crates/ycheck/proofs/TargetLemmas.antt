@@ -1,5 +1,5 @@
 -- What is gathered of the values of targets, part by part.
-use Rattle.std.proofs.Common.{◌≡◌, ℕ, zero, suc, ◌+◌, ◌<◌, ◌≤◌, Bool, true, false, cond, not, ◌&&◌, ◌||◌, eqb, ltb, List, [], ◌∷◌, ◌++◌, true≢false, length, drop, get_or, Option, Some, None, refl, sym, ap, ap₂, subst, ◌∙◌, append_assoc, arith}
+use Rattle.std.proofs.Common.{◌≡◌, ℕ, zero, suc, ◌+◌, ◌<◌, ◌≤◌, Bool, true, false, cond, not, ◌&&◌, ◌||◌, eqb, ltb, List, [], ◌∷◌, ◌++◌, true≢false, length, drop, get_or, Option, Some, None, refl, sym, ap, ap₂, subst, ◌∙◌, arith}
 use Rattle.std.specs.Prelude.{count_by, sum_by, is_some}
 use Rattle.std.specs.Option.{option_map_or}
 use Rattle.std.specs.Ordering.{is_eq, nat_cmp}
@@ -9,7 +9,7 @@ use Rattle.std.specs.BTreeSet.{BTreeSet, contains}
 use Rattle.std.proofs.lemmas.Bool.Decides.{nat_tests}
 use Rattle.ytype.specs.Laws.{same_value_equiv}
 use Rattle.yschema.specs.declared.node.SchemaId.{SchemaId}
-use Rattle.std.proofs.lemmas.Bool.{lt-ltb, ltb-true, ltb-false, eqb-true}
+use Rattle.std.proofs.lemmas.Bool.{lt-ltb, eqb-true}
 use Rattle.std.proofs.lemmas.List.Folds.{list_any-append}
 use Rattle.std.proofs.lemmas.List.{at_drop_more, at_drop_all, append-nil}
 use Rattle.std.proofs.lemmas.List.Sums.{sum_by-cons, sum_by-append}
@@ -24,7 +24,7 @@ use Rattle.yspec.specs.document.Faults.{Times}
 use Rattle.yspec.specs.document.Fitting.{IsNumbered}
 use Rattle.yspec.specs.document.Sorting.{IsSorted}
 use Rattle.ytree.specs.Walk.{others}
-use Rattle.yspec.specs.document.Instances.{is_value, value_of, times_in_use, times_below, times_at, times_in}
+use Rattle.yspec.specs.document.Instances.{is_value, value_of, times_in_use, times_at, times_in}
 use Rattle.yspec.specs.document.Play.{Item, tell, in_use, visit, visit_each, cases, stored_cases, or_default, choice_faults, absent_leaf, absent_items, exceeds, amount_faults, is_among, node_items, stored_inside, steps_inside, items_in_play}
 use Rattle.std.proofs.Common.{Vec}
 use Rattle.std.specs.Global.{Global}
@@ -72,8 +72,8 @@ still_more old now next whole rest added left so gathered parts number v =
     let more = gathered number v in (
       more.0 ∙ here.0,
       ap₂ (λ h k. h || (k && ltb 0 (left number v))) more.1 more.0
-      ∙ (or_sum (holds now number v) (is_kept now number) (added number v) (left number v)
-      ∙ (ap (λ x. holds now number v || (is_kept now number && ltb 0 x)) (sym (parts number v)) ∙ here.1)),
+          ∙ (or_sum (holds now number v) (is_kept now number) (added number v) (left number v)
+          ∙ (ap (λ x. holds now number v || (is_kept now number && ltb 0 x)) (sym (parts number v)) ∙ here.1)),
     )
 
 pub still_none_left : (old now : Targets) (whole rest : Times) → Still old now whole rest → ((number : ℕ) (v : Val) → rest number v ≡ 0) → Gathers old now whole
@@ -98,9 +98,6 @@ gathers_same old new times other same gathered number v =
 -- ---- what is in use of a node
 
 module _ (number : ℕ) (v : Val) where
-  weigh : List Item → ℕ
-  weigh items = sum_by (times_in_use number v) items
-
   -- what is in use of a node that is stored or not, in play or not, by what is in use in it
   abbrev pub node_times : Bool → Bool → ℕ → Kind → ℕ → ℕ
   node_times stored in_play m (container presence) inside = cond stored 0 (cond presence 0 inside)
@@ -303,16 +300,16 @@ value_added old new id set w value was added put number v = by (eqb id.0 number)
         let before : kept (record { sets = old }) number ≡ Some set = ap (kept (record { sets = old })) (sym (eqb-true id.0 number e)) ∙ was in (
           ap is_some now ∙ sym (ap is_some before),
           ap (λ o. option_map_or (λ values. contains value_cmp values v) o false) now
-          ∙ (added v ∙ (ap (λ b. cond b true (contains value_cmp set v)) (same_value_equiv.symm value v)
-          ∙ (same (same_value v value) (contains value_cmp set v)
-          ∙ sym (ap₂ (λ o b. option_map_or (λ values. contains value_cmp values v) o false || (is_some o && ltb 0 (cond b (cond (same_value v value) 1 0) 0))) before e)))),
+              ∙ (added v ∙ (ap (λ b. cond b true (contains value_cmp set v)) (same_value_equiv.symm value v)
+              ∙ (same (same_value v value) (contains value_cmp set v)
+              ∙ sym (ap₂ (λ o b. option_map_or (λ values. contains value_cmp values v) o false || (is_some o && ltb 0 (cond b (cond (same_value v value) 1 0) 0))) before e)))),
         )
     by false e =
         let now = after ∙ ap (λ b. cond b (Some w) (kept (record { sets = old }) number)) e in (
           ap is_some now,
           ap (λ o. option_map_or (λ values. contains value_cmp values v) o false) now
-          ∙ (sym (or_none (holds (record { sets = old }) number v) (is_kept (record { sets = old }) number))
-          ∙ sym (ap (λ b. holds (record { sets = old }) number v || (is_kept (record { sets = old }) number && ltb 0 (cond b (cond (same_value v value) 1 0) 0))) e)),
+              ∙ (sym (or_none (holds (record { sets = old }) number v) (is_kept (record { sets = old }) number))
+              ∙ sym (ap (λ b. holds (record { sets = old }) number v || (is_kept (record { sets = old }) number && ltb 0 (cond b (cond (same_value v value) 1 0) 0))) e)),
         )
 
 pub key_found : (old : Sets) (m : ℕ) (set : BTreeSet Val) → Some set ≡ lookup (λ (k : SchemaId). is_eq (nat_cmp m k.0)) old.entries → kept (record { sets = old }) m ≡ Some set
@@ -395,10 +392,6 @@ module _ (number : ℕ) (v : Val) where
       → some_values n.number defaults number v ≡ times_used (instances_in end) [] (node n below end) number v
   leaf_list_used n below type defaults amount is = sym (at_kind n below (leaf_list type defaults amount) is)
 
-  pub list_used : (n : SchemaNode) (below : Forest SchemaNode) (tuples : Tuples) (amount : Amount) → n.kind ≡ list tuples amount
-      → times_used (instances_in end) [] (node n below end) number v ≡ 0
-  list_used n below tuples amount is = at_kind n below (list tuples amount) is
-
 -- ---- counts that agree from a number on
 
 kind_inside : (kind : Kind) (s r : ℕ → ℕ) (k : ℕ) → ((m : ℕ) → k ≤ m → s m ≡ r m) → (m : ℕ) → k ≤ m → stored_inside kind s m ≡ stored_inside kind r m
@@ -472,36 +465,6 @@ values_none m vs i ended number v = at_drop_all (λ ws. some_values m ws number 
     by true = refl
     by false = refl
 
--- nothing is kept of a schema node, so nothing of it counts
-pub values_unkept : (t : Targets) (m : ℕ) (vs : List Val) → is_kept t m ≡ false → Gathers t t (some_values m vs)
-values_unkept t m vs unkept = gathers_none t (some_values m vs) (λ number v here. by number v here (eqb m number) refl)
-  where
-    by : (number : ℕ) (v : Val) → is_kept t number ≡ true → (b : Bool) → eqb m number ≡ b → cond b (count_by (same_value v) vs) 0 ≡ 0
-    by number v here true e = absurd (true≢false (sym here ∙ (ap (is_kept t) (sym (eqb-true m number e)) ∙ unkept)))
-    by number v here false e = refl
-
-pub value_unkept : (t : Targets) (m : ℕ) (value : Val) → is_kept t m ≡ false → Gathers t t (one_value m value)
-value_unkept t m value unkept = gathers_none t (one_value m value) (λ number v here. by number v here (eqb m number) refl)
-  where
-    by : (number : ℕ) (v : Val) → is_kept t number ≡ true → (b : Bool) → eqb m number ≡ b → cond {A = ℕ} b (cond (same_value v value) 1 0) 0 ≡ 0
-    by number v here true e = absurd (true≢false (sym here ∙ (ap (is_kept t) (sym (eqb-true m number e)) ∙ unkept)))
-    by number v here false e = refl
-
-pub own_unkept : (s : Schema) (st : Stored) (t : Targets) → is_kept t st.schema_number ≡ false → Gathers t t (own_value s st)
-own_unkept s st t unkept = gathers_none t (own_value s st) (λ number v here. by number v here (eqb st.schema_number number) refl)
-  where
-    by : (number : ℕ) (v : Val) → is_kept t number ≡ true → (b : Bool) → eqb st.schema_number number ≡ b → cond {A = ℕ} b (cond (is_value v (value_of s st)) 1 0) 0 ≡ 0
-    by number v here true e = absurd (true≢false (sym here ∙ (ap (is_kept t) (sym (eqb-true st.schema_number number e)) ∙ unkept)))
-    by number v here false e = refl
-
-pub own_none : (s : Schema) (st : Stored) (t : Targets) → None ≡ value_of s st → Gathers t t (own_value s st)
-own_none s st t none = gathers_none t (own_value s st) (λ number v here.
-    ap (λ (o : Option Val). cond (eqb st.schema_number number) (cond (is_value v o) 1 0) 0) (sym none) ∙ by (eqb st.schema_number number))
-  where
-    by : (b : Bool) → cond {A = ℕ} b 0 0 ≡ 0
-    by true = refl
-    by false = refl
-
 -- ---- rows of stored nodes
 
 -- what is left to add of the nodes of a row
@@ -533,7 +496,7 @@ use_next c f after below n k m rest left old now next whole numbers numbered is 
     let here : IsNumbered k (node n below after) = subst (IsNumbered k) is numbered in
     let chooses : Chooses c (instances_in rest) numbers (node n below after) = subst (Chooses c (instances_in rest) numbers) is so.1 in
     let same : (i : ℕ) → k + 1 + size below ≤ i → instances_in rest i ≡ instances_in left i =
-        λ i from. sym (ap (λ u. instances_in u i) left_is ∙ counts_others m i rest (omega (arith, number_is, here.0, from))) in (
+    λ i from. sym (ap (λ u. instances_in u i) left_is ∙ counts_others m i rest (omega (arith, number_is, here.0, from))) in (
       subst IsSorted (sym left_is) (sorted_others m rest so.0),
       chooses_same c after (k + 1 + size below) (instances_in rest) (instances_in left) numbers here.2 same chooses.1,
       still_more old now next whole (times_used (instances_in rest) numbers f) (times_used (instances_in rest) numbers (node n below end)) (times_used (instances_in left) numbers after)
@@ -551,22 +514,6 @@ use_ended c f rest old now whole numbers is so =
 or_assoc : (a b c : Bool) → (a || (b || c)) ≡ ((a || b) || c)
 or_assoc true b c = refl
 or_assoc false b c = refl
-
-pub target_next : (m : ℕ) (f after below : Forest SchemaNode) (n : SchemaNode) (was met now whole : Bool) → f ≡ node n below after
-    → met ≡ (was || refers_to m n) → now ≡ (met || is_target_in below m) → (was || is_target_in f m) ≡ whole → (now || is_target_in after m) ≡ whole
-target_next m f after below n was met now whole is first second so =
-    ap (λ b. b || is_target_in after m) (second ∙ ap (λ b. b || is_target_in below m) first)
-    ∙ (sym (or_assoc (was || refers_to m n) (is_target_in below m) (is_target_in after m))
-    ∙ (sym (or_assoc was (refers_to m n) (is_target_in below m || is_target_in after m))
-    ∙ (ap (λ b. was || (refers_to m n || b)) (sym (list_any-append (refers_to m) (preorder below) (preorder after)))
-    ∙ (ap (λ g. was || is_target_in g m) (sym is) ∙ so))))
-
-pub targets_ended : (m : ℕ) (f : Forest SchemaNode) (now whole : Bool) → f ≡ end → (now || is_target_in f m) ≡ whole → now ≡ whole
-targets_ended m f now whole is so = by now ∙ (ap (λ g. now || is_target_in g m) (sym is) ∙ so)
-  where
-    by : (b : Bool) → b ≡ (b || false)
-    by true = refl
-    by false = refl
 
 -- ---- kinds as the crate below has them
 
@@ -609,21 +556,3 @@ nothing_held t number v none = ap (λ (es : List (SchemaId × BTreeSet Val)). op
 
 pub nothing_kept : (t : Targets) (number : ℕ) → t.sets.entries ≡ [] → is_kept t number ≡ false
 nothing_kept t number none = ap (λ (es : List (SchemaId × BTreeSet Val)). is_some (lookup (λ (k : SchemaId). eqb k.0 number) es)) none
-
--- in the end what instances of targets have
-pub has_values : (s : Schema) (tree t : Tree) (f g : Forest SchemaNode) (first kept_all done : Targets) → f ≡ s.nodes → g ≡ s.nodes → t ≡ tree → first.sets.entries ≡ []
-    → ((number : ℕ) → is_kept kept_all number ≡ (is_kept first number || is_target_in g number)) → ((number : ℕ) (v : Val) → holds kept_all number v ≡ holds first number v)
-    → Gathers kept_all done (times_of_row s f t) → HasValues done s tree
-has_values s tree t f g first kept_all done f_is g_is t_is none kept_is held gathered number v target =
-    let is_kept_now = kept_is number ∙ (ap₂ (λ b h. b || is_target_in h number) (nothing_kept first number none) g_is ∙ target) in
-    (gathered number v).1 ∙ (ap₂ (λ a b. a || (b && ltb 0 (times_of_row s f t number v))) (held number v ∙ nothing_held first number v none) is_kept_now
-    ∙ (ap₂ (λ (h : Forest SchemaNode) (u : Tree). ltb 0 (times_of_row s h u number v)) f_is t_is ∙ positive (times_in s tree number v)))
-  where
-    positive : (n : ℕ) → ltb 0 n ≡ not (eqb n 0)
-    positive n = grind (arith, nat_tests)
-
--- where nothing is kept there is no target
-pub no_targets : (s : Schema) (tree : Tree) (g : Forest SchemaNode) (first kept_all : Targets) → g ≡ s.nodes → first.sets.entries ≡ [] → kept_all.sets.entries ≡ []
-    → ((number : ℕ) → is_kept kept_all number ≡ (is_kept first number || is_target_in g number)) → HasValues kept_all s tree
-no_targets s tree g first kept_all g_is none empty kept_is number v target =
-    absurd (true≢false (sym target ∙ (sym (ap₂ (λ b h. b || is_target_in h number) (nothing_kept first number none) g_is) ∙ (sym (kept_is number) ∙ nothing_kept kept_all number empty))))

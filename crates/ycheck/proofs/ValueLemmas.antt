@@ -1,15 +1,15 @@
 -- Values of entries and tuples of them, one by one.
-use Rattle.std.proofs.Common.{◌≡◌, ℕ, ◌+◌, ◌<◌, ◌≤◌, Bool, true, false, cond, eqb, ltb, zero, suc, ◌-◌, List, [], ◌∷◌, ◌++◌, length, take, drop, map, get_or, Option, Some, None, refl, sym, ap, ap₂, ◌∙◌, append_assoc, arith, Vec, Ordering, Less, Equal, Greater, ◌&&◌}
+use Rattle.std.proofs.Common.{◌≡◌, ℕ, ◌+◌, ◌<◌, ◌≤◌, Bool, true, false, cond, ltb, zero, suc, ◌-◌, List, [], ◌∷◌, ◌++◌, length, drop, map, get_or, Option, Some, None, refl, sym, ap, ap₂, ◌∙◌, append_assoc, arith, Vec, Ordering, Less, Equal, Greater, ◌&&◌}
 use Rattle.std.proofs.lemmas.Bool.{eq-eqb, eqb-true}
-use Rattle.std.proofs.lemmas.List.{at_drop_more, at_drop_all, append-nil}
+use Rattle.std.proofs.lemmas.List.{at_drop_all, append-nil}
 use Rattle.std.proofs.lemmas.List.Sums.{sum_by-cons}
-use Rattle.std.specs.Prelude.{◌==◌, option_map, option_and_then, count_by, unwrap_or, slice_get}
+use Rattle.std.specs.Prelude.{◌==◌, option_map, option_and_then, unwrap_or, slice_get}
 use Rattle.std.specs.Option.{option_map_or}
-use Rattle.yspec.specs.Forest.{end, node}
+use Rattle.yspec.specs.Forest.{node}
 use Rattle.yspec.specs.types.Types.{Val}
 use Rattle.yspec.specs.schema.Schema.{Schema, Tuples, LeafPath}
 use Rattle.yspec.specs.document.Document.{Stored, Tree, stored_in, row_in}
-use Rattle.yspec.specs.document.Instances.{Tuple, value_at, tuple_at, tuple_of_paths, own_path, paths_of, same_tuple}
+use Rattle.yspec.specs.document.Instances.{Tuple, value_at, tuple_at, tuple_of_paths, paths_of, same_tuple}
 use Rattle.std.specs.Global.{Global}
 use Rattle.std.specs.Ordering.{is_eq, eq_by_cmp, ordering_then}
 use Rattle.std.specs.Cmp.Lexicographic.{slice_cmp, pointwise}
@@ -34,34 +34,6 @@ row_first m t s below after is same = ap (row_in m) is ∙ ap (λ b. cond b (Som
 -- values with those of the leafs that are left
 abbrev pub with_front : Tuple → Option Tuple → Option Tuple
 with_front done rest = option_map (λ vs. done ++ vs) rest
-
-pub next_value : (s : Schema) (t : Tree) (path : LeafPath) (paths : List LeafPath) (done new : Tuple) (v : Val) (whole : Option Tuple) → Some v ≡ value_at s t path
-    → new ≡ done ++ v ∷ [] → with_front done (tuple_at s t (path ∷ paths)) ≡ whole → with_front new (tuple_at s t paths) ≡ whole
-next_value s t path paths done new v whole is pushed so =
-    ap (λ vs. with_front vs (tuple_at s t paths)) pushed ∙ (by (tuple_at s t paths)
-    ∙ (ap (λ o. with_front done (option_and_then (λ x. option_map (λ vs. x ∷ vs) (tuple_at s t paths)) o)) is ∙ so))
-  where
-    by : (o : Option Tuple) → with_front (done ++ v ∷ []) o ≡ with_front done (option_map (λ vs. v ∷ vs) o)
-    by None = refl
-    by (Some vs) = ap Some (append_assoc done (v ∷ []) vs)
-
-pub no_value : (s : Schema) (t : Tree) (path : LeafPath) (paths : List LeafPath) (done : Tuple) (whole : Option Tuple) → None ≡ value_at s t path
-    → with_front done (tuple_at s t (path ∷ paths)) ≡ whole → None ≡ whole
-no_value s t path paths done whole is so =
-    ap (λ o. with_front done (option_and_then (λ x. option_map (λ vs. x ∷ vs) (tuple_at s t paths)) o)) is ∙ so
-
-pub all_values : (s : Schema) (t : Tree) (paths : List LeafPath) (done : Tuple) (whole : Option Tuple) → paths ≡ []
-    → with_front done (tuple_at s t paths) ≡ whole → Some done ≡ whole
-all_values s t paths done whole none so = sym (ap (λ ps. with_front done (tuple_at s t ps)) none ∙ ap Some (append-nil done)) ∙ so
-
--- where there are leafs
-pub of_some : {X : Type 0} (s : Schema) (t : Tree) (f : X → LeafPath) (xs : List X) → (length xs == 0) ≡ false → tuple_at s t (map f xs) ≡ tuple_of_paths s t (map f xs)
-of_some s t f [] some = absurd cc
-of_some s t f (x ∷ xs) some = refl
-
-pub of_none : {X : Type 0} (s : Schema) (t : Tree) (f : X → LeafPath) (xs : List X) → (length xs == 0) ≡ true → None ≡ tuple_of_paths s t (map f xs)
-of_none s t f [] none = refl
-of_none s t f (x ∷ xs) none = absurd (omega (arith, eqb-true (length (x ∷ xs)) 0 none))
 
 -- the leafs of a `unique`
 pub of_number : (shape : Tuples) (n : ℕ) → 0 < n → paths_of shape n ≡ unwrap_or (slice_get shape.uniques (n - 1)) []

@@ -9,9 +9,9 @@ ghost use Rattle.yschema.specs.View as schema_view;
 ghost use Rattle.ytree.specs.View as document_view;
 ghost use Rattle.ycheck.specs.Repeated.{marks, values_of, tuples_of};
 
+use crate::values::{leaf_value, valid_value, value_at};
 use std::alloc::{AllocError, Global};
 use std::collections::BTreeMap;
-use crate::values::{leaf_value, valid_value, value_at};
 use yschema::{Schema, SchemaId, Tuples};
 use ytree::Stored;
 use ytype::{Val, YType};

@@ -1,4 +1,4 @@
-use Rattle.std.proofs.Common.{◌≡◌, ◌+◌, ◌*◌, ◌≤◌}
+use Rattle.std.proofs.Common.{◌+◌, ◌*◌, ◌≤◌}
 use Rattle.yspec.specs.Forest.{size}
 use Rattle.yschema.specs.View.{row_view, below_of}
 use Rattle.ytree.specs.View as document_view

@@ -1,4 +1,4 @@
-use Rattle.std.proofs.Common.{◌≡◌, ◌++◌, refl, sym, ap, ◌∙◌, arith, Bor, Some, None, take, drop, get_or, unwrap_or, false}
+use Rattle.std.proofs.Common.{◌≡◌, sym, ap, ◌∙◌, arith, unwrap_or, false}
 use Rattle.std.specs.Ordering.{eq_by_cmp, is_eq}
 use Rattle.std.specs.Cmp.{eq_by_cmp_equiv}
 use Rattle.std.specs.Map.{lookup}

@@ -1,4 +1,4 @@
-use Rattle.std.proofs.Common.{◌≡◌, nat_lt, ◌+◌, ◌++◌, true, false, List, [], refl, sym, ap, ◌∙◌, subst, arith}
+use Rattle.std.proofs.Common.{nat_lt, [], sym, ap, ◌∙◌, arith}
 use Rattle.std.proofs.lemmas.Result.{on_ok_weaker}
 use Rattle.yspec.specs.Forest.{end, node, size}
 use Rattle.yspec.specs.schema.Schema as spec
@@ -7,8 +7,7 @@ use Rattle.yspec.specs.document.Play.{stored_cases, or_default}
 use Rattle.yschema.specs.Layout.{number_of, kind_view, leaf_type_view, absence_view, amount_view}
 use Rattle.yschema.specs.View as schema_view
 use Rattle.ytree.specs.View as document_view
-use Rattle.ycheck.specs.Cases.{Chooses}
-use Rattle.ycheck.specs.Targets.{Gathers, times_used, default_value, some_values}
+use Rattle.ycheck.specs.Targets.{times_used, default_value, some_values}
 use Rattle.ycheck.proofs.CaseLemmas.{numbered_row, no_case}
 use Rattle.ycheck.proofs.TargetLemmas.{gathers_none, gathers_same, implied_used, present_used, leaf_used, leaf_list_used, rest_unused, choice_used, case_used, case_unused, stored_unused, absent_used, data_kind, use_next, use_ended}
 use Rattle.ycheck.proofs.targets.+in_use.Goals as goal

@@ -11,4 +11,4 @@ abbrev pub invariant-add_row-loop-stored : goal.invariant-add_row-loop-stored
 invariant-add_row-loop-stored l =
     let s = schema_view.view l.schema in
     IsSorted (row_view l.row) → IsSorted (row_view (drop l.stored-index l.row))
-        × Still l.fn.targets l.targets (times_of_row s (schema_view.row_view l.children) (row_view l.row)) (left_times s (row_view (drop l.stored-index l.row)))
+    × Still l.fn.targets l.targets (times_of_row s (schema_view.row_view l.children) (row_view l.row)) (left_times s (row_view (drop l.stored-index l.row)))

@@ -1,4 +1,4 @@
-use Rattle.std.proofs.Common.{subst, sym, ap}
+use Rattle.std.proofs.Common.{subst, sym}
 use Rattle.std.proofs.lemmas.Result.{on_ok_weaker}
 use Rattle.yschema.specs.Layout.{absence_view}
 use Rattle.ycheck.specs.Targets.{Gathers, default_value}

@@ -1,5 +1,4 @@
-use Rattle.std.proofs.Common.{◌≡◌, ◌+◌, sym, ap, ◌∙◌, arith, drop, Some}
-use Rattle.yspec.specs.document.Document.{stored_in, row_in}
+use Rattle.std.proofs.Common.{◌+◌, sym, ◌∙◌, arith, drop}
 use Rattle.ytree.specs.View.{view, row_view}
 use Rattle.ycheck.proofs.CaseLemmas.{left_at}
 use Rattle.ycheck.proofs.ValueLemmas.{found_first, row_first}

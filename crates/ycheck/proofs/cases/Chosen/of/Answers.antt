@@ -1,4 +1,4 @@
-use Rattle.std.proofs.Common.{◌≡◌, refl, sym, ap, subst, ◌∙◌}
+use Rattle.std.proofs.Common.{sym, subst, ◌∙◌}
 use Rattle.yspec.specs.document.Play.{stored_cases, or_default}
 use Rattle.yschema.specs.Layout.{number_of}
 use Rattle.ycheck.specs.Cases.{Chooses}

@@ -1,4 +1,4 @@
-use Rattle.std.proofs.Common.{sym, ap, ◌∙◌}
+use Rattle.std.proofs.Common.{sym, ◌∙◌}
 use Rattle.ycheck.proofs.TargetLemmas.{kept_more}
 use Rattle.ycheck.proofs.targets.Targets.keep.Goals as goal
 
