@@ -1,22 +1,22 @@
 -- Which instances have what another has too, as they lie and as the definitions count them.
 use Rattle.std.proofs.Common.{◌≡◌, ℕ, suc, ◌+◌, ◌<◌, Bool, true, false, cond, eqb, ltb, List, [], ◌∷◌, ◌++◌, map, drop, length, get_or, Option, Some, None, refl, sym, ap, ap₂, ◌∙◌, arith, append_assoc}
-use Rattle.std.proofs.lemmas.List.{append-nil, map-append, get_or-map, length-map, at_drop_more, at_drop_all}
+use Rattle.std.proofs.lemmas.List.{map-append, get_or-map, length-map, at_drop_more}
 use Rattle.std.proofs.lemmas.List.Sums.{sum_by-cons}
-use Rattle.std.specs.Prelude.{Vec, ok_or, Result, Ok, option_and_then}
+use Rattle.std.specs.Prelude.{Vec, ok_or, Result, Ok}
 use Rattle.std.specs.Option.{option_map_or}
 use Rattle.yspec.specs.Forest.{weigh_row}
 use Rattle.yspec.specs.types.Types.{Raw, Val, YangType, taken, app_tag_of}
 use Rattle.yspec.specs.types.Order.{same_value}
-use Rattle.yspec.specs.schema.Schema.{Schema, Kind, container, leaf, leaf_list, list, choice, case, Tuples, Amount, LeafType, LeafPath}
+use Rattle.yspec.specs.schema.Schema.{Schema, Kind, container, leaf, leaf_list, list, choice, case, Tuples, LeafType, LeafPath}
 use Rattle.yspec.specs.document.Document.{Stored, Tree}
 use Rattle.yspec.specs.document.FaultCode.{V1, V11}
-use Rattle.yspec.specs.document.Fault.{Fault, fault, plain_fault}
-use Rattle.yspec.specs.document.Instances.{Tuple, same_tuple}
+use Rattle.yspec.specs.document.Fault.{fault, plain_fault}
+use Rattle.yspec.specs.document.Instances.{same_tuple}
 use Rattle.yspec.specs.document.Faults.{Times, requires_instance, reference_faults, value_faults}
 use Rattle.ytree.specs.View.{view, row_view}
 use Rattle.ytree.specs.declared.tree.Stored as tree
 use Rattle.ycheck.specs.Repeated.{times_among, repeats, marks, values_of, tuples_of}
-use Rattle.ycheck.specs.Walk.{lacks_instance, is_repeated, item_value, has_item_twice, entry_tuple, has_tuple_twice, tuples_twice, marks_of, tables_from, entry_table, table_of, marks_at, repetition, marks_told}
+use Rattle.ycheck.specs.Walk.{lacks_instance, is_repeated, item_value, has_item_twice, entry_tuple, has_tuple_twice, tuples_twice, marks_of, tables_from, table_of, marks_at}
 
 -- ---- one question
 

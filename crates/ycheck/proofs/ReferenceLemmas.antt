@@ -1,5 +1,5 @@
 -- What the values of the targets tell, and all faults of a document.
-use Rattle.std.proofs.Common.{◌≡◌, ℕ, Bool, true, false, not, cond, eqb, ◌||◌, List, [], ◌∷◌, ◌++◌, map, Option, Some, None, refl, sym, ap, ap₂, ◌∙◌}
+use Rattle.std.proofs.Common.{◌≡◌, ℕ, Bool, true, false, not, cond, eqb, ◌||◌, [], ◌∷◌, ◌++◌, map, Option, Some, None, refl, sym, ap, ap₂, ◌∙◌}
 use Rattle.std.proofs.lemmas.Bool.{eq-eqb}
 use Rattle.std.proofs.lemmas.List.{map-id}
 use Rattle.std.specs.List.{list_any}
@@ -10,10 +10,10 @@ use Rattle.yspec.specs.types.Types.{Val}
 use Rattle.yspec.specs.schema.Schema.{Schema, SchemaNode, Kind, container, leaf, leaf_list, list, choice, case, LeafType}
 use Rattle.yspec.specs.document.Document.{Tree, instances_in}
 use Rattle.yspec.specs.document.FaultCode.{V11}
-use Rattle.yspec.specs.document.Fault.{Fault, plain_fault}
+use Rattle.yspec.specs.document.Fault.{plain_fault}
 use Rattle.yspec.specs.document.Instances.{times_in}
-use Rattle.yspec.specs.document.Faults.{Times, requires_instance, reference_faults, row_times, faults_of}
-use Rattle.yspec.specs.document.RowFaults.{prefixed, row_faults}
+use Rattle.yspec.specs.document.Faults.{Times, requires_instance, reference_faults, faults_of}
+use Rattle.yspec.specs.document.RowFaults.{prefixed}
 use Rattle.yspec.specs.document.Fitting.{IsNumbered}
 use Rattle.yspec.specs.document.Sorting.{IsSorted}
 use Rattle.yspec.proofs.DocumentProofs.CheckingRowLemmas.{rows_are_faults}

@@ -1,5 +1,5 @@
 -- What is gathered of the values of targets, part by part.
-use Rattle.std.proofs.Common.{◌≡◌, ℕ, zero, suc, ◌+◌, ◌<◌, ◌≤◌, Bool, true, false, cond, not, ◌&&◌, ◌||◌, eqb, ltb, List, [], ◌∷◌, ◌++◌, true≢false, length, drop, get_or, Option, Some, None, refl, sym, ap, ap₂, subst, ◌∙◌, arith}
+use Rattle.std.proofs.Common.{◌≡◌, ℕ, zero, suc, ◌+◌, ◌<◌, ◌≤◌, Bool, true, false, cond, ◌&&◌, ◌||◌, eqb, ltb, List, [], ◌∷◌, ◌++◌, true≢false, length, drop, get_or, Option, Some, None, refl, sym, ap, ap₂, subst, ◌∙◌, arith}
 use Rattle.std.specs.Prelude.{count_by, sum_by, is_some}
 use Rattle.std.specs.Option.{option_map_or}
 use Rattle.std.specs.Ordering.{is_eq, nat_cmp}
@@ -10,13 +10,12 @@ use Rattle.std.proofs.lemmas.Bool.Decides.{nat_tests}
 use Rattle.ytype.specs.Laws.{same_value_equiv}
 use Rattle.yschema.specs.declared.node.SchemaId.{SchemaId}
 use Rattle.std.proofs.lemmas.Bool.{lt-ltb, eqb-true}
-use Rattle.std.proofs.lemmas.List.Folds.{list_any-append}
 use Rattle.std.proofs.lemmas.List.{at_drop_more, at_drop_all, append-nil}
 use Rattle.std.proofs.lemmas.List.Sums.{sum_by-cons, sum_by-append}
-use Rattle.yspec.specs.Forest.{Forest, end, node, size, preorder, weigh_nodes}
+use Rattle.yspec.specs.Forest.{Forest, end, node, size, weigh_nodes}
 use Rattle.yspec.specs.types.Types.{Val}
 use Rattle.yspec.specs.types.Order.{value_cmp, same_value}
-use Rattle.yspec.specs.schema.Schema.{Schema, SchemaNode, LeafType, Tuples, Kind, container, leaf, leaf_list, list, choice, case, Absence, allowed, default_used, mandatory, key, Amount, is_data, children_of}
+use Rattle.yspec.specs.schema.Schema.{Schema, SchemaNode, LeafType, Kind, container, leaf, leaf_list, list, choice, case, Absence, allowed, default_used, mandatory, key, Amount, is_data, children_of}
 use Rattle.yspec.specs.document.Document.{Stored, Tree, Step, step_to, instances_in}
 use Rattle.yspec.specs.document.FaultCode.{V2, V3, V4, V5, V6, V7}
 use Rattle.yspec.specs.document.Fault.{plain_fault, fault_with, choice_name}
@@ -24,7 +23,7 @@ use Rattle.yspec.specs.document.Faults.{Times}
 use Rattle.yspec.specs.document.Fitting.{IsNumbered}
 use Rattle.yspec.specs.document.Sorting.{IsSorted}
 use Rattle.ytree.specs.Walk.{others}
-use Rattle.yspec.specs.document.Instances.{is_value, value_of, times_in_use, times_at, times_in}
+use Rattle.yspec.specs.document.Instances.{value_of, times_in_use, times_at}
 use Rattle.yspec.specs.document.Play.{Item, tell, in_use, visit, visit_each, cases, stored_cases, or_default, choice_faults, absent_leaf, absent_items, exceeds, amount_faults, is_among, node_items, stored_inside, steps_inside, items_in_play}
 use Rattle.std.proofs.Common.{Vec}
 use Rattle.std.specs.Global.{Global}
@@ -35,7 +34,7 @@ use Rattle.yschema.specs.declared.node.Amount as code_amount
 use Rattle.yschema.specs.declared.node.Kind.TheVariants as kinds
 use Rattle.yschema.specs.Layout.{kind_view}
 use Rattle.ycheck.specs.Cases.{is_chosen, Chooses}
-use Rattle.ycheck.specs.Targets.{kept, is_kept, holds, Gathers, one_value, some_values, default_value, times_used, times_of_row, times_of_node, own_value, refers_to, is_target_in, HasValues}
+use Rattle.ycheck.specs.Targets.{kept, is_kept, holds, Gathers, one_value, some_values, default_value, times_used, times_of_row, times_of_node, own_value}
 use Rattle.ycheck.specs.declared.cases.Chosen.{Chosen}
 use Rattle.ycheck.specs.declared.cases.Chosen.TheVariants as chosen
 use Rattle.ycheck.specs.declared.targets.Targets.{Targets}

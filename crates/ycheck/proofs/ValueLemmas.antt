@@ -1,15 +1,15 @@
 -- Values of entries and tuples of them, one by one.
-use Rattle.std.proofs.Common.{◌≡◌, ℕ, ◌+◌, ◌<◌, ◌≤◌, Bool, true, false, cond, ltb, zero, suc, ◌-◌, List, [], ◌∷◌, ◌++◌, length, drop, map, get_or, Option, Some, None, refl, sym, ap, ap₂, ◌∙◌, append_assoc, arith, Vec, Ordering, Less, Equal, Greater, ◌&&◌}
-use Rattle.std.proofs.lemmas.Bool.{eq-eqb, eqb-true}
+use Rattle.std.proofs.Common.{◌≡◌, ℕ, ◌+◌, ◌<◌, ◌≤◌, Bool, false, cond, ltb, zero, suc, ◌-◌, List, [], ◌∷◌, ◌++◌, length, drop, map, get_or, Option, Some, None, refl, sym, ap, ap₂, ◌∙◌, arith, Vec, Ordering, Less, Equal, Greater, ◌&&◌}
+use Rattle.std.proofs.lemmas.Bool.{eq-eqb}
 use Rattle.std.proofs.lemmas.List.{at_drop_all, append-nil}
 use Rattle.std.proofs.lemmas.List.Sums.{sum_by-cons}
-use Rattle.std.specs.Prelude.{◌==◌, option_map, option_and_then, unwrap_or, slice_get}
+use Rattle.std.specs.Prelude.{option_map, unwrap_or, slice_get}
 use Rattle.std.specs.Option.{option_map_or}
 use Rattle.yspec.specs.Forest.{node}
 use Rattle.yspec.specs.types.Types.{Val}
 use Rattle.yspec.specs.schema.Schema.{Schema, Tuples, LeafPath}
 use Rattle.yspec.specs.document.Document.{Stored, Tree, stored_in, row_in}
-use Rattle.yspec.specs.document.Instances.{Tuple, value_at, tuple_at, tuple_of_paths, paths_of, same_tuple}
+use Rattle.yspec.specs.document.Instances.{Tuple, tuple_of_paths, paths_of, same_tuple}
 use Rattle.std.specs.Global.{Global}
 use Rattle.std.specs.Ordering.{is_eq, eq_by_cmp, ordering_then}
 use Rattle.std.specs.Cmp.Lexicographic.{slice_cmp, pointwise}

@@ -1,5 +1,5 @@
 -- What the walk tells are the faults of the document.
-use Rattle.std.proofs.Common.{◌≡◌, ℕ, zero, suc, ◌+◌, ◌≤◌, ◌<◌, Bool, true, false, cond, eqb, ltb, List, [], ◌∷◌, ◌++◌, map, length, drop, Option, Some, None, refl, sym, ap, ap₂, ◌∙◌, subst, arith, append_assoc, zero-add}
+use Rattle.std.proofs.Common.{◌≡◌, ℕ, zero, suc, ◌+◌, ◌≤◌, Bool, true, false, cond, eqb, ltb, List, [], ◌∷◌, ◌++◌, map, length, drop, Option, Some, None, refl, sym, ap, ap₂, ◌∙◌, subst, arith, append_assoc, zero-add}
 use Rattle.std.proofs.lemmas.Bool.{eqb-true}
 use Rattle.std.proofs.lemmas.List.{append-nil}
 use Rattle.std.specs.Prelude.{option_and_then}
@@ -7,13 +7,13 @@ use Rattle.std.specs.List.{flat_map}
 use Rattle.std.specs.Option.{option_map_or}
 use Rattle.yspec.specs.Forest.{Forest, end, node, size, weigh_row}
 use Rattle.yspec.specs.types.Types.{Raw, Val, taken, app_tag_of}
-use Rattle.yspec.specs.schema.Schema.{Schema, SchemaNode, Kind, container, leaf, leaf_list, list, choice, case, Tuples, Amount, LeafType, LeafPath, is_data, is_many, has_value, node_at}
+use Rattle.yspec.specs.schema.Schema.{Schema, SchemaNode, Kind, container, leaf, leaf_list, list, choice, case, Tuples, Amount, LeafType, LeafPath, is_data, has_value, node_at}
 use Rattle.yspec.specs.document.Document.{Stored, Tree, step_to, instances_in, instances}
 use Rattle.yspec.specs.document.FaultCode.{V1, V10}
-use Rattle.yspec.specs.document.Fault.{Fault, fault, fault_with, plain_fault}
-use Rattle.yspec.specs.document.Play.{cases, stored_among, stored_cases, or_default, is_among}
+use Rattle.yspec.specs.document.Fault.{Fault, fault, plain_fault}
+use Rattle.yspec.specs.document.Play.{cases, stored_cases, or_default, is_among}
 use Rattle.yspec.specs.document.Instances.{Tuple, is_value, is_tuple, kind_value, kind_tuple, value_of, tuple, tuples_in, items_in}
-use Rattle.yspec.specs.document.Faults.{Times, RowTimes, reference_faults, value_faults, item_twice, tuple_info, tuple_code, tuple_fault, tuple_faults, own_faults, under, at_positions, row_times}
+use Rattle.yspec.specs.document.Faults.{Times, RowTimes, reference_faults, value_faults, item_twice, tuple_fault, tuple_faults, own_faults, under, at_positions, row_times}
 use Rattle.yspec.specs.document.RowFaults.{each_instance, wrong_amount, wrong_choice, one_or, node_faults, row_faults}
 use Rattle.yspec.specs.document.Fitting.{IsNumbered}
 use Rattle.yspec.specs.document.Sorting.{StartsAt, IsSorted, from_number}
@@ -28,7 +28,7 @@ use Rattle.ycheck.specs.declared.cases.StoredCases.TheVariants as count
 use Rattle.ycheck.specs.declared.cases.Chosen.{Chosen}
 use Rattle.ycheck.specs.declared.cases.Chosen.TheVariants as variant
 use Rattle.ycheck.specs.Cases.{chosen_from, how_many, is_chosen, Chooses}
-use Rattle.ycheck.specs.Walk.{value_told, is_repeated, item_value, has_item_twice, entry_tuple, has_tuple_twice, tuples_twice, marks_of, repetition, marks_told, amount_told, absent_told, each_told, each_of, instance_told, instances_told, present_or, data_told, choice_told, inside_told, walked}
+use Rattle.ycheck.specs.Walk.{value_told, is_repeated, item_value, has_item_twice, entry_tuple, has_tuple_twice, tuples_twice, marks_of, repetition, marks_told, absent_told, each_told, each_of, instance_told, present_or, data_told, choice_told, inside_told, walked}
 use Rattle.ycheck.proofs.CaseLemmas.{among_same, cases_same, counts_from, no_case, none_chosen, default_chosen, stored_chosen}
 
 -- ---- each instance below its step
@@ -366,27 +366,27 @@ module _ (told times : Times) (schema : Schema) where
       let next = others n.number rest in
       let inside : Tree → List Fault = λ u. walked told schema variant.NoCase below u in
       let below_is : (u : Tree) → IsSorted u → inside u ≡ row_faults times schema (row_times schema u) [] below u =
-          λ u sorted_u. walked_is below (k + 1) variant.NoCase [] u u numbered.1 has.2 agree.1 sorted_u (λ m from. refl) (no_case (instances_in u) below) in
+      λ u sorted_u. walked_is below (k + 1) variant.NoCase [] u u numbered.1 has.2 agree.1 sorted_u (λ m from. refl) (no_case (instances_in u) below) in
       let said : Stored → Tree → List Fault = λ s b. own_faults times (row_times schema t) n n.kind s.value (tuple schema s b) ++ row_faults times schema (row_times schema b) [] below b in
       let is_said : (s : Stored) (b : Tree) → s.schema_number ≡ n.number → IsSorted b → said s b ≡ instance_told told schema n n.kind inside (instances n.number t) s b =
-          λ s b same sorted_b. ap₂ ◌++◌ (own_told told times schema n t n.kind
-          (λ s b u is. ap (λ j. option_and_then (λ x. kind_tuple schema x.kind b u) (node_at schema j)) is ∙ ap (λ o. option_and_then (λ x. kind_tuple schema x.kind b u) o) has.0)
-          (λ s is. ap (λ j. option_and_then (λ x. option_and_then (kind_value x.kind) s.value) (node_at schema j)) is ∙ ap (λ o. option_and_then (λ x. option_and_then (kind_value x.kind) s.value) o) has.0)
-          agree.0 s b same) (sym (below_is b sorted_b))
-          ∙ append_assoc (value_told told n.kind s.value) (marks_told (has_value n.kind) 0 (marks_of schema n.kind n.config (instances n.number t) s b)) (inside b) in
+      λ s b same sorted_b. ap₂ ◌++◌ (own_told told times schema n t n.kind
+      (λ s b u is. ap (λ j. option_and_then (λ x. kind_tuple schema x.kind b u) (node_at schema j)) is ∙ ap (λ o. option_and_then (λ x. kind_tuple schema x.kind b u) o) has.0)
+      (λ s is. ap (λ j. option_and_then (λ x. option_and_then (kind_value x.kind) s.value) (node_at schema j)) is ∙ ap (λ o. option_and_then (λ x. option_and_then (kind_value x.kind) s.value) o) has.0)
+      agree.0 s b same) (sym (below_is b sorted_b))
+      ∙ append_assoc (value_told told n.kind s.value) (marks_told (has_value n.kind) 0 (marks_of schema n.kind n.config (instances n.number t) s b)) (inside b) in
       let each = each_same n.number said (instance_told told schema n n.kind inside (instances n.number t)) t sorted is_said in
       let of_data : is_data n.kind ≡ true → data_told told schema n n.kind inside (mine n.number rest)
-          ≡ node_faults chosen n n.kind (stored_cases (instances_in t) below) (each_instance n.number said t) (row_faults times schema (row_times schema end) [] below end)
-          (row_faults times schema (row_times schema t) (cases (instances_in t) n.kind below) below t) =
-          λ is. ap (data_told told schema n n.kind inside) (mine_left n.number rest t sorted here)
-          ∙ sym (data_is told schema chosen n n.kind (stored_cases (instances_in t) below) (each_instance n.number said t) (row_faults times schema (row_times schema end) [] below end)
-          (row_faults times schema (row_times schema t) (cases (instances_in t) n.kind below) below t) inside (instances n.number t) is each (sym (below_is end tt))) in
+      ≡ node_faults chosen n n.kind (stored_cases (instances_in t) below) (each_instance n.number said t) (row_faults times schema (row_times schema end) [] below end)
+      (row_faults times schema (row_times schema t) (cases (instances_in t) n.kind below) below t) =
+      λ is. ap (data_told told schema n n.kind inside) (mine_left n.number rest t sorted here)
+      ∙ sym (data_is told schema chosen n n.kind (stored_cases (instances_in t) below) (each_instance n.number said t) (row_faults times schema (row_times schema end) [] below end)
+      (row_faults times schema (row_times schema t) (cases (instances_in t) n.kind below) below t) inside (instances n.number t) is each (sym (below_is end tt))) in
       let behind = left_others n.number (k + 1) rest t (omega (arith, numbered.0)) here in
       let other : is_data n.kind ≡ false → inside_told n n.kind c below (λ d u. walked told schema d below u) next
-          ≡ node_faults chosen n n.kind (stored_cases (instances_in t) below) (each_instance n.number said t) (row_faults times schema (row_times schema end) [] below end)
-          (row_faults times schema (row_times schema t) (cases (instances_in t) n.kind below) below t) =
-          λ is. inside_is chosen n n.kind c below (k + 1) next t (each_instance n.number said t) (row_faults times schema (row_times schema end) [] below end) is numbered.1 behind chooses.0
-          (λ d numbers d_chooses. walked_is below (k + 1) d numbers t next numbered.1 has.2 agree.1 sorted behind d_chooses) in
+      ≡ node_faults chosen n n.kind (stored_cases (instances_in t) below) (each_instance n.number said t) (row_faults times schema (row_times schema end) [] below end)
+      (row_faults times schema (row_times schema t) (cases (instances_in t) n.kind below) below t) =
+      λ is. inside_is chosen n n.kind c below (k + 1) next t (each_instance n.number said t) (row_faults times schema (row_times schema end) [] below end) is numbered.1 behind chooses.0
+      (λ d numbers d_chooses. walked_is below (k + 1) d numbers t next numbered.1 has.2 agree.1 sorted behind d_chooses) in
       ap₂ ◌++◌ (by (is_data n.kind) refl of_data other)
       (walked_is after (k + 1 + size below) c chosen t next numbered.2 has.3 agree.2 sorted (left_later (k + 1) (k + 1 + size below) next t (omega arith) behind) chooses.1)
     where

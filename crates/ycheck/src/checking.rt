@@ -25,7 +25,9 @@ use crate::fault::{Fault, FaultCode, Info};
 use crate::repeated::{repeated_items, repeated_tuples};
 use crate::targets::Targets;
 use std::alloc::{AllocError, Global};
-use yschema::{Absence, Amount, Child, Children, Kind, LeafType, Schema, SchemaId, SchemaNode, Tuples};
+use yschema::{
+    Absence, Amount, Child, Children, Kind, LeafType, Schema, SchemaId, SchemaNode, Tuples,
+};
 use ytree::{Step, Stored, Tree, instances_of};
 use ytype::{BadValue, Raw, Val};
 
@@ -115,7 +117,14 @@ pub fn faults(alloc: Global, schema: &Schema, tree: &Tree) -> Result<Vec<Fault>,
         faults: Vec::new(alloc),
     };
     let nodes = tree.nodes();
-    check_row(schema, &targets, schema.roots(), Chosen::NoCase, nodes, &mut findings)?;
+    check_row(
+        schema,
+        &targets,
+        schema.roots(),
+        Chosen::NoCase,
+        nodes,
+        &mut findings,
+    )?;
     let Findings { faults, .. } = findings;
     Ok(faults)
 }
@@ -311,11 +320,7 @@ fn check_absent(
     }
 }
 
-fn tell_absence(
-    id: SchemaId,
-    absence: &Absence,
-    findings: &mut Findings,
-) -> Result<(), AllocError>
+fn tell_absence(id: SchemaId, absence: &Absence, findings: &mut Findings) -> Result<(), AllocError>
     ensures { OnOk result (Adds findings.old findings.new (absent_leaf_faults id.0 (absence_view absence.now))) }
 {
     match absence {
@@ -349,7 +354,14 @@ fn check_found(
         check_value(targets, node, stored.value(), findings)?;
         tell_repeated(node, &repeated, index, findings)?;
         let below = stored.below();
-        check_row(schema, targets, child.children(), Chosen::NoCase, below, findings)?;
+        check_row(
+            schema,
+            targets,
+            child.children(),
+            Chosen::NoCase,
+            below,
+            findings,
+        )?;
         findings.leave();
     }
     Ok(())
@@ -490,11 +502,7 @@ fn is_marked(marks: &[bool], index: usize) -> bool
 }
 
 /// Tells V10 of an item; of an entry V8 for the key, else V9 for a `unique`.
-fn tell_repetition(
-    is_item: bool,
-    which: usize,
-    findings: &mut Findings,
-) -> Result<(), AllocError>
+fn tell_repetition(is_item: bool, which: usize, findings: &mut Findings) -> Result<(), AllocError>
     ensures { OnOk result (Adds findings.old findings.new (repetition is_item which ∷ [])) }
 {
     if is_item {

@@ -1,22 +1,20 @@
-use Rattle.std.proofs.Common.{◌≡◌, ◌+◌, ◌++◌, List, [], None, ap, ap₂, sym, subst, refl, drop, map, option_map, string_bytes, arith, ◌∙◌, Bool}
+use Rattle.std.proofs.Common.{◌+◌, List, None, ap, ap₂, sym, subst, drop, map, arith, ◌∙◌}
 use Rattle.std.proofs.lemmas.Result.{on_ok_weaker}
 use Rattle.yspec.specs.Forest.{Forest, end, size}
-use Rattle.yspec.specs.schema.Schema as spec
-use Rattle.yspec.specs.schema.Schema.{SchemaNode, is_data, is_many, has_value, choice, container}
+use Rattle.yspec.specs.schema.Schema.{SchemaNode, is_data, is_many, has_value, container}
 use Rattle.yspec.specs.document.Document.{Step, Tree, instances_in, step_to}
 use Rattle.yspec.specs.document.Fault.{Fault}
-use Rattle.yspec.specs.document.Faults.{Times, under}
+use Rattle.yspec.specs.document.Faults.{under}
 use Rattle.yspec.specs.document.Play.{stored_cases}
 use Rattle.yspec.specs.document.Sorting.{IsSorted}
 use Rattle.yschema.specs.Layout.{number_of}
 use Rattle.yschema.specs.View as schema_view
-use Rattle.ytree.specs.View.{view, row_view, step_view}
+use Rattle.ytree.specs.View.{view, row_view}
 use Rattle.ytree.specs.Walk.{mine, others}
 use Rattle.ycheck.specs.Cases.{chosen_from, how_many}
 use Rattle.ycheck.specs.declared.cases.Chosen.{Chosen}
 use Rattle.ycheck.specs.declared.cases.Chosen.TheVariants as variant
-use Rattle.ycheck.specs.Found.{Adds}
-use Rattle.ycheck.specs.Walk.{times_of, value_told, marks_of, marks_at, marks_told, table_of, amount_told, absent_told, each_told, each_of, position_at, instance_told, instances_told, data_told, choice_told, inside_told, walked}
+use Rattle.ycheck.specs.Walk.{times_of, value_told, marks_at, marks_told, table_of, amount_told, absent_told, each_told, each_of, position_at, instance_told, instances_told, choice_told, walked}
 use Rattle.ycheck.proofs.CaseLemmas.{left_at, left_ended, sorted_others}
 use Rattle.ycheck.proofs.FoundLemmas.{adds_same, adds_both, adds_below, leaves_all, leaves_after, leaves_none}
 use Rattle.ycheck.proofs.MarkLemmas.{marks_are}

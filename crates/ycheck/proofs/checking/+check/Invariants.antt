@@ -1,4 +1,4 @@
-use Rattle.std.proofs.Common.{◌≡◌, ◌+◌, ◌*◌, ◌≤◌, List, drop}
+use Rattle.std.proofs.Common.{◌+◌, ◌*◌, ◌≤◌, List, drop}
 use Rattle.yspec.specs.Forest.{size}
 use Rattle.yspec.specs.schema.Schema.{is_many}
 use Rattle.yspec.specs.document.Document.{Tree}

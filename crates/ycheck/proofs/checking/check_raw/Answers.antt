@@ -1,4 +1,4 @@
-use Rattle.std.proofs.Common.{sym, ◌∙◌, ap}
+use Rattle.std.proofs.Common.{sym, ◌∙◌}
 use Rattle.yschema.specs.Layout.{leaf_type_view}
 use Rattle.ytype.specs.View.{raw_of}
 use Rattle.ycheck.specs.Walk.{times_of}

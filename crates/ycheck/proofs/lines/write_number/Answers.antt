@@ -1,4 +1,4 @@
-use Rattle.std.proofs.Common.{decimal, sym, arith, ◌∙◌, ◌++◌, []}
+use Rattle.std.proofs.Common.{decimal, sym, arith, ◌∙◌}
 use Rattle.std.proofs.lemmas.Fmt.{decimal_nonempty}
 use Rattle.std.proofs.lemmas.List.{append-nil}
 use Rattle.youtput.proofs.WritingLemmas.{writes_same}
