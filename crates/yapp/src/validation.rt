@@ -102,7 +102,6 @@ fn compile_modules<'a>(
 }
 
 /// The faults of a document under a schema.
-#[tactic(auto, using(yspec::proofs::DocumentProofs::SortingLemmas::in_order))]
 fn judge<'a>(
     alloc: Global,
     name: &'a str,
