@@ -1,2 +1,9 @@
+pub mod CaseLemmas
 pub mod FoundLemmas
 pub mod LineLemmas
+pub mod MarkLemmas
+pub mod ReferenceLemmas
+pub mod RepeatedLemmas
+pub mod TargetLemmas
+pub mod ValueLemmas
+pub mod WalkLemmas

@@ -1,5 +1,5 @@
 -- The text of a step, of a path and of a line, part by part.
-use Rattle.std.proofs.Common.{◌≡◌, ℕ, List, [], ◌∷◌, ◌++◌, length, codes, decimal, Option, Some, refl, sym, ap, ◌∙◌, append_assoc, false}
+use Rattle.std.proofs.Common.{◌≡◌, ◌<◌, ℕ, arith, List, [], ◌∷◌, ◌++◌, length, codes, decimal, Option, Some, refl, sym, ap, ◌∙◌, append_assoc, false}
 use Rattle.std.proofs.lemmas.List.{append-nil}
 use Rattle.std.specs.Prelude.{◌==◌, option_map, string_bytes, unwrap_or, None}
 use Rattle.std.specs.Option.{option_map_or}
@@ -13,8 +13,6 @@ use Rattle.ytree.specs.View.{place_view}
 use Rattle.ytree.specs.declared.tree.Step as code
 use Rattle.ycheck.specs.View.{code_view, info_view, tag_name, view}
 use Rattle.ycheck.specs.declared.fault.Fault.{Fault}
-use Rattle.ycheck.specs.declared.fault.Info.{Info}
-use Rattle.ycheck.specs.declared.fault.Info.TheVariants as infos
 
 pub named_step : (schema : Schema) (parent : Option ℕ) (step : Step) (n : SchemaNode) → Some n ≡ node_at schema step.schema_number
     → (codes "/" ++ written_name schema parent n) ++ position_text step.position ≡ step_text schema parent step
@@ -27,8 +25,10 @@ path_of_some schema (step ∷ steps) some = refl
 
 -- ---- lines
 
-without_info : (info : Info) → or_dash (info_text (info_view info)) ≡ 45 ∷ []
-without_info infos.None = refl
+-- a numeral is some text
+pub some_text : (t : Text) → 0 < length t → or_dash t ≡ t
+some_text [] some = absurd (omega (arith, some))
+some_text (x ∷ xs) some = refl
 
 -- the first two words, each with its space
 two_words : (number tag rest : Text) → number ++ (32 ∷ (tag ++ (32 ∷ rest))) ≡ ((number ++ 32 ∷ []) ++ ((tag ++ 32 ∷ []) ++ [])) ++ rest
@@ -39,12 +39,10 @@ two_words number tag rest = sym (append_assoc (number ++ 32 ∷ []) ((tag ++ 32 
 pub line_parts : (schema : Schema) (f : Fault) (code tag : Text) → code ≡ codes "V" ++ (decimal (fault_number (code_view f.code)) ++ codes " ")
     → tag ≡ tag_name f.tag ++ codes " " → line_of schema (view f)
     ≡ (code ++ (tag ++ [])) ++ (or_dash (printed_tag (unwrap_or (option_map string_bytes f.app_tag) []))
-    ++ ((codes " " ++ []) ++ (path_text schema (place_view f.steps.items) ++ (codes " -\n" ++ []))))
+    ++ ((codes " " ++ []) ++ (path_text schema (place_view f.steps.items) ++ ((codes " " ++ []) ++ (or_dash (info_text (info_view f.info)) ++ (codes "\n" ++ []))))))
 line_parts schema f code tag code_is tag_is =
     let rest : Text = or_dash (printed_tag (unwrap_or (option_map string_bytes f.app_tag) []))
-    ++ ((codes " " ++ []) ++ (path_text schema (place_view f.steps.items) ++ (codes " -\n" ++ []))) in
+    ++ ((codes " " ++ []) ++ (path_text schema (place_view f.steps.items) ++ ((codes " " ++ []) ++ (or_dash (info_text (info_view f.info)) ++ (codes "\n" ++ []))))) in
     let head : Text → Text → Text = λ code tag. (code ++ (tag ++ [])) ++ rest in
-    ap (λ (info : Text). 86 ∷ (decimal (fault_number (code_view f.code)) ++ (32 ∷ (tag_name f.tag ++ (32 ∷ (or_dash (printed_tag (unwrap_or (option_map string_bytes f.app_tag) []))
-    ++ (32 ∷ (path_text schema (place_view f.steps.items) ++ (32 ∷ (info ++ 10 ∷ [])))))))))) (without_info f.info)
-    ∙ ap (λ (xs : Text). 86 ∷ xs) (two_words (decimal (fault_number (code_view f.code))) (tag_name f.tag) rest)
+    ap (λ (xs : Text). 86 ∷ xs) (two_words (decimal (fault_number (code_view f.code))) (tag_name f.tag) rest)
     ∙ ap (λ (xs : Text). head xs (tag_name f.tag ++ codes " ")) (sym code_is) ∙ ap (head code) (sym tag_is)

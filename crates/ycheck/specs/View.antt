@@ -3,26 +3,40 @@ use Rattle.std.specs.Prelude.{List, map, codes, option_map, string_bytes}
 use Rattle.yspec.specs.text.Text.{Text}
 use Rattle.yspec.specs.document.FaultCode as spec
 use Rattle.yspec.specs.document.Fault as faults
-use Rattle.yspec.specs.document.Fault.{no_info}
+use Rattle.yspec.specs.document.Fault.{no_info, choice_name, unique_number}
 use Rattle.ytree.specs.View.{place_view}
 use Rattle.ycheck.specs.declared.fault.FaultCode.{FaultCode}
-use Rattle.ycheck.specs.declared.fault.FaultCode.TheVariants.{V1, V3}
+use Rattle.ycheck.specs.declared.fault.FaultCode.TheVariants.{V1, V2, V3, V4, V5, V6, V7, V8, V9, V10, V11}
 use Rattle.ycheck.specs.declared.fault.ErrorTag.{ErrorTag}
-use Rattle.ycheck.specs.declared.fault.ErrorTag.TheVariants.{InvalidValue, DataMissing}
+use Rattle.ycheck.specs.declared.fault.ErrorTag.TheVariants.{InvalidValue, MissingElement, DataMissing, BadElement, OperationFailed}
 use Rattle.ycheck.specs.declared.fault.Info.{Info}
 use Rattle.ycheck.specs.declared.fault.Info.TheVariants as infos
 use Rattle.ycheck.specs.declared.fault.Fault.{Fault}
 
 abbrev pub code_view : FaultCode → spec.FaultCode
 code_view V1 = spec.V1
+code_view V2 = spec.V2
 code_view V3 = spec.V3
+code_view V4 = spec.V4
+code_view V5 = spec.V5
+code_view V6 = spec.V6
+code_view V7 = spec.V7
+code_view V8 = spec.V8
+code_view V9 = spec.V9
+code_view V10 = spec.V10
+code_view V11 = spec.V11
 
 abbrev pub tag_name : ErrorTag → Text
 tag_name InvalidValue = codes "invalid-value"
+tag_name MissingElement = codes "missing-element"
 tag_name DataMissing = codes "data-missing"
+tag_name BadElement = codes "bad-element"
+tag_name OperationFailed = codes "operation-failed"
 
 abbrev pub info_view : Info → faults.Info
 info_view infos.None = no_info
+info_view (infos.Choice name) = choice_name (string_bytes name)
+info_view (infos.Unique number) = unique_number number
 
 abbrev pub view : Fault → faults.Fault
 view f = record {

@@ -1,25 +1,35 @@
 //! The walk over a schema and a document that finds the faults.
 
-ghost use Rattle.std.specs.Prelude.{◌≡◌, ◌++◌, [], ◌∷◌, map, length, take, ◌-◌, None, option_map, string_bytes, OnOk, IfOk, IfSome, is_some};
-ghost use Rattle.yspec.specs.Forest.{Forest, end, node};
-ghost use Rattle.yspec.specs.schema.Schema as spec;
-ghost use Rattle.yspec.specs.document.Fault.{fault, no_info};
-ghost use Rattle.yspec.specs.document.Faults.{faults_of};
-ghost use Rattle.yspec.specs.plain.RowFaults.{value_faults};
-ghost use Rattle.yspec.specs.document.Fitting.{Fits};
-ghost use Rattle.yspec.specs.document.RowFaults.{prefixed};
-ghost use Rattle.yspec.specs.plain.RowFaults.{begins_with, stored_own, stored_faults, absent_own, absent_faults, row_faults};
+ghost use Rattle.std.specs.Prelude.{◌≡◌, ◌++◌, ◌+◌, [], ◌∷◌, length, take, ◌-◌, false, map, option_map, string_bytes, get_or, OnOk, IfOk};
+ghost use Rattle.yspec.specs.Forest.{end, node};
+ghost use Rattle.yspec.specs.schema.Schema.{is_many, has_value};
+ghost use Rattle.yspec.specs.document.Document.{step_to};
+ghost use Rattle.yspec.specs.document.Fault.{fault_with, plain_fault};
+ghost use Rattle.yspec.specs.document.FaultCode.{own_app_tag};
+ghost use Rattle.yspec.specs.document.Play.{exceeds};
+ghost use Rattle.yspec.specs.document.Faults.{faults_of, value_faults};
+ghost use Rattle.yspec.specs.document.RowFaults.{wrong_amount, absent_leaf_faults};
+ghost use Rattle.yspec.specs.document.Sorting.{IsSorted};
 ghost use Rattle.ytype.specs.View.{raw_of};
+ghost use Rattle.yschema.specs.Layout.{leaf_type_view, absence_view, amount_view, tuples_view, kind_view};
 ghost use Rattle.yschema.specs.View as schema_view;
 ghost use Rattle.ytree.specs.View as document_view;
-ghost use Rattle.ytree.specs.View.{place_view};
-ghost use Rattle.ycheck.specs.View.{code_view, views};
+ghost use Rattle.ytree.specs.Walk.{others};
+ghost use Rattle.ycheck.specs.View.{code_view, info_view, views};
+ghost use Rattle.ycheck.specs.Found.{Adds, given_fault};
+ghost use Rattle.ycheck.specs.Walk.{times_of, lacks_instance, value_told, repetition, marks_told, entry_table, table_of, marks_at, amount_told, absent_told, position_at, instances_told, data_told, choice_told, inside_told, walked};
+ghost use Rattle.ycheck.specs.declared.cases.Chosen.TheVariants as variant;
 
+use crate::cases::{Chosen, StoredCases};
 use crate::fault::{Fault, FaultCode, Info};
+use crate::repeated::{repeated_items, repeated_tuples};
+use crate::targets::Targets;
 use std::alloc::{AllocError, Global};
-use yschema::{Absence, Child, Children, Kind, Schema, SchemaId, SchemaNode};
-use ytree::{Step, Stored, Tree};
-use ytype::{BadValue, Raw, YType};
+use yschema::{
+    Absence, Amount, Child, Children, Kind, LeafType, Schema, SchemaId, SchemaNode, Tuples,
+};
+use ytree::{Step, Stored, Tree, instances_of};
+use ytype::{BadValue, Raw, Val};
 
 /// The faults that are found, and the steps to the node at hand.
 #[derive(Drop)]
@@ -30,11 +40,11 @@ struct Findings {
 }
 
 impl Findings {
-    fn enter(&mut self, id: SchemaId) -> Result<(), AllocError>
-        ensures place { OnOk result (self.new.steps.items ≡ self.old.steps.items ++ record { id = id; position = None } ∷ []) }
+    fn enter(&mut self, step: Step) -> Result<(), AllocError>
+        ensures place { OnOk result (self.new.steps.items ≡ self.old.steps.items ++ step ∷ []) }
         ensures found { self.new.faults.items ≡ self.old.faults.items }
     {
-        self.steps.push(Step { id, position: None })?;
+        self.steps.push(step)?;
         Ok(())
     }
 
@@ -45,11 +55,15 @@ impl Findings {
         self.steps.pop();
     }
 
-    /// Tells a fault of the node at hand.
-    fn tell(&mut self, code: FaultCode, app_tag: Option<String>) -> Result<(), AllocError>
-        ensures found { OnOk result (views self.new.faults.items ≡ views self.old.faults.items
-            ++ fault (code_view code) (option_map string_bytes app_tag) (place_view self.old.steps.items) ∷ []) }
-        ensures place { OnOk result (self.new.steps.items ≡ self.old.steps.items) }
+    /// Tells a fault of the node at hand, with the error-app-tag of a restriction.
+    fn tell(
+        &mut self,
+        code: FaultCode,
+        app_tag: Option<String>,
+        info: Info,
+    ) -> Result<(), AllocError>
+        ensures { OnOk result (Adds self.old self.new
+            (given_fault (code_view code) (option_map string_bytes app_tag) (info_view info) ∷ [])) }
     {
         let steps = Vec::from_slice(self.alloc, &self.steps)?;
         self.faults.push(Fault {
@@ -57,43 +71,80 @@ impl Findings {
             tag: code.tag(),
             app_tag,
             steps,
-            info: Info::None,
+            info,
         })?;
         Ok(())
     }
 }
 
-/// All faults of a document under its schema, in order of definition: a leaf whose type doesn't take its value, and a
-/// mandatory leaf that is missing where it is in play. A container without presence is in play though it isn't stored.
-pub fn faults(alloc: Global, schema: &Schema, tree: &Tree) -> Result<Vec<Fault>, AllocError>
-    // of a document that fits its schema, as one that is read under it does
-    ensures { let schema' = schema_view.view schema.now in let tree' = document_view.tree_view tree.now in
-        Fits schema' tree' → IfOk result (λ found. views found.items ≡ faults_of schema' tree') }
+/// A copy of the error-app-tag that a code has of itself.
+fn own_app_tag(alloc: Global, code: FaultCode) -> Result<Option<String>, AllocError>
+    ensures { IfOk result (λ tag. option_map string_bytes tag ≡ own_app_tag (code_view code)) }
 {
+    match code.app_tag() {
+        Some(text) => Ok(Some(String::from_str(alloc, text)?)),
+        None => Ok(None),
+    }
+}
+
+/// Tells a fault of the node at hand, with the error-app-tag of its code.
+fn tell(code: FaultCode, info: Info, findings: &mut Findings) -> Result<(), AllocError>
+    ensures { OnOk result (Adds findings.old findings.new (fault_with (info_view info) (code_view code) [] ∷ [])) }
+{
+    let app_tag = own_app_tag(findings.alloc, code)?;
+    findings.tell(code, app_tag, info)
+}
+
+/// Tells a fault of a schema node below the node at hand.
+fn tell_below(id: SchemaId, code: FaultCode, findings: &mut Findings) -> Result<(), AllocError>
+    ensures { OnOk result (Adds findings.old findings.new (plain_fault (code_view code) (step_to id.0 ∷ []) ∷ [])) }
+{
+    findings.enter(Step { id, position: None })?;
+    tell(code, Info::None, findings)?;
+    findings.leave();
+    Ok(())
+}
+
+/// All faults of a document whose rows stand in the order of its schema, in order of definition.
+pub fn faults(alloc: Global, schema: &Schema, tree: &Tree) -> Result<Vec<Fault>, AllocError>
+    ensures { let schema' = schema_view.view schema.now in let tree' = document_view.tree_view tree.now in
+        IsSorted tree' → IfOk result (λ found. views found.items ≡ faults_of schema' tree') }
+{
+    let targets = Targets::of(alloc, schema, tree)?;
     let mut findings = Findings {
         alloc,
         steps: Vec::new(alloc),
         faults: Vec::new(alloc),
     };
-    check_row(schema.roots(), tree.nodes(), &mut findings)?;
+    let nodes = tree.nodes();
+    check_row(
+        schema,
+        &targets,
+        schema.roots(),
+        Chosen::NoCase,
+        nodes,
+        &mut findings,
+    )?;
     let Findings { faults, .. } = findings;
     Ok(faults)
 }
 
-/// Checks a row of schema nodes against the stored nodes of that row.
+/// Checks a row of schema nodes, of whose cases the chosen ones are in play, against the stored nodes that are left.
 #[cycle(check)]
 fn check_row(
+    schema: &Schema,
+    targets: &Targets,
     children: Children<'_>,
+    chosen: Chosen,
     row: &[Stored],
     findings: &mut Findings,
 ) -> Result<(), AllocError>
-    ensures found { OnOk result (views findings.new.faults.items ≡ views findings.old.faults.items
-        ++ map (prefixed (place_view findings.old.steps.items)) (row_faults (schema_view.row_view children.entry) (document_view.row_view row.now))) }
-    ensures place { OnOk result (findings.new.steps.items ≡ findings.old.steps.items) }
+    ensures { let t = document_view.row_view row.now in IsSorted t → OnOk result (Adds findings.old findings.new
+        (walked (times_of targets.now) (schema_view.view schema.now) chosen (schema_view.row_view children.entry) t)) }
 {
     let mut rest = row;
     for child in children {
-        rest = check_child(child, rest, findings)?;
+        rest = check_child(schema, targets, child, chosen, rest, findings)?;
     }
     Ok(())
 }
@@ -101,120 +152,364 @@ fn check_row(
 /// Checks a schema node against the stored nodes of its row that are left, and answers those left after it.
 #[cycle(check)]
 fn check_child<'a>(
+    schema: &Schema,
+    targets: &Targets,
     child: Child<'_>,
+    chosen: Chosen,
     rest: &'a [Stored],
     findings: &mut Findings,
 ) -> Result<&'a [Stored], AllocError>
-    ensures found { IfOk result (λ others. (after : Forest spec.SchemaNode)
-        → views findings.new.faults.items ++ map (prefixed (place_view findings.old.steps.items)) (row_faults after (document_view.row_view others.now))
-        ≡ views findings.old.faults.items ++ map (prefixed (place_view findings.old.steps.items))
-        (row_faults (node (schema_view.label_of child.entry) (schema_view.below_of child.entry) after) (document_view.row_view rest.entry.now))) }
-    ensures place { OnOk result (findings.new.steps.items ≡ findings.old.steps.items) }
+    ensures found { let t = document_view.row_view rest.entry.now in IsSorted t → OnOk result (Adds findings.old findings.new
+        (walked (times_of targets.now) (schema_view.view schema.now) chosen (node (schema_view.label_of child.entry) (schema_view.below_of child.entry) end) t)) }
+    ensures behind { IfOk result (λ behind. document_view.row_view behind.now
+        ≡ others (schema_view.label_of child.entry).number (document_view.row_view rest.entry.now)) }
 {
-    match instance_of(child, rest) {
-        Some((first, others)) => {
-            check_stored(child, first, findings)?;
-            Ok(others)
-        }
-        None => {
-            check_absent(child, findings)?;
-            Ok(rest)
-        }
-    }
-}
-
-/// The stored node of a schema node, where a row begins with it, and the others.
-fn instance_of<'a>(child: Child<'_>, row: &'a [Stored]) -> Option<(&'a Stored, &'a [Stored])>
-    ensures stored { is_some result ≡ begins_with (schema_view.label_of child.entry).number (document_view.row_view row.entry.now) }
-    ensures parts { IfSome result (λ p. document_view.row_view row.entry.now
-        ≡ node (document_view.view p.0.now).0 (document_view.view p.0.now).1 (document_view.row_view p.1.now)) }
-{
-    let (first, others) = row.split_first()?;
-    if first.id() == child.id() {
-        Some((first, others))
+    let (found, behind) = instances_of(rest, child.id());
+    if child.node().kind.is_data() {
+        check_data(schema, targets, child, found, findings)?;
+        Ok(behind)
     } else {
-        None
+        check_inside(schema, targets, child, chosen, behind, findings)?;
+        Ok(behind)
     }
 }
 
-/// Checks a stored node and what is stored below it.
+/// Checks a choice or a case against the stored nodes that are left.
 #[cycle(check)]
-fn check_stored(
+fn check_inside(
+    schema: &Schema,
+    targets: &Targets,
     child: Child<'_>,
-    stored: &Stored,
+    chosen: Chosen,
+    rest: &[Stored],
     findings: &mut Findings,
 ) -> Result<(), AllocError>
-    ensures found { OnOk result (let s = document_view.view stored.now in views findings.new.faults.items ≡ views findings.old.faults.items
-        ++ map (prefixed (place_view findings.old.steps.items))
-        (stored_faults (schema_view.label_of child.entry) s.0.value (row_faults (schema_view.below_of child.entry) s.1))) }
-    ensures place { OnOk result (findings.new.steps.items ≡ findings.old.steps.items) }
+    ensures { let t = document_view.row_view rest.now in let n = schema_view.label_of child.entry in
+        IsSorted t → OnOk result (Adds findings.old findings.new
+        (inside_told n n.kind chosen (schema_view.below_of child.entry)
+        (λ d u. walked (times_of targets.now) (schema_view.view schema.now) d (schema_view.below_of child.entry) u) t)) }
 {
-    findings.enter(child.id())?;
-    check_own(child.node(), stored.value(), findings)?;
-    check_row(child.children(), stored.below(), findings)?;
-    findings.leave();
+    let node = child.node();
+    match &node.kind {
+        Kind::Choice {
+            default_case,
+            mandatory,
+        } => {
+            let stored = StoredCases::of(child.children(), rest);
+            check_choice(node, *mandatory, stored, findings)?;
+            let chosen = Chosen::of(*default_case, stored);
+            check_row(schema, targets, child.children(), chosen, rest, findings)
+        }
+        Kind::Case => {
+            if chosen.has(child, rest) {
+                let inside = child.children();
+                check_row(schema, targets, inside, Chosen::NoCase, rest, findings)
+            } else {
+                Ok(())
+            }
+        }
+        _ => Ok(()),
+    }
+}
+
+/// Checks how many cases of a choice have a stored node.
+fn check_choice(
+    node: &SchemaNode,
+    mandatory: bool,
+    stored: StoredCases,
+    findings: &mut Findings,
+) -> Result<(), AllocError>
+    ensures { OnOk result (Adds findings.old findings.new (choice_told (string_bytes node.now.name) mandatory stored)) }
+{
+    match stored {
+        StoredCases::Zero => {
+            if mandatory {
+                tell(FaultCode::V4, Info::Choice(node.name.clone()?), findings)
+            } else {
+                Ok(())
+            }
+        }
+        StoredCases::One => Ok(()),
+        StoredCases::Several => tell(FaultCode::V5, Info::Choice(node.name.clone()?), findings),
+    }
+}
+
+/// Checks the instances of a data node.
+#[cycle(check)]
+fn check_data(
+    schema: &Schema,
+    targets: &Targets,
+    child: Child<'_>,
+    found: &[Stored],
+    findings: &mut Findings,
+) -> Result<(), AllocError>
+    ensures { let t = document_view.row_view found.now in IsSorted t → OnOk result (Adds findings.old findings.new
+        (data_told (times_of targets.now) (schema_view.view schema.now) (schema_view.label_of child.entry) (schema_view.label_of child.entry).kind
+        (λ u. walked (times_of targets.now) (schema_view.view schema.now) variant.NoCase (schema_view.below_of child.entry) u) t)) }
+{
+    check_amount(child, found.len(), findings)?;
+    if found.is_empty() {
+        check_absent(schema, targets, child, findings)
+    } else {
+        check_found(schema, targets, child, found, findings)
+    }
+}
+
+/// Checks how many instances of a node there are.
+fn check_amount(child: Child<'_>, count: usize, findings: &mut Findings) -> Result<(), AllocError>
+    ensures { let n = schema_view.label_of child.entry in
+        OnOk result (Adds findings.old findings.new (amount_told n.number n.kind count)) }
+{
+    match &child.node().kind {
+        Kind::LeafList { amount, .. } => tell_amount(child.id(), *amount, count, findings),
+        Kind::List { amount, .. } => tell_amount(child.id(), *amount, count, findings),
+        _ => Ok(()),
+    }
+}
+
+fn tell_amount(
+    id: SchemaId,
+    amount: Amount,
+    count: usize,
+    findings: &mut Findings,
+) -> Result<(), AllocError>
+    ensures { OnOk result (Adds findings.old findings.new (wrong_amount id.0 (amount_view amount) count)) }
+{
+    if count < amount.least as usize {
+        tell_below(id, FaultCode::V6, findings)
+    } else if exceeds(count, amount.most) {
+        tell_below(id, FaultCode::V7, findings)
+    } else {
+        Ok(())
+    }
+}
+
+fn exceeds(count: usize, most: Option<u32>) -> bool
+    ensures { result ≡ exceeds count most }
+{
+    match most {
+        Some(most) => (most as usize) < count,
+        None => false,
+    }
+}
+
+/// Checks what is in play of a data node that isn't stored: in a container without presence all nodes.
+#[cycle(check)]
+fn check_absent(
+    schema: &Schema,
+    targets: &Targets,
+    child: Child<'_>,
+    findings: &mut Findings,
+) -> Result<(), AllocError>
+    ensures { let n = schema_view.label_of child.entry in OnOk result (Adds findings.old findings.new
+        (absent_told n.number n.kind (walked (times_of targets.now) (schema_view.view schema.now) variant.NoCase (schema_view.below_of child.entry) end))) }
+{
+    match &child.node().kind {
+        Kind::Container { presence: false } => {
+            findings.enter(Step {
+                id: child.id(),
+                position: None,
+            })?;
+            let inside = child.children();
+            check_row(schema, targets, inside, Chosen::NoCase, &[], findings)?;
+            findings.leave();
+            Ok(())
+        }
+        Kind::Leaf { absence, .. } => tell_absence(child.id(), absence, findings),
+        _ => Ok(()),
+    }
+}
+
+fn tell_absence(id: SchemaId, absence: &Absence, findings: &mut Findings) -> Result<(), AllocError>
+    ensures { OnOk result (Adds findings.old findings.new (absent_leaf_faults id.0 (absence_view absence.now))) }
+{
+    match absence {
+        Absence::Mandatory => tell_below(id, FaultCode::V3, findings),
+        Absence::Key => tell_below(id, FaultCode::V2, findings),
+        _ => Ok(()),
+    }
+}
+
+/// Checks each instance of a data node, and what is stored below it.
+#[cycle(check)]
+fn check_found(
+    schema: &Schema,
+    targets: &Targets,
+    child: Child<'_>,
+    found: &[Stored],
+    findings: &mut Findings,
+) -> Result<(), AllocError>
+    ensures { let t = document_view.row_view found.now in IsSorted t → OnOk result (Adds findings.old findings.new
+        (instances_told (times_of targets.now) (schema_view.view schema.now) (schema_view.label_of child.entry) (schema_view.label_of child.entry).kind
+        (λ u. walked (times_of targets.now) (schema_view.view schema.now) variant.NoCase (schema_view.below_of child.entry) u) t)) }
+{
+    let node = child.node();
+    let repeated = repeated_in(findings.alloc, schema, node, found)?;
+    for (index, stored) in found.iter().enumerate() {
+        let position = position_of(node, index)?;
+        findings.enter(Step {
+            id: child.id(),
+            position,
+        })?;
+        check_value(targets, node, stored.value(), findings)?;
+        tell_repeated(node, &repeated, index, findings)?;
+        let below = stored.below();
+        check_row(
+            schema,
+            targets,
+            child.children(),
+            Chosen::NoCase,
+            below,
+            findings,
+        )?;
+        findings.leave();
+    }
     Ok(())
 }
 
+/// The position of the instance behind so many, of a node that may be stored more than once.
+fn position_of(node: &SchemaNode, index: usize) -> Result<Option<u32>, AllocError>
+    ensures { IfOk result (λ position. position ≡ position_at (is_many (kind_view node.now.kind)) (index + 1)) }
+{
+    if !node.kind.is_many() {
+        Ok(None)
+    } else if index < u32::MAX as usize {
+        Ok(Some(index as u32 + 1))
+    } else {
+        Err(AllocError)
+    }
+}
+
 /// Checks the value of a stored node.
-fn check_own(
+fn check_value(
+    targets: &Targets,
     node: &SchemaNode,
     value: Option<&Raw>,
     findings: &mut Findings,
 ) -> Result<(), AllocError>
-    ensures found { OnOk result (views findings.new.faults.items ≡ views findings.old.faults.items
-        ++ map (prefixed (place_view findings.old.steps.items))
-        (stored_own (schema_view.kind_view node.now.kind) (option_map (λ raw. raw_of raw.now) value.entry))) }
-    ensures place { OnOk result (findings.new.steps.items ≡ findings.old.steps.items) }
+    ensures { OnOk result (Adds findings.old findings.new
+        (value_told (times_of targets.now) (kind_view node.now.kind) (option_map (λ raw. raw_of raw.now) value.entry))) }
 {
     match (&node.kind, value) {
-        (Kind::Leaf { leaf_type, .. }, Some(raw)) => {
-            check_value(&leaf_type.value_type, raw, findings)
+        (Kind::Leaf { leaf_type, .. }, Some(raw)) => check_raw(targets, leaf_type, raw, findings),
+        (Kind::LeafList { leaf_type, .. }, Some(raw)) => {
+            check_raw(targets, leaf_type, raw, findings)
         }
         _ => Ok(()),
     }
 }
 
-fn check_value(leaf_type: &YType, raw: &Raw, findings: &mut Findings) -> Result<(), AllocError>
-    ensures found { OnOk result (views findings.new.faults.items ≡ views findings.old.faults.items
-        ++ map (prefixed (place_view findings.old.steps.items)) (value_faults leaf_type.now (raw_of raw.now))) }
-    ensures place { OnOk result (findings.new.steps.items ≡ findings.old.steps.items) }
+fn check_raw(
+    targets: &Targets,
+    leaf_type: &LeafType,
+    raw: &Raw,
+    findings: &mut Findings,
+) -> Result<(), AllocError>
+    ensures { OnOk result (Adds findings.old findings.new
+        (value_faults (times_of targets.now) (leaf_type_view leaf_type.now) (raw_of raw.now))) }
 {
-    match leaf_type.check(findings.alloc, raw) {
-        Ok(_) => Ok(()),
-        Err(BadValue::Refused { app_tag }) => findings.tell(FaultCode::V1, app_tag),
+    match leaf_type.value_type.check(findings.alloc, raw) {
+        Ok(value) => {
+            if lacks_instance(targets, leaf_type, &value) {
+                tell(FaultCode::V11, Info::None, findings)
+            } else {
+                Ok(())
+            }
+        }
+        Err(BadValue::Refused { app_tag }) => findings.tell(FaultCode::V1, app_tag, Info::None),
         Err(BadValue::Memory) => Err(AllocError),
     }
 }
 
-/// Checks what is in play of a node that isn't stored.
-#[cycle(check)]
-fn check_absent(child: Child<'_>, findings: &mut Findings) -> Result<(), AllocError>
-    ensures found { OnOk result (views findings.new.faults.items ≡ views findings.old.faults.items
-        ++ map (prefixed (place_view findings.old.steps.items))
-        (absent_faults (schema_view.label_of child.entry) (row_faults (schema_view.below_of child.entry) end))) }
-    ensures place { OnOk result (findings.new.steps.items ≡ findings.old.steps.items) }
+/// Whether a value of a type that requires an instance has none.
+fn lacks_instance(targets: &Targets, leaf_type: &LeafType, value: &Val) -> bool
+    ensures { result ≡ lacks_instance (times_of targets.now) (leaf_type_view leaf_type.now) value.now }
 {
-    findings.enter(child.id())?;
-    check_missing(child, findings)?;
-    findings.leave();
+    if leaf_type.value_type.requires_instance() != Some(true) {
+        return false;
+    }
+    match leaf_type.target {
+        Some(target) => !targets.has(target, value),
+        None => false,
+    }
+}
+
+/// Of entries, for the key and each `unique`, which of them have a tuple that another has; of items of a configuration
+/// leaf-list which have the value of another. Of other nodes nothing.
+fn repeated_in(
+    alloc: Global,
+    schema: &Schema,
+    node: &SchemaNode,
+    found: &[Stored],
+) -> Result<Vec<Vec<bool>>, AllocError>
+    ensures { IfOk result (λ table. map (λ marks. marks.items) table.items
+        ≡ table_of (schema_view.view schema.now) (kind_view node.now.kind) node.now.config found.now) }
+{
+    match &node.kind {
+        Kind::List { tuples, .. } => repeated_entries(alloc, schema, tuples, found),
+        Kind::LeafList { leaf_type, .. } if node.config => {
+            let mut table = Vec::new(alloc);
+            table.push(repeated_items(alloc, &leaf_type.value_type, found)?)?;
+            Ok(table)
+        }
+        _ => Ok(Vec::new(alloc)),
+    }
+}
+
+fn repeated_entries(
+    alloc: Global,
+    schema: &Schema,
+    tuples: &Tuples,
+    found: &[Stored],
+) -> Result<Vec<Vec<bool>>, AllocError>
+    ensures { IfOk result (λ table. map (λ marks. marks.items) table.items
+        ≡ entry_table (schema_view.view schema.now) (tuples_view tuples.now) found.now) }
+{
+    let mut table = Vec::new(alloc);
+    table.push(repeated_tuples(alloc, schema, tuples, found, 0)?)?;
+    for (index, _unique) in tuples.uniques.iter().enumerate() {
+        table.push(repeated_tuples(alloc, schema, tuples, found, index + 1)?)?;
+    }
+    Ok(table)
+}
+
+/// Tells of an instance what another has too.
+fn tell_repeated(
+    node: &SchemaNode,
+    repeated: &[Vec<bool>],
+    index: usize,
+    findings: &mut Findings,
+) -> Result<(), AllocError>
+    ensures { OnOk result (Adds findings.old findings.new
+        (marks_told (has_value (kind_view node.now.kind)) 0 (marks_at index (map (λ marks. marks.items) repeated.now)))) }
+{
+    let is_item = node.kind.has_value();
+    for (which, marks) in repeated.iter().enumerate() {
+        if is_marked(marks, index) {
+            tell_repetition(is_item, which, findings)?;
+        }
+    }
     Ok(())
 }
 
-/// Checks what is in play below a node that isn't stored, or that it isn't mandatory.
-#[cycle(check)]
-fn check_missing(child: Child<'_>, findings: &mut Findings) -> Result<(), AllocError>
-    ensures found { OnOk result (views findings.new.faults.items ≡ views findings.old.faults.items
-        ++ map (prefixed (place_view findings.old.steps.items))
-        (absent_own (schema_view.label_of child.entry).kind (row_faults (schema_view.below_of child.entry) end))) }
-    ensures place { OnOk result (findings.new.steps.items ≡ findings.old.steps.items) }
+fn is_marked(marks: &[bool], index: usize) -> bool
+    ensures { result ≡ get_or marks.now index false }
 {
-    match &child.node().kind {
-        Kind::Container { presence: false } => check_row(child.children(), &[], findings),
-        Kind::Leaf {
-            absence: Absence::Mandatory,
-            ..
-        } => findings.tell(FaultCode::V3, None),
-        _ => Ok(()),
+    match marks.get(index) {
+        Some(mark) => *mark,
+        None => false,
+    }
+}
+
+/// Tells V10 of an item; of an entry V8 for the key, else V9 for a `unique`.
+fn tell_repetition(is_item: bool, which: usize, findings: &mut Findings) -> Result<(), AllocError>
+    ensures { OnOk result (Adds findings.old findings.new (repetition is_item which ∷ [])) }
+{
+    if is_item {
+        tell(FaultCode::V10, Info::None, findings)
+    } else if which == 0 {
+        tell(FaultCode::V8, Info::None, findings)
+    } else {
+        tell(FaultCode::V9, Info::Unique(which), findings)
     }
 }

@@ -1,9 +1,13 @@
 //! The check of a document: its faults, in order, and the line of each.
 #![tactic(auto)]
 
+mod cases;
 mod checking;
 mod fault;
 mod lines;
+mod repeated;
+mod targets;
+mod values;
 
 pub use checking::faults;
 pub use fault::{ErrorTag, Fault, FaultCode, Info};

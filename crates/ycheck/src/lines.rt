@@ -3,7 +3,7 @@
 ghost use Rattle.std.specs.Prelude.{◌≡◌, ◌++◌, [], codes, decimal, option_map, string_bytes, unwrap_or, if◌then◌else◌, nat_le};
 ghost use Rattle.std.specs.List.{flat_map};
 ghost use Rattle.yspec.specs.document.FaultCode.{fault_number};
-ghost use Rattle.yspec.specs.document.Faults.{line_of, or_dash, printed_tag};
+ghost use Rattle.yspec.specs.document.Faults.{info_text, line_of, or_dash, printed_tag};
 ghost use Rattle.yspec.specs.document.Path as path;
 ghost use Rattle.yspec.specs.document.Path.{path_text};
 ghost use Rattle.yspec.specs.schema.Schema as spec;
@@ -11,9 +11,9 @@ ghost use Rattle.youtput.specs.Writing.{Writes, side};
 ghost use Rattle.yschema.specs.View as schema_view;
 ghost use Rattle.yschema.specs.View.{node_view};
 ghost use Rattle.ytree.specs.View.{place_view, step_view};
-ghost use Rattle.ycheck.specs.View.{code_view, tag_name, view};
+ghost use Rattle.ycheck.specs.View.{code_view, info_view, tag_name, view};
 
-use crate::fault::{ErrorTag, Fault, FaultCode};
+use crate::fault::{ErrorTag, Fault, FaultCode, Info};
 use itoa::Buffer;
 use thiserror::Error;
 use youtput::{Sink, SinkFault, write_all, write_texts};
@@ -128,7 +128,16 @@ fn code_text(code: FaultCode) -> &'static str
 {
     match code {
         FaultCode::V1 => "V1 ",
+        FaultCode::V2 => "V2 ",
         FaultCode::V3 => "V3 ",
+        FaultCode::V4 => "V4 ",
+        FaultCode::V5 => "V5 ",
+        FaultCode::V6 => "V6 ",
+        FaultCode::V7 => "V7 ",
+        FaultCode::V8 => "V8 ",
+        FaultCode::V9 => "V9 ",
+        FaultCode::V10 => "V10 ",
+        FaultCode::V11 => "V11 ",
     }
 }
 
@@ -137,7 +146,10 @@ fn tag_text(tag: ErrorTag) -> &'static str
 {
     match tag {
         ErrorTag::InvalidValue => "invalid-value ",
+        ErrorTag::MissingElement => "missing-element ",
         ErrorTag::DataMissing => "data-missing ",
+        ErrorTag::BadElement => "bad-element ",
+        ErrorTag::OperationFailed => "operation-failed ",
     }
 }
 
@@ -173,6 +185,26 @@ fn write_printed<W: Sink>(bytes: &[u8], sink: &mut W) -> Result<(), LineFault>
     Ok(())
 }
 
+/// Writes what a fault says besides its place, `-` for nothing.
+fn write_info<W: Sink>(info: &Info, sink: &mut W) -> Result<(), LineFault>
+    ensures { Writes (side W.taken W.failures sink.old) (side W.taken W.failures sink.new)
+        (or_dash (info_text (info_view info.now))) result }
+{
+    match info {
+        Info::Choice(name) if !name.is_empty() => put(sink, &[name.as_str()]),
+        Info::Unique(number) => write_number(*number, sink),
+        _ => put(sink, &["-"]),
+    }
+}
+
+fn write_number<W: Sink>(number: usize, sink: &mut W) -> Result<(), LineFault>
+    ensures { Writes (side W.taken W.failures sink.old) (side W.taken W.failures sink.new)
+        (or_dash (decimal number)) result }
+{
+    let mut digits = Buffer::new();
+    put(sink, &[digits.format(number)])
+}
+
 /// Writes the line of a fault: its code, error-tag, error-app-tag, path and info, parted by single spaces, with `-` for
 /// none, and a line feed. It takes no memory.
 pub fn write_line<W: Sink>(schema: &Schema, fault: &Fault, sink: &mut W) -> Result<(), LineFault>
@@ -183,5 +215,7 @@ pub fn write_line<W: Sink>(schema: &Schema, fault: &Fault, sink: &mut W) -> Resu
     write_app_tag(&fault.app_tag, sink)?;
     put(sink, &[" "])?;
     write_path(schema, &fault.steps, sink)?;
-    put(sink, &[" -\n"])
+    put(sink, &[" "])?;
+    write_info(&fault.info, sink)?;
+    put(sink, &["\n"])
 }

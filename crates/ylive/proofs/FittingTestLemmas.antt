@@ -7,6 +7,8 @@ use Rattle.yspec.specs.Forest.{Forest, end, node}
 use Rattle.yspec.specs.schema.Schema.{Schema, SchemaNode, data_row, child_in}
 use Rattle.yspec.specs.document.Document.{Tree}
 use Rattle.yspec.specs.document.Fitting.{FitsBy, Fits, next_after}
+use Rattle.yspec.specs.document.Sorting.{IsSorted}
+use Rattle.yspec.proofs.DocumentProofs.SortingLemmas.{in_order}
 use Rattle.ylive.specs.Kept.{row_fits, fits}
 
 abbrev Found : Type 0
@@ -46,6 +48,10 @@ row_true children least (node s below after) fits =
 
 pub fits_is : (schema : Schema) (tree : Tree) → fits schema tree ≡ true → Fits schema tree
 fits_is schema tree h = row_is schema.nodes 0 tree h
+
+-- the rows of a document that passes it stand in order
+pub sorted_is : (schema : Schema) (tree : Tree) → fits schema tree ≡ true → IsSorted tree
+sorted_is schema tree h = in_order schema tree (fits_is schema tree h)
 
 pub fits_true : (schema : Schema) (tree : Tree) → Fits schema tree → fits schema tree ≡ true
 fits_true schema tree h = row_true schema.nodes 0 tree h

@@ -1,3 +1,1 @@
 pub mod RowLemmas
-pub mod StoredRowLemmas
-pub mod FaultLemmas

@@ -11,7 +11,6 @@ pub mod editing;
 pub mod examples;
 pub mod linking;
 pub mod modules;
-pub mod plain;
 pub mod reading;
 pub mod scripts;
 pub mod spelling;

@@ -53,18 +53,18 @@ from_behind m k (node s below after) past = by (eqb s.schema_number m) refl (fro
 -- ---- what is left of a row
 
 -- of a row is left what stands there from a number on
-abbrev IsLeft : ℕ → Tree → Tree → Type 0
+abbrev pub IsLeft : ℕ → Tree → Tree → Type 0
 IsLeft k rest t = (m : ℕ) → k ≤ m → from_number m rest ≡ from_number m t
 
-left_later : (k m : ℕ) (rest t : Tree) → k ≤ m → IsLeft k rest t → IsLeft m rest t
+pub left_later : (k m : ℕ) (rest t : Tree) → k ≤ m → IsLeft k rest t → IsLeft m rest t
 left_later k m rest t more left = λ i from. left i (omega (arith, more, from))
 
-left_others : (n k : ℕ) (rest t : Tree) → n < k → IsLeft n rest t → IsLeft k (others n rest) t
+pub left_others : (n k : ℕ) (rest t : Tree) → n < k → IsLeft n rest t → IsLeft k (others n rest) t
 left_others n k rest t past left = λ m from.
     from_behind n m (from_number n rest) (omega (arith, past, from))
     ∙ (left_twice rest n m (omega (arith, past, from)) ∙ left m (omega (arith, past, from)))
 
-mine_left : (n : ℕ) (rest t : Tree) → IsSorted t → IsLeft n rest t → mine n rest ≡ instances n t
+pub mine_left : (n : ℕ) (rest t : Tree) → IsSorted t → IsLeft n rest t → mine n rest ≡ instances n t
 mine_left n rest t sorted left = ap (front n) (left n (omega arith)) ∙ sym (instances_mine n t sorted)
 
 -- ---- instances that are written the same

@@ -10,7 +10,7 @@ use yschema::SchemaId;
 
 /// The instances of a schema node in what is left of a row, and what is left behind them. Siblings stand in the order of
 /// their schema nodes, so each node of a schema row finds its own at the front.
-pub(crate) fn instances_of<'a>(rest: &'a [Stored], id: SchemaId) -> (&'a [Stored], &'a [Stored])
+pub fn instances_of<'a>(rest: &'a [Stored], id: SchemaId) -> (&'a [Stored], &'a [Stored])
     ensures found { row_view result.0.now ≡ mine id.0 (row_view rest.entry.now) }
     ensures behind { row_view result.1.now ≡ others id.0 (row_view rest.entry.now) }
 {

@@ -12,6 +12,7 @@ mod visits;
 mod writing;
 
 pub use fault::{DocCode, DocFault};
+pub use instances::instances_of;
 pub use reading::{read, read_node};
 pub use tree::{Step, Stored, Tree};
 pub use writing::write;

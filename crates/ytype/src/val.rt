@@ -1,6 +1,6 @@
 //! What a type makes of a value that it takes.
 
-ghost use Rattle.std.specs.Prelude.{◌≡◌};
+ghost use Rattle.std.specs.Prelude.{◌≡◌, IfOk};
 ghost use Rattle.yspec.specs.types.Order.{member_number, kind_number, text_part, number_part, bits_part, content_cmp};
 
 use crate::ytype::YType;
@@ -32,6 +32,40 @@ impl Model for Val {
     ghost use Rattle.ytype.specs.View.{content_of};
 
     ghost view = { λ v. record { member = v.member; content = content_of v.content } };
+}
+
+impl Clone for Content {
+    ghost use Rattle.std.specs.Prelude.{◌≡◌};
+    ghost use Rattle.ytype.specs.View.{content_of};
+
+    ghost is_clone = { λ content copy. content_of copy ≡ content_of content };
+
+    fn clone(&self) -> Result<Content, AllocError>
+        ensures { IfOk result (λ copy. content_of copy ≡ content_of self.now) }
+    {
+        match self {
+            Content::Text(text) => Ok(Content::Text(text.clone()?)),
+            Content::Number(number) => Ok(Content::Number(*number)),
+            Content::Bool(flag) => Ok(Content::Bool(*flag)),
+            Content::Empty => Ok(Content::Empty),
+            Content::Bits(positions) => Ok(Content::Bits(positions.clone()?)),
+        }
+    }
+}
+
+impl Clone for Val {
+    ghost use Rattle.std.specs.Prelude.{◌≡◌};
+
+    ghost is_clone = { λ val copy. copy ≡ val };
+
+    fn clone(&self) -> Result<Val, AllocError>
+        ensures { IfOk result (λ copy. copy ≡ self.now) }
+    {
+        Ok(Val {
+            member: self.member,
+            content: self.content.clone()?,
+        })
+    }
 }
 
 fn member_number(member: Option<usize>) -> u128
@@ -151,7 +185,7 @@ impl Ord for Val {
 }
 
 impl Val {
-    ghost use Rattle.std.specs.Prelude.{◌≡◌, IfOk};
+    ghost use Rattle.std.specs.Prelude.{◌≡◌};
     ghost use Rattle.std.specs.String.{string_bytes};
     ghost use Rattle.yspec.specs.types.Types.{value};
     ghost use Rattle.yspec.specs.types.Values.{canonical};

@@ -4,9 +4,9 @@ use Rattle.std.proofs.lemmas.Bool.{eqb-true}
 use Rattle.std.specs.Prelude.{unwrap_or}
 use Rattle.yspec.specs.Forest.{Forest, end, node}
 use Rattle.yspec.specs.types.Types.{Raw}
-use Rattle.yspec.specs.schema.Schema.{SchemaNode, is_many, data_row, child_in}
+use Rattle.yspec.specs.schema.Schema.{Schema, SchemaNode, is_many, data_row, child_in}
 use Rattle.yspec.specs.document.Document.{Tree}
-use Rattle.yspec.specs.document.Fitting.{next_after, FitsBy}
+use Rattle.yspec.specs.document.Fitting.{next_after, FitsBy, Fits}
 use Rattle.yspec.specs.document.Sorting.{StartsAt, IsSorted}
 
 -- a child that is found by its number has it
@@ -40,3 +40,7 @@ module _ (Held : SchemaNode → Option Raw → Type 0) where
       behind : (t : Tree) (least : ℕ) → s.schema_number ≤ least → FitsBy Held children least t → StartsAt s.schema_number t
       behind end least lower fits = tt
       behind (node r d c) least lower fits = omega (arith, lower, fits.2)
+
+-- the rows of a document that fits
+pub in_order : (schema : Schema) (tree : Tree) → Fits schema tree → IsSorted tree
+in_order schema tree fits = fits_sorted (λ n value. Unit {0}) schema.nodes 0 tree fits

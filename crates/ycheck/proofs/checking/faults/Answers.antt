@@ -1,14 +1,15 @@
+use Rattle.std.proofs.Common.{subst, sym}
+use Rattle.yspec.specs.document.Sorting.{IsSorted}
 use Rattle.yschema.specs.View as schema_view
+use Rattle.yschema.proofs.CallerLemmas.{numbered}
 use Rattle.ytree.specs.View as document_view
-use Rattle.ycheck.specs.View.{views}
-use Rattle.ycheck.proofs.FoundLemmas.{all_found}
-use Rattle.yschema.proofs.CallerLemmas.{numbered, kinds_are_plain}
+use Rattle.ycheck.proofs.ReferenceLemmas.{all_found}
 use Rattle.ycheck.proofs.checking.faults.Goals as goal
 
 pub returns : goal.returns
-returns c = λ fits.
+returns c = λ sorted.
     let schema = c.args.schema.now in
     let tree = document_view.tree_view c.args.tree.now in
-    all_found (schema_view.view schema) tree (schema_view.row_view c.roots.result) (document_view.row_view c.nodes.result.now) c.new.result.items c.new-2.result.items
-    (views c.check_row.new.findings.faults.items) c.new.ensures.items c.new-2.ensures.items c.roots.ensures c.nodes.ensures
-    (kinds_are_plain schema) (numbered schema) fits c.in_ok-check_row.ensures.found
+    all_found c.in_ok-targets.targets (schema_view.view schema) tree (document_view.row_view c.nodes-nodes.result.now) (schema_view.row_view c.roots.result) _ c.check_row.new.findings
+    (numbered schema) sorted (c.in_ok-targets.ensures sorted) c.roots.ensures c.nodes-nodes.ensures c.new.ensures.items c.new-2.ensures.items
+    (c.in_ok-check_row.ensures (subst IsSorted (sym c.nodes-nodes.ensures) sorted))

@@ -35,11 +35,29 @@ returns-in_err-write_path g c =
     c.in_ok-put.ensures) c.in_ok-write_app_tag.ensures) c.in_ok-put-2.ensures)
     (broke_same _ _ _ _ (ap (λ xs. path_text s (place_view xs)) c.deref.ensures.value) c.in_err-write_path.ensures)
 
-pub returns : goal.returns
-returns g c =
+pub returns-in_err-put-3 : goal.returns-in_err-put-3
+returns-in_err-put-3 g c =
     let s = schema.view c.args.schema.now in
-    left_last _ _ _ _ _ c.put-3.result
+    left_failed _ _ _ _ _ _ c.from_residual-in_err-put-3.result c.from_residual-in_err-put-3.ensures.0
     (left_after _ _ _ _ _ _ (left_after _ _ _ _ _ _ (left_after _ _ _ _ _ _ (left_after _ _ _ _ _ _
     (left_same _ _ _ _ _ (line_parts s c.args.fault.now _ _ c.code_text.ensures c.tag_text.ensures) (left_all _ _))
     c.in_ok-put.ensures) c.in_ok-write_app_tag.ensures) c.in_ok-put-2.ensures)
-    (wrote_same _ _ _ _ (ap (λ xs. path_text s (place_view xs)) c.deref.ensures.value) c.in_ok-write_path.ensures)) c.put-3.ensures
+    (wrote_same _ _ _ _ (ap (λ xs. path_text s (place_view xs)) c.deref.ensures.value) c.in_ok-write_path.ensures)) c.in_err-put-3.ensures
+
+pub returns-in_err-write_info : goal.returns-in_err-write_info
+returns-in_err-write_info g c =
+    let s = schema.view c.args.schema.now in
+    left_failed _ _ _ _ _ _ c.from_residual-in_err-write_info.result c.from_residual-in_err-write_info.ensures.0
+    (left_after _ _ _ _ _ _ (left_after _ _ _ _ _ _ (left_after _ _ _ _ _ _ (left_after _ _ _ _ _ _ (left_after _ _ _ _ _ _
+    (left_same _ _ _ _ _ (line_parts s c.args.fault.now _ _ c.code_text.ensures c.tag_text.ensures) (left_all _ _))
+    c.in_ok-put.ensures) c.in_ok-write_app_tag.ensures) c.in_ok-put-2.ensures)
+    (wrote_same _ _ _ _ (ap (λ xs. path_text s (place_view xs)) c.deref.ensures.value) c.in_ok-write_path.ensures)) c.in_ok-put-3.ensures) c.in_err-write_info.ensures
+
+pub returns : goal.returns
+returns g c =
+    let s = schema.view c.args.schema.now in
+    left_last _ _ _ _ _ c.put-4.result
+    (left_after _ _ _ _ _ _ (left_after _ _ _ _ _ _ (left_after _ _ _ _ _ _ (left_after _ _ _ _ _ _ (left_after _ _ _ _ _ _ (left_after _ _ _ _ _ _
+    (left_same _ _ _ _ _ (line_parts s c.args.fault.now _ _ c.code_text.ensures c.tag_text.ensures) (left_all _ _))
+    c.in_ok-put.ensures) c.in_ok-write_app_tag.ensures) c.in_ok-put-2.ensures)
+    (wrote_same _ _ _ _ (ap (λ xs. path_text s (place_view xs)) c.deref.ensures.value) c.in_ok-write_path.ensures)) c.in_ok-put-3.ensures) c.in_ok-write_info.ensures) c.put-4.ensures
