@@ -1,5 +1,5 @@
 -- What is held of the nodes that refer to a node, one by one.
-use Rattle.std.proofs.Common.{◌≡◌, ℕ, Bool, true, false, cond, eqb, List, [], ◌∷◌, ◌++◌, map, filter, Option, Some, None, Vec, refl, sym, ap, ap₂, ◌∙◌, arith}
+use Rattle.std.proofs.Common.{◌≡◌, ℕ, Bool, true, false, cond, eqb, List, [], ◌∷◌, ◌++◌, map, filter, Option, Some, Vec, refl, sym, ap, ap₂, ◌∙◌, arith}
 use Rattle.std.specs.Option.{option_map_or}
 use Rattle.std.specs.Ordering.{is_eq, nat_cmp}
 use Rattle.std.specs.Map.{lookup}
@@ -12,7 +12,7 @@ use Rattle.yspec.specs.Forest.{Forest, end, node, size, preorder}
 use Rattle.yspec.specs.schema.Schema.{SchemaNode}
 use Rattle.yspec.specs.schema.References.{refers_to, references_in}
 use Rattle.yschema.specs.declared.node.SchemaId.{SchemaId}
-use Rattle.yschema.specs.Layout.{Place, places, number_of, numbers_of}
+use Rattle.yschema.specs.Layout.{Place, places, numbers_of}
 use Rattle.yschema.specs.References.{referring}
 
 same_id : (a b : ℕ) → is_eq (nat_cmp a b) ≡ eqb b a
