@@ -3,6 +3,7 @@ pub mod LayoutLemmas
 pub mod ModuleLemmas
 pub mod NameLemmas
 pub mod QueryLemmas
+pub mod ReferenceLemmas
 pub mod RowLemmas
 pub mod ToldLemmas
 pub mod KindLemmas

@@ -1,6 +1,7 @@
 pub mod Keys
 pub mod Layout
 pub mod Lookup
+pub mod References
 pub mod Table
 pub mod Told
 pub mod View

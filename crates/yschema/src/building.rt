@@ -23,6 +23,7 @@ use crate::index::Index;
 use crate::limits::{count_nodes, has_too_many_levels, has_too_many_nodes, is_data_node};
 use crate::names::{name_of, repeated_module, repeated_name};
 use crate::node::{Absence, Kind, LeafType, SchemaId, SchemaNode, Status};
+use crate::references::References;
 use crate::schema::{Schema, SchemaModule};
 use std::alloc::{AllocError, Global};
 use ytext::{Module, Stmt};
@@ -83,7 +84,8 @@ fn build(alloc: Global, modules: &[Module]) -> Result<Schema, AllocError>
         add_nodes(alloc, &mut rows, module, None, text.top.substatements())?;
     }
     let index = Index::of(alloc, &set, &rows)?;
-    Ok(Schema::new(set, rows, index))
+    let references = References::of(alloc, &rows)?;
+    Ok(Schema::new(set, rows, index, references))
 }
 
 fn module_of(alloc: Global, top: &Stmt) -> Result<SchemaModule, AllocError>

@@ -10,6 +10,7 @@ mod least;
 mod limits;
 mod names;
 mod node;
+mod references;
 mod schema;
 mod written;
 

@@ -5,10 +5,12 @@ ghost use Rattle.yspec.specs.text.Text.{is_text};
 ghost use Rattle.yspec.specs.schema.Breaks.{IsCompiled};
 ghost use Rattle.yschema.specs.Layout.{laid, schema_view, IsLaidOut};
 ghost use Rattle.yschema.specs.Lookup.{FindsNamed, FindsWritten};
+ghost use Rattle.yschema.specs.References.{FindsReferences};
 
 use crate::children::{Children, Row};
 use crate::index::Index;
 use crate::node::{SchemaId, SchemaNode};
+use crate::references::References;
 use crate::written::{other_name, written_name};
 use std::alloc::{AllocError, Global};
 
@@ -25,10 +27,12 @@ pub struct Schema {
     modules: Vec<SchemaModule>,
     rows: Vec<Row>,
     index: Index,
+    references: References,
     ghost numbered: { vec_len rows < 2 ^ 32 },
     ghost laid_out: { IsLaidOut rows.items },
     ghost named: { FindsNamed index (laid 0 rows.items) },
     ghost written: { FindsWritten index (schema_view modules.items rows.items) (laid 0 rows.items) },
+    ghost referred: { FindsReferences references (laid 0 rows.items) },
     ghost compiled: { ∥ IsCompiled (schema_view modules.items rows.items) ∥₁ },
 }
 
@@ -37,14 +41,21 @@ impl Schema {
     ghost use Rattle.yspec.specs.Forest.{size};
     ghost use Rattle.yspec.specs.schema.Schema as spec;
     ghost use Rattle.yspec.specs.schema.Schema.{node_at, children_of, child_named, child_written};
-    ghost use Rattle.yschema.specs.Layout.{node_view, number_of};
+    ghost use Rattle.yspec.specs.schema.References.{references_to};
+    ghost use Rattle.yschema.specs.Layout.{node_view, number_of, numbers_of};
     ghost use Rattle.yschema.specs.View.{view, row_view, forest_of, module_view};
 
-    pub(crate) fn new(modules: Vec<SchemaModule>, rows: Vec<Row>, index: Index) -> Schema
+    pub(crate) fn new(
+        modules: Vec<SchemaModule>,
+        rows: Vec<Row>,
+        index: Index,
+        references: References,
+    ) -> Schema
         requires numbered { vec_len rows < 2 ^ 32 }
         requires laid_out { IsLaidOut rows.items }
         requires named { FindsNamed index (laid 0 rows.items) }
         requires written { FindsWritten index (schema_view modules.items rows.items) (laid 0 rows.items) }
+        requires referred { FindsReferences references (laid 0 rows.items) }
         requires compiled { IsCompiled (schema_view modules.items rows.items) }
         ensures { view result ≡ schema_view modules.items rows.items }
     {
@@ -52,6 +63,7 @@ impl Schema {
             modules,
             rows,
             index,
+            references,
         }
     }
 
@@ -106,6 +118,13 @@ impl Schema {
         ensures { number_of result ≡ child_written (view self.now) (number_of parent) name.now }
     {
         self.index.get(parent, None, name)
+    }
+
+    /// The leafs and leaf-lists that refer to a node by a leafref, in order (RFC 7950, 9.9).
+    pub fn references_to(&self, id: SchemaId) -> &[SchemaId]
+        ensures { numbers_of result.now ≡ references_to (view self.now) id.0 }
+    {
+        self.references.get(id)
     }
 
     /// The name that a document writes for a node whose parent is of a module, or that stands at the top.
