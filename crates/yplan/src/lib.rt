@@ -3,7 +3,9 @@
 #![tactic(auto)]
 
 mod finding;
+mod plan;
 mod planned;
 mod planning;
 
+pub use plan::Plan;
 pub use planned::Planned;

@@ -1,0 +1,50 @@
+//! The plan of a set of modules.
+
+ghost use Rattle.std.specs.Prelude.{filter};
+ghost use Rattle.ypreorder.specs.Layout.{IsLaidOut};
+ghost use Rattle.ypreorder.specs.View.{rows_in};
+ghost use Rattle.yplan.specs.Finding.{Finds, list_of, parent_in, scope_in};
+ghost use Rattle.yspec.specs.linking.Planned.{is_data};
+
+use crate::planned::Planned;
+use crate::planning::planned;
+use crate::finding::{index_of_children, index_of_data};
+use std::alloc::{AllocError, Global};
+use yindex::Index;
+use ylink::Sources;
+use ypreorder::Table;
+
+/// The schema nodes that a set of modules defines, in order of definition, and how they are found by name.
+#[derive(Drop)]
+pub struct Plan<'a, 't> {
+    sources: &'a Sources<'t>,
+    table: Table<Planned<'a, 't>>,
+    children: Index,
+    data_children: Index,
+    ghost laid_out: { IsLaidOut (rows_in table) },
+    ghost found: { Finds children parent_in (list_of table) },
+    ghost data_found: { Finds data_children scope_in (filter is_data (list_of table)) },
+}
+
+impl<'a, 't> Plan<'a, 't> {
+    ghost use Rattle.std.specs.Prelude.{◌≡◌, IfOk, option_map, length};
+    ghost use Rattle.yspec.specs.linking.Compiling.{plan_of};
+    ghost use Rattle.yspec.specs.linking.Planned as spec;
+    ghost use Rattle.ylink.specs.LinkView as link;
+    ghost use Rattle.yplan.specs.PlanView.{view};
+
+    /// The nodes that the statements of a set of modules define.
+    pub fn of(alloc: Global, sources: &'a Sources<'t>) -> Result<Plan<'a, 't>, AllocError>
+        ensures { IfOk result (λ plan. view plan ≡ plan_of (link.view sources.entry.now)) }
+    {
+        let table = planned(alloc, sources)?;
+        let children = index_of_children(alloc, &table)?;
+        let data_children = index_of_data(alloc, &table)?;
+        Ok(Plan {
+            sources,
+            table,
+            children,
+            data_children,
+        })
+    }
+}
