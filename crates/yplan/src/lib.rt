@@ -3,9 +3,11 @@
 #![tactic(auto)]
 
 mod finding;
+mod names;
 mod plan;
 mod planned;
 mod planning;
 
+pub use names::name_fault;
 pub use plan::Plan;
 pub use planned::Planned;

@@ -12,7 +12,7 @@ use crate::finding::{index_of_children, index_of_data};
 use std::alloc::{AllocError, Global};
 use yindex::Index;
 use ylink::Sources;
-use ypreorder::Table;
+use ypreorder::{Row, Table};
 
 /// The schema nodes that a set of modules defines, in order of definition, and how they are found by name.
 #[derive(Drop)]
@@ -31,6 +31,9 @@ impl<'a, 't> Plan<'a, 't> {
     ghost use Rattle.yspec.specs.linking.Compiling.{plan_of};
     ghost use Rattle.yspec.specs.linking.Planned as spec;
     ghost use Rattle.ylink.specs.LinkView as link;
+    ghost use Rattle.yspec.specs.linking.SchemaNodes.{number_in};
+    ghost use Rattle.ypreorder.specs.Layout.{labels_by};
+    ghost use Rattle.yplan.specs.PlannedView.{planned_view};
     ghost use Rattle.yplan.specs.PlanView.{view};
 
     /// The nodes that the statements of a set of modules define.
@@ -46,5 +49,48 @@ impl<'a, 't> Plan<'a, 't> {
             children,
             data_children,
         })
+    }
+
+    /// Its nodes, by number.
+    pub(crate) fn rows(&self) -> &[Row<Planned<'a, 't>>]
+        ensures rows { result.now ≡ rows_in self.now.table }
+        ensures nodes { labels_by planned_view 0 result.now ≡ spec.nodes_of (view self.now) }
+    {
+        self.table.rows()
+    }
+
+    /// The first node of a module and a name below another, or at the top, by its number.
+    pub fn child(&self, parent: Option<u32>, module: Option<usize>, name: &str) -> Option<u32>
+        ensures { result ≡ option_map number_in (spec.child_called (view self.now) parent (record { module_number = «module»; name = name.now })) }
+    {
+        match module {
+            Some(module) => self.children.get(parent, Some(module), name),
+            None => None,
+        }
+    }
+
+    /// The first data node of a module and a name below a data node, or at the top, choices and cases passed through.
+    pub fn data_child(
+        &self,
+        scope: Option<u32>,
+        module: Option<usize>,
+        name: &str,
+    ) -> Option<u32>
+        ensures { result ≡ option_map number_in (spec.data_child_called (view self.now) scope (record { module_number = «module»; name = name.now })) }
+    {
+        match module {
+            Some(module) => self.data_children.get(scope, Some(module), name),
+            None => None,
+        }
+    }
+
+    /// The node of a number.
+    pub fn node(&self, number: u32) -> Option<&Planned<'a, 't>>
+        ensures { option_map (λ p. planned_view number p.now) result ≡ spec.node_of (view self.now) number }
+    {
+        match self.table.rows().get(number as usize) {
+            Some(row) => Some(&row.label),
+            None => None,
+        }
     }
 }
