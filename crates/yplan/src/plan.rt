@@ -6,6 +6,7 @@ ghost use Rattle.ypreorder.specs.View.{rows_in};
 ghost use Rattle.yplan.specs.Finding.{Finds, list_of, parent_in, scope_in};
 ghost use Rattle.yspec.specs.linking.Planned.{is_data};
 
+use crate::levels::levels_of;
 use crate::planned::Planned;
 use crate::planning::planned;
 use crate::finding::{index_of_children, index_of_data};
@@ -31,6 +32,8 @@ impl<'a, 't> Plan<'a, 't> {
     ghost use Rattle.yspec.specs.linking.Compiling.{plan_of};
     ghost use Rattle.yspec.specs.linking.Planned as spec;
     ghost use Rattle.ylink.specs.LinkView as link;
+    ghost use Rattle.yspec.specs.Forest.{size, levels};
+    ghost use Rattle.yspec.specs.linking.NodeBreaks.{is_config_above};
     ghost use Rattle.yspec.specs.linking.SchemaNodes.{number_in};
     ghost use Rattle.ypreorder.specs.Layout.{labels_by};
     ghost use Rattle.yplan.specs.PlannedView.{planned_view};
@@ -91,6 +94,33 @@ impl<'a, 't> Plan<'a, 't> {
         match self.table.rows().get(number as usize) {
             Some(row) => Some(&row.label),
             None => None,
+        }
+    }
+
+    /// How many nodes there are.
+    pub fn nodes(&self) -> usize
+        ensures { result ≡ size (view self.now).nodes }
+    {
+        self.table.len()
+    }
+
+    /// How many levels of them there are.
+    pub fn levels(&self) -> usize
+        ensures { result ≡ levels (view self.now).nodes }
+    {
+        levels_of(self.table.nodes())
+    }
+
+    /// Whether the node above one is configuration; so is what stands above the top nodes.
+    pub(crate) fn is_config_above(&self, planned: &Planned<'a, 't>) -> bool
+        ensures { (number : _) → result ≡ is_config_above (view self.now) (planned_view number planned.now) }
+    {
+        match planned.parent {
+            Some(parent) => match self.node(parent) {
+                Some(above) => above.config,
+                None => true,
+            },
+            None => true,
         }
     }
 }
