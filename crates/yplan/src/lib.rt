@@ -3,6 +3,7 @@
 #![tactic(auto)]
 
 mod finding;
+mod judging;
 mod levels;
 mod names;
 mod plan;
