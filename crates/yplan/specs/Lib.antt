@@ -1,2 +1,3 @@
 pub mod PlannedView
 pub mod Finding
+pub mod PlanView

@@ -13,7 +13,7 @@ use yindex::Index;
 use ypreorder::Table;
 
 /// Holds a node of a number below another, or at the top, unless one of its name is held there.
-fn hold(
+pub(crate) fn hold(
     alloc: Global,
     index: &mut Index,
     above: Option<u32>,

@@ -3,7 +3,13 @@
 #![tactic(auto)]
 
 mod finding;
+mod judging;
+mod levels;
+mod names;
+mod plan;
 mod planned;
 mod planning;
 
+pub use names::name_fault;
+pub use plan::Plan;
 pub use planned::Planned;

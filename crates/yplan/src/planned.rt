@@ -1,6 +1,6 @@
 //! Planned nodes.
 
-use ylink::{Keyword, Source, argument_of, argument_with};
+use ylink::{Broken, CompileCode, Keyword, Source, argument_of, argument_with};
 use ypreorder::Node;
 
 /// A schema node that a statement defines, or the case that a single node of a choice stands for (RFC 7950, 7.9.2).
@@ -19,7 +19,9 @@ pub struct Planned<'a, 't> {
 }
 
 impl<'a, 't> Planned<'a, 't> {
-    ghost use Rattle.std.specs.Prelude.{◌≡◌, false, option_map};
+    ghost use Rattle.std.specs.Prelude.{◌≡◌, [], ◌∷◌, false, option_map};
+    ghost use Rattle.yspec.specs.linking.NodeBreaks.{broken_at};
+    ghost use Rattle.ylink.specs.BreakView.{break_view, code_number};
     ghost use Rattle.yspec.specs.linking.Parts.{defines_node};
     ghost use Rattle.yspec.specs.linking.Planned as spec;
     ghost use Rattle.yspec.specs.linking.Source as sources;
@@ -60,6 +62,18 @@ impl<'a, 't> Planned<'a, 't> {
             None
         } else {
             argument_with(keyword, self.source.children())
+        }
+    }
+
+    /// A rule that it breaks, which is told at its statement.
+    pub(crate) fn broken(&self, code: CompileCode) -> Broken
+        ensures { (number : _) → break_view result ∷ [] ≡ broken_at (code_number code) (planned_view number self.now) }
+    {
+        let label = self.source.label();
+        Broken {
+            module: label.home,
+            line: label.statement.line(),
+            code,
         }
     }
 

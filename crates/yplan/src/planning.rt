@@ -1,22 +1,43 @@
 //! How nodes are planned.
 
-ghost use Rattle.std.specs.Prelude.{◌≡◌, ◌++◌, OnOk, length, if◌then◌else◌};
+ghost use Rattle.std.specs.Prelude.{◌≡◌, ◌++◌, IfOk, OnOk, length, if◌then◌else◌};
 ghost use Rattle.yspec.specs.Forest.{end, node};
 ghost use Rattle.std.specs.Option.{option_map_or};
 ghost use Rattle.yspec.specs.linking.Keyword.{config_word};
 ghost use Rattle.yspec.specs.linking.Source.{argument_with};
-ghost use Rattle.yspec.specs.linking.Parts.{Part, part_of, parts, as_cases, case_for, within};
+ghost use Rattle.yspec.specs.linking.Parts.{Part, part_of, parts, parts_of_modules, as_cases, case_for, within};
 ghost use Rattle.yspec.specs.linking.Planned as spec;
 ghost use Rattle.yspec.specs.linking.Planned.{is_said};
 ghost use Rattle.ypreorder.specs.View.{rows_in, row_by, label_by};
+ghost use Rattle.ylink.specs.LinkView as link;
 ghost use Rattle.ylink.specs.KeywordView.{keyword_view};
 ghost use Rattle.ylink.specs.SourceView.{source_view};
 ghost use Rattle.yplan.specs.PlannedView.{seen_rows, listed, around_view, shown_keyword};
 
 use crate::planned::{Around, Planned};
-use std::alloc::AllocError;
-use ylink::{Keyword, Source, argument_with};
+use std::alloc::{AllocError, Global};
+use ylink::{Keyword, Source, Sources, argument_with};
 use ypreorder::{Node, Nodes, Table};
+
+/// The nodes of all modules, in order of definition.
+pub(crate) fn planned<'a, 't>(
+    alloc: Global,
+    sources: &'a Sources<'t>,
+) -> Result<Table<Planned<'a, 't>>, AllocError>
+    ensures { IfOk result (λ table. seen_rows table ≡ listed 0 spec.at_top (parts_of_modules (link.view sources.entry.now))) }
+{
+    let around = Around {
+        parent: None,
+        data_parent: None,
+        scope: None,
+        config: true,
+    };
+    let mut table = Table::new(alloc);
+    for module in sources.modules() {
+        add_nodes(&mut table, around, false, module.children())?;
+    }
+    Ok(table)
+}
 
 /// Whether a node with these substatements is configuration, below one that is or isn't.
 fn config_of(above: bool, own: Nodes<'_, Source<'_>>) -> bool

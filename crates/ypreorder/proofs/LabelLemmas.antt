@@ -1,8 +1,8 @@
 -- The labels of rows, one after another.
-use Rattle.std.proofs.Common.{◌≡◌, ℕ, zero, suc, ◌+◌, ◌≤◌, List, [], ◌∷◌, ◌++◌, length, take, drop, get_or, refl, sym, ap, ap₂, ◌∙◌, arith, length-take, length-drop, Option, Some, None}
+use Rattle.std.proofs.Common.{◌≡◌, ℕ, zero, suc, ◌+◌, ◌≤◌, max, List, [], ◌∷◌, ◌++◌, length, take, drop, get_or, refl, sym, ap, ap₂, ◌∙◌, arith, length-take, length-drop, Option, Some, None}
 use Rattle.std.specs.Prelude.{slice_get, option_map}
 use Rattle.std.proofs.lemmas.List.{take-append-drop, take_more}
-use Rattle.yspec.specs.Forest.{Forest, node, end, size, preorder}
+use Rattle.yspec.specs.Forest.{Forest, node, end, size, levels, preorder}
 use Rattle.ypreorder.specs.declared.row.Row.{Row}
 use Rattle.ypreorder.specs.Layout.{forest_of, numbered_by, labels_by}
 use Rattle.ypreorder.proofs.RowLemmas.{forest_of-cons, no_node, size_forest}
@@ -50,3 +50,12 @@ module _ {L M : Type 0} (see : ℕ → L → M) where
   label_at k (r ∷ rows) (suc i) =
       let here : k + 1 + i ≡ k + suc i = omega arith in
       label_at (k + 1) rows i ∙ ap (λ n. option_map (λ x. see n x.label) (slice_get rows i)) here
+
+  -- other labels change no shape
+  pub size-by : (k : ℕ) (f : Forest L) → size (numbered_by see k f) ≡ size f
+  size-by k end = refl
+  size-by k (node l below after) = ap₂ (λ a b. suc (a + b)) (size-by (k + 1) below) (size-by (k + suc (size below)) after)
+
+  pub levels-by : (k : ℕ) (f : Forest L) → levels (numbered_by see k f) ≡ levels f
+  levels-by k end = refl
+  levels-by k (node l below after) = ap₂ (λ a b. max (suc a) b) (levels-by (k + 1) below) (levels-by (k + suc (size below)) after)

@@ -1,7 +1,7 @@
 -- Rows in preorder as the forest that they are.
 use Rattle.std.proofs.Common.{◌≡◌, ℕ, zero, suc, ◌+◌, ◌≤◌, min, List, [], ◌∷◌, length, take, drop, Option, Some, None, refl, sym, ap, ap₂, ◌∙◌, subst, arith, length-take, length-drop}
 use Rattle.std.proofs.lemmas.List.{take_min, drop_min}
-use Rattle.yspec.specs.Forest.{Forest, node, end, size}
+use Rattle.yspec.specs.Forest.{Forest, node, end, size, levels}
 use Rattle.ypreorder.specs.declared.row.Row.{Row}
 use Rattle.ypreorder.specs.declared.nodes.Node.{Node}
 use Rattle.ypreorder.specs.declared.nodes.Nodes.{Nodes}
@@ -79,3 +79,8 @@ takes_by see before after c taken =
 
 pub takes_none_by : {L M : Type 0} (see : ℕ → L → M) (before after : Nodes L) → TakesFirst before None after → (row_by see before ≡ end) × (row_by see after ≡ end)
 takes_none_by see before after taken = (ap (numbered_by see before.number) taken.0, ap (numbered_by see after.number) taken.1)
+
+-- there are no more levels than nodes
+pub levels_size : {L : Type 0} (f : Forest L) → levels f ≤ size f
+levels_size end = omega arith
+levels_size (node l below after) = omega (arith, levels_size below, levels_size after)

@@ -31,7 +31,7 @@ is_like p q = same_number p.scope q.scope && same_name p q
 -- each of a list that an earlier one is like, `before` being earlier ones
 abbrev pub doubled : List Planned → List Planned → List Break
 doubled before [] = []
-doubled before (p ∷ others) = when (list_any (is_like p) before) (broken_at 13 p) ++ doubled (p ∷ before) others
+doubled before (p ∷ others) = when (list_any (is_like p) before) (broken_at 13 p) ++ doubled (before ++ p ∷ []) others
 
 abbrev pub name_breaks : Plan → List Break
 name_breaks plan = doubled [] (nodes_of plan)

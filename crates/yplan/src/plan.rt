@@ -1,0 +1,126 @@
+//! The plan of a set of modules.
+
+ghost use Rattle.std.specs.Prelude.{filter};
+ghost use Rattle.ypreorder.specs.Layout.{IsLaidOut};
+ghost use Rattle.ypreorder.specs.View.{rows_in};
+ghost use Rattle.yplan.specs.Finding.{Finds, list_of, parent_in, scope_in};
+ghost use Rattle.yspec.specs.linking.Planned.{is_data};
+
+use crate::levels::levels_of;
+use crate::planned::Planned;
+use crate::planning::planned;
+use crate::finding::{index_of_children, index_of_data};
+use std::alloc::{AllocError, Global};
+use yindex::Index;
+use ylink::Sources;
+use ypreorder::{Row, Table};
+
+/// The schema nodes that a set of modules defines, in order of definition, and how they are found by name.
+#[derive(Drop)]
+pub struct Plan<'a, 't> {
+    sources: &'a Sources<'t>,
+    table: Table<Planned<'a, 't>>,
+    children: Index,
+    data_children: Index,
+    ghost laid_out: { IsLaidOut (rows_in table) },
+    ghost found: { Finds children parent_in (list_of table) },
+    ghost data_found: { Finds data_children scope_in (filter is_data (list_of table)) },
+}
+
+impl<'a, 't> Plan<'a, 't> {
+    ghost use Rattle.std.specs.Prelude.{◌≡◌, IfOk, option_map, length};
+    ghost use Rattle.yspec.specs.linking.Compiling.{plan_of};
+    ghost use Rattle.yspec.specs.linking.Planned as spec;
+    ghost use Rattle.ylink.specs.LinkView as link;
+    ghost use Rattle.yspec.specs.Forest.{size, levels};
+    ghost use Rattle.yspec.specs.linking.NodeBreaks.{is_config_above};
+    ghost use Rattle.yspec.specs.linking.SchemaNodes.{number_in};
+    ghost use Rattle.ypreorder.specs.Layout.{labels_by};
+    ghost use Rattle.yplan.specs.PlannedView.{planned_view};
+    ghost use Rattle.yplan.specs.PlanView.{view};
+
+    /// The nodes that the statements of a set of modules define.
+    pub fn of(alloc: Global, sources: &'a Sources<'t>) -> Result<Plan<'a, 't>, AllocError>
+        ensures { IfOk result (λ plan. view plan ≡ plan_of (link.view sources.entry.now)) }
+    {
+        let table = planned(alloc, sources)?;
+        let children = index_of_children(alloc, &table)?;
+        let data_children = index_of_data(alloc, &table)?;
+        Ok(Plan {
+            sources,
+            table,
+            children,
+            data_children,
+        })
+    }
+
+    /// Its nodes, by number.
+    pub(crate) fn rows(&self) -> &[Row<Planned<'a, 't>>]
+        ensures rows { result.now ≡ rows_in self.now.table }
+        ensures nodes { labels_by planned_view 0 result.now ≡ spec.nodes_of (view self.now) }
+    {
+        self.table.rows()
+    }
+
+    /// The first node of a module and a name below another, or at the top, by its number.
+    pub fn child(&self, parent: Option<u32>, module: Option<usize>, name: &str) -> Option<u32>
+        ensures { result ≡ option_map number_in (spec.child_called (view self.now) parent (record { module_number = «module»; name = name.now })) }
+    {
+        match module {
+            Some(module) => self.children.get(parent, Some(module), name),
+            None => None,
+        }
+    }
+
+    /// The first data node of a module and a name below a data node, or at the top, choices and cases passed through.
+    pub fn data_child(
+        &self,
+        scope: Option<u32>,
+        module: Option<usize>,
+        name: &str,
+    ) -> Option<u32>
+        ensures { result ≡ option_map number_in (spec.data_child_called (view self.now) scope (record { module_number = «module»; name = name.now })) }
+    {
+        match module {
+            Some(module) => self.data_children.get(scope, Some(module), name),
+            None => None,
+        }
+    }
+
+    /// The node of a number.
+    pub fn node(&self, number: u32) -> Option<&Planned<'a, 't>>
+        ensures { option_map (λ p. planned_view number p.now) result ≡ spec.node_of (view self.now) number }
+    {
+        match self.table.rows().get(number as usize) {
+            Some(row) => Some(&row.label),
+            None => None,
+        }
+    }
+
+    /// How many nodes there are.
+    pub fn nodes(&self) -> usize
+        ensures { result ≡ size (view self.now).nodes }
+    {
+        self.table.len()
+    }
+
+    /// How many levels of them there are.
+    pub fn levels(&self) -> usize
+        ensures { result ≡ levels (view self.now).nodes }
+    {
+        levels_of(self.table.nodes())
+    }
+
+    /// Whether the node above one is configuration; so is what stands above the top nodes.
+    pub(crate) fn is_config_above(&self, planned: &Planned<'a, 't>) -> bool
+        ensures { (number : _) → result ≡ is_config_above (view self.now) (planned_view number planned.now) }
+    {
+        match planned.parent {
+            Some(parent) => match self.node(parent) {
+                Some(above) => above.config,
+                None => true,
+            },
+            None => true,
+        }
+    }
+}
