@@ -8,6 +8,5 @@ pub mod RowLemmas
 pub mod ToldLemmas
 pub mod KindLemmas
 pub mod ChildLemmas
-pub mod IndexLemmas
 pub mod FindLemmas
 pub mod CallerLemmas

@@ -1,4 +1,3 @@
-pub mod Keys
 pub mod Layout
 pub mod Lookup
 pub mod References

@@ -19,7 +19,7 @@ ghost use Rattle.yschema.specs.View.{view, module_view};
 use crate::children::Row;
 use crate::fault::{Break, CompileCode, CompileFault};
 use crate::grammar::{broken, judge_modules};
-use crate::index::Index;
+use crate::index::index_of;
 use crate::limits::{count_nodes, has_too_many_levels, has_too_many_nodes, is_data_node};
 use crate::names::{name_of, repeated_module, repeated_name};
 use crate::node::{Absence, Kind, LeafType, SchemaId, SchemaNode, Status};
@@ -83,7 +83,7 @@ fn build(alloc: Global, modules: &[Module]) -> Result<Schema, AllocError>
         set.push(module_of(alloc, &text.top)?)?;
         add_nodes(alloc, &mut rows, module, None, text.top.substatements())?;
     }
-    let index = Index::of(alloc, &set, &rows)?;
+    let index = index_of(alloc, &set, &rows)?;
     let references = References::of(alloc, &rows)?;
     Ok(Schema::new(set, rows, index, references))
 }

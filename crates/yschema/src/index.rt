@@ -1,126 +1,74 @@
 //! The index by which a child is found.
 
-ghost use Rattle.std.specs.Prelude.{◌≡◌, ◌≤◌, ◌<◌, ◌^◌, ◌++◌, ◌∷◌, [], None, OnOk, IfOk, length, string_bytes};
-ghost use Rattle.std.specs.Map.{lookup};
+ghost use Rattle.std.specs.Prelude.{◌≡◌, ◌<◌, ◌^◌, ◌++◌, ◌∷◌, [], OnOk, IfOk, length, string_bytes};
 ghost use Rattle.yspec.specs.schema.Schema.{module_at, written_name};
-ghost use Rattle.yschema.specs.Keys.{same_key};
-ghost use Rattle.yschema.specs.declared.index.Key.{Key};
 ghost use Rattle.yschema.specs.Layout.{number_of, node_view, place_of, laid, schema_view, IsLaidOut};
+ghost use Rattle.yschema.specs.Lookup.{FindsNamed, FindsWritten};
 
 use crate::children::Row;
 use crate::node::SchemaId;
 use crate::schema::SchemaModule;
 use crate::written::written_name;
-use indexmap::{IndexMap, IndexSet};
 use std::alloc::{AllocError, Global};
+use yindex::Index;
 
-/// Where a text is looked up: below a node or at the top, as a name of a module's nodes, or else as a name that documents
-/// write. The text is given by its number.
-#[derive(Clone, Copy, Debug, PartialEq, Eq, Hash)]
-struct Key {
-    parent: Option<SchemaId>,
-    module: Option<usize>,
-    text: usize,
+/// The index of the nodes that lie in rows: the first child of each name, below each node and at the top.
+pub(crate) fn index_of(
+    alloc: Global,
+    modules: &[SchemaModule],
+    rows: &[Row],
+) -> Result<Index, AllocError>
+    requires numbered { length rows.now < 2 ^ 32 }
+    requires laid_out { IsLaidOut rows.now }
+    ensures named { IfOk result (λ index. FindsNamed index (laid 0 rows.now)) }
+    ensures written { IfOk result (λ index. FindsWritten index (schema_view modules.now rows.now) (laid 0 rows.now)) }
+{
+    let mut index = Index::new(alloc);
+    for (number, row) in rows.iter().enumerate() {
+        let above = module_above(rows, row.parent);
+        let written = written_name(alloc, modules, above, &row.node)?;
+        put_row(alloc, &mut index, row, written, number as u32)?;
+    }
+    Ok(index)
 }
 
-/// The first child of each name, below each node and at the top.
-#[derive(Drop)]
-pub(crate) struct Index {
-    texts: IndexSet<String>,
-    ids: IndexMap<Key, SchemaId>,
-    ghost numbered: { (k : Key) → length texts.keys ≤ k.text → lookup (same_key k) ids.entries ≡ None },
+/// The number of a node, where there is one.
+pub(crate) fn parent_number(parent: Option<SchemaId>) -> Option<u32>
+    ensures { result ≡ number_of parent }
+{
+    match parent {
+        Some(id) => Some(id.0),
+        None => None,
+    }
 }
 
-impl Index {
-    ghost use Rattle.yschema.specs.Lookup.{held, Puts, FindsNamed, FindsWritten};
-
-    fn empty(alloc: Global) -> Index
-        ensures named { FindsNamed result [] }
-        ensures written { (schema : _) → FindsWritten result schema [] }
-    {
-        Index {
-            texts: IndexSet::new(alloc),
-            ids: IndexMap::new(alloc),
-        }
+/// The node of a number, where there is one.
+pub(crate) fn id_of(number: Option<u32>) -> Option<SchemaId>
+    ensures { number_of result ≡ number }
+{
+    match number {
+        Some(number) => Some(SchemaId::new(number)),
+        None => None,
     }
+}
 
-    /// The index of the nodes that lie in rows.
-    pub(crate) fn of(
-        alloc: Global,
-        modules: &[SchemaModule],
-        rows: &[Row],
-    ) -> Result<Index, AllocError>
-        requires numbered { length rows.now < 2 ^ 32 }
-        requires laid_out { IsLaidOut rows.now }
-        ensures named { IfOk result (λ index. FindsNamed index (laid 0 rows.now)) }
-        ensures written { IfOk result (λ index. FindsWritten index (schema_view modules.now rows.now) (laid 0 rows.now)) }
-    {
-        let mut index = Index::empty(alloc);
-        for (number, row) in rows.iter().enumerate() {
-            let above = module_above(rows, row.parent);
-            let written = written_name(alloc, modules, above, &row.node)?;
-            index.put_row(alloc, row, written, SchemaId::new(number as u32))?;
-        }
-        Ok(index)
-    }
-
-    /// The node that is held for a text, below a node or at the top: as a name of a module, or as one that documents write.
-    pub(crate) fn get(
-        &self,
-        parent: Option<SchemaId>,
-        module: Option<usize>,
-        text: &str,
-    ) -> Option<SchemaId>
-        ensures { result ≡ held self.now parent «module» text.now }
-    {
-        let text = self.texts.get_index_of(text)?;
-        let key = Key {
-            parent,
-            module,
-            text,
-        };
-        self.ids.get(&key).copied()
-    }
-
-    /// Holds a node for its name and for the one that documents write.
-    fn put_row(
-        &mut self,
-        alloc: Global,
-        row: &Row,
-        written: String,
-        id: SchemaId,
-    ) -> Result<(), AllocError>
-        ensures named { OnOk result ((ps : _) → FindsNamed self.old ps → FindsNamed self.new (ps ++ place_of id.0 row.now ∷ [])) }
-        ensures written { OnOk result ((schema ps : _)
-            → string_bytes written ≡ written_name schema (module_at schema (number_of row.now.parent)) (node_view id.0 row.now.node)
-            → FindsWritten self.old schema ps → FindsWritten self.new schema (ps ++ place_of id.0 row.now ∷ [])) }
-    {
-        let name = String::from_str(alloc, row.node.name.as_str())?;
-        self.put(row.parent, Some(row.node.module), name, id)?;
-        self.put(row.parent, None, written, id)
-    }
-
-    /// Holds a node for a text, unless another is held for it.
-    fn put(
-        &mut self,
-        parent: Option<SchemaId>,
-        module: Option<usize>,
-        text: String,
-        id: SchemaId,
-    ) -> Result<(), AllocError>
-        ensures { OnOk result (Puts self.old parent «module» (string_bytes text) id self.new) }
-    {
-        let (text, _) = self.texts.insert_full(text)?;
-        let key = Key {
-            parent,
-            module,
-            text,
-        };
-        if !self.ids.contains_key(&key) {
-            self.ids.insert(key, id)?;
-        }
-        Ok(())
-    }
+/// Holds a node for its name and for the one that documents write.
+fn put_row(
+    alloc: Global,
+    index: &mut Index,
+    row: &Row,
+    written: String,
+    number: u32,
+) -> Result<(), AllocError>
+    ensures named { OnOk result ((ps : _) → FindsNamed index.old ps → FindsNamed index.new (ps ++ place_of number row.now ∷ [])) }
+    ensures written { OnOk result ((schema ps : _)
+        → string_bytes written ≡ written_name schema (module_at schema (number_of row.now.parent)) (node_view number row.now.node)
+        → FindsWritten index.old schema ps → FindsWritten index.new schema (ps ++ place_of number row.now ∷ [])) }
+{
+    let name = String::from_str(alloc, row.node.name.as_str())?;
+    let parent = parent_number(row.parent);
+    index.put(parent, Some(row.node.module), name, number)?;
+    index.put(parent, None, written, number)
 }
 
 /// The module of the node above; none at the top.

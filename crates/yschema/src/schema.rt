@@ -8,11 +8,12 @@ ghost use Rattle.yschema.specs.Lookup.{FindsNamed, FindsWritten};
 ghost use Rattle.yschema.specs.References.{FindsReferences};
 
 use crate::children::{Children, Row};
-use crate::index::Index;
+use crate::index::{id_of, parent_number};
 use crate::node::{SchemaId, SchemaNode};
 use crate::references::References;
 use crate::written::{other_name, written_name};
 use std::alloc::{AllocError, Global};
+use yindex::Index;
 
 /// A module of a schema.
 #[derive(Debug, Drop)]
@@ -110,14 +111,14 @@ impl Schema {
     pub fn child(&self, parent: Option<SchemaId>, module: usize, name: &str) -> Option<SchemaId>
         ensures { number_of result ≡ child_named (view self.now) (number_of parent) «module» name.now }
     {
-        self.index.get(parent, Some(module), name)
+        id_of(self.index.get(parent_number(parent), Some(module), name))
     }
 
     /// The child of a node, or the top node, whose name a document writes so; choices and cases are passed through.
     pub fn child_written(&self, parent: Option<SchemaId>, name: &str) -> Option<SchemaId>
         ensures { number_of result ≡ child_written (view self.now) (number_of parent) name.now }
     {
-        self.index.get(parent, None, name)
+        id_of(self.index.get(parent_number(parent), None, name))
     }
 
     /// The leafs and leaf-lists that refer to a node by a leafref, in order (RFC 7950, 9.9).

@@ -51,8 +51,8 @@ pub returns : goal.returns
 returns c =
     c.new.ensures ∙ made c.args.modules.now c.loop-module.module c.loop-module.set.items c.loop-module.rows.items (omega arith) c.loop-module.invariant.named c.loop-module.invariant.so_far
 
-pub of-requires-clause-laid_out : goal.of-requires-clause-laid_out
-of-requires-clause-laid_out c =
+pub index_of-requires-clause-laid_out : goal.index_of-requires-clause-laid_out
+index_of-requires-clause-laid_out c =
     let ms = c.args.modules.now in
     let rows = c.loop-module.rows.items in
     subst IsLaidOut (sym c.deref-2.ensures.value)

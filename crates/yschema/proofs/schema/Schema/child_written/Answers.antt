@@ -1,6 +1,7 @@
-use Rattle.std.proofs.Common.{sym, ap, ◌∙◌}
+use Rattle.std.proofs.Common.{None, sym, ap, ◌∙◌}
 use Rattle.yspec.specs.schema.Schema.{is_written, row_at, first_in_row}
 use Rattle.yspec.proofs.PlainProofs.RowLemmas.{data_row_same, row_plain}
+use Rattle.yindex.specs.Lookup.{held}
 use Rattle.yschema.specs.Layout.{number_of}
 use Rattle.yschema.specs.View.{view}
 use Rattle.yschema.proofs.CallerLemmas.{kinds_are_plain}
@@ -14,6 +15,8 @@ returns c =
     let schema = c.args.self.now in
     let s = view schema in
     let p = number_of c.args.parent in
-    ap number_of c.get.ensures ∙ (schema.written c.args.parent c.args.name.now
-    ∙ (first_child schema.modules.items schema.rows.items p (is_written s p c.args.name.now) schema.laid_out
-    ∙ ap (first_in_row (is_written s p c.args.name.now)) (sym (data_row_same (row_at s p) (row_plain s p (kinds_are_plain schema))))))
+    let t = c.args.name.now in
+    c.id_of.ensures ∙ (c.get.ensures ∙ (ap (λ q. held schema.index q None t) c.parent_number.ensures
+    ∙ (schema.written p t
+    ∙ (first_child schema.modules.items schema.rows.items p (is_written s p t) schema.laid_out
+    ∙ ap (first_in_row (is_written s p t)) (sym (data_row_same (row_at s p) (row_plain s p (kinds_are_plain schema))))))))

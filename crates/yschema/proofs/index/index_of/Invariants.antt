@@ -1,7 +1,7 @@
 use Rattle.std.proofs.Common.{take}
 use Rattle.yschema.specs.Layout.{laid, schema_view}
 use Rattle.yschema.specs.Lookup.{FindsNamed, FindsWritten}
-use Rattle.yschema.proofs.index.Index.of.Given as goal
+use Rattle.yschema.proofs.index.index_of.Given as goal
 
 abbrev pub invariant-loop-number : goal.invariant-loop-number
 invariant-loop-number l = record {
