@@ -3,6 +3,7 @@ pub mod ChangeLemmas
 pub mod BasicLemmas
 pub mod DocumentProofs
 pub mod EditProofs
+pub mod LinkingProofs
 pub mod LiteralLemmas
 pub mod PlainProofs
 pub mod SchemaProofs

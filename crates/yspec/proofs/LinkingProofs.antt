@@ -1,0 +1,2 @@
+pub mod BreakLemmas
+pub mod LinkedLemmas
