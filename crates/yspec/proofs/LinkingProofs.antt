@@ -1,2 +1,5 @@
 pub mod BreakLemmas
+pub mod KeywordLemmas
+pub mod LegalLemmas
+pub mod RightPartLemmas
 pub mod LinkedLemmas

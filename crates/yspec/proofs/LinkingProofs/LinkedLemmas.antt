@@ -1,5 +1,5 @@
 -- The schema of linked modules of which nothing is told: what each phase says of it, its numbers and its limits.
-use Rattle.std.proofs.Common.{◌≡◌, ℕ, suc, ◌+◌, ◌≤◌, Bool, true, false, List, [], ◌∷◌, ◌++◌, Option, Some, None, Ok, Err, refl, sym, ap, ap₂, ◌∙◌, subst, arith}
+use Rattle.std.proofs.Common.{◌≡◌, ℕ, suc, ◌+◌, ◌≤◌, Bool, true, false, List, [], ◌∷◌, ◌++◌, length, Option, Some, None, Ok, Err, refl, sym, ap, ap₂, ◌∙◌, subst, arith}
 use Rattle.std.proofs.lemmas.Bool.{ltb-false}
 use Rattle.std.specs.Prelude.{◌||◌, nat_lt}
 use Rattle.std.specs.Option.{option_map_or}
@@ -7,17 +7,19 @@ use Rattle.yspec.specs.Forest.{Forest, end, node, size, levels, relabelled}
 use Rattle.yspec.specs.text.Statement.{Statement}
 use Rattle.yspec.specs.schema.Breaks.{Break, broken, first_broken, last_module, limit_breaks, node_limit, level_limit, module_breaks}
 use Rattle.yspec.specs.schema.Schema.{Schema, SchemaNode}
-use Rattle.yspec.specs.document.Fitting.{IsNumbered}
+use Rattle.yspec.specs.document.Fitting.{IsNumbered, LeafsAreBare}
 use Rattle.yspec.specs.linking.Source.{sources_from, sources_of}
 use Rattle.yspec.specs.linking.StatementBreaks.{statement_phase}
 use Rattle.yspec.specs.linking.Prefixes.{prefix_breaks, type_name_breaks}
 use Rattle.yspec.specs.linking.TypeStatements.{type_breaks}
-use Rattle.yspec.specs.linking.Parts.{Part}
+use Rattle.yspec.specs.linking.Parts.{Part, parts_of_modules}
 use Rattle.yspec.specs.linking.Planned.{Planned, Plan, Around, planned_node, around_below, planned}
 use Rattle.yspec.specs.linking.SchemaNodes.{schema_node}
 use Rattle.yspec.specs.linking.NodeBreaks.{name_breaks, node_breaks}
 use Rattle.yspec.specs.linking.Compiling.{plan_of, schema_of, is_too_deep, phases_of_plan, phases, compiled}
 use Rattle.yspec.proofs.LinkingProofs.BreakLemmas.{none_second, none_told}
+use Rattle.yspec.proofs.LinkingProofs.LegalLemmas.{are_modules}
+use Rattle.yspec.proofs.LinkingProofs.RightPartLemmas.{AreRight, right_all, bare_of}
 use Rattle.yspec.proofs.BasicLemmas.{or_parts}
 
 abbrev pub plan_in : Forest Statement → Plan
@@ -139,3 +141,13 @@ numbered_from plan next around (node p below after) =
 pub linked_numbered : (modules : Forest Statement) (schema : Schema) → compiled modules ≡ Ok schema → IsNumbered 0 schema.nodes
 linked_numbered modules schema e =
     subst (λ (s : Schema). IsNumbered 0 s.nodes) (compiles modules schema e).is (numbered_from (plan_in modules) 0 _ _)
+
+-- ---- leafs
+
+pub right_plan : (modules : Forest Statement) → BreaksNothing modules → AreRight (length (schema_of modules).modules) (parts_of_modules (sources_of modules))
+right_plan modules none = right_all (sources_of modules) (are_modules 0 modules none.statements 0)
+
+pub linked_bare : (modules : Forest Statement) (schema : Schema) → compiled modules ≡ Ok schema → LeafsAreBare schema.nodes
+linked_bare modules schema e =
+    let i = compiles modules schema e in
+    subst (λ (s : Schema). LeafsAreBare s.nodes) i.is (bare_of (plan_in modules) _ 0 _ _ (right_plan modules i.none))

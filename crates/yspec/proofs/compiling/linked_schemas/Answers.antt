@@ -1,9 +1,10 @@
-use Rattle.yspec.proofs.LinkingProofs.LinkedLemmas.{linked_numbered, linked_few, linked_within}
+use Rattle.yspec.proofs.LinkingProofs.LinkedLemmas.{linked_numbered, linked_bare, linked_few, linked_within}
 use Rattle.yspec.proofs.compiling.linked_schemas.Goals as goal
 
 pub returns : goal.returns
 returns c = record {
   numbered = linked_numbered;
+  bare = linked_bare;
   within = linked_within;
   few = linked_few;
 }
