@@ -1,6 +1,7 @@
 pub mod ForestLemmas
 pub mod ChangeLemmas
 pub mod BasicLemmas
+pub mod IdentifierLemmas
 pub mod DocumentProofs
 pub mod EditProofs
 pub mod LinkingProofs

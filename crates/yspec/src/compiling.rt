@@ -25,6 +25,7 @@ pub fn compiled_schemas()
 pub fn linked_schemas()
     ensures numbered { (modules : Forest Statement) (schema : Schema) → linking.compiled modules ≡ Ok schema → IsNumbered 0 schema.nodes }
     ensures bare { (modules : Forest Statement) (schema : Schema) → linking.compiled modules ≡ Ok schema → LeafsAreBare schema.nodes }
+    ensures names { (modules : Forest Statement) (schema : Schema) → linking.compiled modules ≡ Ok schema → NamesDiffer schema }
     ensures within { (modules : Forest Statement) (schema : Schema) → linking.compiled modules ≡ Ok schema → levels schema.nodes ≤ level_limit }
     ensures few { (modules : Forest Statement) (schema : Schema) → linking.compiled modules ≡ Ok schema → size schema.nodes ≤ node_limit }
 {}
