@@ -5,3 +5,4 @@ pub mod LegalLemmas
 pub mod RightPartLemmas
 pub mod LinkedLemmas
 pub mod LinkedNameLemmas
+pub mod LinkedSchemaLemmas

@@ -21,7 +21,8 @@ pub fn compiled_schemas()
     ensures plain { (modules : Forest Statement) (schema : Schema) → compiled modules ≡ Ok schema → ArePlain schema.nodes }
 {}
 
-/// The same of the schemas of modules with all statements that are linked, but for the kinds of their nodes.
+/// The nodes of a schema of linked modules are numbered in preorder, its leafs and leaf-lists have no children, no two
+/// siblings are written with one name, and its nodes and levels are within the limits. Its nodes are of any kind.
 pub fn linked_schemas()
     ensures numbered { (modules : Forest Statement) (schema : Schema) → linking.compiled modules ≡ Ok schema → IsNumbered 0 schema.nodes }
     ensures bare { (modules : Forest Statement) (schema : Schema) → linking.compiled modules ≡ Ok schema → LeafsAreBare schema.nodes }

@@ -14,7 +14,7 @@ pub unbroken : (b : Bool) (code m line : ℕ) → when b (broken code m line) �
 unbroken true code m line e = absurd cc
 unbroken false code m line e = refl
 
-some_told : (bs : List Break) (so_far : Break) → least_from (Some so_far) bs ≡ None → ⊥
+pub some_told : (bs : List Break) (so_far : Break) → least_from (Some so_far) bs ≡ None → ⊥
 some_told [] so_far e = let no : ⊥ = cc in no
 some_told (b ∷ bs) so_far e = some_told bs _ e
 

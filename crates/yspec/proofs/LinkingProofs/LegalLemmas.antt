@@ -1,16 +1,16 @@
 -- The statements of modules that break no rule of the table, as sources: each stands where it may, and has an argument of its form.
-use Rattle.std.proofs.Common.{◌≡◌, ℕ, zero, suc, ◌+◌, Bool, true, false, cond, not, List, [], ◌∷◌, ◌++◌, Option, Some, None, refl, sym, ap, ◌∙◌, subst}
+use Rattle.std.proofs.Common.{◌≡◌, ℕ, suc, ◌+◌, Bool, true, false, cond, not, List, [], ◌++◌, Option, Some, None, refl, sym, ap, ◌∙◌, subst}
 use Rattle.std.specs.Prelude.{option_and_then, unwrap_or, is_some}
 use Rattle.std.specs.Option.{option_map_or}
 use Rattle.yspec.specs.Forest.{Forest, end, node, join, size}
 use Rattle.yspec.specs.text.Text.{Text, is_identifier}
 use Rattle.yspec.specs.text.Statement.{Statement}
-use Rattle.yspec.specs.schema.Breaks.{Break, broken, when}
+use Rattle.yspec.specs.schema.Breaks.{Break, broken}
 use Rattle.yspec.specs.linking.Keyword.{Keyword, same_keyword, keyword_named, module_word, extension_word}
 use Rattle.yspec.specs.linking.Arguments.{Form, identifier_form, fits}
 use Rattle.yspec.specs.linking.Table.{Allowed, rule_of}
 use Rattle.yspec.specs.linking.Source.{Source, unless_extension, kept_keyword, kept_at, kept, numbered, sources_from, argument_in}
-use Rattle.yspec.specs.linking.StatementBreaks.{is_prefixed, has_keyword, argument_breaks, own_breaks, is_allowed, known_breaks, named_breaks, breaks_at, substatements_of, row_breaks, top_breaks, breaks_from}
+use Rattle.yspec.specs.linking.StatementBreaks.{is_prefixed, argument_breaks, own_breaks, is_allowed, known_breaks, named_breaks, breaks_at, substatements_of, row_breaks, top_breaks, breaks_from}
 use Rattle.yspec.proofs.LinkingProofs.BreakLemmas.{none_first, none_second, unbroken}
 use Rattle.yspec.proofs.LinkingProofs.KeywordLemmas.{same_is, prefixed_is_none}
 

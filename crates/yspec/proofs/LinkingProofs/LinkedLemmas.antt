@@ -1,22 +1,22 @@
 -- The schema of linked modules of which nothing is told: what each phase says of it, its numbers and its limits.
-use Rattle.std.proofs.Common.{◌≡◌, ℕ, suc, ◌+◌, ◌≤◌, Bool, true, false, List, [], ◌∷◌, ◌++◌, length, Option, Some, None, Ok, Err, refl, sym, ap, ap₂, ◌∙◌, subst, arith}
+use Rattle.std.proofs.Common.{◌≡◌, ℕ, suc, ◌+◌, ◌≤◌, Bool, true, false, [], ◌∷◌, ◌++◌, length, Option, Some, None, Ok, Err, refl, sym, ap, ap₂, ◌∙◌, subst, arith}
 use Rattle.std.proofs.lemmas.Bool.{ltb-false}
-use Rattle.std.specs.Prelude.{◌||◌, nat_lt}
+use Rattle.std.specs.Prelude.{nat_lt}
 use Rattle.std.specs.Option.{option_map_or}
 use Rattle.yspec.specs.Forest.{Forest, end, node, size, levels, relabelled}
 use Rattle.yspec.specs.text.Statement.{Statement}
 use Rattle.yspec.specs.schema.Breaks.{Break, broken, first_broken, last_module, limit_breaks, node_limit, level_limit, module_breaks}
-use Rattle.yspec.specs.schema.Schema.{Schema, SchemaNode}
+use Rattle.yspec.specs.schema.Schema.{Schema}
 use Rattle.yspec.specs.document.Fitting.{IsNumbered, LeafsAreBare}
 use Rattle.yspec.specs.linking.Source.{sources_from, sources_of}
 use Rattle.yspec.specs.linking.StatementBreaks.{statement_phase}
 use Rattle.yspec.specs.linking.Prefixes.{prefix_breaks, type_name_breaks}
 use Rattle.yspec.specs.linking.TypeStatements.{type_breaks}
 use Rattle.yspec.specs.linking.Parts.{Part, parts_of_modules}
-use Rattle.yspec.specs.linking.Planned.{Planned, Plan, Around, planned_node, around_below, planned}
+use Rattle.yspec.specs.linking.Planned.{Plan, Around, around_below, planned}
 use Rattle.yspec.specs.linking.SchemaNodes.{schema_node}
 use Rattle.yspec.specs.linking.NodeBreaks.{name_breaks, node_breaks}
-use Rattle.yspec.specs.linking.Compiling.{plan_of, schema_of, is_too_deep, phases_of_plan, phases, compiled}
+use Rattle.yspec.specs.linking.Compiling.{plan_of, schema_of, is_too_deep, phases, compiled}
 use Rattle.yspec.proofs.LinkingProofs.BreakLemmas.{none_second, none_told}
 use Rattle.yspec.proofs.LinkingProofs.LegalLemmas.{are_modules}
 use Rattle.yspec.proofs.LinkingProofs.RightPartLemmas.{AreRight, right_all, bare_of}
@@ -71,7 +71,7 @@ breaks_nothing modules e =
     let seventh = none_told (node_breaks plan) (first_broken (deep ∷ [])) sixth.1 in
     let eighth = none_told deep None seventh.1 in
     let limits = or_parts (nat_lt node_limit (size plan.nodes)) (nat_lt level_limit (levels plan.nodes))
-        (not_passed (λ m. is_too_deep (plan_in m).nodes) none_deep modules (is_too_deep plan.nodes) refl eighth.0) in
+    (not_passed (λ m. is_too_deep (plan_in m).nodes) none_deep modules (is_too_deep plan.nodes) refl eighth.0) in
     record {
       statements = first.0;
       module_names = none_second (prefix_breaks sources) (module_breaks 0 [] modules) second.0;
@@ -131,7 +131,7 @@ numbered_from plan next around end = tt
 numbered_from plan next around (node p below after) =
     let inner = relabelled (schema_node plan) (planned (next + 1) (around_below next around p) below) in
     let count : size inner ≡ size below = relabelled-size (schema_node plan) (planned (next + 1) (around_below next around p) below)
-        ∙ planned-size (next + 1) (around_below next around p) below in (
+    ∙ planned-size (next + 1) (around_below next around p) below in (
       refl,
       numbered_from plan (next + 1) (around_below next around p) below,
       subst (λ (k : ℕ). IsNumbered k (relabelled (schema_node plan) (planned (next + suc (size below)) around after))) (omega (arith, count))

@@ -1,13 +1,13 @@
 -- The names of linked schemas: no two siblings are written with one name.
-use Rattle.std.proofs.Common.{◌≡◌, ◌≢◌, ◌⊎◌, inl, inr, ℕ, zero, suc, ◌+◌, ◌<◌, Bool, true, false, cond, not, ◌||◌, List, [], ◌∷◌, ◌++◌, length, map, Option, Some, None, Ok, refl, sym, ap, ap₂, ◌∙◌, subst, arith}
+use Rattle.std.proofs.Common.{◌≡◌, ◌≢◌, ◌⊎◌, inl, inr, ℕ, zero, suc, ◌+◌, ◌<◌, Bool, true, false, cond, not, ◌||◌, List, [], ◌∷◌, ◌++◌, length, map, Option, Some, Ok, refl, sym, ap, ap₂, ◌∙◌, subst, arith}
 use Rattle.std.specs.Prelude.{slice_get, unwrap_or}
 use Rattle.std.specs.List.{list_any}
 use Rattle.std.specs.Option.{option_map_or}
 use Rattle.yspec.specs.Forest.{Forest, end, node, size, row, join, preorder, relabelled}
 use Rattle.yspec.specs.text.Text.{Text, is_text}
 use Rattle.yspec.specs.text.Statement.{Statement}
-use Rattle.yspec.specs.schema.Breaks.{doubled, module_breaks}
-use Rattle.yspec.specs.schema.Schema.{Schema, SchemaNode, SchemaModule, argument_text, is_data, data_row, module_name}
+use Rattle.yspec.specs.schema.Breaks.{module_breaks}
+use Rattle.yspec.specs.schema.Schema.{Schema, SchemaNode, SchemaModule, argument_text, is_data, data_row}
 use Rattle.yspec.specs.document.Writing.{IsPlain, IsNamed, HasItsName, RowIsNamed, AllAreNamed, AreNamed, ModulesDiffer, NamesDiffer}
 use Rattle.yspec.specs.linking.Keyword.{Keyword, same_keyword, choice_word, case_word}
 use Rattle.yspec.specs.linking.Source.{Source, sources_from, sources_of, argument_in}

@@ -1,20 +1,20 @@
 -- The parts of legal modules: each is named by an identifier, a leaf has nothing below it, and a choice has cases alone.
-use Rattle.std.proofs.Common.{◌≡◌, ℕ, ◌+◌, ◌<◌, Bool, true, false, cond, ◌||◌, List, [], ◌∷◌, length, refl, sym, ap, ◌∙◌, subst, arith}
+use Rattle.std.proofs.Common.{◌≡◌, ℕ, ◌+◌, ◌<◌, Bool, true, false, cond, ◌||◌, List, length, refl, sym, ap, ◌∙◌, subst, arith}
 use Rattle.yspec.specs.Forest.{Forest, end, node, join, relabelled}
 use Rattle.yspec.specs.text.Text.{is_identifier}
-use Rattle.yspec.specs.schema.Schema.{SchemaModule, Kind, has_value, is_data}
-use Rattle.yspec.specs.document.Fitting.{IsBare, LeafsAreBare}
-use Rattle.yspec.specs.linking.Keyword.{Keyword, same_keyword, container_word, leaf_word, leaf_list_word, list_word, choice_word, case_word, module_word}
+use Rattle.yspec.specs.schema.Schema.{has_value}
+use Rattle.yspec.specs.document.Fitting.{LeafsAreBare}
+use Rattle.yspec.specs.linking.Keyword.{Keyword, same_keyword, leaf_word, leaf_list_word, choice_word, case_word, module_word}
 use Rattle.yspec.specs.linking.Arguments.{fits}
 use Rattle.yspec.specs.linking.Table.{Allowed, rule_of}
 use Rattle.yspec.specs.linking.StatementBreaks.{is_allowed}
-use Rattle.yspec.specs.linking.Source.{Source, argument_in, is_source_of}
-use Rattle.yspec.specs.linking.Parts.{Part, defines_node, own_of, part_of, case_for, as_cases, within, parts, parts_of_modules}
+use Rattle.yspec.specs.linking.Source.{Source, argument_in}
+use Rattle.yspec.specs.linking.Parts.{Part, defines_node, part_of, case_for, as_cases, within, parts, parts_of_modules}
 use Rattle.yspec.specs.linking.Planned.{Planned, Plan, Around, planned_node, around_below, planned}
 use Rattle.yspec.specs.linking.SchemaNodes.{kind_by, schema_node}
 use Rattle.yspec.specs.linking.Compiling.{schema_modules}
 use Rattle.yspec.proofs.LinkingProofs.KeywordLemmas.{among, by_definition, named_by_identifier}
-use Rattle.yspec.proofs.LinkingProofs.LegalLemmas.{IsLegalAt, IsLegal, AreModules, identifier_fits}
+use Rattle.yspec.proofs.LinkingProofs.LegalLemmas.{IsLegal, AreModules, identifier_fits}
 
 abbrev pub is_leaf_word : Keyword → Bool
 is_leaf_word k = same_keyword leaf_word k || (same_keyword leaf_list_word k || false)
