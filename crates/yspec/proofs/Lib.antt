@@ -1,8 +1,10 @@
 pub mod ForestLemmas
 pub mod ChangeLemmas
 pub mod BasicLemmas
+pub mod IdentifierLemmas
 pub mod DocumentProofs
 pub mod EditProofs
+pub mod LinkingProofs
 pub mod LiteralLemmas
 pub mod PlainProofs
 pub mod SchemaProofs

@@ -33,7 +33,7 @@ end_prop (node n below after) p q = absurd cc
 is_bare-prop : (k : Kind) (f : Forest SchemaNode) → IsProp (IsBare k f)
 is_bare-prop k f = →_prop (end_prop f)
 
-leafs_bare-prop : (f : Forest SchemaNode) → IsProp (LeafsAreBare f)
+pub leafs_bare-prop : (f : Forest SchemaNode) → IsProp (LeafsAreBare f)
 leafs_bare-prop end = Unit-prop
 leafs_bare-prop (node n below after) = ×₃_prop (is_bare-prop n.kind below) (leafs_bare-prop below) (leafs_bare-prop after)
 
@@ -51,7 +51,7 @@ all_differ-prop s end = Unit-prop
 all_differ-prop s (node n below after) =
     ×₃_prop (→_prop (row_differs-prop s (Some n.module_number) (data_row below))) (all_differ-prop s below) (all_differ-prop s after)
 
-names_differ-prop : (s : Schema) → IsProp (NamesDiffer s)
+pub names_differ-prop : (s : Schema) → IsProp (NamesDiffer s)
 names_differ-prop s = ×_prop (row_differs-prop s None (data_row s.nodes)) (all_differ-prop s s.nodes)
 
 -- nothing is given in one way

@@ -1,12 +1,11 @@
 -- The names of a schema that compiled, and its levels: siblings are written with names of their own.
-use Rattle.std.proofs.Common.{◌≡◌, ◌≢◌, ℕ, zero, suc, ◌+◌, ◌≤◌, ◌<◌, Bool, true, false, cond, not, ◌&&◌, List, [], ◌∷◌, ◌++◌, length, codes, Option, Some, None, Ok, refl, sym, ap, ap₂, ◌∙◌, subst, arith}
-use Rattle.std.proofs.lemmas.Bool.{eqb-true, and_parts}
+use Rattle.std.proofs.Common.{◌≡◌, ◌≢◌, ℕ, zero, suc, ◌+◌, ◌≤◌, ◌<◌, Bool, true, false, cond, not, List, [], ◌∷◌, ◌++◌, length, codes, Option, Some, None, Ok, refl, sym, ap, ap₂, ◌∙◌, subst, arith}
 use Rattle.std.proofs.lemmas.Slice.Eq.{bytes_eq-Decides}
-use Rattle.std.specs.Prelude.{◌==◌, ◌||◌, nat_lt, max, unwrap_or}
-use Rattle.std.specs.List.{list_any, list_all}
+use Rattle.std.specs.Prelude.{◌||◌, max, unwrap_or}
+use Rattle.std.specs.List.{list_any}
 use Rattle.std.specs.Option.{option_map_or}
 use Rattle.yspec.specs.Forest.{Forest, end, node, levels, join}
-use Rattle.yspec.specs.text.Text.{Text, is_text, colon, continues_identifier, begins_identifier, is_digit, is_identifier}
+use Rattle.yspec.specs.text.Text.{Text, is_text, is_identifier}
 use Rattle.yspec.specs.text.Statement.{Statement}
 use Rattle.yspec.specs.schema.Grammar.{identifier, Allowed, Rule, fits, rule_of}
 use Rattle.yspec.specs.schema.Schema.{Schema, SchemaNode, argument_text, is_data_definition, data_size, data_levels, schema_node, nodes_from, modules_of, all_nodes, schema_of, module_name}
@@ -16,6 +15,8 @@ use Rattle.yspec.specs.plain.Kinds.{ArePlain}
 use Rattle.yspec.proofs.SchemaProofs.CompiledShapeLemmas.{none_first, none_second, is_right, by_keyword, BreaksNothing, compiles, compiled_plain}
 use Rattle.yspec.proofs.PlainProofs.RowLemmas.{data_row_same}
 use Rattle.yspec.proofs.DocumentProofs.WrittenNameLemmas.{names_differ}
+use Rattle.yspec.proofs.LinkingProofs.BreakLemmas.{unbroken}
+use Rattle.yspec.proofs.IdentifierLemmas.{identifier_plain}
 use Rattle.yspec.proofs.BasicLemmas.{or_parts, texts_differ}
 
 -- ---- levels
@@ -48,36 +49,7 @@ within_all n module_number next (node s below after) few =
     within_joined n (nodes_from module_number next below) (all_nodes (module_number + 1) (next + data_size below) after)
     (omega (arith, here, few)) (within_all n (module_number + 1) (next + data_size below) after (omega (arith, few)))
 
--- ---- identifiers
-
-no_colon : (c : ℕ) → continues_identifier c ≡ true → (c == colon) ≡ false
-no_colon c e = go (c == colon) refl
-  where
-    go : (b : Bool) → (c == colon) ≡ b → b ≡ false
-    go true is = let e' : continues_identifier 58 ≡ true = subst (λ x. continues_identifier x ≡ true) (eqb-true c colon is) e in absurd cc
-    go false is = refl
-
-plain_all : (cs : Text) → list_all continues_identifier cs ≡ true → IsPlain cs
-plain_all [] e = refl
-plain_all (c ∷ cs) e =
-    let parts = and_parts (continues_identifier c) (list_all continues_identifier cs) e in
-    ap₂ (λ a b. a || b) (no_colon c parts.0) (plain_all cs parts.1)
-
-continues : (c : ℕ) → begins_identifier c ≡ true → continues_identifier c ≡ true
-continues c e = ap (λ b. (b || is_digit c) || (c == 45 || c == 46)) e
-
-identifier_plain : (t : Text) → is_identifier t ≡ true → IsPlain t
-identifier_plain [] e = absurd cc
-identifier_plain (c ∷ cs) e =
-    let parts = and_parts (begins_identifier c) (list_all continues_identifier cs && nat_lt (length cs) 64) e in
-    let rest = and_parts (list_all continues_identifier cs) (nat_lt (length cs) 64) parts.1 in
-    ap₂ (λ a b. a || b) (no_colon c (continues c parts.0)) (plain_all cs rest.0)
-
 -- ---- arguments that are identifiers
-
-unbroken : (b : Bool) (code m line : ℕ) → when b (broken code m line) ≡ [] → b ≡ false
-unbroken true code m line e = absurd cc
-unbroken false code m line e = refl
 
 fitting : (m : ℕ) (s : Statement) (given : Option Text) → when (not (option_map_or (fits identifier) given false)) (broken 3 m s.line) ≡ []
     → is_identifier (unwrap_or given []) ≡ true

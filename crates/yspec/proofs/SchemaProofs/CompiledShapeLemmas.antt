@@ -10,19 +10,12 @@ use Rattle.yspec.specs.text.Statement.{Statement}
 use Rattle.yspec.specs.schema.Grammar.{Allowed}
 use Rattle.yspec.specs.schema.Schema as spec
 use Rattle.yspec.specs.schema.Schema.{Schema, SchemaNode, container, leaf, argument_of, leaf_type, leaf_kind, kind_of, is_data_definition, data_size, schema_node, nodes_from, all_nodes, schema_of}
-use Rattle.yspec.specs.schema.Breaks.{Break, broken, least_from, or_told, first_broken, is_known_substatement, substatements_of, own_breaks, breaks_at, grammar_breaks, at_top, by_module, last_module, limit_breaks, node_limit, level_limit, data_size_of_all, data_levels_of_all, grammar_phase, module_phase, size_phase, name_phase, level_phase, phases, compiled}
+use Rattle.yspec.specs.schema.Breaks.{Break, broken, first_broken, is_known_substatement, substatements_of, own_breaks, breaks_at, grammar_breaks, at_top, by_module, last_module, limit_breaks, node_limit, level_limit, data_size_of_all, data_levels_of_all, grammar_phase, module_phase, size_phase, name_phase, level_phase, phases, compiled}
 use Rattle.yspec.specs.document.Fitting.{IsNumbered, IsBare, LeafsAreBare}
 use Rattle.yspec.specs.plain.Kinds.{IsPlainKind, ArePlain}
+pub use Rattle.yspec.proofs.LinkingProofs.BreakLemmas.{none_first, none_second, some_told, none_told}
 
 -- ---- nothing is broken
-
-pub none_first : {A : Type 0} (xs ys : List A) → xs ++ ys ≡ [] → xs ≡ []
-none_first [] ys e = refl
-none_first (x ∷ xs) ys e = absurd cc
-
-pub none_second : {A : Type 0} (xs ys : List A) → xs ++ ys ≡ [] → ys ≡ []
-none_second [] ys e = e
-none_second (x ∷ xs) ys e = absurd cc
 
 -- a statement that breaks nothing is known, and nothing is broken below it
 known_at : (m : ℕ) (s : Statement) (own inner : List Break) (known : Bool) → cond known (own ++ inner) (broken 1 m s.line) ≡ [] → (known ≡ true) × (own ≡ []) × (inner ≡ [])
@@ -212,14 +205,6 @@ bare_all m module_number next (node s below after) e =
     bare_joined (nodes_from module_number next below) (all_nodes (module_number + 1) (next + data_size below) after)
     (bare_from m module_number next (substatements_of s.keyword) below right.inner)
     (bare_all (m + 1) (module_number + 1) (next + data_size below) after (none_second this others e))
-
-pub some_told : (bs : List Break) (so_far : Break) → least_from (Some so_far) bs ≡ None → ⊥
-some_told [] so_far e = let no : ⊥ = cc in no
-some_told (b ∷ bs) so_far e = some_told bs _ e
-
-none_told : (phase : List Break) (later : Option Break) → or_told phase later ≡ None → (phase ≡ []) × (later ≡ None)
-none_told [] later e = (refl, e)
-none_told (b ∷ bs) later e = absurd (some_told bs b e)
 
 last_some : (k : ℕ) (s : Statement) (below after : Forest Statement) → (x : ℕ × ℕ) × (last_module k (node s below after) ≡ Some x)
 last_some k s below end = ((k, s.line), refl)
