@@ -1,6 +1,7 @@
 -- Lists of planned nodes of which none is like an earlier one, and what is left of them where some are left out.
-use Rattle.std.proofs.Common.{◌≡◌, ◌≢◌, ◌⊎◌, inl, inr, ℕ, Bool, true, false, ◌&&◌, List, [], ◌∷◌, ◌++◌, Option, Some, None, refl, sym, ap, subst}
+use Rattle.std.proofs.Common.{◌≡◌, ◌≢◌, ◌⊎◌, inl, inr, ℕ, Bool, true, false, ◌&&◌, List, [], ◌∷◌, ◌++◌, Option, Some, None, refl, sym, ap, ◌∙◌, subst}
 use Rattle.std.proofs.lemmas.Bool.{eq-eqb}
+use Rattle.std.proofs.lemmas.List.Folds.{list_any-append}
 use Rattle.std.specs.Prelude.{◌==◌}
 use Rattle.std.specs.List.{list_any}
 use Rattle.yspec.specs.text.Text.{is_text}
@@ -19,19 +20,26 @@ abbrev pub Apart : List Planned → Type 0
 Apart [] = Unit {0}
 Apart (p ∷ ps) = NoneLike p ps × Apart ps
 
+-- what none of a list with one behind it passes
+last_parts : (test : Planned → Bool) (before : List Planned) (q : Planned) → list_any test (before ++ q ∷ []) ≡ false
+    → (list_any test before ≡ false) × (test q ≡ false)
+last_parts test before q o =
+    let parts = or_parts (list_any test before) (list_any test (q ∷ [])) (sym (list_any-append test before (q ∷ [])) ∙ o) in
+    (parts.0, (or_parts (test q) false parts.1).0)
+
 none_like : (p : Planned) (before ps : List Planned) → ((q : Planned) → list_any (is_like q) before ≡ false → is_like q p ≡ false) → doubled before ps ≡ [] → NoneLike p ps
 none_like p before [] known e = tt
 none_like p before (q ∷ qs) known e =
     let here = when (list_any (is_like q) before) (broken_at 13 q) in (
-      known q (unbroken (list_any (is_like q) before) 13 q.part.source.home q.part.source.statement.line (none_first here (doubled (q ∷ before) qs) e)),
-      none_like p (q ∷ before) qs (λ r o. known r (or_parts (is_like r q) (list_any (is_like r) before) o).1) (none_second here (doubled (q ∷ before) qs) e),
+      known q (unbroken (list_any (is_like q) before) 13 q.part.source.home q.part.source.statement.line (none_first here (doubled (before ++ q ∷ []) qs) e)),
+      none_like p (before ++ q ∷ []) qs (λ r o. known r (last_parts (is_like r) before q o).0) (none_second here (doubled (before ++ q ∷ []) qs) e),
     )
 
 pub apart_of : (before ps : List Planned) → doubled before ps ≡ [] → Apart ps
 apart_of before [] e = tt
 apart_of before (p ∷ ps) e =
-    let rest = none_second (when (list_any (is_like p) before) (broken_at 13 p)) (doubled (p ∷ before) ps) e in
-    (none_like p (p ∷ before) ps (λ q o. (or_parts (is_like q p) (list_any (is_like q) before) o).0) rest, apart_of (p ∷ before) ps rest)
+    let rest = none_second (when (list_any (is_like p) before) (broken_at 13 p)) (doubled (before ++ p ∷ []) ps) e in
+    (none_like p (before ++ p ∷ []) ps (λ q o. (last_parts (is_like q) before p o).1) rest, apart_of (before ++ p ∷ []) ps rest)
 
 -- ---- some left out
 
