@@ -1,1 +1,3 @@
 pub mod PartLemmas
+mod ChainLemmas
+mod ChainWalkLemmas

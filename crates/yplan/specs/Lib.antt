@@ -1,1 +1,3 @@
 pub mod PlannedView
+pub mod Chains
+pub mod ChainWalks
