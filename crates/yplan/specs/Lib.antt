@@ -1,3 +1,4 @@
 pub mod PlannedView
 pub mod Chains
 pub mod ChainWalks
+pub mod ChainSamples

@@ -2,6 +2,7 @@
 //! one another, and the rules that they break.
 #![tactic(auto)]
 
+pub mod chain_examples;
 mod chains;
 mod planned;
 mod planning;
