@@ -1,3 +1,5 @@
 pub mod PartLemmas
 pub mod FindingLemmas
 pub mod PlanLemmas
+mod ChainLemmas
+mod ChainWalkLemmas

@@ -1,3 +1,6 @@
 pub mod PlannedView
 pub mod Finding
 pub mod PlanView
+pub mod Chains
+pub mod ChainWalks
+pub mod ChainSamples

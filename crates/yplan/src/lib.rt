@@ -7,6 +7,8 @@ mod judging;
 mod levels;
 mod names;
 mod plan;
+pub mod chain_examples;
+mod chains;
 mod planned;
 mod planning;
 
