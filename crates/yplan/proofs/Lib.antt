@@ -1,3 +1,4 @@
 pub mod PartLemmas
 mod ChainLemmas
 mod ChainWalkLemmas
+mod ChainPlanLemmas
