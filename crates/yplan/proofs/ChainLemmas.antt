@@ -35,11 +35,11 @@ module _ (next : List (Option ℕ)) where
   unfolding end_within
   end_here s i e = ap (λ (o : Option ℕ). option_map_or (end_within next s) o (Some i)) e
 
-  end_there : (s i j : ℕ) → next_of next i ≡ Some j → end_within next (suc s) i ≡ end_within next s j
+  pub end_there : (s i j : ℕ) → next_of next i ≡ Some j → end_within next (suc s) i ≡ end_within next s j
   unfolding end_within
   end_there s i j e = ap (λ (o : Option ℕ). option_map_or (end_within next s) o (Some i)) e
 
-  end_none : (i : ℕ) → end_within next zero i ≡ None
+  pub end_none : (i : ℕ) → end_within next zero i ≡ None
   unfolding end_within
   end_none i = refl
 
@@ -78,7 +78,7 @@ module _ (next : List (Option ℕ)) where
   leads_here zero g i e = refl
   leads_here (suc s) g i e = ap (λ (o : Option ℕ). option_map_or (λ j. j == g || leads next s g j) o false) e
 
-  leads_there : (s g i j : ℕ) → next_of next i ≡ Some j → leads next (suc s) g i ≡ (j == g || leads next s g j)
+  pub leads_there : (s g i j : ℕ) → next_of next i ≡ Some j → leads next (suc s) g i ≡ (j == g || leads next s g j)
   unfolding leads
   leads_there s g i j e = ap (λ (o : Option ℕ). option_map_or (λ j. j == g || leads next s g j) o false) e
 

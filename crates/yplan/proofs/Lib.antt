@@ -3,3 +3,4 @@ pub mod FindingLemmas
 pub mod PlanLemmas
 mod ChainLemmas
 mod ChainWalkLemmas
+mod ChainPlanLemmas
