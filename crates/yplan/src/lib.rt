@@ -3,7 +3,6 @@
 #![tactic(auto)]
 
 mod finding;
-mod judging;
 mod levels;
 mod names;
 mod plan;
