@@ -8,4 +8,5 @@ pub mod NameView
 pub mod Named
 pub mod SourceView
 pub mod TableView
+pub mod TypeView
 pub mod WordView

@@ -2,6 +2,7 @@
 #![tactic(auto)]
 
 mod adding;
+mod builtin;
 mod cut;
 mod fault;
 mod form;
@@ -16,6 +17,7 @@ mod span;
 mod table;
 mod word;
 
+pub use builtin::BuiltIn;
 pub use fault::{Broken, CompileCode, least, least_when};
 pub use grammar::statement_fault;
 pub use keyword::Keyword;
