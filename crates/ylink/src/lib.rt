@@ -10,6 +10,7 @@ mod grammar;
 mod keyword;
 mod name;
 mod number;
+mod prefix;
 mod row;
 mod source;
 mod sources;
@@ -25,7 +26,8 @@ pub use name::{
     Name, absolute_path, key_names, leafref_path, name_of, relative_path, unique_paths,
 };
 pub use number::{count, enum_value, fraction_digits, most};
-pub use row::{argument_of, argument_with, first_with};
+pub use prefix::{NodeName, Prefixes};
+pub use row::{argument_of, argument_with, first_with, found_with};
 pub use source::Source;
 pub use sources::Sources;
 pub use span::spans;
