@@ -6,3 +6,5 @@ pub mod SpanLemmas
 pub mod WordLemmas
 pub mod GrammarLemmas
 pub mod KeywordLemmas
+pub mod PrefixLemmas
+pub mod BreakLemmas

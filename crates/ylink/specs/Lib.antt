@@ -6,6 +6,8 @@ pub mod Lengths
 pub mod LinkView
 pub mod NameView
 pub mod Named
+pub mod PrefixView
 pub mod SourceView
 pub mod TableView
+pub mod TypeView
 pub mod WordView

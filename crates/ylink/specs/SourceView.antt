@@ -7,7 +7,8 @@ use Rattle.yspec.specs.linking.Source as spec_source
 use Rattle.yspec.specs.linking.Source.{numbered}
 use Rattle.ytext.specs.View as text
 use Rattle.ypreorder.specs.Layout.{Place, places, laid, seen}
-use Rattle.ypreorder.specs.View.{rows_in}
+use Rattle.ypreorder.specs.View.{rows_in, row_by, label_by}
+use Rattle.ypreorder.specs.declared.nodes.Node.{Node}
 use Rattle.ypreorder.specs.declared.table.Table.{Table}
 use Rattle.ylink.specs.KeywordView.{keyword_view}
 use Rattle.ylink.specs.declared.source.Source.{Source}
@@ -27,3 +28,7 @@ seen_rows t = seen source_view 0 (laid (rows_in t))
 -- how statements that are kept lie below one, from a number on
 abbrev pub listed : Option ℕ → ℕ → ℕ → Forest (spec.Keyword × Statement) → List (Place spec_source.Source)
 listed parent home number statements = places parent number (numbered home number statements)
+
+-- a statement in its row, and what stands below it
+abbrev pub node_view : Node Source → spec_source.Source × Forest spec_source.Source
+node_view s = (label_by source_view s, row_by source_view s.children)

@@ -25,7 +25,7 @@ use crate::table::{Allowed, Count, Rule, rule_of};
 use std::alloc::{AllocError, Global};
 use ytext::{Module, Stmt};
 
-fn broken(code: CompileCode, module: usize, statement: &Stmt) -> Broken
+pub(crate) fn broken(code: CompileCode, module: usize, statement: &Stmt) -> Broken
     ensures { result ≡ record { code = code; «module» = «module»; line = (view statement.now).0.line } }
 {
     Broken {

@@ -2,6 +2,7 @@
 #![tactic(auto)]
 
 mod adding;
+mod builtin;
 mod cut;
 mod fault;
 mod form;
@@ -9,6 +10,7 @@ mod grammar;
 mod keyword;
 mod name;
 mod number;
+mod prefix;
 mod row;
 mod source;
 mod sources;
@@ -16,6 +18,7 @@ mod span;
 mod table;
 mod word;
 
+pub use builtin::BuiltIn;
 pub use fault::{Broken, CompileCode, least, least_when};
 pub use grammar::statement_fault;
 pub use keyword::Keyword;
@@ -23,7 +26,8 @@ pub use name::{
     Name, absolute_path, key_names, leafref_path, name_of, relative_path, unique_paths,
 };
 pub use number::{count, enum_value, fraction_digits, most};
-pub use row::{argument_of, argument_with, first_with};
+pub use prefix::{NodeName, Prefixes};
+pub use row::{argument_of, argument_with, first_with, found_with};
 pub use source::Source;
 pub use sources::Sources;
 pub use span::spans;

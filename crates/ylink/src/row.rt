@@ -4,7 +4,7 @@ ghost use Rattle.std.specs.Prelude.{◌≡◌, option_map};
 ghost use Rattle.yspec.specs.linking.Source as spec;
 ghost use Rattle.ypreorder.specs.View.{row_by, label_by};
 ghost use Rattle.ylink.specs.KeywordView.{keyword_view};
-ghost use Rattle.ylink.specs.SourceView.{source_view};
+ghost use Rattle.ylink.specs.SourceView.{source_view, node_view};
 
 use crate::keyword::Keyword;
 use crate::source::Source;
@@ -43,4 +43,19 @@ pub fn argument_with<'a, 't>(
         Some(statement) => Some(argument_of(statement)),
         None => None,
     }
+}
+
+/// The first statement of a row with a keyword, with what stands below it.
+pub fn found_with<'a, 't>(
+    keyword: Keyword,
+    statements: Nodes<'a, Source<'t>>,
+) -> Option<Node<'a, Source<'t>>>
+    ensures { option_map node_view result ≡ spec.found_with (keyword_view keyword) (row_by source_view statements.entry) }
+{
+    for statement in statements {
+        if keyword.is(statement.label().keyword) {
+            return Some(statement);
+        }
+    }
+    None
 }

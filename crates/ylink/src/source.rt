@@ -10,3 +10,16 @@ pub struct Source<'a> {
     pub statement: &'a Stmt,
     pub home: usize,
 }
+
+impl<'a> Source<'a> {
+    ghost use Rattle.std.specs.Prelude.{◌≡◌, ℕ};
+    ghost use Rattle.yspec.specs.linking.Source.{argument_in};
+    ghost use Rattle.ylink.specs.SourceView.{source_view};
+
+    /// The argument; no text where there is none.
+    pub fn argument(&self) -> &'a str
+        ensures { (number : ℕ) → result.now ≡ argument_in (source_view number self.now) }
+    {
+        self.statement.argument().unwrap_or("")
+    }
+}

@@ -6,7 +6,7 @@ ghost use Rattle.ypreorder.specs.View.{rows_in};
 use crate::adding::add_statement;
 use crate::source::Source;
 use std::alloc::{AllocError, Global};
-use ypreorder::{Nodes, Table};
+use ypreorder::{Nodes, Row, Table};
 use ytext::Module;
 
 /// The statements of a set of modules that a compiler looks at, in preorder: each of the table, but for `extension`.
@@ -20,7 +20,7 @@ impl<'a> Sources<'a> {
     ghost use Rattle.std.specs.Prelude.{◌≡◌, IfOk};
     ghost use Rattle.yspec.specs.linking.Source.{sources_of};
     ghost use Rattle.ytext.specs.View.{modules_view};
-    ghost use Rattle.ypreorder.specs.View.{row_by};
+    ghost use Rattle.ypreorder.specs.View.{row_by, rows_in};
     ghost use Rattle.ylink.specs.SourceView.{source_view};
     ghost use Rattle.ylink.specs.LinkView.{view};
 
@@ -40,5 +40,12 @@ impl<'a> Sources<'a> {
         ensures { row_by source_view result ≡ view self.now }
     {
         self.table.nodes()
+    }
+
+    /// All statements, as they lie in the table.
+    pub(crate) fn rows(&self) -> &[Row<Source<'a>>]
+        ensures { result.now ≡ rows_in self.now.table }
+    {
+        self.table.rows()
     }
 }

@@ -1,8 +1,8 @@
 -- The types that `type` statements mean, and where one breaks a rule of its own (RFC 7950, 7.4 and 9).
 use Rattle.std.specs.Prelude.{ℕ, ℤ, pos, ◌++◌, Bool, true, false, List, [], ◌∷◌, codes, Option, Some, None, find, option_map, option_and_then, unwrap_or, if◌then◌else◌}
-use Rattle.std.specs.List.{list_any, list_all, flat_map}
+use Rattle.std.specs.List.{list_all}
 use Rattle.std.specs.Option.{option_map_or}
-use Rattle.yspec.specs.Forest.{Forest, end, node, row, Family, families}
+use Rattle.yspec.specs.Forest.{Forest, end, node, row}
 use Rattle.yspec.specs.text.Text.{Text, is_text}
 use Rattle.yspec.specs.types.Ranges.{Span}
 use Rattle.yspec.specs.types.Names.{Naming, Assigned, enum_names, bit_names}
@@ -11,7 +11,7 @@ use Rattle.yspec.specs.types.Types.{Integer, int8, int16, int32, int64, uint8, u
 use Rattle.yspec.specs.linking.Keyword.{Keyword}
 use Rattle.yspec.specs.linking.Keyword as word
 use Rattle.yspec.specs.linking.Arguments.{Name, spans_of, leafref_path_of, value_of, count_of, fraction_digits_of}
-use Rattle.yspec.specs.linking.Source.{Source, is_source_of, argument_in, argument_with, first_with}
+use Rattle.yspec.specs.linking.Source.{Source, is_source_of, argument_in, argument_with, found_with}
 use Rattle.yspec.specs.schema.Breaks.{Break, broken}
 
 -- ---- built-in types
@@ -73,11 +73,12 @@ abbrev pub are_in_place : BuiltIn → Forest Source → Bool
 are_in_place type below = list_all (λ s. may_bear type s.keyword) (row below)
 
 -- the restriction that a `range` or a `length` of a row states, with its error-app-tag
+abbrev pub stated_by : (List Span → Option Text → Restriction) → Source × Forest Source → Restriction
+stated_by restriction s =
+    restriction (unwrap_or (spans_of (argument_in s.0)) []) (argument_with word.error_app_tag_word s.1)
+
 abbrev pub stated : Keyword → (List Span → Option Text → Restriction) → Forest Source → Option Restriction
-stated k restriction end = None
-stated k restriction (node s below after) = if is_source_of k s
-    then Some (restriction (unwrap_or (spans_of (argument_in s)) []) (argument_with word.error_app_tag_word below))
-    else stated k restriction after
+stated k restriction below = option_map (stated_by restriction) (found_with k below)
 
 abbrev pub limited : Option Restriction → YangType → Option YangType
 limited None type = Some type
@@ -173,14 +174,15 @@ abbrev pub told : Source → Verdict → List Break
 told s wrong = broken 10 s.home s.statement.line
 told s _ = []
 
--- a `type` below a `type` is a member of a union
-abbrev pub is_type_above : Option (Source × Forest Source) → Bool
-is_type_above above = option_map_or (λ s. is_source_of word.type_word s.0) above false
+abbrev pub type_break : Bool → Source → Forest Source → List Break
+type_break is_member s below = if is_source_of word.type_word s
+    then told s (verdict is_member s below (verdicts true below)) else []
 
-abbrev pub type_break : Family Source → List Break
-type_break f = if is_source_of word.type_word f.label
-    then told f.label (verdict (is_type_above f.above) f.label f.below (verdicts true f.below)) else []
+-- the `type` statements that break a rule of their own; one below a `type` is a member of a union
+abbrev pub type_breaks_in : Bool → Forest Source → List Break
+type_breaks_in is_member end = []
+type_breaks_in is_member (node s below after) = type_breaks_in (is_source_of word.type_word s) below
+    ++ (type_break is_member s below ++ type_breaks_in is_member after)
 
--- the `type` statements that break a rule of their own
 abbrev pub type_breaks : Forest Source → List Break
-type_breaks sources = flat_map type_break (families None sources)
+type_breaks sources = type_breaks_in false sources

@@ -1,0 +1,102 @@
+-- Prefixes of modules one after another, and unknown ones among names.
+use Rattle.std.proofs.Common.{◌≡◌, ℕ, zero, suc, ◌+◌, ◌<◌, ◌≤◌, Bool, true, false, List, [], ◌∷◌, ◌++◌, length, get_or, drop, take, map, Option, Some, None, refl, sym, ap, ◌∙◌, arith}
+use Rattle.std.specs.Prelude.{◌||◌, unwrap_or}
+use Rattle.std.specs.Borrow.{Bor}
+use Rattle.std.specs.List.{list_any, flat_map}
+use Rattle.std.proofs.lemmas.List.{at_drop_more, at_drop_all, append_assoc, append-nil}
+use Rattle.std.proofs.lemmas.List.Folds.{list_any-append}
+use Rattle.yspec.specs.Forest.{Forest, end, node, preorder}
+use Rattle.yspec.specs.text.Text.{Text}
+use Rattle.yspec.specs.linking.Keyword.{prefix_word}
+use Rattle.std.specs.Option.{option_map_or}
+use Rattle.yspec.specs.linking.Arguments.{Name, name_of, key_of, unique_of, leafref_path_of}
+use Rattle.yspec.specs.linking.Prefixes.{own_prefix, names_given}
+use Rattle.yspec.specs.linking.Source.{Source, argument_with}
+use Rattle.ylink.specs.declared.keyword.Keyword.{Keyword}
+use Rattle.ylink.specs.declared.keyword.Keyword.TheVariants as words
+use Rattle.ylink.specs.KeywordView.{keyword_view}
+use Rattle.ylink.specs.PrefixView.{text_at, texts_view, own_prefixes}
+
+-- ---- one of a list, of which what is left is looked at
+
+module _ {A B : Type 0} (see : A → B) (p : B → Bool) where
+  any_at : (xs : List A) (i : ℕ) (d : A) → i < length xs
+      → list_any p (map see (drop i xs)) ≡ (p (see (get_or xs i d)) || list_any p (map see (drop (i + 1) xs)))
+  any_at xs i d within = at_drop_more (λ ys. list_any p (map see ys)) xs i d within
+
+  pub any_here : (xs : List A) (i : ℕ) (d : A) (whole : Bool) → i < length xs → p (see (get_or xs i d)) ≡ true
+      → list_any p (map see (drop i xs)) ≡ whole → true ≡ whole
+  any_here xs i d whole within e so_far =
+      sym (any_at xs i d within ∙ ap (λ b. b || list_any p (map see (drop (i + 1) xs))) e) ∙ so_far
+
+  pub any_later : (xs : List A) (i : ℕ) (d : A) (whole : Bool) → i < length xs → p (see (get_or xs i d)) ≡ false
+      → list_any p (map see (drop i xs)) ≡ whole → list_any p (map see (drop (i + 1) xs)) ≡ whole
+  any_later xs i d whole within e so_far =
+      sym (any_at xs i d within ∙ ap (λ b. b || list_any p (map see (drop (i + 1) xs))) e) ∙ so_far
+
+  pub any_ended : (xs : List A) (i : ℕ) (whole : Bool) → length xs ≤ i → list_any p (map see (drop i xs)) ≡ whole → false ≡ whole
+  any_ended xs i whole ended so_far = sym (at_drop_all (λ ys. list_any p (map see ys)) xs i ended) ∙ so_far
+
+pub any_of_all : {A : Type 0} (p : A → Bool) (xss : List (List A)) → list_any (list_any p) xss ≡ list_any p (flat_map (λ xs. xs) xss)
+any_of_all p [] = refl
+any_of_all p (xs ∷ xss) = ap (λ b. list_any p xs || b) (any_of_all p xss) ∙ sym (list_any-append p xs (flat_map (λ xs. xs) xss))
+
+-- ---- own prefixes
+
+own_at : (modules : Forest Source) (home : ℕ) (texts : List (Bor Text)) → texts_view texts ≡ own_prefixes modules
+    → text_at texts home ≡ own_prefix modules home
+own_at end home [] e = refl
+own_at end home (t ∷ texts) e = absurd cc
+own_at (node s below after) home [] e = absurd cc
+own_at (node s below after) zero (t ∷ texts) e = let same : t.now ≡ own_prefix (node s below after) 0 = cc in same
+own_at (node s below after) (suc home) (t ∷ texts) e = let rest : texts_view texts ≡ own_prefixes after = cc in own_at after home texts rest
+
+pub all_prefixes : (texts : List (Bor Text)) (left modules : Forest Source) → left ≡ end
+    → texts_view texts ++ own_prefixes left ≡ own_prefixes modules → (home : ℕ) → text_at texts home ≡ own_prefix modules home
+all_prefixes texts left modules ended so_far home =
+    own_at modules home texts (sym (ap (λ f. texts_view texts ++ own_prefixes f) ended ∙ append-nil (texts_view texts)) ∙ so_far)
+
+view_push : (texts : List (Bor Text)) (t : Bor Text) → texts_view (texts ++ t ∷ []) ≡ texts_view texts ++ t.now ∷ []
+view_push [] t = refl
+view_push (x ∷ texts) t = ap (λ ts. x.now ∷ ts) (view_push texts t)
+
+pub next_prefix : (texts more : List (Bor Text)) (t : Bor Text) (s : Source) (below after before : Forest Source) (whole : List Text)
+    → before ≡ node s below after → more ≡ texts ++ t ∷ [] → t.now ≡ unwrap_or (argument_with prefix_word below) []
+    → texts_view texts ++ own_prefixes before ≡ whole → texts_view more ++ own_prefixes after ≡ whole
+next_prefix texts more t s below after before whole first pushed is so_far =
+    ap (λ ts. texts_view ts ++ own_prefixes after) pushed
+    ∙ (ap (λ ts. ts ++ own_prefixes after) (view_push texts t)
+    ∙ (append_assoc (texts_view texts) (t.now ∷ []) (own_prefixes after)
+    ∙ (ap (λ x. texts_view texts ++ (x ∷ own_prefixes after)) is
+    ∙ (ap (λ f. texts_view texts ++ own_prefixes f) (sym first) ∙ so_far))))
+
+-- ---- the names in an argument
+
+or_false : (b : Bool) → (b || false) ≡ b
+or_false true = refl
+or_false false = refl
+
+module _ (p : Name → Bool) (k : Keyword) (t : Text) where
+  pub of_type : (n : Name) → k ≡ words.Type → Some n ≡ name_of t → p n ≡ list_any p (names_given (keyword_view k) t)
+  of_type n e some =
+      sym (ap (λ w. list_any p (names_given (keyword_view w) t)) e
+      ∙ (ap (λ o. list_any p (option_map_or (λ x. x ∷ []) o [])) (sym some) ∙ or_false (p n)))
+
+  pub of_no_type : k ≡ words.Type → None ≡ name_of t → false ≡ list_any p (names_given (keyword_view k) t)
+  of_no_type e none =
+      sym (ap (λ w. list_any p (names_given (keyword_view w) t)) e ∙ ap (λ o. list_any p (option_map_or (λ x. x ∷ []) o [])) (sym none))
+
+  pub of_key : (o : Option (List Name)) → k ≡ words.Key → o ≡ key_of t → list_any p (unwrap_or o []) ≡ list_any p (names_given (keyword_view k) t)
+  of_key o e is = ap (λ x. list_any p (unwrap_or x [])) is ∙ sym (ap (λ w. list_any p (names_given (keyword_view w) t)) e)
+
+  pub of_path : (o : Option (List Name)) → k ≡ words.Path → o ≡ leafref_path_of t → list_any p (unwrap_or o []) ≡ list_any p (names_given (keyword_view k) t)
+  of_path o e is = ap (λ x. list_any p (unwrap_or x [])) is ∙ sym (ap (λ w. list_any p (names_given (keyword_view w) t)) e)
+
+  pub of_unique : (paths : List (List Name)) → k ≡ words.Unique → Some paths ≡ unique_of t → list_any (list_any p) paths ≡ list_any p (names_given (keyword_view k) t)
+  of_unique paths e is =
+      any_of_all p paths ∙ (ap (λ x. list_any p (flat_map (λ path. path) (unwrap_or x []))) is
+      ∙ sym (ap (λ w. list_any p (names_given (keyword_view w) t)) e))
+
+  pub of_no_unique : k ≡ words.Unique → None ≡ unique_of t → false ≡ list_any p (names_given (keyword_view k) t)
+  of_no_unique e none =
+      ap (λ x. list_any p (flat_map (λ path. path) (unwrap_or x []))) none ∙ sym (ap (λ w. list_any p (names_given (keyword_view w) t)) e)

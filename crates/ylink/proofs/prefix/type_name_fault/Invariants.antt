@@ -1,0 +1,12 @@
+use Rattle.std.proofs.Common.{◌≡◌, drop, None}
+use Rattle.yspec.specs.schema.Breaks.{least_from}
+use Rattle.yspec.specs.linking.Prefixes.{prefix_break, prefix_breaks, type_name_break, type_name_breaks}
+use Rattle.ypreorder.specs.View.{rows_in}
+use Rattle.ylink.specs.BreakView.{seen}
+use Rattle.ylink.specs.LinkView.{view}
+use Rattle.ylink.proofs.BreakLemmas.{broken_from}
+use Rattle.ylink.proofs.prefix.type_name_fault.Given as goal
+
+abbrev pub invariant-loop-row : goal.invariant-loop-row
+invariant-loop-row l = let rows = rows_in l.sources.table in
+    least_from (seen l.told) (broken_from type_name_break l.row-index (drop l.row-index rows)) ≡ least_from None (broken_from type_name_break 0 rows)

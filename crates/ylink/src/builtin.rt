@@ -1,0 +1,54 @@
+//! The names of the built-in types (RFC 7950, 4.2.4).
+
+ghost use Rattle.std.specs.Prelude.{◌≡◌, option_map};
+ghost use Rattle.yspec.specs.linking.TypeStatements.{built_in_named};
+ghost use Rattle.ylink.specs.TypeView.{built_in_view};
+
+/// A built-in type that is compiled.
+#[derive(Clone, Copy, Debug, PartialEq, Eq)]
+pub enum BuiltIn {
+    Int8,
+    Int16,
+    Int32,
+    Int64,
+    Uint8,
+    Uint16,
+    Uint32,
+    Uint64,
+    Decimal64,
+    String,
+    Boolean,
+    Empty,
+    Enumeration,
+    Bits,
+    Union,
+    Leafref,
+}
+
+impl BuiltIn {
+    /// The built-in type of a name.
+    #[tactic(auto, unfolding(yspec::specs::linking::TypeStatements::built_in_named))]
+    pub fn named(name: &str) -> Option<BuiltIn>
+        ensures { option_map built_in_view result ≡ built_in_named name.now }
+    {
+        Some(match name {
+            "int8" => BuiltIn::Int8,
+            "int16" => BuiltIn::Int16,
+            "int32" => BuiltIn::Int32,
+            "int64" => BuiltIn::Int64,
+            "uint8" => BuiltIn::Uint8,
+            "uint16" => BuiltIn::Uint16,
+            "uint32" => BuiltIn::Uint32,
+            "uint64" => BuiltIn::Uint64,
+            "decimal64" => BuiltIn::Decimal64,
+            "string" => BuiltIn::String,
+            "boolean" => BuiltIn::Boolean,
+            "empty" => BuiltIn::Empty,
+            "enumeration" => BuiltIn::Enumeration,
+            "bits" => BuiltIn::Bits,
+            "union" => BuiltIn::Union,
+            "leafref" => BuiltIn::Leafref,
+            _ => return None,
+        })
+    }
+}
