@@ -211,9 +211,6 @@ names_of (node s below after) = argument_text s ∷ names_of after
 abbrev text_at : List Text → ℕ → Text
 text_at names i = unwrap_or (slice_get names i) []
 
-name_in : SchemaModule → Text
-name_in m = m.name
-
 module_names : (home number : ℕ) (modules : Forest Statement) → breaks_from home modules ≡ [] → map (λ m. m.name) (schema_modules (sources_from home number modules)) ≡ names_of modules
 unfolding sources_from breaks_from
 module_names home number end e = refl
