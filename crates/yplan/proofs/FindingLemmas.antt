@@ -1,13 +1,12 @@
 -- What an index of planned nodes finds after one more.
-use Rattle.std.proofs.Common.{◌≡◌, ℕ, suc, ◌+◌, ◌≤◌, Bool, true, false, cond, ◌&&◌, List, [], ◌∷◌, ◌++◌, length, take, get_or, Option, Some, None, refl, sym, ap, ap₂, ◌∙◌, append_assoc}
+use Rattle.std.proofs.Common.{◌≡◌, ℕ, Bool, true, false, cond, ◌&&◌, List, [], ◌∷◌, ◌++◌, Option, Some, None, refl, sym, ap, ap₂, ◌∙◌}
 use Rattle.std.specs.Prelude.{find, filter, option_map}
-use Rattle.std.proofs.lemmas.List.{append-nil}
 use Rattle.yspec.specs.Forest.{first_of}
 use Rattle.yspec.specs.text.Text.{Text, is_text}
 use Rattle.yspec.specs.linking.Source.{argument_in}
-use Rattle.yspec.specs.linking.Planned.{Planned, same_number, is_called, is_data}
+use Rattle.yspec.specs.linking.Planned.{Planned, same_number, is_called}
 use Rattle.yspec.specs.linking.SchemaNodes.{number_in}
-use Rattle.yindex.specs.Lookup.{held, Puts}
+use Rattle.yindex.specs.Lookup.{Puts}
 use Rattle.yindex.specs.declared.index.Index.{Index}
 use Rattle.yplan.specs.Finding.{Finds}
 

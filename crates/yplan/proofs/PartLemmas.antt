@@ -1,6 +1,6 @@
 -- Parts, one after another, as they come into the table.
-use Rattle.std.proofs.Common.{◌≡◌, ℕ, zero, suc, ◌+◌, ◌≤◌, ◌<◌, Bool, true, false, cond, ◌&&◌, List, [], ◌∷◌, ◌++◌, length, Option, Some, None, refl, sym, ap, ap₂, ◌∙◌, append_assoc, arith, length-append, nat_le, ◌==◌, eqb}
-use Rattle.std.specs.Prelude.{find, option_map}
+use Rattle.std.proofs.Common.{◌≡◌, ℕ, suc, ◌+◌, Bool, true, false, cond, ◌&&◌, List, [], ◌∷◌, ◌++◌, length, Some, refl, sym, ap, ap₂, ◌∙◌, append_assoc, arith, length-append, nat_le}
+use Rattle.std.specs.Prelude.{option_map}
 use Rattle.std.specs.Option.{option_map_or}
 use Rattle.std.proofs.lemmas.Bool.{eqb-true}
 use Rattle.std.proofs.lemmas.List.{append-nil}
@@ -11,7 +11,7 @@ use Rattle.yspec.specs.linking.Source.{first_with, argument_with, argument_in, i
 use Rattle.yspec.specs.linking.Parts.{Part, defines_node, own_of, part_of, parts, as_cases, case_for, within}
 use Rattle.yspec.specs.linking.Planned as plan
 use Rattle.yspec.specs.linking.Planned.{Around, around_below, planned_node, planned, is_said, config_of}
-use Rattle.ypreorder.specs.Layout.{Place, places, laid, opened, closed, seen}
+use Rattle.ypreorder.specs.Layout.{Place, places, laid, opened, closed}
 use Rattle.ypreorder.specs.View.{rows_in, row_by, label_by}
 use Rattle.ylink.specs.SourceView.{source_view}
 use Rattle.ypreorder.specs.declared.table.Table.{Table}

@@ -1,10 +1,8 @@
 -- What is found in a plan, by name and by number.
-use Rattle.std.proofs.Common.{◌≡◌, ◌≢◌, ℕ, zero, suc, ◌+◌, ◌≤◌, Bool, true, false, cond, ◌&&◌, ◌||◌, List, [], ◌∷◌, ◌++◌, length, take, drop, get_or, Option, Some, None, refl, sym, ap, ap₂, ◌∙◌, arith, is_some}
-use Rattle.std.specs.Prelude.{◌==◌, find, filter, option_map, slice_get}
+use Rattle.std.proofs.Common.{◌≡◌, ◌≢◌, ℕ, zero, suc, ◌+◌, ◌≤◌, Bool, true, false, cond, ◌&&◌, ◌||◌, List, [], ◌∷◌, ◌++◌, length, drop, get_or, Option, Some, None, refl, sym, ap, ap₂, ◌∙◌, arith, is_some}
+use Rattle.std.specs.Prelude.{◌==◌, find, option_map, slice_get}
 use Rattle.std.specs.List.{list_any}
 use Rattle.std.proofs.lemmas.Bool.{eq-eqb, ne_eqb}
-use Rattle.std.proofs.lemmas.List.{take-append-drop}
-use Rattle.yspec.specs.Forest.{preorder}
 use Rattle.yspec.specs.text.Text.{Text}
 use Rattle.yspec.specs.schema.Breaks.{Break, least_from, when}
 use Rattle.yspec.proofs.SchemaProofs.LeastLemmas.{least_of_both}

@@ -1,5 +1,5 @@
 -- Planned nodes as the specification's.
-use Rattle.std.specs.Prelude.{ℕ, Bool, true, false, List, Option}
+use Rattle.std.specs.Prelude.{ℕ, Bool, true, false, List}
 use Rattle.yspec.specs.Forest.{Forest}
 use Rattle.yspec.specs.linking.Parts.{Part, part_of, case_for}
 use Rattle.yspec.specs.linking.Keyword as words

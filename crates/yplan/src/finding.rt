@@ -36,7 +36,13 @@ pub(crate) fn index_of_children(
 {
     let mut index = Index::new(alloc);
     for (number, row) in table.rows().iter().enumerate() {
-        hold(alloc, &mut index, row.label.parent, number as u32, &row.label)?;
+        hold(
+            alloc,
+            &mut index,
+            row.label.parent,
+            number as u32,
+            &row.label,
+        )?;
     }
     Ok(index)
 }
@@ -51,7 +57,13 @@ pub(crate) fn index_of_data(
     let mut index = Index::new(alloc);
     for (number, row) in table.rows().iter().enumerate() {
         if row.label.is_data() {
-            hold(alloc, &mut index, row.label.scope, number as u32, &row.label)?;
+            hold(
+                alloc,
+                &mut index,
+                row.label.scope,
+                number as u32,
+                &row.label,
+            )?;
         }
     }
     Ok(index)

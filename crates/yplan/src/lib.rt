@@ -2,12 +2,12 @@
 //! one another, and the rules that they break.
 #![tactic(auto)]
 
+pub mod chain_examples;
+mod chains;
 mod finding;
 mod levels;
 mod names;
 mod plan;
-pub mod chain_examples;
-mod chains;
 mod planned;
 mod planning;
 

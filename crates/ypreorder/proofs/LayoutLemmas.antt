@@ -1,6 +1,6 @@
 -- Rows that lie as a forest does.
 use Rattle.std.proofs.Common.{◌≡◌, ℕ, zero, suc, ◌+◌, ◌≤◌, List, [], ◌∷◌, ◌++◌, length, take, drop, Option, Some, None, refl, sym, ap, ap₂, ◌∙◌, append_assoc, arith, length-append, length-take}
-use Rattle.std.proofs.lemmas.List.{take_at, drop_at, append-nil, length-map}
+use Rattle.std.proofs.lemmas.List.{take_at, drop_at, length-map}
 use Rattle.yspec.specs.Forest.{Forest, node, end, size, join}
 use Rattle.ypreorder.specs.declared.row.Row.{Row}
 use Rattle.ypreorder.specs.Layout.{Place, place_of, places, laid, opened, closed, seen, numbered_by, Shows, forest_of, IsLaidOut}
@@ -117,7 +117,7 @@ module _ {L M : Type 0} (see : ℕ → L → M) where
       let past : k + 1 + length (take r.below (laid rows)) ≡ k + suc (size below) = omega (arith, taken) in (
         ap (seen see (k + 1)) (laid_take r.below rows) ∙ (sym (take_seen r.below (k + 1) (laid rows)) ∙ (ap (take r.below) parts.1 ∙ take_at inner behind r.below (sym inner_is))),
         ap (seen see (k + suc (size below))) (laid_drop r.below rows) ∙ (ap (λ m. seen see m (drop r.below (laid rows))) (sym past)
-        ∙ (sym (drop_seen r.below (k + 1) (laid rows)) ∙ (ap (drop r.below) parts.1 ∙ drop_at inner behind r.below (sym inner_is)))),
+            ∙ (sym (drop_seen r.below (k + 1) (laid rows)) ∙ (ap (drop r.below) parts.1 ∙ drop_at inner behind r.below (sym inner_is)))),
         omega (arith, count, inner_is),
         ap (λ x. x.label) parts.0,
         below_is,
@@ -140,9 +140,9 @@ module _ {L M : Type 0} (see : ℕ → L → M) where
       let split = forest_of-cons r rows in
       let past : k + suc (size (forest_of under)) ≡ k + suc (size below) = omega (arith, inner.2) in (
         ap (numbered_by see k) split
-        ∙ (ap (λ m. node (see k r.label) (numbered_by see (k + 1) (forest_of under)) (numbered_by see m (forest_of behind))) past
-        ∙ (ap (λ x. node x (numbered_by see (k + 1) (forest_of under)) (numbered_by see (k + suc (size below)) (forest_of behind))) parts.3
-        ∙ ap₂ (node l) inner.0 rest.0)),
+            ∙ (ap (λ m. node (see k r.label) (numbered_by see (k + 1) (forest_of under)) (numbered_by see m (forest_of behind))) past
+            ∙ (ap (λ x. node x (numbered_by see (k + 1) (forest_of under)) (numbered_by see (k + suc (size below)) (forest_of behind))) parts.3
+            ∙ ap₂ (node l) inner.0 rest.0)),
         placed parts inner.1 rest.1 past inner.2 ∙ sym (ap (places p k) split),
         ap size split ∙ ap₂ (λ a b. suc (a + b)) inner.2 rest.2,
       )

@@ -1,5 +1,5 @@
 -- The phases of compiling a set of modules: which rule is told, and the schema where none is broken.
-use Rattle.std.specs.Prelude.{◌≡◌, ℕ, ◌++◌, ◌||◌, Bool, true, List, [], ◌∷◌, Option, Some, None, Result, Ok, Err, nat_lt, unwrap_or}
+use Rattle.std.specs.Prelude.{◌≡◌, ◌++◌, ◌||◌, Bool, List, [], ◌∷◌, Result, Ok, Err, nat_lt, unwrap_or}
 use Rattle.std.specs.Option.{option_map_or}
 use Rattle.yspec.specs.Forest.{Forest, end, node, size, levels}
 use Rattle.yspec.specs.text.Statement.{Statement}

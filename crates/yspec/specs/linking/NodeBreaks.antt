@@ -1,18 +1,17 @@
 -- The rules that planned nodes break: C11 to C13, C16 and C17 (RFC 7950, 6.2.1, 7.6 to 7.9, 7.21.1 and 9.9).
-use Rattle.std.specs.Prelude.{ℕ, zero, suc, ◌+◌, ◌++◌, ◌==◌, ◌&&◌, ◌||◌, Bool, true, false, not, List, [], ◌∷◌, map, length, Option, Some, None, is_some, option_map, option_and_then, unwrap_or, if◌then◌else◌, nat_lt}
+use Rattle.std.specs.Prelude.{ℕ, ◌++◌, ◌==◌, ◌&&◌, ◌||◌, Bool, true, false, not, List, [], ◌∷◌, map, Option, Some, None, is_some, option_and_then, unwrap_or, if◌then◌else◌, nat_lt}
 use Rattle.std.specs.List.{list_any, list_all, flat_map}
 use Rattle.std.specs.Option.{option_map_or}
 use Rattle.yspec.specs.Forest.{Forest, end, node, find_below}
 use Rattle.yspec.specs.text.Text.{Text, is_text}
-use Rattle.yspec.specs.types.Types.{YangType, Val}
+use Rattle.yspec.specs.types.Types.{YangType}
 use Rattle.yspec.specs.types.Order.{same_value}
 use Rattle.yspec.specs.types.Values.{value_of_text}
 use Rattle.yspec.specs.linking.Keyword.{Keyword}
 use Rattle.yspec.specs.linking.Keyword as word
-use Rattle.yspec.specs.linking.Source.{Source, argument_in}
+use Rattle.yspec.specs.linking.Source.{argument_in}
 use Rattle.yspec.specs.linking.TypeStatements.{Meant, own, of_target, type_meant}
 use Rattle.yspec.specs.linking.Planned.{Planned, Plan, same_number, nodes_of, node_of, child_called, is_a, is_leaf_or_leaf_list, stated_in, target_meant, type_of, is_on_circle}
-use Rattle.yspec.specs.linking.Prefixes.{NodeName}
 use Rattle.yspec.specs.linking.SchemaNodes.{is_mandatory, least_of, key_names, key_numbers, unique_ways, default_texts, default_case, is_key}
 use Rattle.yspec.specs.schema.Breaks.{Break, broken, when}
 

@@ -1,15 +1,15 @@
 -- The schema nodes that planned ones stand for (RFC 7950, 4.2.2 and 7.5 to 7.9).
-use Rattle.std.specs.Prelude.{ℕ, zero, suc, ◌+◌, ◌==◌, ◌&&◌, Bool, true, false, List, [], ◌∷◌, map, codes, Option, Some, None, is_some, find, filter, option_map, option_and_then, option_to_list, unwrap_or, if◌then◌else◌}
+use Rattle.std.specs.Prelude.{ℕ, ◌==◌, Bool, false, List, [], ◌∷◌, map, Option, Some, None, is_some, option_map, option_and_then, unwrap_or, if◌then◌else◌}
 use Rattle.std.specs.List.{list_any, filter_map, flat_map}
 use Rattle.std.specs.Option.{option_map_or}
 use Rattle.yspec.specs.Forest.{Forest, relabelled}
-use Rattle.yspec.specs.text.Text.{Text, is_text}
-use Rattle.yspec.specs.types.Types.{YangType, Val, string_type}
+use Rattle.yspec.specs.text.Text.{Text}
+use Rattle.yspec.specs.types.Types.{Val, string_type}
 use Rattle.yspec.specs.types.Values.{value_of_text}
 use Rattle.yspec.specs.linking.Keyword.{Keyword}
 use Rattle.yspec.specs.linking.Keyword as word
 use Rattle.yspec.specs.linking.Arguments.{Name, key_of, unique_of, count_of, most_of, status_of}
-use Rattle.yspec.specs.linking.Source.{Source, argument_in, argument_with, all_with, is_source_of}
+use Rattle.yspec.specs.linking.Source.{Source, argument_in, all_with}
 use Rattle.yspec.specs.linking.Prefixes.{NodeName, node_name}
 use Rattle.yspec.specs.linking.Planned.{Planned, Plan, is_said, stated_in, node_of, child_called, way, target_of, type_of}
 use Rattle.yspec.specs.schema.Schema.{SchemaNode, Kind, container, leaf, leaf_list, list, choice, case, LeafType, Absence, allowed, default_used, mandatory, key, Amount, Tuples, LeafPath, Status, current}

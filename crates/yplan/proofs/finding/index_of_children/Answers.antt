@@ -1,4 +1,4 @@
-use Rattle.std.proofs.Common.{◌≡◌, ◌+◌, ◌≤◌, suc, take, length, get_or, arith, refl, sym, ap, ◌∙◌, subst}
+use Rattle.std.proofs.Common.{◌≤◌, suc, take, length, get_or, arith, refl, sym, ap, ◌∙◌, subst}
 use Rattle.std.proofs.lemmas.List.{take_all}
 use Rattle.ypreorder.specs.Layout.{labels_by}
 use Rattle.ypreorder.specs.View.{rows_in}

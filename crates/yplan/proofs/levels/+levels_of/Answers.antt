@@ -1,5 +1,4 @@
-use Rattle.std.proofs.Common.{◌≡◌, ◌≤◌, ap, arith, length}
-use Rattle.yspec.specs.Forest.{levels}
+use Rattle.std.proofs.Common.{arith}
 use Rattle.ypreorder.specs.View.{row_view}
 use Rattle.ypreorder.proofs.RowLemmas.{levels_size, size_forest}
 use Rattle.yplan.proofs.levels.+levels_of.Goals as goal

@@ -1,8 +1,6 @@
-use Rattle.std.proofs.Common.{◌≡◌, ◌+◌, ◌++◌, ◌∷◌, [], ◌≤◌, suc, take, drop, length, get_or, is_some, refl, sym, ap, ap₂, ◌∙◌, subst, arith, None, Some}
+use Rattle.std.proofs.Common.{◌≡◌, ◌+◌, ◌≤◌, suc, take, drop, length, get_or, is_some, refl, sym, ap, ap₂, ◌∙◌, subst, arith, Some}
 use Rattle.std.specs.List.{list_any}
-use Rattle.std.proofs.lemmas.List.{take_all}
 use Rattle.yspec.specs.schema.Breaks.{least_from, when}
-use Rattle.yspec.specs.linking.Source.{argument_in}
 use Rattle.yspec.specs.linking.NodeBreaks.{broken_at, is_like, doubled}
 use Rattle.yindex.specs.Lookup.{held}
 use Rattle.ypreorder.specs.Layout.{labels_by}

@@ -1,10 +1,10 @@
-use Rattle.std.proofs.Common.{rules, ◌≡◌, ◌++◌, ◌≤◌, Bool, true, false, not, cond, Some, length, arith, sym, ap, ap₂, ◌∙◌, refl, OnOk, subst}
+use Rattle.std.proofs.Common.{rules, ◌≡◌, ◌++◌, true, false, cond, length, arith, sym, ap, ap₂, ◌∙◌, refl}
 use Rattle.std.proofs.lemmas.Result.{on_ok_weaker}
-use Rattle.yspec.specs.Forest.{Forest, end, node, size}
+use Rattle.yspec.specs.Forest.{end, node, size}
 use Rattle.yspec.specs.linking.Keyword.{same_keyword, choice_word, case_word}
-use Rattle.yspec.specs.linking.Parts.{Part, defines_node, own_of, part_of, parts, case_for, within, as_cases}
+use Rattle.yspec.specs.linking.Parts.{defines_node, own_of, part_of, parts, case_for, within, as_cases}
 use Rattle.yspec.specs.linking.Planned.{config_of}
-use Rattle.ypreorder.specs.View.{rows_in, row_by, label_by, row_view}
+use Rattle.ypreorder.specs.View.{rows_in, row_by, label_by}
 use Rattle.ypreorder.proofs.RowLemmas.{takes_by, takes_none_by}
 use Rattle.ylink.specs.KeywordView.{keyword_view}
 use Rattle.ylink.specs.SourceView.{source_view}

@@ -1,7 +1,7 @@
-use Rattle.std.proofs.Common.{◌≡◌, ◌++◌, length, refl, sym, ap, ◌∙◌}
+use Rattle.std.proofs.Common.{◌≡◌, ◌++◌, length, sym, ap, ◌∙◌}
 use Rattle.yspec.specs.linking.Parts.{parts, parts_of_modules}
 use Rattle.yspec.specs.linking.Planned.{at_top}
-use Rattle.ypreorder.specs.View.{rows_in, row_by, label_by}
+use Rattle.ypreorder.specs.View.{rows_in, row_by}
 use Rattle.ypreorder.proofs.RowLemmas.{takes_by, takes_none_by}
 use Rattle.ylink.specs.SourceView.{source_view}
 use Rattle.yplan.specs.PlannedView.{seen_rows, listed}

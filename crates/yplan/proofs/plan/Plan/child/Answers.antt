@@ -1,6 +1,6 @@
 use Rattle.std.proofs.Common.{◌∙◌, ap, sym, Some}
-use Rattle.std.specs.Prelude.{◌&&◌, find, filter, option_map}
-use Rattle.yspec.specs.linking.Planned.{same_number, is_called, is_data, nodes_of}
+use Rattle.std.specs.Prelude.{◌&&◌, find, option_map}
+use Rattle.yspec.specs.linking.Planned.{same_number, is_called, nodes_of}
 use Rattle.yspec.specs.linking.SchemaNodes.{number_in}
 use Rattle.yplan.specs.Finding.{parent_in}
 use Rattle.yplan.specs.PlanView.{view}

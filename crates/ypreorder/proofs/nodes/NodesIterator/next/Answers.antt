@@ -1,4 +1,4 @@
-use Rattle.std.proofs.Common.{◌≡◌, rules, refl}
+use Rattle.std.proofs.Common.{rules, refl}
 use Rattle.ypreorder.specs.View.{row_view}
 use Rattle.ypreorder.proofs.RowLemmas.{first_node, numbers_behind, takes_none}
 use Rattle.ypreorder.proofs.nodes.NodesIterator.next.Goals as goal
@@ -13,9 +13,9 @@ returns-clause-steps g c =
     let first = c.in_ok-first.first.now in
     let inner = c.split_at.result.0.now in (
       first_node c.min-below.result c.args.self.now.rows.now rest inner c.split_at.result.1.now first (row_view c.new.result)
-      (search rules) c.min-below.ensures c.split_at.ensures.front c.split_at.ensures.back c.new.ensures.row,
+          (search rules) c.min-below.ensures c.split_at.ensures.front c.split_at.ensures.back c.new.ensures.row,
       refl,
       c.new.ensures.number,
       numbers_behind c.args.self.now.number c.min-below.result rest inner first (row_view c.new.result)
-      c.min-below.ensures c.split_at.ensures.front c.new.ensures.row,
+          c.min-below.ensures c.split_at.ensures.front c.new.ensures.row,
     )

@@ -1,4 +1,4 @@
-use Rattle.std.proofs.Common.{arith, refl, sym, subst, length, ◌<◌, ◌≤◌}
+use Rattle.std.proofs.Common.{arith, refl, subst, ◌≤◌}
 use Rattle.std.specs.Prelude.{vec_len}
 use Rattle.std.proofs.lemmas.Option.{slice_get_read}
 use Rattle.ypreorder.proofs.TableLemmas.{closed_row, closed_past, not_within}
