@@ -1,3 +1,5 @@
 pub mod PartLemmas
 pub mod FindingLemmas
 pub mod PlanLemmas
+pub mod BelowLemmas
+pub mod FactLemmas

@@ -1,3 +1,4 @@
 pub mod PlannedView
 pub mod Finding
 pub mod PlanView
+pub mod FactsView

@@ -2,6 +2,7 @@
 //! one another, and the rules that they break.
 #![tactic(auto)]
 
+mod facts;
 mod finding;
 mod judging;
 mod levels;
@@ -10,6 +11,7 @@ mod plan;
 mod planned;
 mod planning;
 
+pub use facts::Amount;
 pub use names::name_fault;
 pub use plan::Plan;
 pub use planned::Planned;
