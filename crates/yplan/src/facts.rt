@@ -1,12 +1,19 @@
 //! What planned nodes state.
 
-ghost use Rattle.std.specs.Prelude.{◌≡◌};
+ghost use Rattle.std.specs.Prelude.{◌≡◌, map, IfOk};
+ghost use Rattle.yspec.specs.linking.Source.{argument_in, all_with};
+ghost use Rattle.yspec.specs.linking.SchemaNodes as spec;
 ghost use Rattle.yspec.specs.linking.NodeBreaks as breaks;
+ghost use Rattle.ylink.specs.KeywordView.{keyword_view};
+ghost use Rattle.ylink.specs.SourceView.{source_view};
+ghost use Rattle.yplan.specs.PlanView.{view};
 ghost use Rattle.ypreorder.specs.View.{row_by, label_by};
 ghost use Rattle.yplan.specs.PlannedView.{planned_view};
 
+use crate::plan::Plan;
 use crate::planned::Planned;
-use ylink::{Keyword, Status, count, most, status_of};
+use std::alloc::{AllocError, Global};
+use ylink::{Keyword, Source, Status, argument_of, count, most, status_of};
 use ypreorder::{Node, Nodes};
 
 /// How many instances there are at least and at most (RFC 7950, 7.7.5 and 7.7.6).
@@ -21,7 +28,6 @@ impl<'a, 't> Planned<'a, 't> {
     ghost use Rattle.std.specs.Prelude.{◌≡◌, is_some};
     ghost use Rattle.yspec.specs.linking.Keyword.{presence_word};
     ghost use Rattle.yspec.specs.linking.Planned.{stated_in};
-    ghost use Rattle.yspec.specs.linking.SchemaNodes as spec;
     ghost use Rattle.ylink.specs.WordView.{status_view};
     ghost use Rattle.yplan.specs.FactsView.{amount_view};
     ghost use Rattle.yplan.specs.PlannedView.{planned_view};
@@ -110,5 +116,50 @@ fn must_be(node: Node<'_, Planned<'_, '_>>) -> bool
         Keyword::Choice => planned.is_mandatory(),
         Keyword::Container => !planned.has_presence() && has_mandatory(node.children()),
         _ => false,
+    }
+}
+
+/// The arguments of all statements of a row with a keyword, in order.
+fn arguments_with<'t>(
+    alloc: Global,
+    keyword: Keyword,
+    statements: Nodes<'_, Source<'t>>,
+) -> Result<Vec<&'t str>, AllocError>
+    ensures { IfOk result (λ texts. map (λ t. t.now) texts.items ≡ map argument_in (all_with (keyword_view keyword) (row_by source_view statements.entry))) }
+{
+    let mut texts = Vec::new(alloc);
+    for statement in statements {
+        if keyword.is(statement.label().keyword) {
+            texts.push(argument_of(statement))?;
+        }
+    }
+    Ok(texts)
+}
+
+/// The texts of all its defaults, in order (RFC 7950, 7.6.4 and 7.7.4).
+pub fn default_texts<'t>(
+    alloc: Global,
+    planned: &Planned<'_, 't>,
+) -> Result<Vec<&'t str>, AllocError>
+    ensures { (number : _) → IfOk result (λ texts. map (λ t. t.now) texts.items ≡ spec.default_texts (planned_view number planned.now)) }
+{
+    if planned.is_implied {
+        Ok(Vec::new(alloc))
+    } else {
+        arguments_with(alloc, Keyword::Default, planned.source.children())
+    }
+}
+
+/// Whether the default case of a choice isn't there, or is needless, or holds what must be stored (RFC 7950, 7.9.3).
+pub(crate) fn is_wrong_case<'a, 't>(
+    plan: &Plan<'a, 't>,
+    number: u32,
+    planned: &Planned<'a, 't>,
+) -> bool
+    ensures { let p = planned_view number planned.now in result ≡ breaks.is_wrong_case (view plan.now) p (spec.default_case (view plan.now) p) }
+{
+    match plan.default_case(number, planned) {
+        Some(case) => planned.is_mandatory() || has_mandatory(plan.row_below(case)),
+        None => true,
     }
 }
