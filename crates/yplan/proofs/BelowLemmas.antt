@@ -50,7 +50,6 @@ find_below-is test (node l below after) =
 
 -- ---- the same, row by row
 
-
 unfoldable pairs : ℕ → List (Row code.Planned) → List Found
 pairs k [] = []
 pairs k (r ∷ rows) = (planned_view k r.label, numbered_by planned_view (k + 1) (forest_of (take r.below rows))) ∷ pairs (k + 1) rows

@@ -6,10 +6,10 @@ ghost use Rattle.ypreorder.specs.View.{rows_in};
 ghost use Rattle.yplan.specs.Finding.{Finds, list_of, parent_in, scope_in};
 ghost use Rattle.yspec.specs.linking.Planned.{is_data};
 
+use crate::finding::{index_of_children, index_of_data};
 use crate::levels::levels_of;
 use crate::planned::Planned;
 use crate::planning::planned;
-use crate::finding::{index_of_children, index_of_data};
 use std::alloc::{AllocError, Global};
 use yindex::Index;
 use ylink::{Keyword, Sources};
@@ -74,12 +74,7 @@ impl<'a, 't> Plan<'a, 't> {
     }
 
     /// The first data node of a module and a name below a data node, or at the top, choices and cases passed through.
-    pub fn data_child(
-        &self,
-        scope: Option<u32>,
-        module: Option<usize>,
-        name: &str,
-    ) -> Option<u32>
+    pub fn data_child(&self, scope: Option<u32>, module: Option<usize>, name: &str) -> Option<u32>
         ensures { result ≡ option_map number_in (spec.data_child_called (view self.now) scope (record { module_number = «module»; name = name.now })) }
     {
         match module {
