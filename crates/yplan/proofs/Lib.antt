@@ -4,3 +4,5 @@ pub mod PlanLemmas
 mod ChainLemmas
 mod ChainWalkLemmas
 mod ChainPlanLemmas
+pub mod BelowLemmas
+pub mod FactLemmas

@@ -69,7 +69,7 @@ defines_by_number status_word = refl
 defines_by_number key_word = refl
 defines_by_number unique_word = refl
 
-defines_same : (k j : Keyword) → same_keyword k j ≡ true → defines_node k ≡ defines_node j
+pub defines_same : (k j : Keyword) → same_keyword k j ≡ true → defines_node k ≡ defines_node j
 defines_same k j same =
     let numbers : keyword_number k ≡ keyword_number j = eqb-true (keyword_number k) (keyword_number j) same in
     defines_by_number k ∙ (ap (λ n. nat_le 15 n && nat_le n 20) numbers ∙ sym (defines_by_number j))

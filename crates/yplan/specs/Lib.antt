@@ -4,3 +4,4 @@ pub mod PlanView
 pub mod Chains
 pub mod ChainWalks
 pub mod ChainSamples
+pub mod FactsView

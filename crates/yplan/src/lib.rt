@@ -4,6 +4,7 @@
 
 pub mod chain_examples;
 mod chains;
+mod facts;
 mod finding;
 mod levels;
 mod names;
@@ -11,6 +12,7 @@ mod plan;
 mod planned;
 mod planning;
 
+pub use facts::{Amount, default_texts};
 pub use names::name_fault;
 pub use plan::Plan;
 pub use planned::Planned;

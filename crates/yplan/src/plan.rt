@@ -12,8 +12,8 @@ use crate::planned::Planned;
 use crate::planning::planned;
 use std::alloc::{AllocError, Global};
 use yindex::Index;
-use ylink::Sources;
-use ypreorder::{Row, Table};
+use ylink::{Keyword, Sources};
+use ypreorder::{Nodes, Row, Table};
 
 /// The schema nodes that a set of modules defines, in order of definition, and how they are found by name.
 #[derive(Drop)]
@@ -33,9 +33,10 @@ impl<'a, 't> Plan<'a, 't> {
     ghost use Rattle.yspec.specs.linking.Planned as spec;
     ghost use Rattle.ylink.specs.LinkView as link;
     ghost use Rattle.yspec.specs.Forest.{size, levels};
-    ghost use Rattle.yspec.specs.linking.NodeBreaks.{is_config_above};
-    ghost use Rattle.yspec.specs.linking.SchemaNodes.{number_in};
+    ghost use Rattle.yspec.specs.linking.NodeBreaks.{is_config_above, row_below};
+    ghost use Rattle.yspec.specs.linking.SchemaNodes.{number_in, default_case};
     ghost use Rattle.ypreorder.specs.Layout.{labels_by};
+    ghost use Rattle.ypreorder.specs.View.{row_by};
     ghost use Rattle.yplan.specs.PlannedView.{planned_view};
     ghost use Rattle.yplan.specs.PlanView.{view};
 
@@ -104,6 +105,31 @@ impl<'a, 't> Plan<'a, 't> {
         ensures { result ≡ levels (view self.now).nodes }
     {
         levels_of(self.table.nodes())
+    }
+
+    /// The case of a choice that is its default, by its number (RFC 7950, 7.9.3).
+    pub fn default_case(&self, number: u32, planned: &Planned<'a, 't>) -> Option<u32>
+        ensures { result ≡ option_map number_in (default_case (view self.now) (planned_view number planned.now)) }
+    {
+        match planned.stated(Keyword::Default) {
+            Some(name) => self.child(Some(number), Some(planned.owner()), name),
+            None => None,
+        }
+    }
+
+    /// The nodes right below one; none below a number that no node has.
+    pub(crate) fn row_below(&self, number: u32) -> Nodes<'_, Planned<'a, 't>>
+        ensures { row_by planned_view result ≡ row_below (view self.now) number }
+    {
+        let rows = self.table.rows();
+        let (_, from) = rows.split_at((number as usize).min(rows.len()));
+        match from.split_first() {
+            Some((first, rest)) => {
+                let (below, _) = rest.split_at(first.below.min(rest.len()));
+                Nodes::new(below, number + 1)
+            }
+            None => Nodes::new(from, 0),
+        }
     }
 
     /// Whether the node above one is configuration; so is what stands above the top nodes.

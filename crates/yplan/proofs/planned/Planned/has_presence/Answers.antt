@@ -1,0 +1,6 @@
+use Rattle.std.proofs.Common.{ap, ◌∙◌, is_some}
+use Rattle.yplan.proofs.FactLemmas.{is_some_map}
+use Rattle.yplan.proofs.planned.Planned.has_presence.Goals as goal
+
+pub returns : goal.returns
+returns c = λ number. c.is_some.ensures ∙ (is_some_map (λ t. t.now) c.stated.result ∙ ap is_some (c.stated.ensures number))

@@ -1,0 +1,165 @@
+//! What planned nodes state.
+
+ghost use Rattle.std.specs.Prelude.{◌≡◌, map, IfOk};
+ghost use Rattle.yspec.specs.linking.Source.{argument_in, all_with};
+ghost use Rattle.yspec.specs.linking.SchemaNodes as spec;
+ghost use Rattle.yspec.specs.linking.NodeBreaks as breaks;
+ghost use Rattle.ylink.specs.KeywordView.{keyword_view};
+ghost use Rattle.ylink.specs.SourceView.{source_view};
+ghost use Rattle.yplan.specs.PlanView.{view};
+ghost use Rattle.ypreorder.specs.View.{row_by, label_by};
+ghost use Rattle.yplan.specs.PlannedView.{planned_view};
+
+use crate::plan::Plan;
+use crate::planned::Planned;
+use std::alloc::{AllocError, Global};
+use ylink::{Keyword, Source, Status, argument_of, count, most, status_of};
+use ypreorder::{Node, Nodes};
+
+/// How many instances there are at least and at most (RFC 7950, 7.7.5 and 7.7.6).
+#[derive(Clone, Copy, Debug, PartialEq, Eq)]
+pub struct Amount {
+    pub least: u32,
+    /// None where it is unbounded.
+    pub most: Option<u32>,
+}
+
+impl<'a, 't> Planned<'a, 't> {
+    ghost use Rattle.std.specs.Prelude.{◌≡◌, is_some};
+    ghost use Rattle.yspec.specs.linking.Keyword.{presence_word};
+    ghost use Rattle.yspec.specs.linking.Planned.{stated_in};
+    ghost use Rattle.ylink.specs.WordView.{status_view};
+    ghost use Rattle.yplan.specs.FactsView.{amount_view};
+    ghost use Rattle.yplan.specs.PlannedView.{planned_view};
+
+    /// Whether it says that it is mandatory (RFC 7950, 7.6.5 and 7.9.4).
+    pub fn is_mandatory(&self) -> bool
+        ensures { (number : _) → result ≡ spec.is_mandatory (planned_view number self.now) }
+    {
+        match self.stated(Keyword::Mandatory) {
+            Some(text) => text == "true",
+            None => false,
+        }
+    }
+
+    /// How many instances there are at least.
+    pub fn least(&self) -> u32
+        ensures { (number : _) → result ≡ spec.least_of (planned_view number self.now) }
+    {
+        match self.stated(Keyword::MinElements) {
+            Some(text) => count(text).unwrap_or(0),
+            None => 0,
+        }
+    }
+
+    /// How many instances there are at most.
+    fn most(&self) -> Option<u32>
+        ensures { (number : _) → result ≡ (spec.amount_of (planned_view number self.now)).most }
+    {
+        match self.stated(Keyword::MaxElements) {
+            Some(text) => most(text).unwrap_or(None),
+            None => None,
+        }
+    }
+
+    /// How many instances there are.
+    pub fn amount(&self) -> Amount
+        ensures { (number : _) → amount_view result ≡ spec.amount_of (planned_view number self.now) }
+    {
+        Amount {
+            least: self.least(),
+            most: self.most(),
+        }
+    }
+
+    /// How well it stands (RFC 7950, 7.21.2).
+    pub fn status(&self) -> Status
+        ensures { (number : _) → status_view result ≡ spec.status_in (planned_view number self.now) }
+    {
+        match self.stated(Keyword::Status) {
+            Some(text) => status_of(text).unwrap_or(Status::Current),
+            None => Status::Current,
+        }
+    }
+
+    /// Whether a container says that its presence means something (RFC 7950, 7.5.5).
+    pub fn has_presence(&self) -> bool
+        ensures { (number : _) → result ≡ is_some (stated_in presence_word (planned_view number self.now)) }
+    {
+        self.stated(Keyword::Presence).is_some()
+    }
+}
+
+/// Whether a row has a node that must be stored.
+#[cycle(mandatory)]
+pub(crate) fn has_mandatory(nodes: Nodes<'_, Planned<'_, '_>>) -> bool
+    ensures { result ≡ breaks.has_mandatory (row_by planned_view nodes.entry) }
+{
+    for node in nodes {
+        if must_be(node) {
+            return true;
+        }
+    }
+    false
+}
+
+/// Whether a node must be stored where the one above it is; a case needn't (RFC 7950, 3).
+#[cycle(mandatory)]
+fn must_be(node: Node<'_, Planned<'_, '_>>) -> bool
+    ensures { result ≡ breaks.must_be (label_by planned_view node.entry) (breaks.has_mandatory (row_by planned_view node.entry.children)) }
+{
+    let planned = node.label();
+    match planned.keyword() {
+        Keyword::Leaf => planned.is_mandatory(),
+        Keyword::LeafList => planned.least() > 0,
+        Keyword::List => planned.least() > 0,
+        Keyword::Choice => planned.is_mandatory(),
+        Keyword::Container => !planned.has_presence() && has_mandatory(node.children()),
+        _ => false,
+    }
+}
+
+/// The arguments of all statements of a row with a keyword, in order.
+fn arguments_with<'t>(
+    alloc: Global,
+    keyword: Keyword,
+    statements: Nodes<'_, Source<'t>>,
+) -> Result<Vec<&'t str>, AllocError>
+    ensures { IfOk result (λ texts. map (λ t. t.now) texts.items ≡ map argument_in (all_with (keyword_view keyword) (row_by source_view statements.entry))) }
+{
+    let mut texts = Vec::new(alloc);
+    for statement in statements {
+        if keyword.is(statement.label().keyword) {
+            texts.push(argument_of(statement))?;
+        }
+    }
+    Ok(texts)
+}
+
+/// The texts of all its defaults, in order (RFC 7950, 7.6.4 and 7.7.4).
+pub fn default_texts<'t>(
+    alloc: Global,
+    planned: &Planned<'_, 't>,
+) -> Result<Vec<&'t str>, AllocError>
+    ensures { (number : _) → IfOk result (λ texts. map (λ t. t.now) texts.items ≡ spec.default_texts (planned_view number planned.now)) }
+{
+    if planned.is_implied {
+        Ok(Vec::new(alloc))
+    } else {
+        arguments_with(alloc, Keyword::Default, planned.source.children())
+    }
+}
+
+/// Whether the default case of a choice isn't there, or is needless, or holds what must be stored (RFC 7950, 7.9.3).
+pub(crate) fn is_wrong_case<'a, 't>(
+    plan: &Plan<'a, 't>,
+    number: u32,
+    planned: &Planned<'a, 't>,
+) -> bool
+    ensures { let p = planned_view number planned.now in result ≡ breaks.is_wrong_case (view plan.now) p (spec.default_case (view plan.now) p) }
+{
+    match plan.default_case(number, planned) {
+        Some(case) => planned.is_mandatory() || has_mandatory(plan.row_below(case)),
+        None => true,
+    }
+}
