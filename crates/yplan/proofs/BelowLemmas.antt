@@ -9,7 +9,7 @@ use Rattle.yspec.specs.linking.Planned.{Planned}
 use Rattle.ypreorder.specs.Layout.{Place, places, laid, forest_of, numbered_by, seen, IsLaidOut}
 use Rattle.ypreorder.specs.declared.row.Row.{Row}
 use Rattle.ypreorder.proofs.RowLemmas.{forest_of-cons, no_node, size_forest}
-use Rattle.ypreorder.proofs.LayoutLemmas.{Parts, parts_of}
+use Rattle.ypreorder.proofs.LayoutLemmas.{parts_of}
 use Rattle.yplan.specs.PlannedView.{planned_view}
 use Rattle.yplan.specs.declared.planned.Planned as code
 

@@ -1,11 +1,11 @@
-use Rattle.std.proofs.Common.{◌≡◌, Bool, true, false, not, ◌&&◌, ap, ap₂, sym, ◌∙◌, is_some}
+use Rattle.std.proofs.Common.{◌≡◌, true, false, not, ◌&&◌, ap, ap₂, sym, ◌∙◌, is_some}
 use Rattle.std.specs.Prelude.{nat_lt}
 use Rattle.yspec.specs.linking.Keyword.{leaf_word, leaf_list_word, list_word, choice_word, container_word, presence_word}
 use Rattle.yspec.specs.linking.Planned.{stated_in}
 use Rattle.yspec.specs.linking.NodeBreaks.{has_mandatory, must_be}
-use Rattle.ypreorder.specs.View.{row_by, label_by}
+use Rattle.ypreorder.specs.View.{row_by}
 use Rattle.ylink.specs.KeywordView.{keyword_view}
-use Rattle.yplan.specs.PlannedView.{part_at, planned_view}
+use Rattle.yplan.specs.PlannedView.{planned_view}
 use Rattle.yplan.proofs.FactLemmas.{must_as}
 use Rattle.yplan.proofs.facts.+mandatory.Goals as goal
 

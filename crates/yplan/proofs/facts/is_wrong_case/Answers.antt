@@ -1,4 +1,4 @@
-use Rattle.std.proofs.Common.{◌≡◌, true, ◌||◌, Some, ap, ap₂, sym, ◌∙◌}
+use Rattle.std.proofs.Common.{◌≡◌, true, ◌||◌, ap, sym, ◌∙◌}
 use Rattle.yspec.specs.linking.SchemaNodes.{default_case}
 use Rattle.yspec.specs.linking.SchemaNodes as nodes
 use Rattle.yspec.specs.linking.NodeBreaks.{has_mandatory, row_below}
