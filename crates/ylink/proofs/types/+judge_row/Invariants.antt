@@ -12,10 +12,10 @@ use Rattle.ylink.proofs.types.+judge_row.Given as goal
 abbrev pub decreases-judge_row : goal.decreases-judge_row
 decreases-judge_row l = size (row_view l.statements)
 
-abbrev pub invariant-judge_row-loop-statement : goal.invariant-judge_row-loop-statement
-invariant-judge_row-loop-statement l = record {
-  more : (goal.iterator-judge_row-loop-statement).can_next l.statement-iterator;
-  ends : (goal.iterator-judge_row-loop-statement).is_finite l.statement-iterator;
+abbrev pub invariant-loop-statement : goal.invariant-loop-statement
+invariant-loop-statement l = record {
+  more : (goal.iterator-loop-statement).can_next l.statement-iterator;
+  ends : (goal.iterator-loop-statement).is_finite l.statement-iterator;
   smaller : size (row_view l.statement-iterator) ≤ size (row_view l.fn.statements);
   verdicts : map verdict_view l.verdicts.items ++ verdicts l.is_member (row_by source_view l.statement-iterator)
       ≡ verdicts l.is_member (row_by source_view l.fn.statements);
