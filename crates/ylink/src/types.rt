@@ -303,10 +303,7 @@ pub fn type_meant<'t>(
 fn first_meant<'t>(verdicts: Vec<Verdict<'t>>) -> Option<Meant<'t>>
     ensures { option_map meant_view result ≡ spec.first_meant (map verdict_view verdicts.entry.items) }
 {
-    for verdict in verdicts {
-        return verdict.meaning();
-    }
-    None
+    verdicts.into_iter().next()?.meaning()
 }
 
 /// The least of the `type` statements that break a rule of their own, by module and line.
