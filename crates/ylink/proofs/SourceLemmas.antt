@@ -10,7 +10,7 @@ use Rattle.ytext.specs.View.{view, row_view, modules_view}
 use Rattle.ytext.specs.declared.statement.Stmt.{Stmt}
 use Rattle.ytext.specs.declared.statement.Module.{Module}
 use Rattle.ytext.proofs.ViewLemmas.{row_view_at}
-use Rattle.ypreorder.specs.Layout.{Place, places, laid, opened, closed, seen}
+use Rattle.ypreorder.specs.Layout.{Place, places, laid, opened, closed}
 use Rattle.ypreorder.specs.View.{rows_in}
 use Rattle.ypreorder.specs.declared.table.Table.{Table}
 use Rattle.ypreorder.proofs.LayoutLemmas.{length-places, places-join, length-laid, length-seen, grown}

@@ -205,7 +205,11 @@ fn judge_alone(
     let outside = is_type_outside(keyword, statement);
     let told = least_when(outside, told, broken(CompileCode::C1, module, statement));
     let unversioned = is_unversioned(keyword, statement);
-    let told = least_when(unversioned, told, broken(CompileCode::C4, module, statement));
+    let told = least_when(
+        unversioned,
+        told,
+        broken(CompileCode::C4, module, statement),
+    );
     let miscounted = is_miscounted(alloc, rule.substatements, statement)?;
     Ok(least_when(miscounted, told, broken(CompileCode::C2, module, statement)))
 }

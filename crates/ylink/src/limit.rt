@@ -30,10 +30,7 @@ fn app_tag(alloc: Global, below: Nodes<'_, Source<'_>>) -> Result<Option<String>
     }
 }
 
-fn spans_stated(
-    alloc: Global,
-    statement: Node<'_, Source<'_>>,
-) -> Result<Vec<Span>, AllocError>
+fn spans_stated(alloc: Global, statement: Node<'_, Source<'_>>) -> Result<Vec<Span>, AllocError>
     ensures { IfOk result (λ parts. parts.items ≡ unwrap_or (spans_of (sources.argument_in (label_by source_view statement.entry))) []) }
 {
     match spans(alloc, argument_of(statement))? {

@@ -87,10 +87,7 @@ pub(crate) fn enumeration(
 }
 
 /// The bits that a row gives.
-pub(crate) fn bits(
-    alloc: Global,
-    below: Nodes<'_, Source<'_>>,
-) -> Result<Option<YType>, AllocError>
+pub(crate) fn bits(alloc: Global, below: Nodes<'_, Source<'_>>) -> Result<Option<YType>, AllocError>
     ensures { IfOk result (λ type. type ≡ spec.of_names bits_base names.bit_names
         (spec.namings word.bit_word spec.position_stated (row_by source_view below.entry))) }
 {

@@ -181,7 +181,11 @@ fn judge_prefixes(
 {
     let (home, keyword) = (source.home, source.keyword);
     let unknown = has_unknown_prefix(alloc, prefixes, home, keyword, source.argument())?;
-    Ok(least_when(unknown, so_far, broken(CompileCode::C6, home, source.statement)))
+    Ok(least_when(
+        unknown,
+        so_far,
+        broken(CompileCode::C6, home, source.statement),
+    ))
 }
 
 /// The least of the prefixes that name nothing, by module and line.
@@ -207,7 +211,11 @@ fn judge_type_name(source: &Source<'_>, so_far: Option<Broken>) -> Option<Broken
     ensures { (number : ℕ) → seen result ≡ least_from (seen so_far) (spec.type_name_break (source_view number source.now)) }
 {
     let missing = is_not_found(source.keyword, source.argument());
-    least_when(missing, so_far, broken(CompileCode::C8, source.home, source.statement))
+    least_when(
+        missing,
+        so_far,
+        broken(CompileCode::C8, source.home, source.statement),
+    )
 }
 
 /// The least of the types that aren't found, by module and line.

@@ -33,10 +33,7 @@ pub fn argument_of<'a, 't>(statement: Node<'a, Source<'t>>) -> &'t str
 }
 
 /// The argument of the first statement of a row with a keyword.
-pub fn argument_with<'a, 't>(
-    keyword: Keyword,
-    statements: Nodes<'a, Source<'t>>,
-) -> Option<&'t str>
+pub fn argument_with<'a, 't>(keyword: Keyword, statements: Nodes<'a, Source<'t>>) -> Option<&'t str>
     ensures { option_map (λ text. text.now) result ≡ spec.argument_with (keyword_view keyword) (row_by source_view statements.entry) }
 {
     match first_with(keyword, statements) {

@@ -183,10 +183,7 @@ fn leafref_verdict<'t>(
 }
 
 // The types of members, where each has one.
-fn member_types(
-    alloc: Global,
-    members: Vec<Verdict<'_>>,
-) -> Result<Option<Vec<YType>>, AllocError>
+fn member_types(alloc: Global, members: Vec<Verdict<'_>>) -> Result<Option<Vec<YType>>, AllocError>
     ensures { IfOk result (λ types. option_map (λ t. t.items) types ≡ spec.member_types (map verdict_view members.entry.items)) }
 {
     let mut types = Vec::new(alloc);
@@ -199,10 +196,7 @@ fn member_types(
     Ok(Some(types))
 }
 
-fn union_verdict<'t>(
-    alloc: Global,
-    members: Vec<Verdict<'t>>,
-) -> Result<Verdict<'t>, AllocError>
+fn union_verdict<'t>(alloc: Global, members: Vec<Verdict<'t>>) -> Result<Verdict<'t>, AllocError>
     ensures { IfOk result (λ verdict. verdict_view verdict ≡ spec.union_verdict (map verdict_view members.entry.items)) }
 {
     if members.is_empty() {
@@ -307,10 +301,7 @@ fn first_meant<'t>(verdicts: Vec<Verdict<'t>>) -> Option<Meant<'t>>
 }
 
 /// The least of the `type` statements that break a rule of their own, by module and line.
-pub fn type_fault(
-    alloc: Global,
-    sources: &Sources<'_>,
-) -> Result<Option<Broken>, AllocError>
+pub fn type_fault(alloc: Global, sources: &Sources<'_>) -> Result<Option<Broken>, AllocError>
     ensures { IfOk result (λ told. seen told ≡ least_from None (spec.type_breaks (view sources.now))) }
 {
     Ok(judge_row(alloc, false, sources.modules(), None)?.told)

@@ -1,15 +1,12 @@
-use Rattle.std.proofs.Common.{rules, ◌≡◌, ◌++◌, ◌+◌, Some, None, length, arith, sym, ap, ap₂, ◌∙◌, refl}
+use Rattle.std.proofs.Common.{rules, ◌≡◌, ◌++◌, Some, None, length, arith, sym, ap, ◌∙◌, refl}
 use Rattle.std.proofs.lemmas.List.{append-nil}
-use Rattle.std.proofs.lemmas.Result.{on_ok_weaker}
-use Rattle.yspec.specs.Forest.{end, node, size}
-use Rattle.yspec.specs.linking.Source.{kept, kept_keyword, numbered}
-use Rattle.ytext.specs.View.{view, row_view}
-use Rattle.ypreorder.specs.Layout.{places, laid}
+use Rattle.yspec.specs.Forest.{end, node}
+use Rattle.yspec.specs.linking.Source.{kept, kept_keyword}
+use Rattle.ytext.specs.View.{view}
 use Rattle.ypreorder.specs.View.{rows_in}
-use Rattle.ypreorder.proofs.LayoutLemmas.{grown}
 use Rattle.ylink.specs.KeywordView.{keyword_view}
-use Rattle.ylink.specs.SourceView.{source_view, seen_rows, listed}
-use Rattle.ylink.proofs.SourceLemmas.{added, kept-none, kept-some, listed-one, listed-none, size-numbered, next_statement, all_statements}
+use Rattle.ylink.specs.SourceView.{seen_rows, listed}
+use Rattle.ylink.proofs.SourceLemmas.{added, kept-none, kept-some, listed-none, next_statement, all_statements}
 use Rattle.ylink.proofs.adding.+statements.Goals as goal
 
 pub add_statement-returns-in_default : goal.add_statement-returns-in_default

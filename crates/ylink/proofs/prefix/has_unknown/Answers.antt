@@ -1,4 +1,4 @@
-use Rattle.std.proofs.Common.{sym, ◌∙◌, arith, rules}
+use Rattle.std.proofs.Common.{sym, ◌∙◌, arith}
 use Rattle.yspec.specs.linking.Prefixes.{is_unknown_prefix}
 use Rattle.ylink.specs.NameView.{name_view}
 use Rattle.ylink.proofs.PrefixLemmas.{any_here, any_later, any_ended}

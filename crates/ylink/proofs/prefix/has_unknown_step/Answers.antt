@@ -1,4 +1,4 @@
-use Rattle.std.proofs.Common.{sym, ap, ◌∙◌, arith, rules}
+use Rattle.std.proofs.Common.{sym, ap, ◌∙◌, arith}
 use Rattle.std.specs.List.{list_any}
 use Rattle.yspec.specs.linking.Prefixes.{is_unknown_prefix}
 use Rattle.ylink.specs.NameView.{names_view}

@@ -1,6 +1,6 @@
 use Rattle.std.proofs.Common.{◌≡◌, drop, None}
 use Rattle.yspec.specs.schema.Breaks.{least_from}
-use Rattle.yspec.specs.linking.Prefixes.{prefix_break, prefix_breaks, type_name_break, type_name_breaks}
+use Rattle.yspec.specs.linking.Prefixes.{prefix_break}
 use Rattle.ypreorder.specs.View.{rows_in}
 use Rattle.ylink.specs.BreakView.{seen}
 use Rattle.ylink.specs.LinkView.{view}

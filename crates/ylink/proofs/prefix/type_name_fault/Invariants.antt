@@ -1,9 +1,8 @@
 use Rattle.std.proofs.Common.{◌≡◌, drop, None}
 use Rattle.yspec.specs.schema.Breaks.{least_from}
-use Rattle.yspec.specs.linking.Prefixes.{prefix_break, prefix_breaks, type_name_break, type_name_breaks}
+use Rattle.yspec.specs.linking.Prefixes.{type_name_break}
 use Rattle.ypreorder.specs.View.{rows_in}
 use Rattle.ylink.specs.BreakView.{seen}
-use Rattle.ylink.specs.LinkView.{view}
 use Rattle.ylink.proofs.BreakLemmas.{broken_from}
 use Rattle.ylink.proofs.prefix.type_name_fault.Given as goal
 

@@ -1,4 +1,4 @@
-use Rattle.std.proofs.Common.{◌≡◌, arith, ◌≤◌, ◌∙◌, rules, None}
+use Rattle.std.proofs.Common.{arith}
 use Rattle.yspec.specs.linking.Source.{sources_of}
 use Rattle.ytext.specs.View.{modules_view}
 use Rattle.ypreorder.specs.View.{rows_in}
@@ -13,9 +13,11 @@ loop-home-preserved c =
     (omega arith) c.index-modules-home.is c.in_ok-add_statement.ensures c.loop-home.invariant
 
 pub invariant_of-result : goal.invariant_of-result
-invariant_of-result c = record { laid_out =
-    (shown source_view (sources_of (modules_view c.args.modules.now)) (rows_in c.loop-home.table)
-    (all_modules c.args.modules.now c.loop-home.home c.loop-home.table _ (omega arith) c.loop-home.invariant)).1 }
+invariant_of-result c = record {
+  laid_out =
+      (shown source_view (sources_of (modules_view c.args.modules.now)) (rows_in c.loop-home.table)
+      (all_modules c.args.modules.now c.loop-home.home c.loop-home.table _ (omega arith) c.loop-home.invariant)).1;
+}
 
 pub returns : goal.returns
 returns c =
