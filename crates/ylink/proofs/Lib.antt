@@ -8,3 +8,4 @@ pub mod GrammarLemmas
 pub mod KeywordLemmas
 pub mod PrefixLemmas
 pub mod BreakLemmas
+pub mod TypeLemmas

@@ -1,8 +1,14 @@
 -- Built-in types, and what `type` statements mean, as the specification's.
+use Rattle.std.specs.Prelude.{Bool, true, false}
 use Rattle.yspec.specs.types.Types.{int8, int16, int32, int64, uint8, uint16, uint32, uint64}
 use Rattle.yspec.specs.linking.TypeStatements as spec
 use Rattle.ylink.specs.declared.builtin.BuiltIn.{BuiltIn}
 use Rattle.ylink.specs.declared.builtin.BuiltIn.TheVariants as types
+use Rattle.ylink.specs.declared.types.Meant.{Meant}
+use Rattle.ylink.specs.declared.types.Meant.TheVariants as meants
+use Rattle.ylink.specs.declared.types.Verdict.{Verdict}
+use Rattle.ylink.specs.declared.types.Verdict.TheVariants as verdicts
+use Rattle.ylink.specs.NameView.{names_view}
 
 abbrev pub built_in_view : BuiltIn → spec.BuiltIn
 built_in_view types.Int8 = spec.integer int8
@@ -21,3 +27,17 @@ built_in_view types.Enumeration = spec.enumeration
 built_in_view types.Bits = spec.bits
 built_in_view types.Union = spec.union
 built_in_view types.Leafref = spec.leafref
+
+abbrev pub meant_view : Meant → spec.Meant
+meant_view (meants.Own type) = spec.own type
+meant_view (meants.OfTarget home steps required) = spec.of_target home (names_view steps.items) required
+
+abbrev pub verdict_view : Verdict → spec.Verdict
+verdict_view (verdicts.Means meant) = spec.means (meant_view meant)
+verdict_view verdicts.Wrong = spec.wrong
+verdict_view verdicts.Unjudged = spec.unjudged
+
+abbrev pub is_wrong : spec.Verdict → Bool
+is_wrong (spec.means meant) = false
+is_wrong spec.wrong = true
+is_wrong spec.unjudged = false

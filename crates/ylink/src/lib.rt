@@ -8,7 +8,9 @@ mod fault;
 mod form;
 mod grammar;
 mod keyword;
+mod limit;
 mod name;
+mod naming;
 mod number;
 mod prefix;
 mod row;
@@ -16,6 +18,7 @@ mod source;
 mod sources;
 mod span;
 mod table;
+mod types;
 mod word;
 
 pub use builtin::BuiltIn;
@@ -26,9 +29,10 @@ pub use name::{
     Name, absolute_path, key_names, leafref_path, name_of, relative_path, unique_paths,
 };
 pub use number::{count, enum_value, fraction_digits, most};
-pub use prefix::{NodeName, Prefixes};
+pub use prefix::{NodeName, Prefixes, prefix_fault, type_name_fault};
 pub use row::{argument_of, argument_with, first_with, found_with};
 pub use source::Source;
 pub use sources::Sources;
 pub use span::spans;
+pub use types::{Meant, Verdict, type_fault, type_meant};
 pub use word::{OrderedBy, Status, flag_of, is_date, ordered_by_of, status_of};

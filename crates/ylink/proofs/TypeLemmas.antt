@@ -1,0 +1,122 @@
+-- Names that statements give, and types, one after another.
+use Rattle.std.proofs.Common.{◌≡◌, ℤ, Bool, true, false, cond, List, [], ◌∷◌, ◌++◌, Option, Some, refl, sym, ap, ◌∙◌}
+use Rattle.std.proofs.lemmas.List.{append_assoc, append-nil}
+use Rattle.yspec.specs.Forest.{Forest, end, node}
+use Rattle.yspec.specs.types.Names.{Naming}
+use Rattle.yspec.specs.linking.Keyword.{Keyword}
+use Rattle.yspec.specs.linking.Source.{Source, is_source_of, argument_in}
+use Rattle.yspec.specs.linking.TypeStatements as spec
+use Rattle.yspec.specs.linking.TypeStatements.{namings, verdicts, verdict, told, type_breaks_in, member_types, union_verdict}
+use Rattle.std.specs.Prelude.{◌==◌, length, map}
+use Rattle.std.specs.Option.{option_map_or}
+use Rattle.yspec.specs.types.Types.{YangType}
+use Rattle.yspec.specs.types.Restriction.{union_type}
+use Rattle.yspec.specs.linking.Keyword.{type_word}
+use Rattle.yspec.specs.schema.Breaks.{Break, least_from, when, broken}
+use Rattle.yspec.proofs.SchemaProofs.LeastLemmas.{least_of_both}
+use Rattle.ylink.specs.declared.types.Verdict.{Verdict}
+use Rattle.ylink.specs.TypeView.{verdict_view, is_wrong}
+
+-- ---- names of enumerations and bits
+
+module _ (k : Keyword) (number : Forest Source → Option ℤ) where
+  pub no_naming : (so_far : List Naming) (s : Source) (below after before : Forest Source) (whole : List Naming)
+      → before ≡ node s below after → is_source_of k s ≡ false
+      → so_far ++ namings k number before ≡ whole → so_far ++ namings k number after ≡ whole
+  no_naming so_far s below after before whole first other made =
+      sym (ap (λ f. so_far ++ namings k number f) first
+      ∙ ap (λ b. so_far ++ cond b (record { name = argument_in s; number = number below } ∷ namings k number after) (namings k number after)) other) ∙ made
+
+  pub next_naming : (so_far more : List Naming) (n : Naming) (s : Source) (below after before : Forest Source) (whole : List Naming)
+      → before ≡ node s below after → is_source_of k s ≡ true
+      → more ≡ so_far ++ n ∷ [] → n ≡ record { name = argument_in s; number = number below }
+      → so_far ++ namings k number before ≡ whole → more ++ namings k number after ≡ whole
+  next_naming so_far more n s below after before whole first stands pushed is made =
+      ap (λ ns. ns ++ namings k number after) pushed
+      ∙ (append_assoc so_far (n ∷ []) (namings k number after)
+      ∙ (ap (λ x. so_far ++ x ∷ namings k number after) is
+      ∙ (sym (ap (λ f. so_far ++ namings k number f) first
+      ∙ ap (λ b. so_far ++ cond b (record { name = argument_in s; number = number below } ∷ namings k number after) (namings k number after)) stands) ∙ made)))
+
+  pub all_namings : (so_far : List Naming) (left : Forest Source) (whole : List Naming) → left ≡ end
+      → so_far ++ namings k number left ≡ whole → so_far ≡ whole
+  all_namings so_far left whole ended made =
+      sym (ap (λ f. so_far ++ namings k number f) ended ∙ append-nil so_far) ∙ made
+
+-- ---- unions
+
+pub union_of : (members : List Verdict) (types : List YangType) (made : Option YangType) → false ≡ (length members == 0)
+    → Some types ≡ member_types (map verdict_view members) → made ≡ Some (union_type types)
+    → option_map_or (λ type. spec.means (spec.own type)) made spec.unjudged ≡ union_verdict (map verdict_view members)
+union_of [] types made some is made_is = absurd cc
+union_of (v ∷ vs) types made some is made_is =
+    ap (λ o. option_map_or (λ type. spec.means (spec.own type)) o spec.unjudged) made_is
+    ∙ ap (λ o. option_map_or (λ types. spec.means (spec.own (union_type types))) o spec.unjudged) is
+
+-- ---- `type` statements of a row, one after another
+
+told_wrong : (s : Source) (v : spec.Verdict) → told s v ≡ when (is_wrong v) (broken 10 s.home s.statement.line)
+told_wrong s (spec.means m) = refl
+told_wrong s spec.wrong = refl
+told_wrong s spec.unjudged = refl
+
+module _ (is_member : Bool) (s : Source) (below after before : Forest Source) (first : before ≡ node s below after) where
+  pub no_verdict : (so_far whole : List spec.Verdict) → is_source_of type_word s ≡ false
+      → so_far ++ verdicts is_member before ≡ whole → so_far ++ verdicts is_member after ≡ whole
+  unfolding verdicts
+  no_verdict so_far whole other made =
+      sym (ap (λ f. so_far ++ verdicts is_member f) first
+      ∙ ap (λ b. so_far ++ cond b (verdict is_member s below (verdicts true below) ∷ verdicts is_member after) (verdicts is_member after)) other) ∙ made
+
+  pub next_verdict : (so_far more : List spec.Verdict) (v : spec.Verdict) (whole : List spec.Verdict) → is_source_of type_word s ≡ true
+      → more ≡ so_far ++ v ∷ [] → v ≡ verdict is_member s below (verdicts true below)
+      → so_far ++ verdicts is_member before ≡ whole → more ++ verdicts is_member after ≡ whole
+  unfolding verdicts
+  next_verdict so_far more v whole stands pushed is made =
+      ap (λ vs. vs ++ verdicts is_member after) pushed
+      ∙ (append_assoc so_far (v ∷ []) (verdicts is_member after)
+      ∙ (ap (λ x. so_far ++ x ∷ verdicts is_member after) is
+      ∙ (sym (ap (λ f. so_far ++ verdicts is_member f) first
+      ∙ ap (λ b. so_far ++ cond b (verdict is_member s below (verdicts true below) ∷ verdicts is_member after) (verdicts is_member after)) stands) ∙ made)))
+
+  -- what is broken below, then at the statement, then behind it
+  broken_parts : (so_far : Option Break) (own : List Break)
+      → spec.type_break is_member s below ≡ own
+      → least_from so_far (type_breaks_in is_member before)
+      ≡ least_from (least_from (least_from so_far (type_breaks_in (is_source_of type_word s) below)) own) (type_breaks_in is_member after)
+  broken_parts so_far own is =
+      let inner = type_breaks_in (is_source_of type_word s) below in
+      let rest = type_breaks_in is_member after in
+      ap (λ f. least_from so_far (type_breaks_in is_member f)) first
+      ∙ (ap (λ b. least_from so_far (inner ++ (b ++ rest))) is
+      ∙ (least_of_both so_far inner (own ++ rest) ∙ least_of_both (least_from so_far inner) own rest))
+
+  pub no_type : (so_far result whole : Option Break) → is_source_of type_word s ≡ false
+      → result ≡ least_from so_far (type_breaks_in (is_source_of type_word s) below)
+      → least_from so_far (type_breaks_in is_member before) ≡ whole → least_from result (type_breaks_in is_member after) ≡ whole
+  no_type so_far result whole other inner made =
+      ap (λ t. least_from t (type_breaks_in is_member after)) inner
+      ∙ (sym (broken_parts so_far [] (ap (λ b. cond b (told s (verdict is_member s below (verdicts true below))) []) other)) ∙ made)
+
+  pub next_type : (so_far mid result whole : Option Break) (v : spec.Verdict) → is_source_of type_word s ≡ true
+      → mid ≡ least_from so_far (type_breaks_in (is_source_of type_word s) below)
+      → v ≡ verdict is_member s below (verdicts true below)
+      → result ≡ least_from mid (when (is_wrong v) (broken 10 s.home s.statement.line))
+      → least_from so_far (type_breaks_in is_member before) ≡ whole → least_from result (type_breaks_in is_member after) ≡ whole
+  next_type so_far mid result whole v stands inner is judged made =
+      let own = when (is_wrong v) (broken 10 s.home s.statement.line) in
+      let own_is : spec.type_break is_member s below ≡ own =
+      ap (λ b. cond b (told s (verdict is_member s below (verdicts true below))) []) stands
+      ∙ (ap (told s) (sym is) ∙ told_wrong s v) in
+      ap (λ t. least_from t (type_breaks_in is_member after)) (judged ∙ ap (λ t. least_from t own) inner)
+      ∙ (sym (broken_parts so_far own own_is) ∙ made)
+
+pub no_more_verdicts : (is_member : Bool) (left : Forest Source) (so_far whole : List spec.Verdict) → left ≡ end
+    → so_far ++ verdicts is_member left ≡ whole → so_far ≡ whole
+unfolding verdicts
+no_more_verdicts is_member left so_far whole ended made =
+    sym (ap (λ f. so_far ++ verdicts is_member f) ended ∙ append-nil so_far) ∙ made
+
+pub no_more_types : (is_member : Bool) (left : Forest Source) (so_far whole : Option Break) → left ≡ end
+    → least_from so_far (type_breaks_in is_member left) ≡ whole → so_far ≡ whole
+no_more_types is_member left so_far whole ended made = sym (ap (λ f. least_from so_far (type_breaks_in is_member f)) ended) ∙ made

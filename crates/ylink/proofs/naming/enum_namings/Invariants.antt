@@ -1,0 +1,13 @@
+use Rattle.std.proofs.Common.{◌≡◌, ◌++◌}
+use Rattle.yspec.specs.linking.Keyword.{enum_word}
+use Rattle.yspec.specs.linking.TypeStatements.{namings, value_stated}
+use Rattle.ypreorder.specs.View.{row_by}
+use Rattle.ylink.specs.SourceView.{source_view}
+use Rattle.ylink.proofs.naming.enum_namings.Given as goal
+
+abbrev pub invariant-loop-statement : goal.invariant-loop-statement
+invariant-loop-statement l = record {
+  more : (goal.iterator-loop-statement).can_next l.statement-iterator;
+  ends : (goal.iterator-loop-statement).is_finite l.statement-iterator;
+  so_far : l.namings.items ++ namings enum_word value_stated (row_by source_view l.statement-iterator) ≡ namings enum_word value_stated (row_by source_view l.below);
+}

@@ -1,0 +1,329 @@
+//! What `type` statements mean, and where one breaks a rule of its own (RFC 7950, 7.4 and 9).
+
+ghost use Rattle.std.specs.Prelude.{◌≡◌, ℕ, IfOk, [], false, None, map, option_map, option_and_then};
+ghost use Rattle.std.specs.List.{list_all};
+ghost use Rattle.std.specs.Option.{option_map_or};
+ghost use Rattle.yspec.specs.Forest.{row};
+ghost use Rattle.yspec.specs.schema.Breaks.{least_from};
+ghost use Rattle.yspec.specs.linking.Arguments.{fraction_digits_of, leafref_path_of};
+ghost use Rattle.yspec.specs.linking.Keyword as word;
+ghost use Rattle.yspec.specs.linking.Source as sources;
+ghost use Rattle.yspec.specs.linking.TypeStatements as spec;
+ghost use Rattle.ypreorder.specs.View.{row_by, label_by};
+ghost use Rattle.ylink.specs.BreakView.{seen};
+ghost use Rattle.ylink.specs.KeywordView.{keyword_view};
+ghost use Rattle.ylink.specs.LinkView.{view};
+ghost use Rattle.ylink.specs.NameView.{names_view};
+ghost use Rattle.ylink.specs.SourceView.{source_view};
+ghost use Rattle.ylink.specs.TypeView.{built_in_view, meant_view, verdict_view};
+
+use crate::builtin::BuiltIn;
+use crate::fault::{Broken, CompileCode, least_when};
+use crate::grammar::broken;
+use crate::keyword::Keyword;
+use crate::limit::{accepted, measured, ranged};
+use crate::name::{Name, leafref_path};
+use crate::naming::{bits, enumeration};
+use crate::number::fraction_digits;
+use crate::row::{argument_of, argument_with};
+use crate::source::Source;
+use crate::sources::Sources;
+use std::alloc::{AllocError, Global};
+use ypreorder::{Node, Nodes};
+use ytype::{FractionDigits, YType};
+
+/// What a `type` statement means.
+#[derive(Drop)]
+pub enum Meant<'t> {
+    /// A type that refers to no other node.
+    Own(YType),
+    /// The type of the node to which a path leads that stands in a module of the set.
+    OfTarget {
+        home: usize,
+        steps: Vec<Name<'t>>,
+        required: bool,
+    },
+}
+
+/// What is known of a `type` statement.
+#[derive(Drop)]
+pub enum Verdict<'t> {
+    Means(Meant<'t>),
+    /// It breaks a rule of its own.
+    Wrong,
+    /// It rests on a type that breaks one.
+    Unjudged,
+}
+
+/// The verdicts on the `type` statements of a row, and the least rule that is broken there or below.
+#[derive(Drop)]
+struct Judged<'t> {
+    verdicts: Vec<Verdict<'t>>,
+    told: Option<Broken>,
+}
+
+// Whether a built-in type may bear a substatement.
+fn may_bear(type_name: BuiltIn, keyword: Keyword) -> bool
+    ensures { result ≡ spec.may_bear (built_in_view type_name) (keyword_view keyword) }
+{
+    match type_name {
+        BuiltIn::Int8
+        | BuiltIn::Int16
+        | BuiltIn::Int32
+        | BuiltIn::Int64
+        | BuiltIn::Uint8
+        | BuiltIn::Uint16
+        | BuiltIn::Uint32
+        | BuiltIn::Uint64 => matches!(keyword, Keyword::Range),
+        BuiltIn::Decimal64 => matches!(keyword, Keyword::FractionDigits | Keyword::Range),
+        BuiltIn::String => matches!(keyword, Keyword::Length),
+        BuiltIn::Enumeration => matches!(keyword, Keyword::Enum),
+        BuiltIn::Bits => matches!(keyword, Keyword::Bit),
+        BuiltIn::Union => matches!(keyword, Keyword::Type),
+        BuiltIn::Leafref => matches!(keyword, Keyword::Path | Keyword::RequireInstance),
+        BuiltIn::Boolean | BuiltIn::Empty => false,
+    }
+}
+
+fn are_in_place(type_name: BuiltIn, below: Nodes<'_, Source<'_>>) -> bool
+    ensures { result ≡ spec.are_in_place (built_in_view type_name) (row_by source_view below.entry) }
+{
+    for statement in below {
+        if !may_bear(type_name, statement.label().keyword) {
+            return false;
+        }
+    }
+    true
+}
+
+fn digits_stated(below: Nodes<'_, Source<'_>>) -> Option<FractionDigits>
+    ensures { result ≡ option_and_then fraction_digits_of (sources.argument_with word.fraction_digits_word (row_by source_view below.entry)) }
+{
+    FractionDigits::new(fraction_digits(argument_with(Keyword::FractionDigits, below)?)?)
+}
+
+fn decimal(alloc: Global, below: Nodes<'_, Source<'_>>) -> Result<Option<YType>, AllocError>
+    ensures { IfOk result (λ type. type ≡ spec.single_type spec.decimal64 (row_by source_view below.entry)) }
+{
+    match digits_stated(below) {
+        Some(digits) => ranged(alloc, below, YType::decimal64(alloc, digits)),
+        None => Ok(None),
+    }
+}
+
+// A type that is no union and no leafref.
+fn single_type(
+    alloc: Global,
+    type_name: BuiltIn,
+    below: Nodes<'_, Source<'_>>,
+) -> Result<Option<YType>, AllocError>
+    ensures { IfOk result (λ type. type ≡ spec.single_type (built_in_view type_name) (row_by source_view below.entry)) }
+{
+    match type_name {
+        BuiltIn::Int8 => ranged(alloc, below, YType::int8(alloc)),
+        BuiltIn::Int16 => ranged(alloc, below, YType::int16(alloc)),
+        BuiltIn::Int32 => ranged(alloc, below, YType::int32(alloc)),
+        BuiltIn::Int64 => ranged(alloc, below, YType::int64(alloc)),
+        BuiltIn::Uint8 => ranged(alloc, below, YType::uint8(alloc)),
+        BuiltIn::Uint16 => ranged(alloc, below, YType::uint16(alloc)),
+        BuiltIn::Uint32 => ranged(alloc, below, YType::uint32(alloc)),
+        BuiltIn::Uint64 => ranged(alloc, below, YType::uint64(alloc)),
+        BuiltIn::Decimal64 => decimal(alloc, below),
+        BuiltIn::String => measured(alloc, below, YType::string(alloc)),
+        BuiltIn::Boolean => accepted(YType::boolean(alloc)),
+        BuiltIn::Empty => accepted(YType::empty(alloc)),
+        BuiltIn::Enumeration => enumeration(alloc, below),
+        BuiltIn::Bits => bits(alloc, below),
+        BuiltIn::Union | BuiltIn::Leafref => Ok(None),
+    }
+}
+
+fn is_required(below: Nodes<'_, Source<'_>>) -> bool
+    ensures { result ≡ spec.is_required (row_by source_view below.entry) }
+{
+    match argument_with(Keyword::RequireInstance, below) {
+        Some(text) => text == "true",
+        None => true,
+    }
+}
+
+// The path of a leafref, where it has one.
+fn path_stated<'t>(
+    alloc: Global,
+    below: Nodes<'_, Source<'t>>,
+) -> Result<Option<Vec<Name<'t>>>, AllocError>
+    ensures { IfOk result (λ path. option_map (λ p. names_view p.items) path
+        ≡ option_and_then leafref_path_of (sources.argument_with word.path_word (row_by source_view below.entry))) }
+{
+    match argument_with(Keyword::Path, below) {
+        Some(text) => leafref_path(alloc, text),
+        None => Ok(None),
+    }
+}
+
+fn leafref_verdict<'t>(
+    alloc: Global,
+    is_member: bool,
+    home: usize,
+    below: Nodes<'_, Source<'t>>,
+) -> Result<Verdict<'t>, AllocError>
+    ensures { IfOk result (λ verdict. verdict_view verdict ≡ spec.leafref_verdict is_member home (row_by source_view below.entry)) }
+{
+    if is_member {
+        return Ok(Verdict::Wrong);
+    }
+    match path_stated(alloc, below)? {
+        Some(steps) => Ok(Verdict::Means(Meant::OfTarget {
+            home,
+            steps,
+            required: is_required(below),
+        })),
+        None => Ok(Verdict::Wrong),
+    }
+}
+
+// The types of members, where each has one.
+fn member_types(alloc: Global, members: Vec<Verdict<'_>>) -> Result<Option<Vec<YType>>, AllocError>
+    ensures { IfOk result (λ types. option_map (λ t. t.items) types ≡ spec.member_types (map verdict_view members.entry.items)) }
+{
+    let mut types = Vec::new(alloc);
+    for member in members {
+        match member {
+            Verdict::Means(Meant::Own(member_type)) => types.push(member_type)?,
+            _ => return Ok(None),
+        }
+    }
+    Ok(Some(types))
+}
+
+fn union_verdict<'t>(alloc: Global, members: Vec<Verdict<'t>>) -> Result<Verdict<'t>, AllocError>
+    ensures { IfOk result (λ verdict. verdict_view verdict ≡ spec.union_verdict (map verdict_view members.entry.items)) }
+{
+    if members.is_empty() {
+        return Ok(Verdict::Wrong);
+    }
+    let Some(types) = member_types(alloc, members)? else {
+        return Ok(Verdict::Unjudged);
+    };
+    Ok(own_or(accepted(YType::union(alloc, &types))?, Verdict::Unjudged))
+}
+
+// A type that refers to no other node, or another verdict where there is none.
+fn own_or<'t>(made: Option<YType>, other: Verdict<'t>) -> Verdict<'t>
+    ensures { verdict_view result ≡ option_map_or (λ type. spec.means (spec.own type)) made (verdict_view other.entry) }
+{
+    match made {
+        Some(made) => Verdict::Means(Meant::Own(made)),
+        None => other,
+    }
+}
+
+fn verdict_in_place<'t>(
+    alloc: Global,
+    is_member: bool,
+    type_name: BuiltIn,
+    statement: Node<'_, Source<'t>>,
+    members: Vec<Verdict<'t>>,
+) -> Result<Verdict<'t>, AllocError>
+    ensures { IfOk result (λ verdict. verdict_view verdict ≡ spec.verdict_in_place is_member (label_by source_view statement.entry).home
+        (built_in_view type_name) (row_by source_view statement.entry.children) (map verdict_view members.entry.items)) }
+{
+    let below = statement.children();
+    match type_name {
+        BuiltIn::Union => union_verdict(alloc, members),
+        BuiltIn::Leafref => leafref_verdict(alloc, is_member, statement.label().home, below),
+        _ => Ok(own_or(single_type(alloc, type_name, below)?, Verdict::Wrong)),
+    }
+}
+
+// The verdict on a `type` statement, given those on the `type` statements below it.
+fn judge_type<'t>(
+    alloc: Global,
+    is_member: bool,
+    statement: Node<'_, Source<'t>>,
+    members: Vec<Verdict<'t>>,
+) -> Result<Verdict<'t>, AllocError>
+    ensures { IfOk result (λ verdict. verdict_view verdict ≡ spec.verdict is_member (label_by source_view statement.entry)
+        (row_by source_view statement.entry.children) (map verdict_view members.entry.items)) }
+{
+    let Some(type_name) = BuiltIn::named(argument_of(statement)) else {
+        return Ok(Verdict::Unjudged);
+    };
+    if !are_in_place(type_name, statement.children()) {
+        return Ok(Verdict::Wrong);
+    }
+    verdict_in_place(alloc, is_member, type_name, statement, members)
+}
+
+// Judges the `type` statements of a row, which are members of a union or not, and those below it.
+fn judge_row<'t>(
+    alloc: Global,
+    is_member: bool,
+    statements: Nodes<'_, Source<'t>>,
+    so_far: Option<Broken>,
+) -> Result<Judged<'t>, AllocError>
+    ensures { let f = row_by source_view statements.entry in IfOk result (λ judged. (map verdict_view judged.verdicts.items ≡ spec.verdicts is_member f)
+        × (seen judged.told ≡ least_from (seen so_far) (spec.type_breaks_in is_member f))) }
+{
+    let mut verdicts = Vec::new(alloc);
+    let mut told = so_far;
+    for statement in statements {
+        let source = statement.label();
+        let is_type = Keyword::Type.is(source.keyword);
+        let below = judge_row(alloc, is_type, statement.children(), told)?;
+        told = below.told;
+        if !is_type {
+            continue;
+        }
+        let judged = judge_type(alloc, is_member, statement, below.verdicts)?;
+        let fault = broken(CompileCode::C10, source.home, source.statement);
+        told = least_when(judged.is_wrong(), told, fault);
+        verdicts.push(judged)?;
+    }
+    Ok(Judged { verdicts, told })
+}
+
+/// What the `type` statement of a row means.
+pub fn type_meant<'t>(
+    alloc: Global,
+    own: Nodes<'_, Source<'t>>,
+) -> Result<Option<Meant<'t>>, AllocError>
+    ensures { IfOk result (λ meant. option_map meant_view meant ≡ spec.type_meant (row_by source_view own.entry)) }
+{
+    let judged = judge_row(alloc, false, own, None)?;
+    Ok(first_meant(judged.verdicts))
+}
+
+fn first_meant<'t>(verdicts: Vec<Verdict<'t>>) -> Option<Meant<'t>>
+    ensures { option_map meant_view result ≡ spec.first_meant (map verdict_view verdicts.entry.items) }
+{
+    verdicts.into_iter().next()?.meaning()
+}
+
+/// The least of the `type` statements that break a rule of their own, by module and line.
+pub fn type_fault(alloc: Global, sources: &Sources<'_>) -> Result<Option<Broken>, AllocError>
+    ensures { IfOk result (λ told. seen told ≡ least_from None (spec.type_breaks (view sources.now))) }
+{
+    Ok(judge_row(alloc, false, sources.modules(), None)?.told)
+}
+
+impl<'t> Verdict<'t> {
+    ghost use Rattle.std.specs.Prelude.{◌≡◌, option_map};
+    ghost use Rattle.yspec.specs.linking.TypeStatements as spec;
+    ghost use Rattle.ylink.specs.TypeView.{is_wrong, meant_view, verdict_view};
+
+    fn is_wrong(&self) -> bool
+        ensures { result ≡ is_wrong (verdict_view self.now) }
+    {
+        matches!(self, Verdict::Wrong)
+    }
+
+    fn meaning(self) -> Option<Meant<'t>>
+        ensures { option_map meant_view result ≡ spec.meaning_of (verdict_view self.entry) }
+    {
+        match self {
+            Verdict::Means(meant) => Some(meant),
+            _ => None,
+        }
+    }
+}
