@@ -6,11 +6,6 @@ pub data Forest (L : Type 0) : Type 0 where
   end : Forest L
   node : L → Forest L → Forest L → Forest L
 
-pub record Family (L : Type 0) : Type 0 where
-  pub above : Option (L × Forest L)
-  pub label : L
-  pub below : Forest L
-
 module _ {L : Type 0} where
   -- how many labels there are
   abbrev pub size : Forest L → ℕ
@@ -30,13 +25,6 @@ module _ {L : Type 0} where
   abbrev pub preorder : Forest L → List L
   preorder end = []
   preorder (node l below after) = l ∷ (preorder below ++ preorder after)
-
-  -- ---- families: each label with the node above it, where there is one, and what stands below it
-
-  abbrev pub families : Option (L × Forest L) → Forest L → List (Family L)
-  families above end = []
-  families above (node l below after) = record { above = above; label = l; below = below }
-      ∷ (families (Some (l, below)) below ++ families above after)
 
   -- one row after another
   abbrev pub join : Forest L → Forest L → Forest L
