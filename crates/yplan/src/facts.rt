@@ -151,7 +151,7 @@ pub fn default_texts<'t>(
 }
 
 /// Whether the default case of a choice isn't there, or is needless, or holds what must be stored (RFC 7950, 7.9.3).
-pub(crate) fn is_wrong_case<'a, 't>(
+pub fn is_wrong_case<'a, 't>(
     plan: &Plan<'a, 't>,
     number: u32,
     planned: &Planned<'a, 't>,

@@ -12,7 +12,7 @@ mod plan;
 mod planned;
 mod planning;
 
-pub use facts::{Amount, default_texts};
+pub use facts::{Amount, default_texts, is_wrong_case};
 pub use names::name_fault;
 pub use plan::Plan;
 pub use planned::Planned;

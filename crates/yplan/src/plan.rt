@@ -133,7 +133,7 @@ impl<'a, 't> Plan<'a, 't> {
     }
 
     /// Whether the node above one is configuration; so is what stands above the top nodes.
-    pub(crate) fn is_config_above(&self, planned: &Planned<'a, 't>) -> bool
+    pub fn is_config_above(&self, planned: &Planned<'a, 't>) -> bool
         ensures { (number : _) → result ≡ is_config_above (view self.now) (planned_view number planned.now) }
     {
         match planned.parent {

@@ -1,0 +1,3 @@
+//! What the names, types and defaults of planned nodes refer to, and which rules planned nodes break.
+#![tactic(auto)]
+
