@@ -6,3 +6,4 @@ mod ChainWalkLemmas
 mod ChainPlanLemmas
 pub mod BelowLemmas
 pub mod FactLemmas
+pub mod NodeLemmas

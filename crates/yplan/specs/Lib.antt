@@ -5,3 +5,4 @@ pub mod Chains
 pub mod ChainWalks
 pub mod ChainSamples
 pub mod FactsView
+pub mod NodesView

@@ -8,11 +8,13 @@ mod facts;
 mod finding;
 mod levels;
 mod names;
+mod nodes;
 mod plan;
 mod planned;
 mod planning;
 
 pub use facts::{Amount, default_texts, is_wrong_case};
 pub use names::name_fault;
+pub use nodes::{PlanNode, PlanNodes};
 pub use plan::Plan;
 pub use planned::Planned;

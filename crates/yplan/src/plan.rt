@@ -5,23 +5,28 @@ ghost use Rattle.ypreorder.specs.Layout.{IsLaidOut};
 ghost use Rattle.ypreorder.specs.View.{rows_in};
 ghost use Rattle.yplan.specs.Finding.{Finds, list_of, parent_in, scope_in};
 ghost use Rattle.yspec.specs.linking.Planned.{is_data};
+ghost use Rattle.ylink.specs.LinkView as link;
+ghost use Rattle.ylink.specs.PrefixView.{IsOf};
 
 use crate::finding::{index_of_children, index_of_data};
 use crate::levels::levels_of;
+use crate::nodes::{PlanNode, PlanNodes};
 use crate::planned::Planned;
 use crate::planning::planned;
 use std::alloc::{AllocError, Global};
 use yindex::Index;
-use ylink::{Keyword, Sources};
+use ylink::{Keyword, Name, NodeName, Prefixes, Sources};
 use ypreorder::{Nodes, Row, Table};
 
 /// The schema nodes that a set of modules defines, in order of definition, and how they are found by name.
 #[derive(Drop)]
 pub struct Plan<'a, 't> {
     sources: &'a Sources<'t>,
+    prefixes: Prefixes<'t>,
     table: Table<Planned<'a, 't>>,
     children: Index,
     data_children: Index,
+    ghost prefixed: { IsOf prefixes (link.view sources.now) },
     ghost laid_out: { IsLaidOut (rows_in table) },
     ghost found: { Finds children parent_in (list_of table) },
     ghost data_found: { Finds data_children scope_in (filter is_data (list_of table)) },
@@ -39,16 +44,22 @@ impl<'a, 't> Plan<'a, 't> {
     ghost use Rattle.ypreorder.specs.View.{row_by};
     ghost use Rattle.yplan.specs.PlannedView.{planned_view};
     ghost use Rattle.yplan.specs.PlanView.{view};
+    ghost use Rattle.yplan.specs.NodesView.{left, node_view};
+    ghost use Rattle.yspec.specs.linking.Prefixes as names;
+    ghost use Rattle.ylink.specs.NameView.{name_view};
+    ghost use Rattle.ylink.specs.PrefixView.{node_name_view};
 
     /// The nodes that the statements of a set of modules define.
     pub fn of(alloc: Global, sources: &'a Sources<'t>) -> Result<Plan<'a, 't>, AllocError>
         ensures { IfOk result (λ plan. view plan ≡ plan_of (link.view sources.entry.now)) }
     {
+        let prefixes = Prefixes::of(alloc, sources)?;
         let table = planned(alloc, sources)?;
         let children = index_of_children(alloc, &table)?;
         let data_children = index_of_data(alloc, &table)?;
         Ok(Plan {
             sources,
+            prefixes,
             table,
             children,
             data_children,
@@ -61,6 +72,51 @@ impl<'a, 't> Plan<'a, 't> {
         ensures nodes { labels_by planned_view 0 result.now ≡ spec.nodes_of (view self.now) }
     {
         self.table.rows()
+    }
+
+    /// Its nodes, in order of definition.
+    pub fn iter(&self) -> PlanNodes<'_, 'a, 't>
+        ensures { left result ≡ spec.nodes_of (view self.now) }
+    {
+        PlanNodes::new(self)
+    }
+
+    /// What a name names that stands in a module; one without a prefix is of a module that is given (RFC 7950, 6.4.1).
+    pub fn node_name<'n>(&self, home: usize, plain: usize, name: Name<'n>) -> NodeName<'n>
+        ensures { node_name_view result ≡ names.node_name (view self.now).modules home plain (name_view name.entry) }
+    {
+        self.prefixes.node_name(home, plain, name)
+    }
+
+    /// The first node of a name below another, or at the top.
+    pub fn child_called(&self, parent: Option<u32>, name: NodeName<'_>) -> Option<PlanNode<'a, 't>>
+        ensures { option_map node_view result ≡ spec.child_called (view self.now) parent (node_name_view name.entry) }
+    {
+        self.at(self.child(parent, name.module, name.name)?)
+    }
+
+    /// The first data node of a name below a data node, or at the top, choices and cases passed through.
+    pub fn data_child_called(
+        &self,
+        scope: Option<u32>,
+        name: NodeName<'_>,
+    ) -> Option<PlanNode<'a, 't>>
+        ensures { option_map node_view result ≡ spec.data_child_called (view self.now) scope (node_name_view name.entry) }
+    {
+        self.at(self.data_child(scope, name.module, name.name)?)
+    }
+
+    /// The node of a number, with its number.
+    pub fn at(&self, number: u32) -> Option<PlanNode<'a, 't>>
+        ensures { option_map node_view result ≡ spec.node_of (view self.now) number }
+    {
+        match self.node(number) {
+            Some(planned) => Some(PlanNode {
+                number,
+                planned: *planned,
+            }),
+            None => None,
+        }
     }
 
     /// The first node of a module and a name below another, or at the top, by its number.

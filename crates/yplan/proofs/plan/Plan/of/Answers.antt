@@ -10,6 +10,7 @@ use Rattle.yplan.proofs.plan.Plan.of.Goals as goal
 
 pub invariant_of-result : goal.invariant_of-result
 invariant_of-result c = record {
+  prefixed = c.in_ok-prefixes.ensures;
   laid_out = (shown planned_view (planned 0 at_top (parts_of_modules (link.view c.args.sources.now))) (rows_in c.in_ok-table.table) c.in_ok-table.ensures).1;
   found = c.in_ok-children.ensures;
   data_found = c.in_ok-data_children.ensures;
