@@ -4,10 +4,10 @@ use Rattle.std.proofs.lemmas.List.{append_assoc, append-nil}
 use Rattle.yspec.specs.Forest.{Forest, end, node}
 use Rattle.yspec.specs.types.Names.{Naming}
 use Rattle.yspec.specs.linking.Keyword.{Keyword}
-use Rattle.yspec.specs.linking.Source.{Source, is_source_of, argument_in}
+use Rattle.yspec.specs.linking.Source.{Source, is_source_of, argument_in, found_with}
 use Rattle.yspec.specs.linking.TypeStatements as spec
-use Rattle.yspec.specs.linking.TypeStatements.{namings, verdicts, verdict, told, type_breaks_in, member_types, union_verdict}
-use Rattle.std.specs.Prelude.{◌==◌, length, map}
+use Rattle.yspec.specs.linking.TypeStatements.{Meant, namings, verdicts, verdict, told, type_breaks_in, member_types, union_verdict, meaning_of, first_meant, type_meant}
+use Rattle.std.specs.Prelude.{◌==◌, length, map, option_and_then}
 use Rattle.std.specs.Option.{option_map_or}
 use Rattle.yspec.specs.types.Types.{YangType}
 use Rattle.yspec.specs.types.Restriction.{union_type}
@@ -120,3 +120,19 @@ no_more_verdicts is_member left so_far whole ended made =
 pub no_more_types : (is_member : Bool) (left : Forest Source) (so_far whole : Option Break) → left ≡ end
     → least_from so_far (type_breaks_in is_member left) ≡ whole → so_far ≡ whole
 no_more_types is_member left so_far whole ended made = sym (ap (λ f. least_from so_far (type_breaks_in is_member f)) ended) ∙ made
+
+-- ---- what the `type` statement of a row means
+
+abbrev pub meant_by : Option (Source × Forest Source) → Option Meant
+meant_by found = option_and_then (λ s. meaning_of (verdict false s.0 s.1 (verdicts true s.1))) found
+
+pub meant_found : (f : Forest Source) → type_meant f ≡ meant_by (found_with type_word f)
+unfolding verdicts
+meant_found end = refl
+meant_found (node s below after) = by (is_source_of type_word s) (meant_found after)
+  where
+    by : (b : Bool) → type_meant after ≡ meant_by (found_with type_word after)
+        → first_meant (cond b (verdict false s below (verdicts true below) ∷ verdicts false after) (verdicts false after))
+        ≡ meant_by (cond b (Some (s, below)) (found_with type_word after))
+    by true h = refl
+    by false h = h

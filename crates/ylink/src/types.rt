@@ -25,7 +25,7 @@ use crate::limit::{accepted, measured, ranged};
 use crate::name::{Name, leafref_path};
 use crate::naming::{bits, enumeration};
 use crate::number::fraction_digits;
-use crate::row::{argument_of, argument_with};
+use crate::row::{argument_of, argument_with, found_with};
 use crate::source::Source;
 use crate::sources::Sources;
 use std::alloc::{AllocError, Global};
@@ -283,21 +283,19 @@ fn judge_row<'t>(
     Ok(Judged { verdicts, told })
 }
 
-/// What the `type` statement of a row means.
+/// What the first `type` statement of a row means. It costs no walk through what else stands in the row.
 pub fn type_meant<'t>(
     alloc: Global,
     own: Nodes<'_, Source<'t>>,
 ) -> Result<Option<Meant<'t>>, AllocError>
     ensures { IfOk result (λ meant. option_map meant_view meant ≡ spec.type_meant (row_by source_view own.entry)) }
 {
-    let judged = judge_row(alloc, false, own, None)?;
-    Ok(first_meant(judged.verdicts))
-}
-
-fn first_meant<'t>(verdicts: Vec<Verdict<'t>>) -> Option<Meant<'t>>
-    ensures { option_map meant_view result ≡ spec.first_meant (map verdict_view verdicts.entry.items) }
-{
-    verdicts.into_iter().next()?.meaning()
+    let Some(statement) = found_with(Keyword::Type, own) else {
+        return Ok(None);
+    };
+    let members = judge_row(alloc, true, statement.children(), None)?;
+    let judged = judge_type(alloc, false, statement, members.verdicts)?;
+    Ok(judged.meaning())
 }
 
 /// The least of the `type` statements that break a rule of their own, by module and line.

@@ -7,20 +7,9 @@ use Rattle.yspec.specs.types.Types.{YangType}
 use Rattle.yspec.specs.linking.TypeStatements.{Meant, own, of_target, type_meant}
 use Rattle.yspec.specs.linking.Planned.{Planned, Plan, nodes_of, target_of, target_meant, referring, type_by, type_within, type_of, leads_to}
 use Rattle.yspec.specs.linking.Planned as plans
+use Rattle.yplan.specs.ChainTypes.{own_type, as_meant}
 use Rattle.yplan.specs.Chains.{next_of, end_within, end_of, leads, is_on_circle}
 use Rattle.yplan.proofs.ChainLemmas.{some_same, some_none, end_here, end_there, end_none, leads_here, leads_there}
-
--- the type that is stated, where it is no leafref
-abbrev pub own_type : Option Meant → Option YangType
-own_type None = None
-own_type (Some (own type)) = Some type
-own_type (Some (of_target home steps required)) = None
-
--- a leafref has its own say whether an instance is required
-abbrev pub as_meant : Option Meant → YangType → YangType
-as_meant None = λ type. type
-as_meant (Some (own stated)) = λ type. type
-as_meant (Some (of_target home steps required)) = referring required
 
 own_kept : (o : Option Meant) → own_type o ≡ option_map (as_meant o) (own_type o)
 own_kept None = refl

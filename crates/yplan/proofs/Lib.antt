@@ -1,9 +1,9 @@
 pub mod PartLemmas
 pub mod FindingLemmas
 pub mod PlanLemmas
-mod ChainLemmas
+pub mod ChainLemmas
 mod ChainWalkLemmas
-mod ChainPlanLemmas
+pub mod ChainPlanLemmas
 pub mod BelowLemmas
 pub mod FactLemmas
 pub mod NodeLemmas

@@ -6,3 +6,4 @@ pub mod ChainWalks
 pub mod ChainSamples
 pub mod FactsView
 pub mod NodesView
+pub mod ChainTypes

@@ -8,7 +8,7 @@ use std::alloc::{AllocError, Global};
 
 /// Where the references from a node lead.
 #[derive(Clone, Copy)]
-pub(crate) struct Chain {
+pub struct Chain {
     /// The node without reference in which they end; none where they come to a circle.
     pub end: Option<usize>,
     /// Whether they lead back to the node.
@@ -24,7 +24,7 @@ struct Walk {
 }
 
 /// Where the references from each node lead, given what each node refers to.
-pub(crate) fn chains(alloc: Global, next: &[Option<u32>]) -> Result<Vec<Chain>, AllocError>
+pub fn chains_of(alloc: Global, next: &[Option<u32>]) -> Result<Vec<Chain>, AllocError>
     ensures count { IfOk result (λ chains. length chains.items ≡ length next.now) }
     ensures ends { IfOk result (λ chains. (i : ℕ) → i < length next.now
         → option_map (λ c. c.end) (slice_get chains.items i) ≡ Some (end_of next.now i)) }

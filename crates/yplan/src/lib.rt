@@ -13,6 +13,7 @@ mod plan;
 mod planned;
 mod planning;
 
+pub use chains::{Chain, chains_of};
 pub use facts::{Amount, default_texts, is_wrong_case};
 pub use names::name_fault;
 pub use nodes::{PlanNode, PlanNodes};

@@ -77,6 +77,13 @@ impl<'a, 't> Planned<'a, 't> {
         }
     }
 
+    /// Whether it holds values.
+    pub fn is_leaf_or_leaf_list(&self) -> bool
+        ensures { (number : _) → result ≡ spec.is_leaf_or_leaf_list (planned_view number self.now) }
+    {
+        matches!(self.keyword(), Keyword::Leaf | Keyword::LeafList)
+    }
+
     /// Whether it stands in documents: all but choices and cases.
     pub fn is_data(&self) -> bool
         ensures { (number : _) → result ≡ spec.is_data (planned_view number self.now) }

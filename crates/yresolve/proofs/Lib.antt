@@ -1,0 +1,3 @@
+pub mod MeaningLemmas
+pub mod CollectLemmas
+pub mod TypeLemmas

@@ -1,3 +1,7 @@
 //! What the names, types and defaults of planned nodes refer to, and which rules planned nodes break.
 #![tactic(auto)]
 
+mod meanings;
+mod types;
+
+pub use types::{Types, types_of};

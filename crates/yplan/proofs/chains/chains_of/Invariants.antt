@@ -1,6 +1,6 @@
 use Rattle.std.proofs.Common.{◌≡◌, ℕ, ◌<◌, true}
 use Rattle.yplan.proofs.ChainWalkLemmas.{settled, Told}
-use Rattle.yplan.proofs.chains.chains.Given as goal
+use Rattle.yplan.proofs.chains.chains_of.Given as goal
 
 abbrev pub invariant-loop-start : goal.invariant-loop-start
 invariant-loop-start l = record {

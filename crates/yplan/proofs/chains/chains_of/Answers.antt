@@ -2,7 +2,7 @@ use Rattle.std.proofs.Common.{◌≡◌, ℕ, List, Bool, true, sym, subst, arit
 use Rattle.std.proofs.lemmas.Bool.{cases_eq}
 use Rattle.yplan.specs.declared.chains.Chain.{Chain}
 use Rattle.yplan.proofs.ChainWalkLemmas.{settled, Told, told_first, told_more, stays_settled, start_settled, end_told, circle_told}
-use Rattle.yplan.proofs.chains.chains.Goals as goal
+use Rattle.yplan.proofs.chains.chains_of.Goals as goal
 
 pub loop-start-init : goal.loop-start-init
 loop-start-init c = record {

@@ -1,0 +1,148 @@
+//! The types of leafs and leaf-lists, leafrefs followed to where they lead (RFC 7950, 9.9).
+
+ghost use Rattle.std.specs.Prelude.{◌≡◌, Some, map, IfOk, option_map, slice_get, unwrap_or, None};
+ghost use Rattle.yspec.specs.linking.Planned as spec;
+ghost use Rattle.yspec.specs.linking.Planned.{nodes_of, is_on_circle, referring};
+ghost use Rattle.ylink.specs.TypeView.{meant_view};
+ghost use Rattle.yplan.specs.ChainTypes.{own_type, as_meant};
+ghost use Rattle.yplan.specs.PlanView.{view};
+ghost use Rattle.yresolve.specs.TypesView.{AreOf, meants_view, meant_at, own_at, type_told, types_told};
+
+use crate::meanings::meanings_of;
+use std::alloc::{AllocError, Global};
+use ylink::Meant;
+use ynumber::Restriction;
+use yplan::{Chain, Plan, chains_of};
+use ytype::YType;
+
+/// What the types of nodes mean and to what they refer, each by the number of its node.
+#[derive(Drop)]
+pub struct Types<'t> {
+    /// What `type` statements mean.
+    pub(crate) meant: Vec<Option<Meant<'t>>>,
+    /// The leafs and leaf-lists to which leafrefs refer.
+    pub targets: Vec<Option<u32>>,
+    /// Whether references lead back to the node.
+    pub(crate) circles: Vec<bool>,
+    /// The types themselves; a leafref has its target's, and none where it leads nowhere.
+    pub types: Vec<Option<YType>>,
+}
+
+/// What the type of the node of a number means.
+pub(crate) fn meant_at<'m, 't>(meant: &'m [Option<Meant<'t>>], number: usize) -> Option<&'m Meant<'t>>
+    ensures { option_map (λ m. meant_view m.now) result ≡ meant_at (meants_view meant.entry.now) number }
+{
+    match meant.get(number) {
+        Some(Some(meant)) => Some(meant),
+        _ => None,
+    }
+}
+
+/// The type that the node of a number states itself, where that is no leafref.
+fn own_at<'m, 't>(meant: &'m [Option<Meant<'t>>], number: usize) -> Option<&'m YType>
+    ensures { option_map (λ t. t.now) result ≡ own_at (meants_view meant.entry.now) number }
+{
+    match meant_at(meant, number) {
+        Some(meant) => match meant {
+            Meant::Own(value_type) => Some(value_type),
+            Meant::OfTarget { .. } => None,
+        },
+        None => None,
+    }
+}
+
+/// The type of a leafref that refers to a node of a type.
+fn referring(alloc: Global, value_type: &YType, required: bool) -> Result<YType, AllocError>
+    ensures { IfOk result (λ t. t ≡ referring required value_type.now) }
+{
+    let Ok(requiring) = YType::leafref(alloc, value_type) else {
+        return Err(AllocError);
+    };
+    if required {
+        return Ok(requiring);
+    }
+    match requiring.narrow(alloc, &Restriction::RequireInstance(false)) {
+        Ok(narrowed) => Ok(narrowed),
+        Err(_) => Err(AllocError),
+    }
+}
+
+/// The type that a node has whose references lead to a node of a type, given what its own type means.
+fn type_as(
+    alloc: Global,
+    meant: Option<&Meant<'_>>,
+    value_type: &YType,
+) -> Result<YType, AllocError>
+    ensures { IfOk result (λ t. t ≡ as_meant (option_map (λ m. meant_view m.now) meant.entry) value_type.now) }
+{
+    match meant {
+        Some(meant) => match meant {
+            Meant::Own(_) => value_type.clone(),
+            Meant::OfTarget { required, .. } => referring(alloc, value_type, *required),
+        },
+        None => value_type.clone(),
+    }
+}
+
+/// The type of the node of a number, whose references lead to an end.
+fn type_told(
+    alloc: Global,
+    meant: &[Option<Meant<'_>>],
+    number: usize,
+    end: Option<usize>,
+) -> Result<Option<YType>, AllocError>
+    ensures { IfOk result (λ t. t ≡ type_told (meants_view meant.now) number end) }
+{
+    let Some(end) = end else {
+        return Ok(None);
+    };
+    match own_at(meant, end) {
+        Some(value_type) => {
+            let told = type_as(alloc, meant_at(meant, number), value_type)?;
+            Ok(Some(told))
+        }
+        None => Ok(None),
+    }
+}
+
+/// The types of all nodes, whose references lead where these chains tell.
+fn all_types(
+    alloc: Global,
+    meant: &[Option<Meant<'_>>],
+    chains: &[Chain],
+) -> Result<Vec<Option<YType>>, AllocError>
+    ensures { IfOk result (λ types. types.items ≡ types_told (meants_view meant.now) 0 chains.now) }
+{
+    let mut types = Vec::with_capacity(alloc, chains.len())?;
+    for (number, chain) in chains.iter().enumerate() {
+        types.push(type_told(alloc, meant, number, chain.end)?)?;
+    }
+    Ok(types)
+}
+
+/// Whether the references of each node lead back to it.
+fn all_circles(alloc: Global, chains: &[Chain]) -> Result<Vec<bool>, AllocError>
+    ensures { IfOk result (λ circles. circles.items ≡ map (λ c. c.on_circle) chains.now) }
+{
+    let mut circles = Vec::with_capacity(alloc, chains.len())?;
+    for chain in chains {
+        circles.push(chain.on_circle)?;
+    }
+    Ok(circles)
+}
+
+/// What the types of a plan's nodes mean and to what they refer.
+pub fn types_of<'t>(alloc: Global, plan: &Plan<'_, 't>) -> Result<Types<'t>, AllocError>
+    ensures { IfOk result (λ types. AreOf types (view plan.now)) }
+{
+    let meanings = meanings_of(alloc, plan)?;
+    let chains = chains_of(alloc, &meanings.targets)?;
+    let types = all_types(alloc, &meanings.meant, &chains)?;
+    let circles = all_circles(alloc, &chains)?;
+    Ok(Types {
+        meant: meanings.meant,
+        targets: meanings.targets,
+        circles,
+        types,
+    })
+}
