@@ -1,3 +1,4 @@
 pub mod MeaningLemmas
 pub mod CollectLemmas
 pub mod TypeLemmas
+pub mod ReferenceLemmas

@@ -2,6 +2,7 @@
 #![tactic(auto)]
 
 mod meanings;
+mod references;
 mod types;
 
 pub use types::{Types, types_of};

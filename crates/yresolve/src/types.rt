@@ -136,13 +136,24 @@ pub fn types_of<'t>(alloc: Global, plan: &Plan<'_, 't>) -> Result<Types<'t>, All
     ensures { IfOk result (λ types. AreOf types (view plan.now)) }
 {
     let meanings = meanings_of(alloc, plan)?;
-    let chains = chains_of(alloc, &meanings.targets)?;
-    let types = all_types(alloc, &meanings.meant, &chains)?;
-    let circles = all_circles(alloc, &chains)?;
+    let chains = chains_of(alloc, meanings.targets.as_slice())?;
+    let types = all_types(alloc, meanings.meant.as_slice(), chains.as_slice())?;
+    let circles = all_circles(alloc, chains.as_slice())?;
     Ok(Types {
         meant: meanings.meant,
         targets: meanings.targets,
         circles,
         types,
     })
+}
+
+impl Types<'_> {
+    ghost use Rattle.std.specs.Prelude.{◌≡◌, false, slice_get, unwrap_or};
+
+    /// Whether references lead back to the node of a number.
+    pub(crate) fn is_on_circle(&self, number: u32) -> bool
+        ensures { result ≡ unwrap_or (slice_get self.now.circles.items number) false }
+    {
+        self.circles.get(number as usize).copied().unwrap_or(false)
+    }
 }
