@@ -4,8 +4,7 @@ use Rattle.yspec.specs.Forest.{levels, size}
 use Rattle.yspec.specs.schema.Breaks.{level_limit, node_limit}
 use Rattle.yspec.specs.document.Fitting.{IsNumbered, LeafsAreBare}
 use Rattle.yspec.specs.document.Writing.{NamesDiffer}
-use Rattle.yspec.specs.plain.Kinds.{ArePlain}
-use Rattle.yspec.proofs.SchemaProofs.CompiledLemmas.{names_differ_of, leafs_bare_of, levels_of, size_of, plain_of}
+use Rattle.yspec.proofs.SchemaProofs.CompiledLemmas.{names_differ_of, leafs_bare_of, levels_of, size_of}
 use Rattle.yschema.specs.declared.schema.Schema.{Schema}
 use Rattle.yschema.specs.View.{view, forest_of}
 use Rattle.yschema.proofs.ChildLemmas.{numbered_laid}
@@ -26,7 +25,3 @@ not_deep s = levels_of (view s) s.compiled
 
 pub not_large : (s : Schema) → size (view s).nodes ≤ node_limit
 not_large s = size_of (view s) s.compiled
-
--- it has containers and leafs alone
-pub kinds_are_plain : (s : Schema) → ArePlain (view s).nodes
-kinds_are_plain s = plain_of (view s) s.compiled

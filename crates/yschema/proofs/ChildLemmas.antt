@@ -28,15 +28,15 @@ numbered_laid (node l below after) p k (r ∷ rows) e =
     )
 
 -- no node has that number
-abbrev Avoids : Option ℕ → Forest SchemaNode → Type 0
+abbrev pub Avoids : Option ℕ → Forest SchemaNode → Type 0
 Avoids p end = Unit {0}
 Avoids p (node l below after) = (same_number p (Some l.number) ≡ false) × Avoids p below × Avoids p after
 
-avoids_top : (f : Forest SchemaNode) → Avoids None f
+pub avoids_top : (f : Forest SchemaNode) → Avoids None f
 avoids_top end = tt
 avoids_top (node l below after) = (refl, avoids_top below, avoids_top after)
 
-avoids_outside : (k j : ℕ) (f : Forest SchemaNode) → IsNumbered k f → ((i : ℕ) → k ≤ i → i < k + size f → (j == i) ≡ false) → Avoids (Some j) f
+pub avoids_outside : (k j : ℕ) (f : Forest SchemaNode) → IsNumbered k f → ((i : ℕ) → k ≤ i → i < k + size f → (j == i) ≡ false) → Avoids (Some j) f
 avoids_outside k j end numbered outside = tt
 avoids_outside k j (node l below after) numbered outside = (
   ap (λ n. j == n) numbered.0 ∙ outside k (omega arith) (omega arith),
@@ -44,16 +44,16 @@ avoids_outside k j (node l below after) numbered outside = (
   avoids_outside (k + 1 + size below) j after numbered.2 (λ i from to. outside i (omega arith) (omega arith)),
 )
 
-same_itself : (p : Option ℕ) → same_number p p ≡ true
+pub same_itself : (p : Option ℕ) → same_number p p ≡ true
 same_itself None = refl
 same_itself (Some j) = eq-eqb j j refl
 
-turned : (a b : ℕ) → (a == b) ≡ (b == a)
+pub turned : (a b : ℕ) → (a == b) ≡ (b == a)
 turned a b = grind (arith, nat_tests)
 
 -- ---- rows below a node
 
-first_below-append : (p : Option ℕ) (test : SchemaNode → Bool) (ps qs : List Place) → first_below p test (ps ++ qs) ≡ first_of (first_below p test ps) (first_below p test qs)
+pub first_below-append : (p : Option ℕ) (test : SchemaNode → Bool) (ps qs : List Place) → first_below p test (ps ++ qs) ≡ first_of (first_below p test ps) (first_below p test qs)
 first_below-append p test [] qs = refl
 first_below-append p test (pl ∷ ps) qs = by (same_number p pl.parent && test pl.label) (first_below-append p test ps qs)
   where
@@ -84,15 +84,15 @@ children_first p test (node l below after) avoids =
     (ap₂ first_of (no_child p (Some l.number) test below avoids.1 avoids.0) (children_first p test after avoids.2))
     ∙ sym (map_cond (λ n. n.number) (test l) (Some l) (find test (row after))))
 
-no_below : (j : ℕ) (f : Forest SchemaNode) → Avoids (Some j) f → find_below (λ n. n.number == j) f ≡ None
+pub no_below : (j : ℕ) (f : Forest SchemaNode) → Avoids (Some j) f → find_below (λ n. n.number == j) f ≡ None
 no_below j end avoids = refl
 no_below j (node l below after) avoids =
     ap₂ (λ b o. cond b (Some below) o) (turned l.number j ∙ avoids.0) (ap₂ joined_below (no_below j below avoids.1) (no_below j after avoids.2))
 
-abbrev below_or_none : ℕ → Forest SchemaNode → Forest SchemaNode
+abbrev pub below_or_none : ℕ → Forest SchemaNode → Forest SchemaNode
 below_or_none j f = unwrap_or (find_below (λ n. n.number == j) f) end
 
-joined_none : {X : Type 0} (o : Option (Forest X)) → joined_below o None ≡ o
+pub joined_none : {X : Type 0} (o : Option (Forest X)) → joined_below o None ≡ o
 joined_none (Some x) = refl
 joined_none None = refl
 

@@ -10,3 +10,7 @@ pub mod KindLemmas
 pub mod ChildLemmas
 pub mod FindLemmas
 pub mod CallerLemmas
+pub mod PassedLemmas
+pub mod NearestLemmas
+pub mod DataChildLemmas
+pub mod QualifiedLemmas

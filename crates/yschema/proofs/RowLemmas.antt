@@ -1,7 +1,7 @@
 -- Rows in preorder as the forest that they are.
 use Rattle.std.proofs.Common.{◌≡◌, ℕ, zero, suc, ◌+◌, ◌≤◌, min, List, [], ◌∷◌, length, take, drop, Option, None, refl, sym, ap, ap₂, ◌∙◌, subst, arith, length-take, length-drop}
 use Rattle.std.proofs.lemmas.List.{take_min, drop_min}
-use Rattle.yspec.specs.Forest.{Forest, node, end}
+use Rattle.yspec.specs.Forest.{Forest, node, end, size}
 use Rattle.yspec.specs.schema.Schema.{SchemaNode}
 use Rattle.yschema.specs.declared.children.Row.{Row}
 use Rattle.yschema.specs.declared.children.Child.{Child}
@@ -50,3 +50,7 @@ no_node k (r ∷ rows) h = absurd (omega arith)
 pub takes_none : (c : Children) (given : Option Child) → given ≡ None → length c.rows.now ≡ 0 → TakesFirst c given c
 takes_none c given is_none empty =
     let nothing = no_node c.number c.rows.now empty in subst (λ g. TakesFirst c g c) (sym is_none) (nothing, nothing)
+
+-- the nodes after the first are fewer than all
+pub fewer_after : {L : Type 0} (l : L) (below after before : Forest L) (k : ℕ) → before ≡ node l below after → size before ≤ k → size after ≤ k
+fewer_after l below after before k is within = let same = ap size is in omega (arith, same, within)

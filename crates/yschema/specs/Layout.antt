@@ -1,5 +1,5 @@
 -- How the nodes of a schema lie in rows: each before those below it, with how many these are.
-use Rattle.std.specs.Prelude.{ℕ, zero, suc, ◌+◌, Bool, true, ◌&&◌, nat_le, length, take, drop, map, List, [], ◌∷◌, ◌++◌, Option, Some, None, option_map, string_bytes, ◌≡◌}
+use Rattle.std.specs.Prelude.{ℕ, zero, suc, ◌+◌, Bool, true, ◌&&◌, nat_le, length, take, drop, map, List, [], ◌∷◌, ◌++◌, Option, Some, None, option_map, option_and_then, slice_get, if◌then◌else◌, string_bytes, ◌≡◌}
 use Rattle.yspec.specs.Forest.{Forest, end, node, size}
 use Rattle.yspec.specs.schema.Schema as spec
 use Rattle.yschema.specs.declared.node.SchemaId.{SchemaId}
@@ -81,6 +81,29 @@ places parent (node l below after) =
 abbrev pub place_of : ℕ → Row → Place
 place_of number r =
     record { parent = number_of r.parent; label = node_view number r.node; below = r.below }
+
+-- ---- the data nodes above
+
+-- the data node that a node is or that stands above it, given that above it; choices and cases are none
+abbrev pub data_at : Option ℕ → spec.SchemaNode → Option ℕ
+data_at above n = if spec.is_data n.kind then Some n.number else above
+
+-- the places of a row below a data node, or at the top, each with the data node above it as its parent
+abbrev pub data_places : Option ℕ → Forest spec.SchemaNode → List Place
+data_places above end = []
+data_places above (node l below after) =
+    record { parent = above; label = l; below = size below } ∷ (data_places (data_at above l) below ++ data_places above after)
+
+-- The data node above a node, given its parent and, by number, the data node that each of those before it is or that
+-- stands above it.
+abbrev pub data_above : List (Option ℕ) → Option ℕ → Option ℕ
+data_above nearest None = None
+data_above nearest (Some parent) = option_and_then (λ above. above) (slice_get nearest parent)
+
+-- ---- rows
+
+abbrev pub data_place_of : Option ℕ → ℕ → Row → Place
+data_place_of above number r = record { parent = above; label = node_view number r.node; below = r.below }
 
 -- what lies in rows, the first of which has that number
 abbrev pub laid : ℕ → List Row → List Place

@@ -1,9 +1,9 @@
 //! The schema of a set of modules, and what can be asked of it.
 
-ghost use Rattle.std.specs.Prelude.{◌≡◌, ◌+◌, ◌<◌, ◌^◌, length, vec_len, position, string_bytes};
+ghost use Rattle.std.specs.Prelude.{◌≡◌, ◌+◌, ◌<◌, ◌^◌, None, length, vec_len, position, string_bytes};
 ghost use Rattle.yspec.specs.text.Text.{is_text};
 ghost use Rattle.yspec.specs.schema.Breaks.{IsCompiled};
-ghost use Rattle.yschema.specs.Layout.{laid, schema_view, IsLaidOut};
+ghost use Rattle.yschema.specs.Layout.{data_places, laid, forest_of, schema_view, IsLaidOut};
 ghost use Rattle.yschema.specs.Lookup.{FindsNamed, FindsWritten};
 ghost use Rattle.yschema.specs.References.{FindsReferences};
 
@@ -11,7 +11,7 @@ use crate::children::{Children, Row};
 use crate::index::{id_of, parent_number};
 use crate::node::{SchemaId, SchemaNode};
 use crate::references::References;
-use crate::written::{other_name, written_name};
+use crate::written::{first_written, other_name, written_name};
 use std::alloc::{AllocError, Global};
 use yindex::Index;
 
@@ -32,7 +32,7 @@ pub struct Schema {
     ghost numbered: { vec_len rows < 2 ^ 32 },
     ghost laid_out: { IsLaidOut rows.items },
     ghost named: { FindsNamed index (laid 0 rows.items) },
-    ghost written: { FindsWritten index (schema_view modules.items rows.items) (laid 0 rows.items) },
+    ghost written: { FindsWritten index (schema_view modules.items rows.items) (data_places None (forest_of 0 rows.items)) },
     ghost referred: { FindsReferences references (laid 0 rows.items) },
     ghost compiled: { ∥ IsCompiled (schema_view modules.items rows.items) ∥₁ },
 }
@@ -44,6 +44,7 @@ impl Schema {
     ghost use Rattle.yspec.specs.schema.Schema.{node_at, children_of, child_named, child_written};
     ghost use Rattle.yspec.specs.schema.References.{references_to};
     ghost use Rattle.yschema.specs.Layout.{node_view, number_of, numbers_of};
+    ghost use Rattle.yschema.specs.Lookup.{module_passed};
     ghost use Rattle.yschema.specs.View.{view, row_view, forest_of, module_view};
 
     pub(crate) fn new(
@@ -55,7 +56,7 @@ impl Schema {
         requires numbered { vec_len rows < 2 ^ 32 }
         requires laid_out { IsLaidOut rows.items }
         requires named { FindsNamed index (laid 0 rows.items) }
-        requires written { FindsWritten index (schema_view modules.items rows.items) (laid 0 rows.items) }
+        requires written { FindsWritten index (schema_view modules.items rows.items) (data_places None (forest_of 0 rows.items)) }
         requires referred { FindsReferences references (laid 0 rows.items) }
         requires compiled { IsCompiled (schema_view modules.items rows.items) }
         ensures { view result ≡ schema_view modules.items rows.items }
@@ -118,7 +119,22 @@ impl Schema {
     pub fn child_written(&self, parent: Option<SchemaId>, name: &str) -> Option<SchemaId>
         ensures { number_of result ≡ child_written (view self.now) (number_of parent) name.now }
     {
-        id_of(self.index.get(parent_number(parent), None, name))
+        match self.module_passed(parent) {
+            Some(module) => first_written(&self.modules, module, self.children(parent?), name),
+            None => id_of(self.index.get(parent_number(parent), None, name)),
+        }
+    }
+
+    /// The module of a choice or a case; none of other nodes.
+    fn module_passed(&self, id: Option<SchemaId>) -> Option<usize>
+        ensures { result ≡ module_passed (view self.now) (number_of id) }
+    {
+        let node = self.kind(id?)?;
+        if node.kind.is_data() {
+            None
+        } else {
+            Some(node.module)
+        }
     }
 
     /// The leafs and leaf-lists that refer to a node by a leafref, in order (RFC 7950, 9.9).
