@@ -1,0 +1,2 @@
+pub mod DefaultLemmas
+pub mod ConfigLemmas
