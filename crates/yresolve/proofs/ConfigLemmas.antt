@@ -1,5 +1,5 @@
 -- Configuration below state, by the tests of the code.
-use Rattle.std.proofs.Common.{◌≡◌, Bool, true, false, not, ◌&&◌, ◌||◌, Option, is_some, refl, sym, ap, ap₂, ◌∙◌}
+use Rattle.std.proofs.Common.{◌≡◌, Bool, true, false, not, ◌&&◌, ◌||◌, refl, sym, ap, ap₂, ◌∙◌}
 
 pub not_not : (b : Bool) → b ≡ not (not b)
 not_not true = refl

@@ -1,10 +1,9 @@
 -- Values of defaults: those that are refused, and those that come twice.
 use Rattle.std.proofs.Common.{◌≡◌, ◌≢◌, ℕ, suc, ◌<◌, ◌≤◌, map, eqb, ◌&&◌, Bool, true, false, not, cond, ltb, ◌||◌, Bor, List, [], ◌∷◌, length, Option, Some, None, is_some, refl, sym, ap, ap₂, ◌∙◌, arith}
-use Rattle.std.specs.List.{list_any, filter_map}
-use Rattle.std.specs.List.{cons_option}
+use Rattle.std.specs.List.{list_any, cons_option, filter_map}
 use Rattle.std.specs.Option.{option_map_or}
 use Rattle.std.specs.Ordering.{is_eq}
-use Rattle.std.specs.BTreeSet.{BTreeSet, contains_by, Updates}
+use Rattle.std.specs.BTreeSet.{BTreeSet, contains_by}
 use Rattle.std.specs.BTreeMap.{is_at}
 use Rattle.std.proofs.lemmas.Bool.{lt-ltb, le-ltb, ltb-true, ltb-false, ne_eqb}
 use Rattle.std.proofs.lemmas.List.{length-map}
@@ -58,10 +57,6 @@ pub was_not : (b : Bool) → true ≡ not b → b ≡ false
 was_not false e = refl
 was_not true e = cc
 
-pub was : (b : Bool) → false ≡ not b → b ≡ true
-was true e = refl
-was false e = cc
-
 pub twice_first : (set : BTreeSet (Bor Val)) (vs : List Val) → set.keys ≡ []
     → (list_any (holds_value set) vs || comes_twice same_value vs) ≡ comes_twice same_value vs
 twice_first set vs empty =
@@ -73,10 +68,6 @@ twice_more before after v vs adds new =
     ap (λ b. b || comes_twice same_value vs) (either_any (same_value v) before after vs adds)
     ∙ turned (list_any (same_value v) vs) (list_any before vs) (comes_twice same_value vs)
     ∙ ap (λ b. (b || list_any before vs) || (list_any (same_value v) vs || comes_twice same_value vs)) (sym new)
-
-pub twice_found : (before : Val → Bool) (v : Val) (vs : List Val) → before v ≡ true
-    → (list_any before (v ∷ vs) || comes_twice same_value (v ∷ vs)) ≡ true
-twice_found before v vs there = ap (λ b. (b || list_any before vs) || comes_twice same_value (v ∷ vs)) there
 
 -- ---- values that a type takes
 
@@ -200,7 +191,3 @@ leaf_as plan p is = ap (wrong_by plan p) is
 
 pub leaf_list_as : (plan : Plan) (p : Planned) → leaf_list_word ≡ p.part.source.keyword → wrong_leaf_list p (type_of plan p) ≡ is_default_wrong plan p
 leaf_list_as plan p is = ap (wrong_by plan p) is
-
-pub choice_as : (plan : Plan) (p : Planned) → choice_word ≡ p.part.source.keyword
-    → (is_some (stated_in default_word p) && is_wrong_case plan p (default_case plan p)) ≡ is_default_wrong plan p
-choice_as plan p is = ap (wrong_by plan p) is
