@@ -2,3 +2,5 @@ pub mod MeaningLemmas
 pub mod CollectLemmas
 pub mod TypeLemmas
 pub mod ReferenceLemmas
+pub mod DefaultLemmas
+pub mod ConfigLemmas

@@ -1,1 +1,2 @@
 pub mod TypesView
+pub mod Values

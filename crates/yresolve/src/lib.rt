@@ -6,3 +6,6 @@ mod references;
 mod types;
 
 pub use types::{Types, types_of};
+mod config;
+mod defaults;
+pub use defaults::{are_wrong_defaults, default_values, is_wrong_default};

@@ -1,0 +1,193 @@
+-- Values of defaults: those that are refused, and those that come twice.
+use Rattle.std.proofs.Common.{◌≡◌, ◌≢◌, ℕ, suc, ◌<◌, ◌≤◌, map, eqb, ◌&&◌, Bool, true, false, not, cond, ltb, ◌||◌, Bor, List, [], ◌∷◌, length, Option, Some, None, is_some, refl, sym, ap, ap₂, ◌∙◌, arith}
+use Rattle.std.specs.List.{list_any, cons_option, filter_map}
+use Rattle.std.specs.Option.{option_map_or}
+use Rattle.std.specs.Ordering.{is_eq}
+use Rattle.std.specs.BTreeSet.{BTreeSet, contains_by}
+use Rattle.std.specs.BTreeMap.{is_at}
+use Rattle.std.proofs.lemmas.Bool.{lt-ltb, le-ltb, ltb-true, ltb-false, ne_eqb}
+use Rattle.std.proofs.lemmas.List.{length-map}
+use Rattle.yspec.specs.text.Text.{Text}
+use Rattle.yspec.specs.types.Types.{YangType, Val}
+use Rattle.yspec.specs.types.Order.{value_cmp, same_value}
+use Rattle.yspec.specs.types.Values.{value_of_text}
+use Rattle.yspec.specs.linking.Keyword.{Keyword, same_keyword, leaf_word, leaf_list_word, choice_word, default_word}
+use Rattle.yspec.specs.linking.Planned.{Planned, Plan, stated_in, type_of}
+use Rattle.yspec.specs.linking.SchemaNodes.{is_mandatory, least_of, is_key, default_texts, default_case}
+use Rattle.yspec.specs.linking.NodeBreaks.{is_empty, is_refused, has_equal, is_wrong_default, are_wrong_defaults, is_wrong_case, is_default_wrong}
+use Rattle.yresolve.specs.Values.{comes_twice, wrong_leaf, wrong_leaf_list}
+
+-- ---- values that were seen
+
+abbrev pub holds_value : BTreeSet (Bor Val) → Val → Bool
+holds_value set v = contains_by (λ k. value_cmp v k.now) set
+
+or_cond : (b c : Bool) → cond b true c ≡ (b || c)
+or_cond true c = refl
+or_cond false c = refl
+
+turned : (a b c : Bool) → ((a || b) || c) ≡ (b || (a || c))
+turned true true c = refl
+turned true false c = refl
+turned false true c = refl
+turned false false c = refl
+
+either_any : {A : Type 0} (f g h : A → Bool) (xs : List A) → ((x : A) → h x ≡ (f x || g x)) → list_any h xs ≡ (list_any f xs || list_any g xs)
+either_any f g h [] each = refl
+either_any f g h (x ∷ xs) each = ap₂ ◌||◌ (each x) (either_any f g h xs each) ∙ by (f x) (g x) (list_any f xs) (list_any g xs)
+  where
+    by : (a b c d : Bool) → ((a || b) || (c || d)) ≡ ((a || c) || (b || d))
+    by true b c d = refl
+    by false true true d = refl
+    by false true false d = refl
+    by false false c d = refl
+
+any_none : {A : Type 0} (f : A → Bool) (xs : List A) → ((x : A) → f x ≡ false) → list_any f xs ≡ false
+any_none f [] none = refl
+any_none f (x ∷ xs) none = ap (λ b. b || list_any f xs) (none x) ∙ any_none f xs none
+
+-- what was seen, and one value more
+pub value_added : (before after : BTreeSet (Bor Val)) (v : Val)
+    → ((q : Bor Val) → holds_value after q.now ≡ cond (is_eq (value_cmp v q.now)) true (holds_value before q.now))
+    → (w : Val) → holds_value after w ≡ (same_value v w || holds_value before w)
+value_added before after v updates w =
+    updates (record { ref_ptr = (0, 0); now = w }) ∙ or_cond (is_eq (value_cmp v w)) (holds_value before w)
+
+pub was_not : (b : Bool) → true ≡ not b → b ≡ false
+was_not false e = refl
+was_not true e = cc
+
+pub twice_first : (set : BTreeSet (Bor Val)) (vs : List Val) → set.keys ≡ []
+    → (list_any (holds_value set) vs || comes_twice same_value vs) ≡ comes_twice same_value vs
+twice_first set vs empty =
+    ap (λ b. b || comes_twice same_value vs) (any_none (holds_value set) vs (λ v. ap (list_any (is_at (λ (k : Bor Val). value_cmp v k.now))) empty))
+
+pub twice_more : (before after : Val → Bool) (v : Val) (vs : List Val) → ((w : Val) → after w ≡ (same_value v w || before w)) → before v ≡ false
+    → (list_any after vs || comes_twice same_value vs) ≡ (list_any before (v ∷ vs) || comes_twice same_value (v ∷ vs))
+twice_more before after v vs adds new =
+    ap (λ b. b || comes_twice same_value vs) (either_any (same_value v) before after vs adds)
+    ∙ turned (list_any (same_value v) vs) (list_any before vs) (comes_twice same_value vs)
+    ∙ ap (λ b. (b || list_any before vs) || (list_any (same_value v) vs || comes_twice same_value vs)) (sym new)
+
+-- ---- values that a type takes
+
+any_values : {A B : Type 0} (f : A → Option B) (test : B → Bool) (xs : List A)
+    → list_any (λ x. option_map_or test (f x) false) xs ≡ list_any test (filter_map f xs)
+any_values {B = B} f test [] = refl
+any_values {B = B} f test (x ∷ xs) = by (f x) (any_values f test xs)
+  where
+    rest : Bool
+    rest = list_any (λ x. option_map_or test (f x) false) xs
+
+    by : (o : Option B) → rest ≡ list_any test (filter_map f xs) → (option_map_or test o false || rest) ≡ list_any test (cons_option o (filter_map f xs))
+    by None h = h
+    by (Some y) h = ap (λ b. test y || b) h
+
+pub equal_values : (type : YangType) (ts : List Text) → has_equal type ts ≡ comes_twice same_value (filter_map (value_of_text type) ts)
+equal_values type [] = refl
+equal_values type (t ∷ ts) = by (value_of_text type t) (equal_values type ts)
+  where
+    same : Option Val → Text → Bool
+    same o u = option_map_or (λ v. option_map_or (same_value v) (value_of_text type u) false) o false
+
+    by : (o : Option Val) → has_equal type ts ≡ comes_twice same_value (filter_map (value_of_text type) ts)
+        → (list_any (same o) ts || has_equal type ts) ≡ comes_twice same_value (cons_option o (filter_map (value_of_text type) ts))
+    by None h = ap (λ b. b || has_equal type ts) (any_none (same None) ts (λ u. refl)) ∙ h
+    by (Some v) h = ap₂ ◌||◌ (any_values (value_of_text type) (same_value v) ts) h
+
+taken_most : {A B : Type 0} (f : A → Option B) (xs : List A) → length (filter_map f xs) ≤ length xs
+taken_most {B = B} f [] = omega arith
+taken_most {B = B} f (x ∷ xs) = by (f x) (taken_most f xs)
+  where
+    by : (o : Option B) → length (filter_map f xs) ≤ length xs → length (cons_option o (filter_map f xs)) ≤ suc (length xs)
+    by None h = omega (arith, h)
+    by (Some y) h = omega (arith, h)
+
+-- one is refused where fewer are taken than there are
+pub any_refused : (type : YangType) (ts : List Text) → list_any (is_refused type) ts ≡ ltb (length (filter_map (value_of_text type) ts)) (length ts)
+any_refused type [] = refl
+any_refused type (t ∷ ts) = by (value_of_text type t) (taken_most (value_of_text type) ts) (any_refused type ts)
+  where
+    taken : List Val
+    taken = filter_map (value_of_text type) ts
+
+    next : (m n : ℕ) (b : Bool) → ltb m n ≡ b → b ≡ ltb (suc m) (suc n)
+    next m n true e = sym (lt-ltb (suc m) (suc n) (omega (arith, ltb-true m n e)))
+    next m n false e = sym (le-ltb (suc m) (suc n) (omega (arith, ltb-false m n e)))
+
+    by : (o : Option Val) → length taken ≤ length ts → list_any (is_refused type) ts ≡ ltb (length taken) (length ts)
+        → (not (is_some o) || list_any (is_refused type) ts) ≡ ltb (length (cons_option o taken)) (suc (length ts))
+    by None most h = sym (lt-ltb (length taken) (suc (length ts)) (omega (arith, most)))
+    by (Some v) most h = h ∙ next (length taken) (length ts) (ltb (length taken) (length ts)) refl
+
+-- ---- the defaults of a node
+
+no_texts : (ts : List (Bor Text)) → eqb (length ts) 0 ≡ is_empty (map (λ t. t.now) ts)
+no_texts [] = refl
+no_texts (t ∷ ts) = let other : suc (length ts) ≢ 0 = omega arith in ne_eqb (suc (length ts)) 0 other
+
+module _ (p : Planned) (type : YangType) (texts : List (Bor Text)) (are : map (λ t. t.now) texts ≡ default_texts p) where
+  abbrev stated : Bool
+  stated = not (is_empty (default_texts p))
+
+  abbrev refused : Bool
+  refused = list_any (is_refused type) (default_texts p)
+
+  abbrev equal : Bool
+  equal = has_equal type (default_texts p)
+
+  some_stated : not (eqb (length texts) 0) ≡ stated
+  some_stated = ap not (no_texts texts ∙ ap is_empty are)
+
+  some_refused : (values : List Val) → values ≡ filter_map (value_of_text type) (map (λ t. t.now) texts) → ltb (length values) (length texts) ≡ refused
+  some_refused values taken =
+      ap₂ (λ m n. ltb m n) (ap length taken) (sym (length-map texts (λ t. t.now)))
+      ∙ (sym (any_refused type (map (λ t. t.now) texts)) ∙ ap (list_any (is_refused type)) are)
+
+  some_equal : (values : List Val) → values ≡ filter_map (value_of_text type) (map (λ t. t.now) texts) → comes_twice same_value values ≡ equal
+  some_equal values taken = ap (comes_twice same_value) taken ∙ (sym (equal_values type (map (λ t. t.now) texts)) ∙ ap (has_equal type) are)
+
+  -- of a leaf
+  pub wrong_beside : is_mandatory p ≡ true → not (eqb (length texts) 0) ≡ is_wrong_default p type
+  wrong_beside must = some_stated ∙ ap (λ b. cond b stated refused) (sym must)
+
+  pub wrong_refused : (values : List Val) → values ≡ filter_map (value_of_text type) (map (λ t. t.now) texts) → is_mandatory p ≡ false
+      → ltb (length values) (length texts) ≡ is_wrong_default p type
+  wrong_refused values taken may = some_refused values taken ∙ ap (λ b. cond b stated refused) (sym may)
+
+  -- of a leaf-list
+  by_least : (b : Bool) → ltb 0 (least_of p) ≡ b → cond b stated (refused || (p.config && equal)) ≡ are_wrong_defaults p type
+  by_least b is = ap (λ d. cond d stated (refused || (p.config && equal))) (sym is)
+
+  pub wrong_least : (n : ℕ) → n ≡ least_of p → 0 < n → not (eqb (length texts) 0) ≡ are_wrong_defaults p type
+  wrong_least n is above = some_stated ∙ by_least true (ap (ltb 0) (sym is) ∙ lt-ltb 0 n above)
+
+  module _ (n : ℕ) (is : n ≡ least_of p) (none : n ≤ 0) (values : List Val) (taken : values ≡ filter_map (value_of_text type) (map (λ t. t.now) texts)) where
+    by_values : (b : Bool) → ltb (length values) (length texts) ≡ b → (b || (p.config && comes_twice same_value values)) ≡ are_wrong_defaults p type
+    by_values b fewer =
+        ap₂ (λ r e. r || (p.config && e)) (sym fewer ∙ some_refused values taken) (some_equal values taken)
+        ∙ by_least false (ap (ltb 0) (sym is) ∙ le-ltb 0 n none)
+
+    pub wrong_fewer : length values < length texts → true ≡ are_wrong_defaults p type
+    wrong_fewer fewer = by_values true (lt-ltb (length values) (length texts) fewer)
+
+    pub wrong_twice : length texts ≤ length values → p.config ≡ true → comes_twice same_value values ≡ are_wrong_defaults p type
+    wrong_twice all config =
+        ap (λ c. c && comes_twice same_value values) (sym config) ∙ by_values false (le-ltb (length values) (length texts) all)
+
+    pub right_state : length texts ≤ length values → p.config ≡ false → false ≡ are_wrong_defaults p type
+    right_state all state =
+        ap (λ c. c && comes_twice same_value values) (sym state) ∙ by_values false (le-ltb (length values) (length texts) all)
+
+-- ---- by the keyword of a node
+
+abbrev wrong_by : Plan → Planned → Keyword → Bool
+wrong_by plan p w = cond (same_keyword leaf_word w) (wrong_leaf p (is_key plan p) (type_of plan p))
+    (cond (same_keyword leaf_list_word w) (wrong_leaf_list p (type_of plan p))
+    (same_keyword choice_word w && (is_some (stated_in default_word p) && is_wrong_case plan p (default_case plan p))))
+
+pub leaf_as : (plan : Plan) (p : Planned) → leaf_word ≡ p.part.source.keyword → wrong_leaf p (is_key plan p) (type_of plan p) ≡ is_default_wrong plan p
+leaf_as plan p is = ap (wrong_by plan p) is
+
+pub leaf_list_as : (plan : Plan) (p : Planned) → leaf_list_word ≡ p.part.source.keyword → wrong_leaf_list p (type_of plan p) ≡ is_default_wrong plan p
+leaf_list_as plan p is = ap (wrong_by plan p) is

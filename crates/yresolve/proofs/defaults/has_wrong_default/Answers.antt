@@ -1,0 +1,20 @@
+use Rattle.std.proofs.Common.{sym, ap, ap₂, ◌∙◌}
+use Rattle.std.proofs.lemmas.Result.{IfOk-weaker}
+use Rattle.ylink.specs.KeywordView.{keyword_view}
+use Rattle.yplan.specs.PlannedView.{planned_view}
+use Rattle.yplan.specs.PlanView.{view}
+use Rattle.yresolve.specs.Values.{wrong_leaf, wrong_leaf_list}
+use Rattle.yresolve.proofs.DefaultLemmas.{leaf_as, leaf_list_as}
+use Rattle.yresolve.proofs.defaults.has_wrong_default.Goals as goal
+
+pub returns-in-Leaf : goal.returns-in-Leaf
+returns-in-Leaf c = λ key type.
+    let p = planned_view c.args.number c.args.planned.now in
+    IfOk-weaker c.is_wrong_leaf.result _ _ (λ wrong so. so ∙ (ap₂ (wrong_leaf p) key type
+    ∙ leaf_as (view c.args.plan.now) p (ap keyword_view (sym c.in-Leaf.is) ∙ c.keyword.ensures))) (c.is_wrong_leaf.ensures c.args.number)
+
+pub returns-in-LeafList : goal.returns-in-LeafList
+returns-in-LeafList c = λ key type.
+    let p = planned_view c.args.number c.args.planned.now in
+    IfOk-weaker c.is_wrong_leaf_list.result _ _ (λ wrong so. so ∙ (ap (wrong_leaf_list p) type
+    ∙ leaf_list_as (view c.args.plan.now) p (ap keyword_view (sym c.in-LeafList.is) ∙ c.keyword.ensures))) (c.is_wrong_leaf_list.ensures c.args.number)

@@ -1,0 +1,25 @@
+use Rattle.std.proofs.Common.{◌≡◌, ◌&&◌, is_some, sym, ap, ◌∙◌}
+use Rattle.yspec.specs.linking.Keyword.{default_word}
+use Rattle.yspec.specs.linking.Planned.{stated_in}
+use Rattle.yspec.specs.linking.SchemaNodes.{default_case}
+use Rattle.yspec.specs.linking.NodeBreaks.{is_wrong_case}
+use Rattle.yplan.specs.PlannedView.{planned_view}
+use Rattle.yplan.specs.PlanView.{view}
+use Rattle.yplan.proofs.FactLemmas.{is_some_map}
+use Rattle.yresolve.proofs.defaults.is_wrong_choice.Goals as goal
+
+pub returns-then-is_some : goal.returns-then-is_some
+returns-then-is_some c =
+    let plan = view c.args.plan.now in
+    let p = planned_view c.args.number c.args.planned.now in
+    let stated : c.is_some.result ≡ is_some (stated_in default_word p) =
+    c.is_some.ensures ∙ (is_some_map (λ t. t.now) c.stated.result ∙ ap is_some (c.stated.ensures c.args.number)) in
+    c.is_wrong_case.ensures ∙ ap (λ b. b && is_wrong_case plan p (default_case plan p)) (sym c.if-is_some.true ∙ stated)
+
+pub returns-else-is_some : goal.returns-else-is_some
+returns-else-is_some c =
+    let plan = view c.args.plan.now in
+    let p = planned_view c.args.number c.args.planned.now in
+    let stated : c.is_some.result ≡ is_some (stated_in default_word p) =
+    c.is_some.ensures ∙ (is_some_map (λ t. t.now) c.stated.result ∙ ap is_some (c.stated.ensures c.args.number)) in
+    c.if-is_some.false ∙ ap (λ b. b && is_wrong_case plan p (default_case plan p)) (sym c.if-is_some.false ∙ stated)

@@ -1,0 +1,170 @@
+//! Defaults that nodes can't have (RFC 7950, 7.6.1, 7.7.2 and 7.9.3).
+
+ghost use Rattle.std.specs.Prelude.{◌≡◌, ◌&&◌, map, is_some, option_map, IfOk};
+ghost use Rattle.std.specs.List.{filter_map};
+ghost use Rattle.yspec.specs.types.Values.{value_of_text};
+ghost use Rattle.yspec.specs.types.Order.{same_value};
+ghost use Rattle.yspec.specs.linking.Keyword.{default_word};
+ghost use Rattle.yspec.specs.linking.Planned.{stated_in, type_of};
+ghost use Rattle.yspec.specs.linking.SchemaNodes as spec;
+ghost use Rattle.yspec.specs.linking.NodeBreaks as breaks;
+ghost use Rattle.yplan.specs.PlannedView.{planned_view};
+ghost use Rattle.yplan.specs.PlanView.{view};
+ghost use Rattle.yresolve.specs.Values.{comes_twice, wrong_leaf, wrong_leaf_list};
+
+use std::alloc::{AllocError, Global};
+use std::collections::BTreeSet;
+use ylink::Keyword;
+use yplan::{Plan, Planned, default_texts, is_wrong_case};
+use ytype::{BadValue, Val, YType};
+
+/// The value that a type takes from a text, where it takes it.
+fn value_of(alloc: Global, value_type: &YType, text: &str) -> Result<Option<Val>, AllocError>
+    ensures { IfOk result (λ value. value ≡ value_of_text value_type.now text.now) }
+{
+    match value_type.from_text(alloc, text) {
+        Ok(value) => Ok(Some(value)),
+        Err(BadValue::Refused { .. }) => Ok(None),
+        Err(BadValue::Memory) => Err(AllocError),
+    }
+}
+
+/// The values that a type takes from texts, in order.
+fn values_of(alloc: Global, value_type: &YType, texts: &[&str]) -> Result<Vec<Val>, AllocError>
+    ensures { IfOk result (λ values. values.items ≡ filter_map (value_of_text value_type.now) (map (λ t. t.now) texts.now)) }
+{
+    let mut values = Vec::new(alloc);
+    for text in texts {
+        if let Some(value) = value_of(alloc, value_type, text)? {
+            values.push(value)?;
+        }
+    }
+    Ok(values)
+}
+
+/// Whether one of these values is the same as another of them.
+fn comes_twice(alloc: Global, values: &[Val]) -> Result<bool, AllocError>
+    ensures { IfOk result (λ twice. twice ≡ comes_twice same_value values.now) }
+{
+    let mut seen = BTreeSet::new(alloc);
+    for value in values {
+        if !seen.insert(value)? {
+            return Ok(true);
+        }
+    }
+    Ok(false)
+}
+
+/// The values that a type takes from the defaults of a node, in order.
+pub fn default_values(
+    alloc: Global,
+    value_type: &YType,
+    planned: &Planned<'_, '_>,
+) -> Result<Vec<Val>, AllocError>
+    ensures { (number : _) → IfOk result (λ values. values.items ≡ filter_map (value_of_text value_type.now) (spec.default_texts (planned_view number planned.now))) }
+{
+    let texts = default_texts(alloc, planned)?;
+    values_of(alloc, value_type, &texts)
+}
+
+/// Whether a leaf that is no key is mandatory and has a default, or has one that its type doesn't take.
+pub fn is_wrong_default(
+    alloc: Global,
+    value_type: &YType,
+    planned: &Planned<'_, '_>,
+) -> Result<bool, AllocError>
+    ensures { (number : _) → IfOk result (λ wrong. wrong ≡ breaks.is_wrong_default (planned_view number planned.now) value_type.now) }
+{
+    let texts = default_texts(alloc, planned)?;
+    if planned.is_mandatory() {
+        return Ok(!texts.is_empty());
+    }
+    let values = values_of(alloc, value_type, &texts)?;
+    Ok(values.len() < texts.len())
+}
+
+/// Whether a leaf-list has defaults though there must be items, or one that its type doesn't take, or, as
+/// configuration, two that are the same.
+pub fn are_wrong_defaults(
+    alloc: Global,
+    value_type: &YType,
+    planned: &Planned<'_, '_>,
+) -> Result<bool, AllocError>
+    ensures { (number : _) → IfOk result (λ wrong. wrong ≡ breaks.are_wrong_defaults (planned_view number planned.now) value_type.now) }
+{
+    let texts = default_texts(alloc, planned)?;
+    if planned.least() > 0 {
+        return Ok(!texts.is_empty());
+    }
+    let values = values_of(alloc, value_type, &texts)?;
+    if values.len() < texts.len() {
+        return Ok(true);
+    }
+    if planned.config {
+        comes_twice(alloc, &values)
+    } else {
+        Ok(false)
+    }
+}
+
+/// Whether a leaf has a wrong default, given whether it is a key, and its type.
+fn is_wrong_leaf(
+    alloc: Global,
+    planned: &Planned<'_, '_>,
+    is_key: bool,
+    value_type: Option<&YType>,
+) -> Result<bool, AllocError>
+    ensures { (number : _) → IfOk result (λ wrong. wrong ≡ wrong_leaf (planned_view number planned.now) is_key (option_map (λ t. t.now) value_type.entry)) }
+{
+    match value_type {
+        Some(value_type) => {
+            if is_key {
+                return Ok(false);
+            }
+            is_wrong_default(alloc, value_type, planned)
+        }
+        None => Ok(false),
+    }
+}
+
+/// Whether a leaf-list has wrong defaults, given its type.
+fn is_wrong_leaf_list(
+    alloc: Global,
+    planned: &Planned<'_, '_>,
+    value_type: Option<&YType>,
+) -> Result<bool, AllocError>
+    ensures { (number : _) → IfOk result (λ wrong. wrong ≡ wrong_leaf_list (planned_view number planned.now) (option_map (λ t. t.now) value_type.entry)) }
+{
+    match value_type {
+        Some(value_type) => are_wrong_defaults(alloc, value_type, planned),
+        None => Ok(false),
+    }
+}
+
+/// Whether a choice states a default case that it can't have.
+fn is_wrong_choice<'a, 't>(plan: &Plan<'a, 't>, number: u32, planned: &Planned<'a, 't>) -> bool
+    ensures { let p = planned_view number planned.now in
+        result ≡ (is_some (stated_in default_word p) && breaks.is_wrong_case (view plan.now) p (spec.default_case (view plan.now) p)) }
+{
+    planned.stated(Keyword::Default).is_some() && is_wrong_case(plan, number, planned)
+}
+
+/// Whether a node has a default that it can't have, given whether it is a key, and its type, if it has one.
+pub(crate) fn has_wrong_default<'a, 't>(
+    alloc: Global,
+    plan: &Plan<'a, 't>,
+    number: u32,
+    planned: &Planned<'a, 't>,
+    is_key: bool,
+    value_type: Option<&YType>,
+) -> Result<bool, AllocError>
+    ensures { let p = planned_view number planned.now in is_key ≡ spec.is_key (view plan.now) p → option_map (λ t. t.now) value_type.entry ≡ type_of (view plan.now) p
+        → IfOk result (λ wrong. wrong ≡ breaks.is_default_wrong (view plan.now) p) }
+{
+    match planned.keyword() {
+        Keyword::Leaf => is_wrong_leaf(alloc, planned, is_key, value_type),
+        Keyword::LeafList => is_wrong_leaf_list(alloc, planned, value_type),
+        Keyword::Choice => Ok(is_wrong_choice(plan, number, planned)),
+        _ => Ok(false),
+    }
+}
