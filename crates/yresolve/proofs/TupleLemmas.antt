@@ -1,59 +1,117 @@
--- Lists that loops collect, and the leafs that lists name.
-use Rattle.std.proofs.Common.{◌≡◌, ℕ, ◌+◌, ◌<◌, ◌≤◌, Bool, true, false, cond, List, [], ◌∷◌, ◌++◌, length, get_or, drop, map, Option, Some, None, refl, sym, ap, ◌∙◌}
-use Rattle.std.specs.Prelude.{option_map, option_and_then}
-use Rattle.std.proofs.lemmas.List.{at_drop_more, at_drop_all, append_assoc, append-nil, map_push}
-use Rattle.yspec.specs.linking.Planned.{Plan, Planned, child_called, way}
-use Rattle.yspec.specs.linking.Prefixes.{NodeName}
+-- What the statements of a list name, and whether a number comes twice.
+use Rattle.std.proofs.Common.{◌≡◌, ℕ, ◌+◌, Bool, true, false, not, cond, ◌&&◌, ◌||◌, List, [], ◌∷◌, ◌++◌, map, Option, Some, None, refl, sym, ap, ap₂, ◌∙◌, arith}
+use Rattle.std.specs.Prelude.{◌==◌, option_map, unwrap_or}
+use Rattle.std.specs.List.{cons_option, filter_map, flat_map, list_all, list_any}
+use Rattle.std.specs.Option.{option_map_or}
+use Rattle.std.specs.Ordering.{is_eq, nat_cmp}
+use Rattle.std.specs.BTreeSet.{BTreeSet, Updates, contains}
+use Rattle.std.proofs.lemmas.List.{map-append}
+use Rattle.yspec.specs.linking.Keyword.{Keyword, key_word, unique_word, leaf_word, container_word, same_keyword}
+use Rattle.yspec.specs.linking.Planned as spec
+use Rattle.yspec.specs.linking.Planned.{Planned, child_called, is_a}
+use Rattle.yspec.specs.linking.SchemaNodes.{key_names, key_numbers, unique_ways, number_in, nodes_named}
+use Rattle.yspec.specs.linking.Arguments.{key_of}
+use Rattle.yspec.specs.linking.NodeBreaks.{has_twice, leaf_behind, is_key_leaf, is_wrong_key}
+use Rattle.yspec.specs.linking.Source.{Source, argument_in, all_with}
+use Rattle.yspec.specs.linking.Parts.{part_of}
+use Rattle.ypreorder.specs.View.{row_by, label_by}
+use Rattle.ylink.specs.SourceView.{source_view}
+use Rattle.yplan.specs.PlannedView.{implied_or, planned_view}
+use Rattle.yplan.specs.declared.planned.Planned as code
+use Rattle.yplan.proofs.FactLemmas.{own-all}
+use Rattle.yresolve.specs.TuplesView.{children_named, children_by, ways_named, ways_by}
 
--- what is collected from a list, of which an item more is looked at
-pub part_more : {X B : Type 0} (F : List X → List B) (so_far now part whole : List B) (xs : List X) (i : ℕ) (d : X) → i < length xs
-    → F (get_or xs i d ∷ drop (i + 1) xs) ≡ part ++ F (drop (i + 1) xs) → now ≡ so_far ++ part
-    → so_far ++ F (drop i xs) ≡ whole → now ++ F (drop (i + 1) xs) ≡ whole
-part_more F so_far now part whole xs i d within first pushed so =
-    ap (λ b. b ++ F (drop (i + 1) xs)) pushed
-    ∙ (append_assoc so_far part (F (drop (i + 1) xs))
-    ∙ (ap (λ b. so_far ++ b) (sym (at_drop_more F xs i d within ∙ first)) ∙ so))
+map-flat : {X A B : Type 0} (f : A → B) (g : X → List A) (xs : List X) → map f (flat_map g xs) ≡ flat_map (λ x. map f (g x)) xs
+map-flat f g [] = refl
+map-flat f g (x ∷ xs) = map-append f (g x) (flat_map g xs) ∙ ap (λ rest. map f (g x) ++ rest) (map-flat f g xs)
 
-pub part_ended : {X B : Type 0} (F : List X → List B) (so_far whole : List B) (xs : List X) (i : ℕ) → F [] ≡ [] → length xs ≤ i
-    → so_far ++ F (drop i xs) ≡ whole → so_far ≡ whole
-part_ended F so_far whole xs i none past so =
-    sym (ap (λ b. so_far ++ b) (at_drop_all F xs i past ∙ none) ∙ append-nil so_far) ∙ so
+-- the statements of a node are the substatements of its own
+pub children_are : (plan : spec.Plan) (p : code.Planned) (number : ℕ) → p.is_implied ≡ false
+    → children_by plan (planned_view number p) (row_by source_view p.source.children)
+    ≡ map (child_called plan (Some number)) (key_names plan (planned_view number p))
+children_are plan p number own =
+    let q = planned_view number p in
+    let below = row_by source_view p.source.children in
+    ap (flat_map (children_named plan q)) (sym (own-all key_word refl below)
+    ∙ ap (λ b. let part = implied_or b (part_of (label_by source_view p.source) below) in all_with key_word part.own) (sym own))
+    ∙ sym (map-flat (child_called plan (Some number)) (λ s. nodes_named plan q s (unwrap_or (key_of (argument_in s)) [])) (all_with key_word q.part.own))
 
--- the same of what is shown of a list that is collected
-pub shown_more : {X A B : Type 0} (F : List X → List B) (see : A → B) (so_far now : List A) (a : A) (whole : List B) (xs : List X) (i : ℕ) (d : X)
-    → i < length xs → F (get_or xs i d ∷ drop (i + 1) xs) ≡ see a ∷ F (drop (i + 1) xs) → now ≡ so_far ++ a ∷ []
-    → map see so_far ++ F (drop i xs) ≡ whole → map see now ++ F (drop (i + 1) xs) ≡ whole
-shown_more F see so_far now a whole xs i d within first pushed so =
-    part_more F (map see so_far) (map see now) (see a ∷ []) whole xs i d within first (ap (map see) pushed ∙ map_push see so_far a) so
+pub ways_are : (plan : spec.Plan) (p : code.Planned) (number : ℕ) → p.is_implied ≡ false
+    → ways_by plan (planned_view number p) (row_by source_view p.source.children) ≡ unique_ways plan (planned_view number p)
+ways_are plan p number own =
+    let q = planned_view number p in
+    let below = row_by source_view p.source.children in
+    ap (map (ways_named plan q)) (sym (own-all unique_word refl below)
+    ∙ ap (λ b. let part = implied_or b (part_of (label_by source_view p.source) below) in all_with unique_word part.own) (sym own))
 
--- ---- ways down
+-- ---- those that are found
 
-prefixed_by : {A : Type 0} (a : A) (so_far now : List A) (more : Option (List A)) → now ≡ so_far ++ a ∷ []
-    → option_map (λ rest. now ++ rest) more ≡ option_map (λ rest. so_far ++ rest) (option_map (λ rest. a ∷ rest) more)
-prefixed_by a so_far now None pushed = refl
-prefixed_by a so_far now (Some rest) pushed = ap Some (ap (λ b. b ++ rest) pushed ∙ append_assoc so_far (a ∷ []) rest)
+pub found_among : {X A B : Type 0} (h : A → Option B) (f : X → Option B) (ys : List A) (xs : List X) → map h ys ≡ map f xs → filter_map h ys ≡ filter_map f xs
+found_among h f ys xs same = sym (among h ys) ∙ (ap (filter_map (λ o. o)) same ∙ among f xs)
+  where
+    among : {C D : Type 0} (g : C → Option D) (cs : List C) → filter_map (λ o. o) (map g cs) ≡ filter_map g cs
+    among g [] = refl
+    among g (c ∷ cs) = ap (cons_option (g c)) (among g cs)
 
-module _ {X : Type 0} (plan : Plan) (named : List X → List NodeName) (xs : List X) (i : ℕ) (d : X) (parent : Option ℕ) (name : NodeName)
-    (so_far : List Planned) (whole : Option (List Planned)) where
-  pub way_more : (p : Planned) (now : List Planned) → i < length xs → named (get_or xs i d ∷ drop (i + 1) xs) ≡ name ∷ named (drop (i + 1) xs)
-      → Some p ≡ child_called plan parent name → now ≡ so_far ++ p ∷ []
-      → option_map (λ rest. so_far ++ rest) (way plan parent (named (drop i xs))) ≡ whole
-      → option_map (λ rest. now ++ rest) (way plan (Some p.number) (named (drop (i + 1) xs))) ≡ whole
-  way_more p now within first found pushed so =
-      prefixed_by p so_far now (way plan (Some p.number) (named (drop (i + 1) xs))) pushed
-      ∙ (ap (λ o. option_map (λ rest. so_far ++ rest) (option_and_then (λ q. option_map (λ rest. q ∷ rest) (way plan (Some q.number) (named (drop (i + 1) xs)))) o)) found
-      ∙ (ap (λ ns. option_map (λ rest. so_far ++ rest) (way plan parent ns)) (sym (at_drop_more named xs i d within ∙ first)) ∙ so))
+pub all_among : {X A B : Type 0} (h : A → Option B) (f : X → Option B) (test : B → Bool) (ys : List A) (xs : List X) → map h ys ≡ map f xs
+    → list_all (λ o. option_map_or test o false) (map h ys) ≡ list_all (λ x. option_map_or test (f x) false) xs
+all_among h f test ys xs same = ap (list_all (λ o. option_map_or test o false)) same ∙ among f xs test
+  where
+    among : {C D : Type 0} (g : C → Option D) (cs : List C) (t : D → Bool) → list_all (λ o. option_map_or t o false) (map g cs) ≡ list_all (λ c. option_map_or t (g c) false) cs
+    among g [] t = refl
+    among g (c ∷ cs) t = ap (λ b. option_map_or t (g c) false && b) (among g cs t)
 
-  pub way_lost : i < length xs → named (get_or xs i d ∷ drop (i + 1) xs) ≡ name ∷ named (drop (i + 1) xs)
-      → None ≡ child_called plan parent name
-      → option_map (λ rest. so_far ++ rest) (way plan parent (named (drop i xs))) ≡ whole → None ≡ whole
-  way_lost within first found so =
-      ap (λ o. option_map (λ rest. so_far ++ rest) (option_and_then (λ q. option_map (λ rest. q ∷ rest) (way plan (Some q.number) (named (drop (i + 1) xs)))) o)) found
-      ∙ (ap (λ ns. option_map (λ rest. so_far ++ rest) (way plan parent ns)) (sym (at_drop_more named xs i d within ∙ first)) ∙ so)
+-- ---- numbers that come twice
 
-pub way_ended : {X : Type 0} (plan : Plan) (named : List X → List NodeName) (xs : List X) (i : ℕ) (parent : Option ℕ) (so_far : List Planned)
-    (whole : Option (List Planned)) → length xs ≤ i → named [] ≡ []
-    → option_map (λ rest. so_far ++ rest) (way plan parent (named (drop i xs))) ≡ whole → Some so_far ≡ whole
-way_ended plan named xs i parent so_far whole past none so =
-    ap Some (sym (append-nil so_far))
-    ∙ (ap (λ ns. option_map (λ rest. so_far ++ rest) (way plan parent ns)) (sym (at_drop_all named xs i past ∙ none)) ∙ so)
+same_key : (a b : ℕ) → is_eq (nat_cmp a b) ≡ (b == a)
+same_key a b = grind (arith, nat_tests)
+
+-- whether one of those that are met comes, or one that comes twice
+abbrev pub twice_from : BTreeSet ℕ → List ℕ → Bool
+twice_from met ns = list_any (contains nat_cmp met) ns || has_twice ns
+
+turned : (a b c : Bool) → ((a || b) || c) ≡ (b || (a || c))
+turned true true c = refl
+turned true false c = refl
+turned false true c = refl
+turned false false c = refl
+
+any_joined : (f g h : ℕ → Bool) → ((n : ℕ) → h n ≡ (f n || g n)) → (ns : List ℕ) → list_any h ns ≡ (list_any f ns || list_any g ns)
+any_joined f g h is [] = refl
+any_joined f g h is (n ∷ ns) = ap₂ (λ a b. a || b) (is n) (any_joined f g h is ns) ∙ by (f n) (g n) (list_any f ns) (list_any g ns)
+  where
+    by : (a b c d : Bool) → ((a || b) || (c || d)) ≡ ((a || c) || (b || d))
+    by true b c d = refl
+    by false true true d = refl
+    by false true false d = refl
+    by false false c d = refl
+
+or_cond : (b c : Bool) → cond b true c ≡ (b || c)
+or_cond true c = refl
+or_cond false c = refl
+
+pub twice_more : (met more : BTreeSet ℕ) (n : ℕ) (ns : List ℕ) → Updates nat_cmp met more n true → true ≡ not (contains nat_cmp met n)
+    → twice_from more ns ≡ twice_from met (n ∷ ns)
+twice_more met more n ns updates new =
+    ap (λ b. b || has_twice ns) (any_joined (λ m. m == n) (contains nat_cmp met) (contains nat_cmp more)
+    (λ m. updates.0 m ∙ (or_cond (is_eq (nat_cmp n m)) (contains nat_cmp met m) ∙ ap (λ b. b || contains nat_cmp met m) (same_key n m))) ns)
+    ∙ (turned (list_any (λ m. m == n) ns) (list_any (contains nat_cmp met) ns) (has_twice ns)
+    ∙ ap (λ b. (b || list_any (contains nat_cmp met) ns) || has_twice (n ∷ ns)) (sym (was_not (contains nat_cmp met n) new)))
+  where
+    was_not : (b : Bool) → true ≡ not b → b ≡ false
+    was_not false e = refl
+    was_not true e = absurd cc
+
+pub twice_found : (met : BTreeSet ℕ) (n : ℕ) (ns : List ℕ) → false ≡ not (contains nat_cmp met n) → twice_from met (n ∷ ns) ≡ true
+twice_found met n ns old = by (contains nat_cmp met n) old
+  where
+    by : (b : Bool) → false ≡ not b → ((b || list_any (contains nat_cmp met) ns) || has_twice (n ∷ ns)) ≡ true
+    by true e = refl
+    by false e = absurd cc
+
+pub twice_first : (met : BTreeSet ℕ) (ns : List ℕ) → met.keys ≡ [] → twice_from met ns ≡ has_twice ns
+twice_first met ns empty = ap (λ b. b || has_twice ns) (none ns)
+  where
+    none : (ms : List ℕ) → list_any (contains nat_cmp met) ms ≡ false
+    none [] = refl
+    none (m ∷ ms) = ap (λ ks. list_any (λ k. is_eq (nat_cmp m k)) ks || list_any (contains nat_cmp met) ms) empty ∙ none ms

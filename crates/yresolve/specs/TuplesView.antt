@@ -1,5 +1,5 @@
 -- Keys and uniques as the specification's, and what the statements of a list name.
-use Rattle.std.specs.Prelude.{List, [], map, Option, Some, unwrap_or}
+use Rattle.std.specs.Prelude.{ℕ, Bool, true, List, [], ◌∷◌, map, Option, Some, slice_set, unwrap_or}
 use Rattle.std.specs.List.{flat_map}
 use Rattle.yspec.specs.Forest.{Forest}
 use Rattle.yspec.specs.linking.Keyword.{key_word, unique_word}
@@ -28,3 +28,8 @@ ways_named plan p s = map (λ names. way plan (Some p.number) (nodes_named plan 
 -- those of each `unique` of a row
 abbrev pub ways_by : Plan → Planned → Forest Source → List (List (Option (List Planned)))
 ways_by plan p statements = map (ways_named plan p) (all_with unique_word statements)
+
+-- marks with those of some numbers set
+abbrev pub marked : List Bool → List ℕ → List Bool
+marked marks [] = marks
+marked marks (n ∷ ns) = marked (slice_set marks n true) ns

@@ -1,10 +1,10 @@
 //! The leafs whose values tell the entries of a list apart (RFC 7950, 7.8.2 and 7.8.3).
 
-ghost use Rattle.std.specs.Prelude.{◌≡◌, ◌++◌, ◌&&◌, ◌||◌, IfOk, Some, [], filter_map, false, map, not, option_map, slice_set, unwrap_or};
+ghost use Rattle.std.specs.Prelude.{◌≡◌, ◌++◌, ◌&&◌, ◌||◌, IfOk, Some, [], false, map, not, true, option_map, slice_set, unwrap_or};
 ghost use Rattle.std.specs.List.{filter_map, list_all, list_any};
 ghost use Rattle.std.specs.Option.{option_map_or};
 ghost use Rattle.yspec.specs.linking.Arguments.{key_of, unique_of};
-ghost use Rattle.yspec.specs.linking.Keyword.{list_word};
+ghost use Rattle.yspec.specs.linking.Keyword.{container_word, list_word};
 ghost use Rattle.yspec.specs.linking.NodeBreaks as breaks;
 ghost use Rattle.yspec.specs.linking.Planned as planned;
 ghost use Rattle.yspec.specs.linking.Planned.{child_called, nodes_of};
@@ -17,7 +17,7 @@ ghost use Rattle.ylink.specs.NameView.{names_view};
 ghost use Rattle.ylink.specs.SourceView.{source_view};
 ghost use Rattle.yplan.specs.NodesView.{node_view};
 ghost use Rattle.yplan.specs.PlanView.{view};
-ghost use Rattle.yresolve.specs.TuplesView.{tuples_view, children_named, children_by, ways_named, ways_by};
+ghost use Rattle.yresolve.specs.TuplesView.{tuples_view, children_named, children_by, ways_named, ways_by, marked};
 
 use std::alloc::{AllocError, Global};
 use std::collections::BTreeSet;
@@ -283,4 +283,167 @@ pub fn tuples_of<'a, 't>(
         uniques.push(leaf_paths(alloc, ways)?)?;
     }
     Ok(Tuples { keys, uniques })
+}
+
+/// Marks the children that the key of a list names.
+fn mark_keys<'a, 't>(
+    alloc: Global,
+    plan: &Plan<'a, 't>,
+    list: PlanNode<'a, 't>,
+    marks: &mut Vec<bool>,
+) -> Result<(), AllocError>
+    ensures { IfOk result (λ _. marks.new.items ≡ marked marks.old.items (spec.key_numbers (view plan.now) (node_view list.entry))) }
+{
+    let numbers = key_numbers(alloc, plan, list)?;
+    for number in &numbers {
+        mark(marks, *number as usize);
+    }
+    Ok(())
+}
+
+fn mark(marks: &mut Vec<bool>, place: usize)
+    ensures { marks.new.items ≡ slice_set marks.old.items place true }
+{
+    if let Some(mark) = marks.get_mut(place) {
+        *mark = true;
+    }
+}
+
+/// Of each node, by number, whether it is a key of the list right above it.
+pub(crate) fn keys<'a, 't>(alloc: Global, plan: &Plan<'a, 't>) -> Result<Vec<bool>, AllocError>
+    ensures { IfOk result (λ marks. marks.items ≡ map (spec.is_key (view plan.now)) (nodes_of (view plan.now))) }
+{
+    let mut marks = vec![in alloc; false; plan.nodes()]?;
+    for node in plan.iter() {
+        mark_keys(alloc, plan, node, &mut marks)?;
+    }
+    Ok(marks)
+}
+
+fn has_twice(alloc: Global, numbers: &[u32]) -> Result<bool, AllocError>
+    ensures { IfOk result (λ twice. twice ≡ breaks.has_twice numbers.now) }
+{
+    let mut met = BTreeSet::new(alloc);
+    for number in numbers {
+        if !met.insert(*number)? {
+            return Ok(true);
+        }
+    }
+    Ok(false)
+}
+
+/// Whether a child may be named by the key of a list: a leaf of its module, configuration where the list is.
+fn is_key_leaf<'a, 't>(list: &PlanNode<'a, 't>, child: &PlanNode<'a, 't>) -> bool
+    ensures { result ≡ breaks.is_key_leaf (node_view list.now) (node_view child.now) }
+{
+    Keyword::Leaf.is(child.planned.keyword())
+        && child.planned.owner() == list.planned.owner()
+        && list.planned.config == child.planned.config
+}
+
+fn are_key_leafs<'a, 't>(list: &PlanNode<'a, 't>, children: &[Option<PlanNode<'a, 't>>]) -> bool
+    ensures { result ≡ list_all (λ child. option_map_or (breaks.is_key_leaf (node_view list.now)) child false) (map (option_map node_view) children.now) }
+{
+    for child in children {
+        let is_right = match child {
+            Some(child) => is_key_leaf(list, child),
+            None => false,
+        };
+        if !is_right {
+            return false;
+        }
+    }
+    true
+}
+
+/// Whether the key of a list names something other than leafs right below it, or one of them twice.
+fn is_wrong_key<'a, 't>(
+    alloc: Global,
+    plan: &Plan<'a, 't>,
+    list: PlanNode<'a, 't>,
+) -> Result<bool, AllocError>
+    ensures { IfOk result (λ wrong. wrong ≡ breaks.is_wrong_key (view plan.now) (node_view list.entry)) }
+{
+    let children = key_children(alloc, plan, list)?;
+    if !are_key_leafs(&list, &children) {
+        return Ok(true);
+    }
+    let numbers = numbers_of(alloc, &children)?;
+    has_twice(alloc, &numbers)
+}
+
+fn are_containers<'a, 't>(nodes: &[PlanNode<'a, 't>]) -> bool
+    ensures { result ≡ list_all (planned.is_a container_word) (map node_view nodes.now) }
+{
+    for node in nodes {
+        if !Keyword::Container.is(node.planned.keyword()) {
+            return false;
+        }
+    }
+    true
+}
+
+/// Whether the leaf to which a way through containers leads is configuration, where there is one.
+fn leaf_config<'a, 't>(way: &[PlanNode<'a, 't>]) -> Option<bool>
+    ensures { result ≡ option_map (λ p. p.config) (breaks.leaf_behind (map node_view way.now)) }
+{
+    let (last, above) = way.split_last()?;
+    if are_containers(above) && Keyword::Leaf.is(last.planned.keyword()) {
+        Some(last.planned.config)
+    } else {
+        None
+    }
+}
+
+/// Whether each of these ways leads to a leaf that is configuration, or is none, as is asked.
+fn are_all<'a, 't>(config: bool, ways: &[Option<Vec<PlanNode<'a, 't>>>]) -> bool
+    ensures { result ≡ list_all (breaks.is_config config) (map breaks.leaf_named (map (λ way. option_map (λ nodes. map node_view nodes.items) way) ways.now)) }
+{
+    for way in ways {
+        let found = match way {
+            Some(nodes) => leaf_config(nodes),
+            None => None,
+        };
+        if found != Some(config) {
+            return false;
+        }
+    }
+    true
+}
+
+/// Whether the leafs of a `unique` aren't all configuration, or all state.
+fn is_wrong_unique<'a, 't>(ways: &[Option<Vec<PlanNode<'a, 't>>>]) -> bool
+    ensures { result ≡ breaks.is_wrong_unique (map (λ way. option_map (λ nodes. map node_view nodes.items) way) ways.now) }
+{
+    !(are_all(true, ways) || are_all(false, ways))
+}
+
+fn has_wrong_unique<'a, 't>(
+    alloc: Global,
+    plan: &Plan<'a, 't>,
+    list: PlanNode<'a, 't>,
+) -> Result<bool, AllocError>
+    ensures { IfOk result (λ wrong. wrong ≡ list_any breaks.is_wrong_unique (spec.unique_ways (view plan.now) (node_view list.entry))) }
+{
+    for ways in &unique_ways(alloc, plan, list)? {
+        if is_wrong_unique(ways) {
+            return Ok(true);
+        }
+    }
+    Ok(false)
+}
+
+/// Whether a node is a list with a key or a `unique` that no list may have.
+pub(crate) fn has_wrong_tuples<'a, 't>(
+    alloc: Global,
+    plan: &Plan<'a, 't>,
+    node: PlanNode<'a, 't>,
+) -> Result<bool, AllocError>
+    ensures { let p = node_view node.entry in IfOk result (λ wrong. wrong
+        ≡ (planned.is_a list_word p && (breaks.is_wrong_key (view plan.now) p || list_any breaks.is_wrong_unique (spec.unique_ways (view plan.now) p)))) }
+{
+    if !Keyword::List.is(node.planned.keyword()) {
+        return Ok(false);
+    }
+    Ok(is_wrong_key(alloc, plan, node)? || has_wrong_unique(alloc, plan, node)?)
 }
