@@ -1,1 +1,2 @@
 mod TupleLemmas
+mod MarkLemmas

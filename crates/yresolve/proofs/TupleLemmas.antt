@@ -5,6 +5,7 @@ use Rattle.std.specs.List.{cons_option, filter_map, flat_map, list_all, list_any
 use Rattle.std.specs.Option.{option_map_or}
 use Rattle.std.specs.Ordering.{is_eq, nat_cmp}
 use Rattle.std.specs.BTreeSet.{BTreeSet, Updates, contains}
+use Rattle.std.proofs.lemmas.Bool.Decides.{nat_tests}
 use Rattle.std.proofs.lemmas.List.{map-append}
 use Rattle.yspec.specs.linking.Keyword.{Keyword, key_word, unique_word, leaf_word, container_word, same_keyword}
 use Rattle.yspec.specs.linking.Planned as spec
@@ -18,6 +19,8 @@ use Rattle.ypreorder.specs.View.{row_by, label_by}
 use Rattle.ylink.specs.SourceView.{source_view}
 use Rattle.yplan.specs.PlannedView.{implied_or, planned_view}
 use Rattle.yplan.specs.declared.planned.Planned as code
+use Rattle.yplan.specs.NodesView.{node_view}
+use Rattle.yplan.specs.declared.nodes.PlanNode.{PlanNode}
 use Rattle.yplan.proofs.FactLemmas.{own-all}
 use Rattle.yresolve.specs.TuplesView.{children_named, children_by, ways_named, ways_by}
 
@@ -115,3 +118,38 @@ twice_first met ns empty = ap (λ b. b || has_twice ns) (none ns)
     none : (ms : List ℕ) → list_any (contains nat_cmp met) ms ≡ false
     none [] = refl
     none (m ∷ ms) = ap (λ ks. list_any (λ k. is_eq (nat_cmp m k)) ks || list_any (contains nat_cmp met) ms) empty ∙ none ms
+
+-- ---- the last of a way
+
+last_by : (b all c : Bool) (q : Planned) (o : Option Planned) → o ≡ cond (all && c) (Some q) None → cond b o None ≡ cond ((b && all) && c) (Some q) None
+last_by true all c q o e = e
+last_by false all c q o e = refl
+
+leaf_last : (ps : List Planned) (q : Planned) → leaf_behind (ps ++ q ∷ []) ≡ cond (list_all (is_a container_word) ps && is_a leaf_word q) (Some q) None
+leaf_last [] q = refl
+leaf_last (p ∷ []) q = last_by (is_a container_word p) true (is_a leaf_word q) q (cond (is_a leaf_word q) (Some q) None) refl
+leaf_last (p ∷ r ∷ ps) q =
+    last_by (is_a container_word p) (list_all (is_a container_word) (r ∷ ps)) (is_a leaf_word q) q (leaf_behind (r ∷ (ps ++ q ∷ []))) (leaf_last (r ∷ ps) q)
+
+pub config_last : (above : List PlanNode) (last : PlanNode) (nodes : List PlanNode) (b c : Bool) → nodes ≡ above ++ last ∷ []
+    → b ≡ list_all (is_a container_word) (map node_view above) → c ≡ is_a leaf_word (node_view last)
+    → cond (b && c) (Some last.planned.config) None ≡ option_map (λ p. p.config) (leaf_behind (map node_view nodes))
+config_last above last nodes b c split all leaf =
+    told (b && c)
+    ∙ ap (option_map (λ p. p.config)) (ap₂ (λ x y. cond (x && y) (Some (node_view last)) None) all leaf
+    ∙ sym (ap (λ ns. leaf_behind (map node_view ns)) split ∙ (ap leaf_behind (map-append node_view above (last ∷ [])) ∙ leaf_last (map node_view above) (node_view last))))
+  where
+    told : (d : Bool) → cond d (Some last.planned.config) None ≡ option_map (λ p. p.config) (cond d (Some (node_view last)) None)
+    told true = refl
+    told false = refl
+
+-- ---- keys
+
+pub wrong_leafs : (plan : spec.Plan) (p : Planned)
+    → list_all (λ name. option_map_or (is_key_leaf p) (child_called plan (Some p.number) name) false) (key_names plan p) ≡ false → true ≡ is_wrong_key plan p
+wrong_leafs plan p e = sym (ap (λ b. not b || has_twice (key_numbers plan p)) e)
+
+pub right_leafs : (plan : spec.Plan) (p : Planned)
+    → list_all (λ name. option_map_or (is_key_leaf p) (child_called plan (Some p.number) name) false) (key_names plan p) ≡ true
+    → has_twice (key_numbers plan p) ≡ is_wrong_key plan p
+right_leafs plan p e = sym (ap (λ b. not b || has_twice (key_numbers plan p)) e)

@@ -33,3 +33,8 @@ ways_by plan p statements = map (ways_named plan p) (all_with unique_word statem
 abbrev pub marked : List Bool → List ℕ → List Bool
 marked marks [] = marks
 marked marks (n ∷ ns) = marked (slice_set marks n true) ns
+
+-- marks with those set that each of some says
+abbrev pub marked_by : {A : Type 0} → (A → List ℕ) → List Bool → List A → List Bool
+marked_by says marks [] = marks
+marked_by says marks (a ∷ others) = marked_by says (marked marks (says a)) others
