@@ -89,11 +89,11 @@ none_set (x ∷ xs) (suc i) = none_set xs i
 
 found_is : {X : Type 0} (test : X → Bool) (xs : List X) (x : X) → find test xs ≡ Some x → test x ≡ true
 found_is test [] x e = absurd cc
-found_is test (y ∷ ys) x e = by (test y) refl e
+found_is test (y ∷ ys) x e = by (test y) refl (found_is test ys x) e
   where
-    by : (b : Bool) → test y ≡ b → cond b (Some y) (find test ys) ≡ Some x → test x ≡ true
-    by true t h = subst (λ z. test z ≡ true) (some_same y x h) t
-    by false t h = found_is test ys x h
+    by : (b : Bool) → test y ≡ b → (find test ys ≡ Some x → test x ≡ true) → cond b (Some y) (find test ys) ≡ Some x → test x ≡ true
+    by true t more h = subst (λ z. test z ≡ true) (some_same y x h) t
+    by false t more h = more h
 
 any_found : {X : Type 0} (test g : X → Bool) (xs : List X) (x : X) → find test xs ≡ Some x → g x ≡ true → list_any g xs ≡ true
 any_found test g [] x e holds = absurd cc
