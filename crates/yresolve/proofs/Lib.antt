@@ -4,3 +4,5 @@ pub mod TypeLemmas
 pub mod ReferenceLemmas
 pub mod DefaultLemmas
 pub mod ConfigLemmas
+mod TupleLemmas
+mod MarkLemmas

@@ -1,2 +1,3 @@
 pub mod TypesView
 pub mod Values
+pub mod TuplesView

@@ -1,0 +1,40 @@
+-- Keys and uniques as the specification's, and what the statements of a list name.
+use Rattle.std.specs.Prelude.{ℕ, Bool, true, List, [], ◌∷◌, map, Option, Some, slice_set, unwrap_or}
+use Rattle.std.specs.List.{flat_map}
+use Rattle.yspec.specs.Forest.{Forest}
+use Rattle.yspec.specs.linking.Keyword.{key_word, unique_word}
+use Rattle.yspec.specs.linking.Arguments.{key_of, unique_of}
+use Rattle.yspec.specs.linking.Source.{Source, argument_in, all_with}
+use Rattle.yspec.specs.linking.Planned.{Planned, Plan, child_called, way}
+use Rattle.yspec.specs.linking.SchemaNodes.{nodes_named}
+use Rattle.yspec.specs.schema.Schema as schema
+use Rattle.yresolve.specs.declared.tuples.Tuples.{Tuples}
+
+abbrev pub tuples_view : Tuples → schema.Tuples
+tuples_view t = record { keys = t.keys.items; uniques = map (λ unique. map (λ path. path.items) unique.items) t.uniques.items }
+
+-- of each name that a `key` gives the child that it names
+abbrev pub children_named : Plan → Planned → Source → List (Option Planned)
+children_named plan p s = map (child_called plan (Some p.number)) (nodes_named plan p s (unwrap_or (key_of (argument_in s)) []))
+
+-- of all the names that the `key`s of a row give
+abbrev pub children_by : Plan → Planned → Forest Source → List (Option Planned)
+children_by plan p statements = flat_map (children_named plan p) (all_with key_word statements)
+
+-- the ways that a `unique` gives
+abbrev pub ways_named : Plan → Planned → Source → List (Option (List Planned))
+ways_named plan p s = map (λ names. way plan (Some p.number) (nodes_named plan p s names)) (unwrap_or (unique_of (argument_in s)) [])
+
+-- those of each `unique` of a row
+abbrev pub ways_by : Plan → Planned → Forest Source → List (List (Option (List Planned)))
+ways_by plan p statements = map (ways_named plan p) (all_with unique_word statements)
+
+-- marks with those of some numbers set
+abbrev pub marked : List Bool → List ℕ → List Bool
+marked marks [] = marks
+marked marks (n ∷ ns) = marked (slice_set marks n true) ns
+
+-- marks with those set that each of some says
+abbrev pub marked_by : {A : Type 0} → (A → List ℕ) → List Bool → List A → List Bool
+marked_by says marks [] = marks
+marked_by says marks (a ∷ others) = marked_by says (marked marks (says a)) others
