@@ -67,7 +67,7 @@ impl<'a, 't> Plan<'a, 't> {
     }
 
     /// Its nodes, by number.
-    pub(crate) fn rows(&self) -> &[Row<Planned<'a, 't>>]
+    pub fn rows(&self) -> &[Row<Planned<'a, 't>>]
         ensures rows { result.now ≡ rows_in self.now.table }
         ensures nodes { labels_by planned_view 0 result.now ≡ spec.nodes_of (view self.now) }
     {

@@ -66,7 +66,7 @@ impl<'a, 't> Planned<'a, 't> {
     }
 
     /// A rule that it breaks, which is told at its statement.
-    pub(crate) fn broken(&self, code: CompileCode) -> Broken
+    pub fn broken(&self, code: CompileCode) -> Broken
         ensures { (number : _) → break_view result ∷ [] ≡ broken_at (code_number code) (planned_view number self.now) }
     {
         let label = self.source.label();

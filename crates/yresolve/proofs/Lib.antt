@@ -6,3 +6,4 @@ pub mod DefaultLemmas
 pub mod ConfigLemmas
 mod TupleLemmas
 mod MarkLemmas
+pub mod JudgingLemmas

@@ -1,3 +1,4 @@
 pub mod TypesView
 pub mod Values
 pub mod TuplesView
+pub mod ResolvedView

@@ -3,11 +3,15 @@
 
 mod config;
 mod defaults;
+mod judging;
 mod meanings;
 mod references;
+mod resolved;
 mod tuples;
 mod types;
 
 pub use defaults::{are_wrong_defaults, default_values, is_wrong_default};
+pub use judging::node_fault;
+pub use resolved::Resolved;
 pub use tuples::{Tuples, tuples_of};
 pub use types::{Types, types_of};

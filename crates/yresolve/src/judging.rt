@@ -1,0 +1,59 @@
+//! The rules that planned nodes break by what they state and refer to.
+
+ghost use Rattle.std.specs.Prelude.{◌≡◌, None, Some, IfOk, slice_get};
+ghost use Rattle.yspec.specs.schema.Breaks.{least_from};
+ghost use Rattle.yspec.specs.linking.Planned as spec;
+ghost use Rattle.yspec.specs.linking.NodeBreaks as breaks;
+ghost use Rattle.ylink.specs.BreakView.{seen};
+ghost use Rattle.yplan.specs.NodesView.{node_view};
+ghost use Rattle.yplan.specs.PlanView.{view};
+ghost use Rattle.yresolve.specs.ResolvedView.{IsOf};
+
+use crate::config::is_wrong_config;
+use crate::defaults::has_wrong_default;
+use crate::references::is_wrong_reference;
+use crate::resolved::Resolved;
+use crate::tuples::has_wrong_tuples;
+use std::alloc::{AllocError, Global};
+use ylink::{Broken, CompileCode, least_when};
+use yplan::{Plan, PlanNode};
+
+/// The lesser of one so far and of the rules that a node breaks.
+fn own_fault<'a, 't>(
+    alloc: Global,
+    plan: &Plan<'a, 't>,
+    resolved: &Resolved<'t>,
+    node: PlanNode<'a, 't>,
+    so_far: Option<Broken>,
+) -> Result<Option<Broken>, AllocError>
+    requires of_plan { IsOf resolved.now (view plan.now) }
+    requires stands { slice_get (spec.nodes_of (view plan.now)) node.number ≡ Some (node_view node) }
+    ensures { IfOk result (λ told. seen told ≡ least_from (seen so_far) (breaks.own_breaks (view plan.now) (node_view node.entry))) }
+{
+    let planned = &node.planned;
+    let config = is_wrong_config(plan, planned);
+    let told = least_when(config, so_far, planned.broken(CompileCode::C16));
+    let tuples = has_wrong_tuples(alloc, plan, node)?;
+    let told = least_when(tuples, told, planned.broken(CompileCode::C12));
+    let reference = is_wrong_reference(plan, &resolved.types, node);
+    let told = least_when(reference, told, planned.broken(CompileCode::C17));
+    let (is_key, value_type) = (resolved.is_key(node.number), resolved.value_type(node.number));
+    let default = has_wrong_default(alloc, plan, node.number, planned, is_key, value_type)?;
+    Ok(least_when(default, told, planned.broken(CompileCode::C11)))
+}
+
+/// The least of the rules of defaults, keys, config and references that nodes break, by module, line and number.
+pub fn node_fault<'t>(
+    alloc: Global,
+    plan: &Plan<'_, 't>,
+    resolved: &Resolved<'t>,
+) -> Result<Option<Broken>, AllocError>
+    requires { IsOf resolved.now (view plan.now) }
+    ensures { IfOk result (λ told. seen told ≡ least_from None (breaks.node_breaks (view plan.now))) }
+{
+    let mut told = None;
+    for node in plan.iter() {
+        told = own_fault(alloc, plan, resolved, node, told)?;
+    }
+    Ok(told)
+}

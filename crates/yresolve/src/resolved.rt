@@ -1,0 +1,67 @@
+//! What the nodes of a plan refer to, all in one.
+
+ghost use Rattle.yspec.specs.linking.Planned as spec;
+
+use crate::tuples::keys;
+use crate::types::{Types, types_of};
+use std::alloc::{AllocError, Global};
+use yplan::Plan;
+use ytype::YType;
+
+/// The types of a plan's nodes, to what leafrefs refer, and which leafs are keys.
+#[derive(Drop)]
+pub struct Resolved<'t> {
+    pub(crate) types: Types<'t>,
+    keys: Vec<bool>,
+}
+
+impl<'t> Resolved<'t> {
+    ghost use Rattle.std.specs.Prelude.{◌≡◌, Some, IfOk, slice_get, option_map};
+    ghost use Rattle.yspec.specs.linking.Planned as spec;
+    ghost use Rattle.yspec.specs.linking.SchemaNodes as nodes;
+    ghost use Rattle.yplan.specs.PlanView.{view};
+    ghost use Rattle.yresolve.specs.ResolvedView.{IsOf};
+
+    /// Those of a plan.
+    pub fn of(alloc: Global, plan: &Plan<'_, 't>) -> Result<Resolved<'t>, AllocError>
+        ensures { IfOk result (λ resolved. IsOf resolved (view plan.now)) }
+    {
+        Ok(Resolved {
+            types: types_of(alloc, plan)?,
+            keys: keys(alloc, plan)?,
+        })
+    }
+
+    /// The type of the node of a number; a leafref has its target's, and none where it leads nowhere.
+    pub fn value_type(&self, number: u32) -> Option<&YType>
+        ensures { (plan : spec.Plan) (p : spec.Planned) → IsOf self.now plan → slice_get (spec.nodes_of plan) number ≡ Some p
+            → option_map (λ t. t.now) result ≡ spec.type_of plan p }
+    {
+        match self.types.types.get(number as usize) {
+            Some(Some(value_type)) => Some(value_type),
+            _ => None,
+        }
+    }
+
+    /// The number of the leaf or leaf-list to which the type of a node refers.
+    pub fn target(&self, number: u32) -> Option<u32>
+        ensures { (plan : spec.Plan) (p : spec.Planned) → IsOf self.now plan → slice_get (spec.nodes_of plan) number ≡ Some p
+            → result ≡ option_map nodes.number_in (spec.target_of plan p) }
+    {
+        match self.types.targets.get(number as usize) {
+            Some(target) => *target,
+            None => None,
+        }
+    }
+
+    /// Whether the node of a number is a key of the list right above it.
+    pub fn is_key(&self, number: u32) -> bool
+        ensures { (plan : spec.Plan) (p : spec.Planned) → IsOf self.now plan → slice_get (spec.nodes_of plan) number ≡ Some p
+            → result ≡ nodes.is_key plan p }
+    {
+        match self.keys.get(number as usize) {
+            Some(is_key) => *is_key,
+            None => false,
+        }
+    }
+}
