@@ -4,3 +4,4 @@ pub mod References
 pub mod Table
 pub mod Told
 pub mod View
+pub mod Made

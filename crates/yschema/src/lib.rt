@@ -8,6 +8,7 @@ mod grammar;
 mod index;
 mod least;
 mod limits;
+mod making;
 mod names;
 mod node;
 mod references;

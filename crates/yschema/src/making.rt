@@ -1,0 +1,253 @@
+//! Schema nodes from planned ones (RFC 7950, 7.5 to 7.9).
+
+ghost use Rattle.std.specs.Prelude.{◌≡◌, Some, None, map, slice_get, IfOk};
+ghost use Rattle.yspec.specs.linking.Planned.{nodes_of};
+ghost use Rattle.yspec.specs.linking.SchemaNodes as spec;
+ghost use Rattle.ylink.specs.WordView as word;
+ghost use Rattle.yplan.specs.FactsView as facts;
+ghost use Rattle.yplan.specs.NodesView as plans;
+ghost use Rattle.yplan.specs.PlannedView.{planned_view};
+ghost use Rattle.yplan.specs.PlanView as plan_view;
+ghost use Rattle.yresolve.specs.ResolvedView.{IsOf};
+ghost use Rattle.yschema.specs.Layout.{absence_view, amount_view, kind_view, laid, leaf_type_view, node_view, numbers_of, place_of, places, status_view, tuples_view};
+ghost use Rattle.yschema.specs.Made.{place_made, planned_place};
+
+use crate::children::Row;
+use crate::index::id_of;
+use crate::node::{Absence, Amount, Kind, LeafType, SchemaId, SchemaNode, Status, Tuples};
+use std::alloc::{AllocError, Global};
+use ylink::Keyword;
+use yplan::{Plan, PlanNode, Planned};
+use yresolve::{Resolved, default_values, tuples_of};
+use ytype::{Val, YType};
+
+fn status_of(status: ylink::Status) -> Status
+    ensures { status_view result ≡ word.status_view status }
+{
+    match status {
+        ylink::Status::Current => Status::Current,
+        ylink::Status::Deprecated => Status::Deprecated,
+        ylink::Status::Obsolete => Status::Obsolete,
+    }
+}
+
+fn amount_of(amount: yplan::Amount) -> Amount
+    ensures { amount_view result ≡ facts.amount_view amount }
+{
+    Amount {
+        least: amount.least,
+        most: amount.most,
+    }
+}
+
+fn ids_of(alloc: Global, numbers: &[u32]) -> Result<Vec<SchemaId>, AllocError>
+    ensures { IfOk result (λ ids. numbers_of ids.items ≡ numbers.now) }
+{
+    let mut ids = Vec::with_capacity(alloc, numbers.len())?;
+    for number in numbers {
+        ids.push(SchemaId::new(*number))?;
+    }
+    Ok(ids)
+}
+
+fn paths_of(alloc: Global, paths: &[Vec<u32>]) -> Result<Vec<Vec<SchemaId>>, AllocError>
+    ensures { IfOk result (λ made. map (λ path. numbers_of path.items) made.items ≡ map (λ path. path.items) paths.now) }
+{
+    let mut made = Vec::with_capacity(alloc, paths.len())?;
+    for path in paths {
+        made.push(ids_of(alloc, path.as_slice())?)?;
+    }
+    Ok(made)
+}
+
+fn uniques_of(
+    alloc: Global,
+    uniques: &[Vec<Vec<u32>>],
+) -> Result<Vec<Vec<Vec<SchemaId>>>, AllocError>
+    ensures { IfOk result (λ made. map (λ unique. map (λ path. numbers_of path.items) unique.items) made.items
+        ≡ map (λ unique. map (λ path. path.items) unique.items) uniques.now) }
+{
+    let mut made = Vec::with_capacity(alloc, uniques.len())?;
+    for unique in uniques {
+        made.push(paths_of(alloc, unique.as_slice())?)?;
+    }
+    Ok(made)
+}
+
+/// The leafs whose values tell the entries of a list apart.
+fn tuples_made<'a, 't>(
+    alloc: Global,
+    plan: &Plan<'a, 't>,
+    list: PlanNode<'a, 't>,
+) -> Result<Tuples, AllocError>
+    ensures { IfOk result (λ tuples. tuples_view tuples ≡ spec.tuples_of (plan_view.view plan.now) (plans.node_view list.entry)) }
+{
+    let tuples = tuples_of(alloc, plan, list)?;
+    Ok(Tuples {
+        keys: ids_of(alloc, tuples.keys.as_slice())?,
+        uniques: uniques_of(alloc, tuples.uniques.as_slice())?,
+    })
+}
+
+/// The values of the defaults of a leaf or leaf-list, in order.
+fn values_of<'a, 't>(
+    alloc: Global,
+    plan: &Plan<'a, 't>,
+    resolved: &Resolved<'t>,
+    node: PlanNode<'a, 't>,
+) -> Result<Vec<Val>, AllocError>
+    requires of_plan { IsOf resolved.now (plan_view.view plan.now) }
+    requires stands { slice_get (nodes_of (plan_view.view plan.now)) node.number ≡ Some (plans.node_view node) }
+    ensures { IfOk result (λ values. values.items ≡ spec.default_values (plan_view.view plan.now) (plans.node_view node.entry)) }
+{
+    match resolved.value_type(node.number) {
+        Some(value_type) => default_values(alloc, value_type, &node.planned),
+        None => Ok(Vec::new(alloc)),
+    }
+}
+
+/// What it means that a leaf isn't stored.
+fn absence_of<'a, 't>(
+    alloc: Global,
+    plan: &Plan<'a, 't>,
+    resolved: &Resolved<'t>,
+    node: PlanNode<'a, 't>,
+) -> Result<Absence, AllocError>
+    requires of_plan { IsOf resolved.now (plan_view.view plan.now) }
+    requires stands { slice_get (nodes_of (plan_view.view plan.now)) node.number ≡ Some (plans.node_view node) }
+    ensures { let p = plan_view.view plan.now in
+        IfOk result (λ absence. absence_view absence ≡ spec.absence_of p (spec.is_key p (plans.node_view node.entry)) (plans.node_view node.entry)) }
+{
+    if resolved.is_key(node.number) {
+        return Ok(Absence::Key);
+    }
+    if node.planned.is_mandatory() {
+        return Ok(Absence::Mandatory);
+    }
+    match values_of(alloc, plan, resolved, node)?.into_iter().next() {
+        Some(value) => Ok(Absence::DefaultUsed(value)),
+        None => Ok(Absence::Allowed),
+    }
+}
+
+/// The type of a leaf or of items, and to which node it refers.
+fn leaf_type_of<'a, 't>(
+    alloc: Global,
+    plan: &Plan<'a, 't>,
+    resolved: &Resolved<'t>,
+    node: PlanNode<'a, 't>,
+) -> Result<LeafType, AllocError>
+    requires of_plan { IsOf resolved.now (plan_view.view plan.now) }
+    requires stands { slice_get (nodes_of (plan_view.view plan.now)) node.number ≡ Some (plans.node_view node) }
+    ensures { IfOk result (λ made. leaf_type_view made ≡ spec.leaf_type (plan_view.view plan.now) (plans.node_view node.entry)) }
+{
+    let target = id_of(resolved.target(node.number));
+    if let Some(value_type) = resolved.value_type(node.number) {
+        return Ok(LeafType {
+            value_type: value_type.clone()?,
+            target,
+        });
+    }
+    match YType::string(alloc) {
+        Ok(value_type) => Ok(LeafType { value_type, target }),
+        Err(_) => Err(AllocError),
+    }
+}
+
+/// What only its kind of node has.
+fn kind_of<'a, 't>(
+    alloc: Global,
+    plan: &Plan<'a, 't>,
+    resolved: &Resolved<'t>,
+    node: PlanNode<'a, 't>,
+) -> Result<Kind, AllocError>
+    requires of_plan { IsOf resolved.now (plan_view.view plan.now) }
+    requires stands { slice_get (nodes_of (plan_view.view plan.now)) node.number ≡ Some (plans.node_view node) }
+    ensures { let p = plans.node_view node.entry in
+        IfOk result (λ kind. kind_view kind ≡ spec.kind_by (plan_view.view plan.now) p p.part.source.keyword) }
+{
+    let planned = &node.planned;
+    Ok(match planned.keyword() {
+        Keyword::Container => Kind::Container {
+            presence: planned.has_presence(),
+        },
+        Keyword::Leaf => Kind::Leaf {
+            leaf_type: leaf_type_of(alloc, plan, resolved, node)?,
+            absence: absence_of(alloc, plan, resolved, node)?,
+        },
+        Keyword::LeafList => Kind::LeafList {
+            leaf_type: leaf_type_of(alloc, plan, resolved, node)?,
+            defaults: values_of(alloc, plan, resolved, node)?,
+            amount: amount_of(planned.amount()),
+        },
+        Keyword::List => Kind::List {
+            tuples: tuples_made(alloc, plan, node)?,
+            amount: amount_of(planned.amount()),
+        },
+        Keyword::Choice => Kind::Choice {
+            default_case: id_of(plan.default_case(node.number, planned)),
+            mandatory: planned.is_mandatory(),
+        },
+        _ => Kind::Case,
+    })
+}
+
+/// The schema node that a planned one stands for.
+fn node_of<'a, 't>(
+    alloc: Global,
+    plan: &Plan<'a, 't>,
+    resolved: &Resolved<'t>,
+    node: PlanNode<'a, 't>,
+) -> Result<SchemaNode, AllocError>
+    requires of_plan { IsOf resolved.now (plan_view.view plan.now) }
+    requires stands { slice_get (nodes_of (plan_view.view plan.now)) node.number ≡ Some (plans.node_view node) }
+    ensures { IfOk result (λ made. node_view node.entry.number made ≡ spec.schema_node (plan_view.view plan.now) (plans.node_view node.entry)) }
+{
+    let planned = &node.planned;
+    Ok(SchemaNode {
+        module: planned.owner(),
+        name: String::from_str(alloc, planned.name())?,
+        config: planned.config,
+        status: status_of(planned.status()),
+        kind: kind_of(alloc, plan, resolved, node)?,
+    })
+}
+
+/// The row of a schema that a row of a plan stands for.
+fn row_of<'a, 't>(
+    alloc: Global,
+    plan: &Plan<'a, 't>,
+    resolved: &Resolved<'t>,
+    number: u32,
+    row: &ypreorder::Row<Planned<'a, 't>>,
+) -> Result<Row, AllocError>
+    requires of_plan { IsOf resolved.now (plan_view.view plan.now) }
+    requires stands { slice_get (nodes_of (plan_view.view plan.now)) number ≡ Some (planned_view number row.now.label) }
+    ensures { IfOk result (λ made. place_of number made ≡ place_made (spec.schema_node (plan_view.view plan.now)) (planned_place number row.now)) }
+{
+    let node = PlanNode {
+        number,
+        planned: row.label,
+    };
+    Ok(Row {
+        parent: id_of(row.parent),
+        node: node_of(alloc, plan, resolved, node)?,
+        below: row.below,
+    })
+}
+
+/// The rows of a schema whose nodes are planned.
+pub(crate) fn rows_of<'t>(
+    alloc: Global,
+    plan: &Plan<'_, 't>,
+    resolved: &Resolved<'t>,
+) -> Result<Vec<Row>, AllocError>
+    requires { IsOf resolved.now (plan_view.view plan.now) }
+    ensures { IfOk result (λ rows. laid 0 rows.items ≡ places None (spec.schema_nodes (plan_view.view plan.now))) }
+{
+    let mut rows = Vec::with_capacity(alloc, plan.nodes())?;
+    for (number, row) in plan.rows().iter().enumerate() {
+        rows.push(row_of(alloc, plan, resolved, number as u32, row)?)?;
+    }
+    Ok(rows)
+}
