@@ -1,10 +1,9 @@
 -- The first data node of a row, with choices and cases passed through, as a walk finds it.
-use Rattle.std.proofs.Common.{◌≡◌, ℕ, Bool, true, false, cond, List, [], ◌∷◌, ◌++◌, Option, Some, None, refl, sym, ap, ap₂, ◌∙◌}
+use Rattle.std.proofs.Common.{◌≡◌, ℕ, Bool, true, false, cond, Option, Some, None, refl, sym, ap, ◌∙◌}
 use Rattle.std.specs.Prelude.{find}
 use Rattle.yspec.specs.Forest.{Forest, node, end, row, first_of, join}
 use Rattle.yspec.specs.schema.Schema.{SchemaNode, is_data, data_row, first_in_row}
 use Rattle.yspec.proofs.BasicLemmas.{first_of_none}
-use Rattle.yspec.proofs.ForestLemmas.{join_end}
 use Rattle.yspec.proofs.SchemaProofs.NodeLemmas.{map_cond}
 
 pub first_in_row-node : (test : SchemaNode → Bool) (l : SchemaNode) (below after : Forest SchemaNode)

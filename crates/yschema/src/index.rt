@@ -74,17 +74,13 @@ pub(crate) fn id_of(number: Option<u32>) -> Option<SchemaId>
 }
 
 /// Holds a node for its name, below its parent.
-fn put_named(
-    alloc: Global,
-    index: &mut Index,
-    row: &Row,
-    number: u32,
-) -> Result<(), AllocError>
+fn put_named(alloc: Global, index: &mut Index, row: &Row, number: u32) -> Result<(), AllocError>
     ensures named { OnOk result ((ps : _) → FindsNamed index.old ps → FindsNamed index.new (ps ++ place_of number row.now ∷ [])) }
     ensures written { OnOk result ((schema ps : _) → FindsWritten index.old schema ps → FindsWritten index.new schema ps) }
 {
     let name = String::from_str(alloc, row.node.name.as_str())?;
-    index.put(parent_number(row.parent), Some(row.node.module), name, number)
+    let parent = parent_number(row.parent);
+    index.put(parent, Some(row.node.module), name, number)
 }
 
 /// Holds a data node for the name that documents write, below the data node above it; choices and cases aren't held.

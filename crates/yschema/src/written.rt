@@ -102,12 +102,7 @@ fn written_at(
 }
 
 /// Whether a document writes the name of a node so where the parent is of a module.
-fn is_written(
-    modules: &[SchemaModule],
-    parent_module: usize,
-    node: &SchemaNode,
-    name: &str,
-) -> bool
+fn is_written(modules: &[SchemaModule], parent_module: usize, node: &SchemaNode, name: &str) -> bool
     ensures { result ≡ is_text name.now (spec.written_name (schema_view modules.now []) (Some parent_module) (node_view 0 node.now)) }
 {
     if node.module == parent_module {

@@ -1,4 +1,4 @@
-use Rattle.std.proofs.Common.{◌≡◌, ◌+◌, ◌∷◌, ◌++◌, [], take, length, sym, ap, ap₂, ◌∙◌, subst, arith, rules, length-take, Some, None}
+use Rattle.std.proofs.Common.{◌≡◌, ◌+◌, ◌∷◌, ◌++◌, [], take, length, sym, ap, ap₂, ◌∙◌, subst, arith, length-take, Some, None}
 use Rattle.std.proofs.lemmas.List.{take_more, take_all}
 use Rattle.yschema.specs.Layout.{laid, place_of, number_of, node_view, data_at, data_above, data_place_of, schema_view}
 use Rattle.yschema.specs.Lookup.{FindsNamed, FindsWritten}

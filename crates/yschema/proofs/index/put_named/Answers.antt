@@ -11,4 +11,4 @@ returns-clause-named c =
     let row = c.args.row.now in
     on_ok_weaker c.put.result (λ puts. named_after c.args.index.now c.put.new.self row c.args.number
     (subst (λ name. Puts c.args.index.now (number_of row.parent) (Some row.node.«module») name c.args.number c.put.new.self) (c.in_ok-name.ensures.ok ∙ c.as_str.ensures.value)
-    (subst (λ p. Puts c.args.index.now p (Some row.node.«module») (string_bytes c.in_ok-name.name) c.args.number c.put.new.self) c.parent_number.ensures puts))) c.put.ensures
+    (subst (λ p. Puts c.args.index.now p (Some row.node.«module») (string_bytes c.in_ok-name.name) c.args.number c.put.new.self) c.parent_number-parent.ensures puts))) c.put.ensures

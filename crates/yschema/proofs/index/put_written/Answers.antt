@@ -1,4 +1,4 @@
-use Rattle.std.proofs.Common.{◌≡◌, true, false, sym, ap, ◌∙◌, rules, string_bytes}
+use Rattle.std.proofs.Common.{◌≡◌, true, false, ap, ◌∙◌, rules, string_bytes}
 use Rattle.std.proofs.lemmas.Result.{on_ok_weaker}
 use Rattle.yspec.specs.schema.Schema.{is_data, module_at, written_name}
 use Rattle.yschema.specs.Layout.{node_view, schema_view}

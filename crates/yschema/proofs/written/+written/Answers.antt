@@ -1,5 +1,4 @@
 use Rattle.std.proofs.Common.{◌≡◌, false, [], Some, sym, ap, ◌∙◌, rules}
-use Rattle.yspec.specs.Forest.{size}
 use Rattle.yspec.specs.text.Text.{is_text}
 use Rattle.yspec.specs.schema.Schema as spec
 use Rattle.yspec.specs.schema.Schema.{is_data, written_name, data_row, first_in_row}
