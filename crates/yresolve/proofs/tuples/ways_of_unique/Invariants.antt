@@ -13,5 +13,5 @@ abbrev pub invariant-loop-path : goal.invariant-loop-path
 invariant-loop-path l = let p = node_view l.list in
     map (λ way. option_map (λ nodes. map node_view nodes.items) way) l.ways.items
     ++ map (λ names. planned.way (view l.plan) (Some p.number) (nodes_named (view l.plan) p (label_by source_view l.fn.statement) names))
-        (map (λ path. names_view path.items) (drop l.path-index l.path-items))
+    (map (λ path. names_view path.items) (drop l.path-index l.path-items))
     ≡ ways_named (view l.plan) p (label_by source_view l.fn.statement)
