@@ -1,13 +1,12 @@
 -- Which nodes are marked as keys.
-use Rattle.std.proofs.Common.{◌≡◌, ◌≢◌, ℕ, zero, suc, ◌+◌, Bool, true, false, cond, ◌&&◌, ◌||◌, List, [], ◌∷◌, ◌++◌, length, replicate, map, Option, Some, None, refl, sym, ap, ap₂, ◌∙◌, subst, inl, inr, arith}
+use Rattle.std.proofs.Common.{◌≡◌, ◌≢◌, ℕ, zero, suc, ◌+◌, Bool, true, false, cond, ◌&&◌, ◌||◌, List, [], ◌∷◌, length, replicate, map, Option, Some, None, refl, sym, ap, ap₂, ◌∙◌, subst, inl, inr}
 use Rattle.std.specs.Prelude.{◌==◌, find, option_map, option_and_then, slice_get, slice_set, unwrap_or}
 use Rattle.std.specs.List.{cons_option, filter_map, list_any}
 use Rattle.std.specs.Option.{option_map_or}
-use Rattle.std.proofs.lemmas.Bool.{cases_eq, cases_Bool, or_cases, or_left, or_right, and_parts, eqb-true, eq-eqb, ne_eqb}
+use Rattle.std.proofs.lemmas.Bool.{cases_eq, or_cases, or_left, or_right, and_parts, eqb-true, eq-eqb, ne_eqb}
 use Rattle.std.proofs.lemmas.List.{length-append}
 use Rattle.std.proofs.lemmas.Option.{slice_get-map}
 use Rattle.yspec.specs.Forest.{Forest, end, node, size, preorder}
-use Rattle.yspec.specs.linking.Planned as spec
 use Rattle.yspec.specs.linking.Planned.{Planned, nodes_of, node_of, child_called, same_number, is_called}
 use Rattle.yspec.specs.linking.Prefixes.{NodeName}
 use Rattle.yspec.specs.linking.SchemaNodes.{is_key, is_among, key_names, key_numbers, number_in}

@@ -1,5 +1,5 @@
 -- What the statements of a list name, and whether a number comes twice.
-use Rattle.std.proofs.Common.{◌≡◌, ℕ, ◌+◌, Bool, true, false, not, cond, ◌&&◌, ◌||◌, List, [], ◌∷◌, ◌++◌, map, Option, Some, None, refl, sym, ap, ap₂, ◌∙◌, arith}
+use Rattle.std.proofs.Common.{◌≡◌, ℕ, Bool, true, false, not, cond, ◌&&◌, ◌||◌, List, [], ◌∷◌, ◌++◌, map, Option, Some, None, refl, sym, ap, ap₂, ◌∙◌, arith}
 use Rattle.std.specs.Prelude.{◌==◌, option_map, unwrap_or}
 use Rattle.std.specs.List.{cons_option, filter_map, flat_map, list_all, list_any}
 use Rattle.std.specs.Option.{option_map_or}
@@ -7,13 +7,13 @@ use Rattle.std.specs.Ordering.{is_eq, nat_cmp}
 use Rattle.std.specs.BTreeSet.{BTreeSet, Updates, contains}
 use Rattle.std.proofs.lemmas.Bool.Decides.{nat_tests}
 use Rattle.std.proofs.lemmas.List.{map-append}
-use Rattle.yspec.specs.linking.Keyword.{Keyword, key_word, unique_word, leaf_word, container_word, same_keyword}
+use Rattle.yspec.specs.linking.Keyword.{key_word, unique_word, leaf_word, container_word}
 use Rattle.yspec.specs.linking.Planned as spec
 use Rattle.yspec.specs.linking.Planned.{Planned, child_called, is_a}
-use Rattle.yspec.specs.linking.SchemaNodes.{key_names, key_numbers, unique_ways, number_in, nodes_named}
+use Rattle.yspec.specs.linking.SchemaNodes.{key_names, key_numbers, unique_ways, nodes_named}
 use Rattle.yspec.specs.linking.Arguments.{key_of}
 use Rattle.yspec.specs.linking.NodeBreaks.{has_twice, leaf_behind, is_key_leaf, is_wrong_key}
-use Rattle.yspec.specs.linking.Source.{Source, argument_in, all_with}
+use Rattle.yspec.specs.linking.Source.{argument_in, all_with}
 use Rattle.yspec.specs.linking.Parts.{part_of}
 use Rattle.ypreorder.specs.View.{row_by, label_by}
 use Rattle.ylink.specs.SourceView.{source_view}

@@ -1,6 +1,7 @@
 -- Keys and uniques as the specification's, and what the statements of a list name.
-use Rattle.std.specs.Prelude.{ℕ, Bool, true, List, [], ◌∷◌, map, Option, Some, slice_set, unwrap_or}
+use Rattle.std.specs.Prelude.{ℕ, Bool, true, List, [], ◌∷◌, map, Option, Some, option_map, slice_set, unwrap_or}
 use Rattle.std.specs.List.{flat_map}
+use Rattle.std.specs.Global.{Vec}
 use Rattle.yspec.specs.Forest.{Forest}
 use Rattle.yspec.specs.linking.Keyword.{key_word, unique_word}
 use Rattle.yspec.specs.linking.Arguments.{key_of, unique_of}
@@ -8,10 +9,19 @@ use Rattle.yspec.specs.linking.Source.{Source, argument_in, all_with}
 use Rattle.yspec.specs.linking.Planned.{Planned, Plan, child_called, way}
 use Rattle.yspec.specs.linking.SchemaNodes.{nodes_named}
 use Rattle.yspec.specs.schema.Schema as schema
+use Rattle.yplan.specs.NodesView.{node_view}
+use Rattle.yplan.specs.declared.nodes.PlanNode.{PlanNode}
 use Rattle.yresolve.specs.declared.tuples.Tuples.{Tuples}
 
 abbrev pub tuples_view : Tuples → schema.Tuples
 tuples_view t = record { keys = t.keys.items; uniques = map (λ unique. map (λ path. path.items) unique.items) t.uniques.items }
+
+-- the nodes along a way down, and those of each way of a `unique`
+abbrev pub way_view : Option (Vec PlanNode) → Option (List Planned)
+way_view way = option_map (λ nodes. map node_view nodes.items) way
+
+abbrev pub ways_view : Vec (Option (Vec PlanNode)) → List (Option (List Planned))
+ways_view ways = map way_view ways.items
 
 -- of each name that a `key` gives the child that it names
 abbrev pub children_named : Plan → Planned → Source → List (Option Planned)

@@ -1,6 +1,6 @@
 //! The leafs whose values tell the entries of a list apart (RFC 7950, 7.8.2 and 7.8.3).
 
-ghost use Rattle.std.specs.Prelude.{◌≡◌, ◌++◌, ◌&&◌, ◌||◌, IfOk, Some, [], false, map, not, true, option_map, slice_set, unwrap_or};
+ghost use Rattle.std.specs.Prelude.{◌≡◌, ◌&&◌, ◌||◌, IfOk, Some, [], false, map, true, option_map, slice_set, unwrap_or};
 ghost use Rattle.std.specs.List.{filter_map, list_all, list_any};
 ghost use Rattle.std.specs.Option.{option_map_or};
 ghost use Rattle.yspec.specs.linking.Arguments.{key_of, unique_of};
@@ -17,7 +17,7 @@ ghost use Rattle.ylink.specs.NameView.{names_view};
 ghost use Rattle.ylink.specs.SourceView.{source_view};
 ghost use Rattle.yplan.specs.NodesView.{node_view};
 ghost use Rattle.yplan.specs.PlanView.{view};
-ghost use Rattle.yresolve.specs.TuplesView.{tuples_view, children_named, children_by, ways_named, ways_by, marked};
+ghost use Rattle.yresolve.specs.TuplesView.{tuples_view, children_named, children_by, ways_named, ways_by, marked, way_view, ways_view};
 
 use std::alloc::{AllocError, Global};
 use std::collections::BTreeSet;
@@ -33,6 +33,9 @@ pub struct Tuples {
     /// Of each `unique` the leafs, each with the containers that lead to it.
     pub uniques: Vec<Vec<Vec<u32>>>,
 }
+
+/// The nodes along a way down, where all are there.
+type WayDown<'a, 't> = Option<Vec<PlanNode<'a, 't>>>;
 
 /// The names that a `key` gives.
 fn names_of_key<'a, 't>(
@@ -165,8 +168,8 @@ fn way<'a, 't>(
     home: usize,
     owner: usize,
     names: &[Name<'t>],
-) -> Result<Option<Vec<PlanNode<'a, 't>>>, AllocError>
-    ensures { IfOk result (λ way. option_map (λ nodes. map node_view nodes.items) way
+) -> Result<WayDown<'a, 't>, AllocError>
+    ensures { IfOk result (λ way. way_view way
         ≡ planned.way (view plan.now) (Some top) (map (node_name (view plan.now).modules home owner) (names_view names.now))) }
 {
     let mut nodes = Vec::with_capacity(alloc, names.len())?;
@@ -190,8 +193,8 @@ fn ways_of_unique<'a, 't>(
     plan: &Plan<'a, 't>,
     list: PlanNode<'a, 't>,
     statement: Node<'a, Source<'t>>,
-) -> Result<Vec<Option<Vec<PlanNode<'a, 't>>>>, AllocError>
-    ensures { IfOk result (λ ways. map (λ way. option_map (λ nodes. map node_view nodes.items) way) ways.items
+) -> Result<Vec<WayDown<'a, 't>>, AllocError>
+    ensures { IfOk result (λ ways. map way_view ways.items
         ≡ ways_named (view plan.now) (node_view list.entry) (label_by source_view statement.entry)) }
 {
     let paths = names_of_unique(alloc, statement)?;
@@ -210,8 +213,8 @@ fn ways_of_uniques<'a, 't>(
     plan: &Plan<'a, 't>,
     list: PlanNode<'a, 't>,
     statements: Nodes<'a, Source<'t>>,
-) -> Result<Vec<Vec<Option<Vec<PlanNode<'a, 't>>>>>, AllocError>
-    ensures { IfOk result (λ uniques. map (λ ways. map (λ way. option_map (λ nodes. map node_view nodes.items) way) ways.items) uniques.items
+) -> Result<Vec<Vec<WayDown<'a, 't>>>, AllocError>
+    ensures { IfOk result (λ uniques. map ways_view uniques.items
         ≡ ways_by (view plan.now) (node_view list.entry) (row_by source_view statements.entry)) }
 {
     let mut uniques = Vec::new(alloc);
@@ -228,8 +231,8 @@ fn unique_ways<'a, 't>(
     alloc: Global,
     plan: &Plan<'a, 't>,
     list: PlanNode<'a, 't>,
-) -> Result<Vec<Vec<Option<Vec<PlanNode<'a, 't>>>>>, AllocError>
-    ensures { IfOk result (λ uniques. map (λ ways. map (λ way. option_map (λ nodes. map node_view nodes.items) way) ways.items) uniques.items
+) -> Result<Vec<Vec<WayDown<'a, 't>>>, AllocError>
+    ensures { IfOk result (λ uniques. map ways_view uniques.items
         ≡ spec.unique_ways (view plan.now) (node_view list.entry)) }
 {
     if list.planned.is_implied {
@@ -239,11 +242,8 @@ fn unique_ways<'a, 't>(
 }
 
 /// The nodes along a way, by number; none where it isn't found.
-fn leaf_path<'a, 't>(
-    alloc: Global,
-    way: &Option<Vec<PlanNode<'a, 't>>>,
-) -> Result<Vec<u32>, AllocError>
-    ensures { IfOk result (λ path. path.items ≡ spec.leaf_path (option_map (λ nodes. map node_view nodes.items) way.now)) }
+fn leaf_path<'a, 't>(alloc: Global, way: &WayDown<'a, 't>) -> Result<Vec<u32>, AllocError>
+    ensures { IfOk result (λ path. path.items ≡ spec.leaf_path (way_view way.now)) }
 {
     let mut path = Vec::new(alloc);
     if let Some(nodes) = way {
@@ -255,12 +255,9 @@ fn leaf_path<'a, 't>(
 }
 
 /// The same of each way.
-fn leaf_paths<'a, 't>(
-    alloc: Global,
-    ways: &[Option<Vec<PlanNode<'a, 't>>>],
-) -> Result<Vec<Vec<u32>>, AllocError>
+fn leaf_paths<'a, 't>(alloc: Global, ways: &[WayDown<'a, 't>]) -> Result<Vec<Vec<u32>>, AllocError>
     ensures { IfOk result (λ paths. map (λ path. path.items) paths.items
-        ≡ map spec.leaf_path (map (λ way. option_map (λ nodes. map node_view nodes.items) way) ways.now)) }
+        ≡ map spec.leaf_path (map way_view ways.now)) }
 {
     let mut paths = Vec::with_capacity(alloc, ways.len())?;
     for way in ways {
@@ -396,8 +393,8 @@ fn leaf_config<'a, 't>(way: &[PlanNode<'a, 't>]) -> Option<bool>
 }
 
 /// Whether each of these ways leads to a leaf that is configuration, or is none, as is asked.
-fn are_all<'a, 't>(config: bool, ways: &[Option<Vec<PlanNode<'a, 't>>>]) -> bool
-    ensures { result ≡ list_all (breaks.is_config config) (map breaks.leaf_named (map (λ way. option_map (λ nodes. map node_view nodes.items) way) ways.now)) }
+fn are_all<'a, 't>(config: bool, ways: &[WayDown<'a, 't>]) -> bool
+    ensures { result ≡ list_all (breaks.is_config config) (map breaks.leaf_named (map way_view ways.now)) }
 {
     for way in ways {
         let found = match way {
@@ -412,8 +409,8 @@ fn are_all<'a, 't>(config: bool, ways: &[Option<Vec<PlanNode<'a, 't>>>]) -> bool
 }
 
 /// Whether the leafs of a `unique` aren't all configuration, or all state.
-fn is_wrong_unique<'a, 't>(ways: &[Option<Vec<PlanNode<'a, 't>>>]) -> bool
-    ensures { result ≡ breaks.is_wrong_unique (map (λ way. option_map (λ nodes. map node_view nodes.items) way) ways.now) }
+fn is_wrong_unique<'a, 't>(ways: &[WayDown<'a, 't>]) -> bool
+    ensures { result ≡ breaks.is_wrong_unique (map way_view ways.now) }
 {
     !(are_all(true, ways) || are_all(false, ways))
 }

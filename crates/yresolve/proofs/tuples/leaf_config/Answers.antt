@@ -1,6 +1,5 @@
-use Rattle.std.proofs.Common.{◌≡◌, Bool, true, false, None, sym, ap, ◌∙◌, ◌&&◌, cond, Some, map, refl}
-use Rattle.std.specs.List.{list_all}
-use Rattle.yspec.specs.linking.Keyword.{leaf_word, container_word, same_keyword}
+use Rattle.std.proofs.Common.{true, false, sym, ap, ◌∙◌, refl}
+use Rattle.yspec.specs.linking.Keyword.{leaf_word, same_keyword}
 use Rattle.yspec.specs.linking.Planned.{is_a}
 use Rattle.yplan.specs.NodesView.{node_view}
 use Rattle.yresolve.proofs.TupleLemmas.{config_last}

@@ -1,10 +1,11 @@
-use Rattle.std.proofs.Common.{◌≡◌, ◌++◌, drop, map, option_map}
+use Rattle.std.proofs.Common.{◌≡◌, ◌++◌, drop, map}
 use Rattle.yspec.specs.linking.SchemaNodes.{leaf_path, unique_ways}
 use Rattle.yplan.specs.NodesView.{node_view}
 use Rattle.yplan.specs.PlanView.{view}
+use Rattle.yresolve.specs.TuplesView.{ways_view}
 use Rattle.yresolve.proofs.tuples.tuples_of.Given as goal
 
 abbrev pub invariant-loop-ways : goal.invariant-loop-ways
 invariant-loop-ways l = map (λ unique. map (λ path. path.items) unique.items) l.uniques.items
-    ++ map (map leaf_path) (map (λ ways. map (λ way. option_map (λ nodes. map node_view nodes.items) way) ways.items) (drop l.ways-index l.ways-items))
+    ++ map (map leaf_path) (map ways_view (drop l.ways-index l.ways-items))
     ≡ map (map leaf_path) (unique_ways (view l.plan) (node_view l.list))

@@ -1,4 +1,4 @@
-use Rattle.std.proofs.Common.{◌≡◌, ◌++◌, Some, drop, map, option_map}
+use Rattle.std.proofs.Common.{◌≡◌, ◌++◌, Some, drop, map}
 use Rattle.yspec.specs.linking.Planned as planned
 use Rattle.yspec.specs.linking.SchemaNodes.{nodes_named}
 use Rattle.ypreorder.specs.View.{label_by}
@@ -6,12 +6,12 @@ use Rattle.ylink.specs.NameView.{names_view}
 use Rattle.ylink.specs.SourceView.{source_view}
 use Rattle.yplan.specs.NodesView.{node_view}
 use Rattle.yplan.specs.PlanView.{view}
-use Rattle.yresolve.specs.TuplesView.{ways_named}
+use Rattle.yresolve.specs.TuplesView.{ways_named, way_view}
 use Rattle.yresolve.proofs.tuples.ways_of_unique.Given as goal
 
 abbrev pub invariant-loop-path : goal.invariant-loop-path
 invariant-loop-path l = let p = node_view l.list in
-    map (λ way. option_map (λ nodes. map node_view nodes.items) way) l.ways.items
+    map way_view l.ways.items
     ++ map (λ names. planned.way (view l.plan) (Some p.number) (nodes_named (view l.plan) p (label_by source_view l.fn.statement) names))
-        (map (λ path. names_view path.items) (drop l.path-index l.path-items))
+    (map (λ path. names_view path.items) (drop l.path-index l.path-items))
     ≡ ways_named (view l.plan) p (label_by source_view l.fn.statement)
