@@ -4,6 +4,8 @@ ghost use Rattle.std.specs.Prelude.{◌≡◌, [], ◌∷◌};
 ghost use Rattle.yspec.specs.schema.Breaks.{least_from, when};
 ghost use Rattle.ylink.specs.BreakView.{break_view, seen};
 
+use std::fmt::{self, Display, Formatter, Write};
+
 /// Which rule a set of modules breaks.
 #[derive(Clone, Copy, Debug, PartialEq, Eq, PartialOrd, Ord)]
 pub enum CompileCode {
@@ -43,6 +45,24 @@ pub enum CompileCode {
     C17 = 17,
     /// A limit is passed.
     C18 = 18,
+}
+
+impl CompileCode {
+    ghost use Rattle.std.specs.Prelude.{◌≡◌};
+    ghost use Rattle.ylink.specs.BreakView.{code_number};
+
+    /// The number behind the `C`.
+    pub fn number(self) -> u8
+        ensures { result ≡ code_number self }
+    {
+        self as u8
+    }
+}
+
+impl Display for CompileCode {
+    fn fmt<W: Write>(&self, f: &mut Formatter<W>) -> fmt::Result {
+        write!(f, "C{}", self.number())
+    }
 }
 
 /// A broken rule. The order is that in which one is told before another: by module, line and number.

@@ -74,6 +74,13 @@ impl<'a, 't> Plan<'a, 't> {
         self.table.rows()
     }
 
+    /// The statements of which it is the plan.
+    pub fn sources(&self) -> &'a Sources<'t>
+        ensures { link.view result.now ≡ (view self.now).modules }
+    {
+        self.sources
+    }
+
     /// Its nodes, in order of definition.
     pub fn iter(&self) -> PlanNodes<'_, 'a, 't>
         ensures { left result ≡ spec.nodes_of (view self.now) }

@@ -4,7 +4,7 @@ use Rattle.yspec.specs.Forest.{levels, size}
 use Rattle.yspec.specs.schema.Breaks.{level_limit, node_limit}
 use Rattle.yspec.specs.document.Fitting.{IsNumbered, LeafsAreBare}
 use Rattle.yspec.specs.document.Writing.{NamesDiffer}
-use Rattle.yspec.proofs.SchemaProofs.CompiledLemmas.{names_differ_of, leafs_bare_of, levels_of, size_of}
+use Rattle.yspec.proofs.LinkingProofs.LinkedSchemaLemmas.{names_differ_of, leafs_bare_of, levels_of, size_of}
 use Rattle.yschema.specs.declared.schema.Schema.{Schema}
 use Rattle.yschema.specs.View.{view, forest_of}
 use Rattle.yschema.proofs.ChildLemmas.{numbered_laid}

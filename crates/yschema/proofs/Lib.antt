@@ -1,4 +1,3 @@
-pub mod GrammarLemmas
 pub mod LayoutLemmas
 pub mod ModuleLemmas
 pub mod NameLemmas
@@ -6,7 +5,6 @@ pub mod QueryLemmas
 pub mod ReferenceLemmas
 pub mod RowLemmas
 pub mod ToldLemmas
-pub mod KindLemmas
 pub mod ChildLemmas
 pub mod FindLemmas
 pub mod CallerLemmas

@@ -3,15 +3,13 @@ use Rattle.std.proofs.Common.{◌≡◌, ℕ, ◌+◌, ◌<◌, Bool, true, fals
 use Rattle.std.specs.List.{list_any}
 use Rattle.std.proofs.lemmas.Slice.Eq.{bytes_eq-Decides}
 use Rattle.indexmap.specs.IndexSet.{insert_key}
-use Rattle.ytext.specs.View.{view, row_view, modules_view}
-use Rattle.ytext.specs.declared.statement.Stmt.{Stmt}
+use Rattle.ytext.specs.View.{view, modules_view}
 use Rattle.ytext.specs.declared.statement.Module.{Module}
-use Rattle.ytext.proofs.ViewLemmas.{row_view_at}
 use Rattle.yspec.specs.Forest.{Forest, node, end}
 use Rattle.yspec.specs.text.Text.{Text, is_text}
 use Rattle.yspec.specs.text.Statement.{Statement}
-use Rattle.yspec.specs.schema.Schema.{argument_text, is_data_definition}
-use Rattle.yspec.specs.schema.Breaks.{Break, broken, when, least_from, doubled, module_breaks, name_breaks, by_body}
+use Rattle.yspec.specs.schema.Schema.{argument_text}
+use Rattle.yspec.specs.schema.Breaks.{Break, broken, when, least_from, doubled, module_breaks}
 use Rattle.yspec.proofs.SchemaProofs.LeastLemmas.{least_of_both}
 use Rattle.yschema.proofs.ModuleLemmas.{modules_view_at}
 use Rattle.std.proofs.Math.Bool.{or_comm, or-false}
@@ -20,16 +18,6 @@ use Rattle.std.proofs.lemmas.List.Folds.{list_any-append}
 -- the same names are among both
 abbrev pub HaveSame : List Text → List Text → Type 0
 HaveSame bs cs = (t : Text) → list_any (is_text t) bs ≡ list_any (is_text t) cs
-
-pub name_breaks-alike : (m : ℕ) (bs cs : List Text) (f : Forest Statement) → HaveSame bs cs → name_breaks m bs f ≡ name_breaks m cs f
-unfolding name_breaks
-name_breaks-alike m bs cs end same = refl
-name_breaks-alike m bs cs (node s below after) same =
-    let a = argument_text s in
-    ap₂ (λ x y. cond (is_data_definition s.keyword) x y)
-    (ap₂ (λ w z. when w (broken 13 m s.line) ++ (name_breaks m [] below ++ z)) (same a)
-    (name_breaks-alike m (a ∷ bs) (a ∷ cs) after (λ t. ap (λ b. is_text t a || b) (same t))))
-    (name_breaks-alike m bs cs after same)
 
 pub module_breaks-alike : (m : ℕ) (bs cs : List Text) (f : Forest Statement) → HaveSame bs cs → module_breaks m bs f ≡ module_breaks m cs f
 module_breaks-alike m bs cs end same = refl
@@ -66,17 +54,7 @@ module _ {X : Type 0} (now : X → Text) where
   pub contains-texts : (ks : List X) (x : X) → list_any (λ k. is_text (now x) (now k)) ks ≡ list_any (is_text (now x)) (map now ks)
   contains-texts ks x = sym (list_any-map (is_text (now x)) now ks)
 
--- ---- one statement of a row, and the others
-
--- one that stands for no data node
-pub passed_over : (m : ℕ) (before : List Text) (ss : List Stmt) (i : ℕ) (s : Stmt) (told whole : Option Break)
-    → i < length ss → s ≡ get_or ss i s → is_data_definition (view s).0.keyword ≡ false
-    → least_from told (name_breaks m before (row_view (drop i ss))) ≡ whole
-    → least_from told (name_breaks m before (row_view (drop (i + 1) ss))) ≡ whole
-unfolding name_breaks
-passed_over m before ss i s told whole within is other so =
-    let now : name_breaks m before (row_view (drop i ss)) ≡ name_breaks m before (row_view (drop (i + 1) ss)) = ap (name_breaks m before) (row_view_at ss i s within is) ∙ rw other refl in
-    sym (ap (least_from told) now) ∙ so
+-- ---- one module of a set, and the others
 
 not_not : (b : Bool) → not (not b) ≡ b
 not_not true = refl
@@ -87,43 +65,6 @@ told_if_doubled : (code m : ℕ) (before : List Text) (s : Statement) (is_new : 
     → alone ≡ least_from told (doubled code m before s)
 told_if_doubled code m before s is_new told alone fresh first =
     first ∙ ap (λ b. least_from told (when b (broken code m s.line))) (ap not fresh ∙ not_not (list_any (is_text (argument_text s)) before))
-
-pub judged_name : (m : ℕ) (before after : List Text) (ss : List Stmt) (i : ℕ) (s : Stmt) (below : Forest Statement) (is_new : Bool) (told alone result whole : Option Break)
-    → i < length ss → s ≡ get_or ss i s → is_data_definition (view s).0.keyword ≡ true
-    → is_new ≡ not (list_any (is_text (argument_text (view s).0)) before)
-    → HaveSame after (argument_text (view s).0 ∷ before) → below ≡ (view s).1
-    → alone ≡ least_from told (when (not is_new) (broken 13 m (view s).0.line))
-    → result ≡ least_from alone (name_breaks m [] below)
-    → least_from told (name_breaks m before (row_view (drop i ss))) ≡ whole
-    → least_from result (name_breaks m after (row_view (drop (i + 1) ss))) ≡ whole
-unfolding name_breaks
-judged_name m before after ss i s below is_new told alone result whole within is stands fresh has under first second so =
-    let label = (view s).0 in
-    let rest = row_view (drop (i + 1) ss) in
-    let own = doubled 13 m before label in
-    let inner = name_breaks m [] (view s).1 in
-    let others = name_breaks m (argument_text label ∷ before) rest in
-    let here : name_breaks m before (row_view (drop i ss)) ≡ own ++ (inner ++ others) = ap (name_breaks m before) (row_view_at ss i s within is) ∙ rw stands refl in
-    let same = told_if_doubled 13 m before label is_new told alone fresh first in
-    let both : result ≡ least_from (least_from told own) inner = second ∙ (ap (λ f. least_from alone (name_breaks m [] f)) under ∙ ap (λ t. least_from t inner) same) in
-    ap (λ t. least_from t (name_breaks m after rest)) both
-    ∙ (ap (least_from (least_from (least_from told own) inner)) (name_breaks-alike m after (argument_text label ∷ before) rest has)
-    ∙ (sym (least_of_both (least_from told own) inner others)
-    ∙ (sym (least_of_both told own (inner ++ others))
-    ∙ (sym (ap (least_from told) here) ∙ so))))
-
--- one module of a set, and the others
-pub judged_names : (ms : List Module) (i : ℕ) (m : Module) (below : Forest Statement) (told result whole : Option Break)
-    → i < length ms → m ≡ get_or ms i m → below ≡ (view m.top).1
-    → result ≡ least_from told (name_breaks i [] below)
-    → least_from told (by_body (λ m s. name_breaks m [] s) i (modules_view (drop i ms))) ≡ whole
-    → least_from result (by_body (λ m s. name_breaks m [] s) (i + 1) (modules_view (drop (i + 1) ms))) ≡ whole
-judged_names ms i m below told result whole within is under judged so =
-    let own = name_breaks i [] (view m.top).1 in
-    let others = by_body (λ m s. name_breaks m [] s) (i + 1) (modules_view (drop (i + 1) ms)) in
-    ap (λ t. least_from t others) (judged ∙ ap (λ f. least_from told (name_breaks i [] f)) under)
-    ∙ (sym (least_of_both told own others)
-    ∙ (ap (λ f. least_from told (by_body (λ m s. name_breaks m [] s) i f)) (sym (modules_view_at ms i m within is)) ∙ so))
 
 -- one module's own name
 pub judged_module_name : (before after : List Text) (ms : List Module) (i : ℕ) (m : Module) (is_new : Bool) (told result whole : Option Break)

@@ -1,48 +1,45 @@
 -- What is told of several phases.
-use Rattle.std.proofs.Common.{◌≡◌, ℕ, zero, suc, ◌+◌, ◌-◌, ◌<◌, Bool, true, List, [], ◌∷◌, length, get_or, Option, Some, None, Ok, Err, sym, ap, ap₂, ◌∙◌, arith}
+use Rattle.std.proofs.Common.{◌≡◌, ℕ, zero, suc, ◌+◌, ◌-◌, ◌<◌, Bool, true, List, [], ◌∷◌, ◌++◌, length, get_or, Option, Some, None, Result, Ok, Err, IfOk, refl, sym, ap, ap₂, ◌∙◌, arith}
 use Rattle.std.specs.Option.{option_map_or}
 use Rattle.ytext.specs.View.{view, modules_view}
 use Rattle.ytext.specs.declared.statement.Module.{Module}
 use Rattle.yspec.specs.Forest.{Forest}
 use Rattle.yspec.specs.text.Statement.{Statement}
-use Rattle.yspec.specs.schema.Schema.{schema_of}
-use Rattle.yspec.specs.schema.Breaks.{Break, broken, when, least_from, or_told, first_broken, last_module, limit_breaks, grammar_phase, module_phase, size_phase, name_phase, level_phase, phases, compiled}
-use Rattle.yspec.proofs.SchemaProofs.CompiledShapeLemmas.{some_told}
+use Rattle.yspec.specs.schema.Breaks.{Break, lesser, broken, when, least_from, or_told, first_broken, last_module, limit_breaks}
+use Rattle.yspec.specs.linking.Source.{Source, sources_of}
+use Rattle.yspec.specs.linking.StatementBreaks.{statement_phase}
+use Rattle.yspec.specs.linking.Planned.{Plan}
+use Rattle.yspec.specs.linking.Compiling.{phases, phases_of_sources, compiled, plan_of, schema_of, schema_of_plan}
+use Rattle.yschema.specs.Phases.{statement_part, source_part, plan_part, rule_part}
+
+-- something is told of a list that has one
+some_told : (bs : List Break) (b : Break) → least_from (Some b) bs ≡ None → ⊥
+some_told [] b e = absurd cc
+some_told (x ∷ xs) b e = some_told xs (lesser (Some b) x) e
 
 -- the first phase that has one tells it
-told_here : (phase : List Break) (later : Option Break) (b : Break) → Some b ≡ least_from None phase → Some b ≡ or_told phase later
+pub told_here : (phase : List Break) (later : Option Break) (b : Break) → Some b ≡ least_from None phase → Some b ≡ or_told phase later
 told_here [] later b e = absurd cc
 told_here (x ∷ xs) later b e = e
 
-told_later : (phase : List Break) (later t : Option Break) → None ≡ least_from None phase → t ≡ later → t ≡ or_told phase later
-told_later [] later t none e = e
-told_later (x ∷ xs) later t none e = absurd (some_told xs x (sym none))
+pub told_later : (phase : List Break) (later : Option Break) → None ≡ least_from None phase → or_told phase later ≡ later
+told_later [] later none = refl
+told_later (x ∷ xs) later none = absurd (some_told xs x (sym none))
 
-told_last : (phase : List Break) (t : Option Break) → t ≡ least_from None phase → t ≡ or_told phase None
-told_last [] t e = e
-told_last (x ∷ xs) t e = e
+pub told_last : (phase : List Break) → or_told phase None ≡ least_from None phase
+told_last [] = refl
+told_last (x ∷ xs) = refl
 
-module _ (f : Forest Statement) where
-  -- what is told by each phase, where those before it have nothing
-  pub told_second : (b : Break) → None ≡ least_from None (grammar_phase f) → Some b ≡ least_from None (module_phase f) → Some b ≡ first_broken (phases f)
-  told_second b first e = told_later (grammar_phase f) _ (Some b) first (told_here (module_phase f) _ b e)
+-- phases in two parts
+pub told_first : (first others : List (List Break)) (b : Break) → Some b ≡ first_broken first → Some b ≡ first_broken (first ++ others)
+told_first [] others b e = absurd cc
+told_first ([] ∷ phases) others b e = told_first phases others b e
+told_first ((x ∷ xs) ∷ phases) others b e = e
 
-  pub told_third : (b : Break) → None ≡ least_from None (grammar_phase f) → None ≡ least_from None (module_phase f)
-      → Some b ≡ least_from None (size_phase f) → Some b ≡ first_broken (phases f)
-  told_third b first second e =
-      told_later (grammar_phase f) _ (Some b) first (told_later (module_phase f) _ (Some b) second (told_here (size_phase f) _ b e))
-
-  pub told_fourth : (b : Break) → None ≡ least_from None (grammar_phase f) → None ≡ least_from None (module_phase f)
-      → None ≡ least_from None (size_phase f) → Some b ≡ least_from None (name_phase f) → Some b ≡ first_broken (phases f)
-  told_fourth b first second third e =
-      told_later (grammar_phase f) _ (Some b) first (told_later (module_phase f) _ (Some b) second
-      (told_later (size_phase f) _ (Some b) third (told_here (name_phase f) _ b e)))
-
-  pub told_fifth : (t : Option Break) → None ≡ least_from None (grammar_phase f) → None ≡ least_from None (module_phase f)
-      → None ≡ least_from None (size_phase f) → None ≡ least_from None (name_phase f) → t ≡ least_from None (level_phase f) → t ≡ first_broken (phases f)
-  told_fifth t first second third fourth e =
-      told_later (grammar_phase f) _ t first (told_later (module_phase f) _ t second
-      (told_later (size_phase f) _ t third (told_later (name_phase f) _ t fourth (told_last (level_phase f) t e))))
+pub told_then : (first others : List (List Break)) → None ≡ first_broken first → first_broken (first ++ others) ≡ first_broken others
+told_then [] others none = refl
+told_then ([] ∷ phases) others none = told_then phases others none
+told_then ((x ∷ xs) ∷ phases) others none = absurd (some_told xs x (sym none))
 
 -- ---- limits
 
@@ -73,3 +70,44 @@ refused_as f b e = ap (λ t. option_map_or Err t (Ok (schema_of f))) (sym e)
 pub passes : (f : Forest Statement) → None ≡ first_broken (phases f) → compiled f ≡ Ok (schema_of f)
 unfolding compiled
 passes f e = ap (λ t. option_map_or Err t (Ok (schema_of f))) (sym e)
+
+-- ---- the phases in four parts
+
+module _ (f : Forest Statement) where
+  module _ (s : Forest Source) (s_is : s ≡ sources_of f) (p : Plan) (p_is : p ≡ plan_of s) where
+    parts : (statement_part f) ++ (source_part f s ++ (plan_part f p ++ rule_part f p)) ≡ phases f
+    parts = ap (λ q. (statement_part f) ++ (source_part f s ++ (plan_part f q ++ rule_part f q))) p_is ∙ ap (λ x. statement_phase f ∷ phases_of_sources f x) s_is
+
+    module _ (first : None ≡ first_broken (statement_part f)) where
+      pub in_sources : (b : Break) → Some b ≡ first_broken (source_part f s) → compiled f ≡ Err b
+      in_sources b e = refused_as f b (told_first (source_part f s) (plan_part f p ++ rule_part f p) b e
+          ∙ (sym (told_then (statement_part f) (source_part f s ++ (plan_part f p ++ rule_part f p)) first) ∙ ap first_broken parts))
+
+      module _ (second : None ≡ first_broken (source_part f s)) where
+        pub in_plan : (b : Break) → Some b ≡ first_broken (plan_part f p) → compiled f ≡ Err b
+        in_plan b e = refused_as f b (told_first (plan_part f p) (rule_part f p) b e
+            ∙ (sym (told_then (source_part f s) (plan_part f p ++ rule_part f p) second)
+            ∙ (sym (told_then (statement_part f) (source_part f s ++ (plan_part f p ++ rule_part f p)) first) ∙ ap first_broken parts)))
+
+        module _ (third : None ≡ first_broken (plan_part f p)) where
+          in_rules : (t : Option Break) → t ≡ first_broken (rule_part f p) → t ≡ first_broken (phases f)
+          in_rules t e = e ∙ (sym (told_then (plan_part f p) (rule_part f p) third)
+              ∙ (sym (told_then (source_part f s) (plan_part f p ++ rule_part f p) second)
+              ∙ (sym (told_then (statement_part f) (source_part f s ++ (plan_part f p ++ rule_part f p)) first) ∙ ap first_broken parts)))
+
+          pub refused_in_rules : (b : Break) → Some b ≡ first_broken (rule_part f p) → compiled f ≡ Err b
+          refused_in_rules b e = refused_as f b (in_rules (Some b) e)
+
+          pub is_made : None ≡ first_broken (rule_part f p) → compiled f ≡ Ok (schema_of_plan p)
+          is_made e = passes f (in_rules None e) ∙ ap (λ q. Ok (schema_of_plan q)) (sym (p_is ∙ ap plan_of s_is))
+
+pub in_statements : (f : Forest Statement) (b : Break) → Some b ≡ least_from None (statement_phase f) → compiled f ≡ Err b
+in_statements f b e = refused_as f b (told_here (statement_phase f) _ b e)
+
+pub no_statement : (f : Forest Statement) → None ≡ least_from None (statement_phase f) → None ≡ first_broken (statement_part f)
+no_statement f e = e ∙ sym (told_last (statement_phase f))
+
+-- what holds of every value holds of one that is answered
+pub if_ok_any : {A E : Type 0} (P : A → Type 0) → ((x : A) → P x) → (r : Result A E) → IfOk r P
+if_ok_any P all (Ok x) = all x
+if_ok_any P all (Err e) = tt

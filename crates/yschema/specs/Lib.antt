@@ -1,7 +1,7 @@
 pub mod Layout
 pub mod Lookup
 pub mod References
-pub mod Table
 pub mod Told
 pub mod View
 pub mod Made
+pub mod Phases

@@ -1,211 +1,215 @@
 //! From modules to their schema.
 
-ghost use Rattle.std.specs.Prelude.{codes, if◌then◌else◌, ◌≡◌, ◌+◌, ◌≤◌, ◌++◌, ◌∷◌, [], ℕ, suc, Some, None, Ok, IfOk, OnOk, unwrap_or, length};
-ghost use Rattle.yspec.specs.Forest.{levels};
-ghost use Rattle.yspec.specs.schema.Schema as spec;
-ghost use Rattle.yspec.specs.schema.Schema.{data_size, schema_node, nodes_from, schema_of};
-ghost use Rattle.yspec.specs.text.Text.{is_text};
-ghost use Rattle.yspec.specs.types.Types.{built_in, string_type};
-ghost use Rattle.yspec.specs.schema.Breaks.{first_broken, phases, limit_breaks, least_from, level_limit, compiled};
+ghost use Rattle.std.specs.Prelude.{◌≡◌, ◌≤◌, ◌++◌, ◌∷◌, [], Some, None, IfOk, unwrap_or, map, nat_lt};
+ghost use Rattle.yspec.specs.Forest.{size, levels};
+ghost use Rattle.yspec.specs.Results.{Gives};
 ghost use Rattle.yspec.specs.document.Fitting.{LeafsAreBare};
 ghost use Rattle.yspec.specs.document.Writing.{NamesDiffer};
-ghost use Rattle.ytext.specs.View as text;
-ghost use Rattle.ytext.specs.View.{row_view, modules_view};
-ghost use Rattle.yschema.specs.Layout.{absence_view, kind_view, node_view, number_of, places, laid};
-ghost use Rattle.yspec.specs.Results.{Gives};
+ghost use Rattle.yspec.specs.schema.Breaks.{first_broken, least_from, level_limit, limit_breaks, module_breaks, node_limit};
+ghost use Rattle.yspec.specs.linking.Compiling as spec;
+ghost use Rattle.yspec.specs.linking.Compiling.{compiled, IsCompiled};
+ghost use Rattle.yschema.specs.Phases.{statement_part, source_part, plan_part, rule_part};
+ghost use Rattle.yspec.specs.linking.Source.{sources_of};
+ghost use Rattle.ytext.specs.View.{modules_view};
+ghost use Rattle.ylink.specs.LinkView as link;
+ghost use Rattle.yplan.specs.PlanView as plans;
+ghost use Rattle.yresolve.specs.ResolvedView.{IsOf};
+ghost use Rattle.ylink.specs.SourceView.{source_view};
+ghost use Rattle.ypreorder.specs.View.{row_by, label_by};
+ghost use Rattle.yspec.specs.linking.Source as sources;
+ghost use Rattle.yspec.specs.linking.Keyword.{prefix_word};
 ghost use Rattle.yschema.specs.Told.{seen, told_by};
 ghost use Rattle.yschema.specs.View.{view, module_view};
 
-use crate::children::Row;
-use crate::fault::{Break, CompileCode, CompileFault};
-use crate::grammar::{broken, judge_modules};
+use crate::fault::CompileFault;
 use crate::index::index_of;
-use crate::limits::{count_nodes, has_too_many_levels, has_too_many_nodes, is_data_node};
-use crate::names::{name_of, repeated_module, repeated_name};
-use crate::node::{Absence, Kind, LeafType, SchemaId, SchemaNode, Status};
+use crate::limits::{LEVEL_LIMIT, NODE_LIMIT};
+use crate::making::rows_of;
+use crate::names::{broken_at, repeated_module};
 use crate::references::References;
 use crate::schema::{Schema, SchemaModule};
 use std::alloc::{AllocError, Global};
-use ytext::{Module, Stmt};
-use ytype::YType;
+use ylink::{
+    Broken, CompileCode, Keyword, Source, Sources, argument_of, argument_with, prefix_fault,
+    statement_fault, type_fault, type_name_fault,
+};
+use yplan::{Plan, name_fault};
+use ypreorder::Node;
+use yresolve::{Resolved, node_fault};
+use ytext::Module;
 
 /// The schema of a set of modules, or the least broken rule, by module, line and number, of the first phase that has one.
-/// Phases: the statement table; names of modules; the number of nodes; names of siblings; levels. Of no modules it is a schema without nodes.
-#[tactic(auto, unfolding(yspec::specs::schema::Breaks::compiled))]
+/// Phases: the table of statements; prefixes and names of modules; names of types; types; the number of nodes; names of
+/// siblings; what nodes state and refer to; levels. Of no modules it is a schema without nodes.
 pub fn compile(alloc: Global, modules: &[Module]) -> Result<Schema, CompileFault>
     ensures exact { Gives view told_by result (compiled (modules_view modules.now)) }
     ensures names { IfOk result (λ schema. NamesDiffer (view schema)) }
     ensures bare { IfOk result (λ schema. LeafsAreBare (view schema).nodes) }
     ensures within { IfOk result (λ schema. levels (view schema).nodes ≤ level_limit) }
 {
-    match first_broken(alloc, modules)? {
-        Some(found) => Err(CompileFault::from(found)),
-        None => Ok(build(alloc, modules)?),
+    if let Some(found) = statement_fault(alloc, modules)? {
+        return Err(CompileFault::from(found));
     }
+    let sources = Sources::of(alloc, modules)?;
+    compile_sources(alloc, modules, &sources)
 }
 
-/// The least broken rule of the first phase that has one.
-fn first_broken(alloc: Global, modules: &[Module]) -> Result<Option<Break>, AllocError>
-    ensures { IfOk result (λ found. seen found ≡ first_broken (phases (modules_view modules.now))) }
+/// Compiles modules whose statements are those of the table.
+fn compile_sources(
+    alloc: Global,
+    modules: &[Module],
+    sources: &Sources<'_>,
+) -> Result<Schema, CompileFault>
+    requires made { link.view sources.now ≡ sources_of (modules_view modules.now) }
+    requires first { None ≡ first_broken (statement_part (modules_view modules.now)) }
+    ensures { Gives view told_by result (compiled (modules_view modules.now)) }
 {
-    if let Some(found) = judge_modules(modules) {
+    if let Some(found) = source_fault(alloc, modules, sources)? {
+        return Err(CompileFault::from(found));
+    }
+    let plan = Plan::of(alloc, sources)?;
+    compile_plan(alloc, modules, &plan)
+}
+
+/// Compiles modules whose prefixes and types are right.
+fn compile_plan(
+    alloc: Global,
+    modules: &[Module],
+    plan: &Plan<'_, '_>,
+) -> Result<Schema, CompileFault>
+    requires made { plans.view plan.now ≡ spec.plan_of (sources_of (modules_view modules.now)) }
+    requires first { None ≡ first_broken (statement_part (modules_view modules.now)) }
+    requires second { None ≡ first_broken (source_part (modules_view modules.now) (sources_of (modules_view modules.now))) }
+    ensures { Gives view told_by result (compiled (modules_view modules.now)) }
+{
+    if let Some(found) = plan_fault(alloc, modules, plan)? {
+        return Err(CompileFault::from(found));
+    }
+    let resolved = Resolved::of(alloc, plan)?;
+    compile_rules(alloc, modules, plan, &resolved)
+}
+
+/// Compiles modules that have no more nodes than they may, and no names twice.
+fn compile_rules<'t>(
+    alloc: Global,
+    modules: &[Module],
+    plan: &Plan<'_, 't>,
+    resolved: &Resolved<'t>,
+) -> Result<Schema, CompileFault>
+    requires of_plan { IsOf resolved.now (plans.view plan.now) }
+    requires made { plans.view plan.now ≡ spec.plan_of (sources_of (modules_view modules.now)) }
+    requires first { None ≡ first_broken (statement_part (modules_view modules.now)) }
+    requires second { None ≡ first_broken (source_part (modules_view modules.now) (sources_of (modules_view modules.now))) }
+    requires third { None ≡ first_broken (plan_part (modules_view modules.now) (plans.view plan.now)) }
+    ensures { Gives view told_by result (compiled (modules_view modules.now)) }
+{
+    if let Some(found) = rule_fault(alloc, modules, plan, resolved)? {
+        return Err(CompileFault::from(found));
+    }
+    Ok(build(alloc, plan, resolved)?)
+}
+
+/// The rule that is told of prefixes and names of modules, of names of types, or of types.
+fn source_fault(
+    alloc: Global,
+    modules: &[Module],
+    sources: &Sources<'_>,
+) -> Result<Option<Broken>, AllocError>
+    ensures { let s = link.view sources.now in IfOk result (λ told. seen told ≡ first_broken (source_part (modules_view modules.now) s)) }
+{
+    let prefix = prefix_fault(alloc, sources)?;
+    if let Some(found) = repeated_module(alloc, modules, prefix)? {
         return Ok(Some(found));
     }
-    if let Some(found) = repeated_module(alloc, modules)? {
+    if let Some(found) = type_name_fault(sources) {
         return Ok(Some(found));
     }
-    if let Some(found) = at_last(modules, has_too_many_nodes(modules)) {
-        return Ok(Some(found));
-    }
-    if let Some(found) = repeated_name(alloc, modules)? {
-        return Ok(Some(found));
-    }
-    Ok(at_last(modules, has_too_many_levels(modules)))
+    type_fault(alloc, sources)
 }
 
 /// A limit that is passed is told at the module given last.
-fn at_last(modules: &[Module], is_passed: bool) -> Option<Break>
+fn at_last(modules: &[Module], is_passed: bool) -> Option<Broken>
     ensures { seen result ≡ least_from None (limit_breaks is_passed (modules_view modules.now)) }
 {
     match modules.last() {
-        Some(last) if is_passed => Some(broken(CompileCode::C18, modules.len() - 1, &last.top)),
+        Some(last) if is_passed => Some(broken_at(CompileCode::C18, modules.len() - 1, &last.top)),
         _ => None,
     }
 }
 
-fn build(alloc: Global, modules: &[Module]) -> Result<Schema, AllocError>
-    requires { compiled (modules_view modules.now) ≡ Ok (schema_of (modules_view modules.now)) }
-    ensures { IfOk result (λ schema. view schema ≡ schema_of (modules_view modules.now)) }
+/// The rule that is told of the number of nodes, or of names of siblings.
+fn plan_fault(
+    alloc: Global,
+    modules: &[Module],
+    plan: &Plan<'_, '_>,
+) -> Result<Option<Broken>, AllocError>
+    ensures { let p = plans.view plan.now in IfOk result (λ told. seen told ≡ first_broken (plan_part (modules_view modules.now) p)) }
 {
-    let mut set = Vec::new(alloc);
-    let mut rows = Vec::new(alloc);
-    for (module, text) in modules.iter().enumerate() {
-        set.push(module_of(alloc, &text.top)?)?;
-        add_nodes(alloc, &mut rows, module, None, text.top.substatements())?;
+    if let Some(found) = at_last(modules, plan.nodes() > NODE_LIMIT) {
+        return Ok(Some(found));
     }
-    let index = index_of(alloc, &set, &rows)?;
-    let references = References::of(alloc, &rows)?;
-    Ok(Schema::new(set, rows, index, references))
+    name_fault(alloc, plan)
 }
 
-fn module_of(alloc: Global, top: &Stmt) -> Result<SchemaModule, AllocError>
-    ensures { let s = text.view top.now in IfOk result (λ m. module_view m ≡ spec.schema_module s.0 s.1) }
+/// Whether a plan has too many nodes or levels.
+fn is_too_deep(plan: &Plan<'_, '_>) -> bool
+    ensures { result ≡ spec.is_too_deep (plans.view plan.now).nodes }
 {
+    plan.nodes() > NODE_LIMIT || plan.levels() > LEVEL_LIMIT
+}
+
+/// The rule that is told of what nodes state and refer to, or of levels.
+fn rule_fault<'t>(
+    alloc: Global,
+    modules: &[Module],
+    plan: &Plan<'_, 't>,
+    resolved: &Resolved<'t>,
+) -> Result<Option<Broken>, AllocError>
+    requires { IsOf resolved.now (plans.view plan.now) }
+    ensures { let p = plans.view plan.now in IfOk result (λ told. seen told ≡ first_broken (rule_part (modules_view modules.now) p)) }
+{
+    if let Some(found) = node_fault(alloc, plan, resolved)? {
+        return Ok(Some(found));
+    }
+    Ok(at_last(modules, is_too_deep(plan)))
+}
+
+fn module_of(alloc: Global, module: Node<'_, Source<'_>>) -> Result<SchemaModule, AllocError>
+    ensures { IfOk result (λ made. module_view made ≡ record {
+        name = sources.argument_in (label_by source_view module.entry);
+        prefix = unwrap_or (sources.argument_with prefix_word (row_by source_view module.entry.children)) [];
+    }) }
+{
+    let prefix = argument_with(Keyword::Prefix, module.children()).unwrap_or("");
     Ok(SchemaModule {
-        name: String::from_str(alloc, name_of(top))?,
-        prefix: String::from_str(alloc, argument_of("prefix", top.substatements()))?,
+        name: String::from_str(alloc, argument_of(module))?,
+        prefix: String::from_str(alloc, prefix)?,
     })
 }
 
-/// The argument of the first of some statements with a keyword, or no text.
-fn argument_of<'a>(keyword: &str, statements: &'a [Stmt]) -> &'a str
-    ensures { result.now ≡ unwrap_or (spec.argument_of keyword.now (row_view statements.entry.now)) [] }
+fn modules_of(alloc: Global, sources: &Sources<'_>) -> Result<Vec<SchemaModule>, AllocError>
+    ensures { IfOk result (λ modules. map module_view modules.items ≡ spec.schema_modules (link.view sources.now)) }
 {
-    for statement in statements {
-        if statement.keyword() == keyword {
-            return name_of(statement);
-        }
+    let mut modules = Vec::new(alloc);
+    for module in sources.modules() {
+        modules.push(module_of(alloc, module)?)?;
     }
-    ""
+    Ok(modules)
 }
 
-/// Adds the schema nodes of some statements below a node, or at the top, in their order.
-#[cycle(nodes)]
-fn add_nodes(
+/// The schema whose nodes are planned.
+fn build<'t>(
     alloc: Global,
-    rows: &mut Vec<Row>,
-    module: usize,
-    parent: Option<SchemaId>,
-    statements: &[Stmt],
-) -> Result<(), AllocError>
-    requires room { length rows.old.items + data_size (row_view statements.now) ≤ 65535 }
-    ensures { OnOk result (laid 0 rows.new.items ≡ laid 0 rows.old.items
-        ++ places (number_of parent) (nodes_from «module» (length rows.old.items) (row_view statements.now))) }
+    plan: &Plan<'_, 't>,
+    resolved: &Resolved<'t>,
+) -> Result<Schema, AllocError>
+    requires of_plan { IsOf resolved.now (plans.view plan.now) }
+    requires legal { IsCompiled (spec.schema_of_plan (plans.view plan.now)) }
+    ensures { IfOk result (λ schema. view schema ≡ spec.schema_of_plan (plans.view plan.now)) }
 {
-    for statement in statements {
-        if is_data_node(statement) {
-            add_node(alloc, rows, module, parent, statement)?;
-        }
-    }
-    Ok(())
-}
-
-/// Adds the schema node of a statement that stands for one, and those below it.
-#[cycle(nodes)]
-fn add_node(
-    alloc: Global,
-    rows: &mut Vec<Row>,
-    module: usize,
-    parent: Option<SchemaId>,
-    statement: &Stmt,
-) -> Result<(), AllocError>
-    requires room { length rows.old.items + suc (data_size (text.view statement.now).1) ≤ 65535 }
-    ensures { let s = text.view statement.now in let number = length rows.old.items in
-        OnOk result (laid 0 rows.new.items ≡ laid 0 rows.old.items
-        ++ record { parent = number_of parent; label = schema_node «module» number s.0 s.1; below = data_size s.1 }
-        ∷ places (Some number) (nodes_from «module» (number + 1) s.1)) }
-{
-    let statements = statement.substatements();
-    let id = SchemaId::new(rows.len() as u32);
-    rows.push(Row {
-        parent,
-        node: node_of(alloc, module, statement)?,
-        below: count_nodes(statements, 0),
-    })?;
-    add_nodes(alloc, rows, module, Some(id), statements)
-}
-
-fn node_of(alloc: Global, module: usize, statement: &Stmt) -> Result<SchemaNode, AllocError>
-    ensures { let s = text.view statement.now in
-        IfOk result (λ n. (number : ℕ) → node_view number n ≡ schema_node «module» number s.0 s.1) }
-{
-    Ok(SchemaNode {
-        module,
-        name: String::from_str(alloc, name_of(statement))?,
-        config: true,
-        status: Status::Current,
-        kind: kind_of(alloc, statement)?,
-    })
-}
-
-fn kind_of(alloc: Global, statement: &Stmt) -> Result<Kind, AllocError>
-    ensures { let s = text.view statement.now in IfOk result (λ k. kind_view k ≡ spec.kind_of s.0 s.1) }
-{
-    if statement.keyword() == "container" {
-        return Ok(Kind::Container { presence: false });
-    }
-    let statements = statement.substatements();
-    Ok(Kind::Leaf {
-        leaf_type: LeafType {
-            value_type: type_of(alloc, argument_of("type", statements))?,
-            target: None,
-        },
-        absence: absence_of(argument_of("mandatory", statements)),
-    })
-}
-
-/// What it means that a leaf with this argument of `mandatory` isn't stored.
-fn absence_of(mandatory: &str) -> Absence
-    ensures { absence_view result ≡ if is_text mandatory.now (codes "true") then spec.mandatory else spec.allowed }
-{
-    if mandatory == "true" {
-        Absence::Mandatory
-    } else {
-        Absence::Allowed
-    }
-}
-
-/// The built-in type of a name that the statement table has let through.
-fn type_of(alloc: Global, name: &str) -> Result<YType, AllocError>
-    ensures { IfOk result (λ t. t ≡ unwrap_or (built_in name.now) string_type) }
-{
-    let built_in = if name == "uint8" {
-        YType::uint8(alloc)
-    } else {
-        YType::string(alloc)
-    };
-    match built_in {
-        Ok(built_in) => Ok(built_in),
-        Err(_) => Err(AllocError),
-    }
+    let modules = modules_of(alloc, plan.sources())?;
+    let rows = rows_of(alloc, plan, resolved)?;
+    let index = index_of(alloc, &modules, &rows)?;
+    let references = References::of(alloc, &rows)?;
+    Ok(Schema::new(modules, rows, index, references))
 }

@@ -4,9 +4,7 @@
 mod building;
 mod children;
 mod fault;
-mod grammar;
 mod index;
-mod least;
 mod limits;
 mod making;
 mod names;
@@ -17,7 +15,8 @@ mod written;
 
 pub use building::compile;
 pub use children::{Child, Children};
-pub use fault::{CompileCode, CompileFault};
+pub use fault::CompileFault;
 pub use limits::{LEVEL_LIMIT, NODE_LIMIT};
 pub use node::{Absence, Amount, Kind, LeafType, SchemaId, SchemaNode, Status, Tuples};
 pub use schema::{Schema, SchemaModule};
+pub use ylink::CompileCode;

@@ -2,7 +2,7 @@
 
 ghost use Rattle.std.specs.Prelude.{◌≡◌, ◌+◌, ◌<◌, ◌^◌, None, length, vec_len, position, string_bytes};
 ghost use Rattle.yspec.specs.text.Text.{is_text};
-ghost use Rattle.yspec.specs.schema.Breaks.{IsCompiled};
+ghost use Rattle.yspec.specs.linking.Compiling.{IsCompiled};
 ghost use Rattle.yschema.specs.Layout.{data_places, laid, forest_of, schema_view, IsLaidOut};
 ghost use Rattle.yschema.specs.Lookup.{FindsNamed, FindsWritten};
 ghost use Rattle.yschema.specs.References.{FindsReferences};
