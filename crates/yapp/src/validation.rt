@@ -2,7 +2,7 @@
 
 ghost use Rattle.std.specs.Prelude.{◌≡◌, ◌∷◌, [], ℕ, List, IfOk, map};
 ghost use Rattle.yspec.specs.Forest.{Forest};
-ghost use Rattle.yspec.specs.schema.Breaks.{compiled};
+ghost use Rattle.yspec.specs.linking.Compiling.{compiled};
 ghost use Rattle.yspec.specs.program.Output as spec;
 ghost use Rattle.yspec.specs.program.Output.{Outcome, files_of, first_file, judged, validation, with_compiled, with_modules, with_tree};
 ghost use Rattle.yspec.specs.document.Reading.{document_of};

@@ -7,8 +7,6 @@ use Rattle.serde_json.proofs.OnLiterals.{serde_json_on_literals}
 use Rattle.yspec.specs.text.Token.{tokens_from, joined_breaks, trimmed_ends, stripped_starts, unescaped, bad_escape_line}
 use Rattle.yspec.specs.text.Statement.{pieces, statements, module_of}
 use Rattle.yspec.specs.text.Scanning.{pieces_from, wrong_escape, given_of}
-use Rattle.yspec.specs.schema.Schema.{data_size, data_levels, nodes_from}
-use Rattle.yspec.specs.schema.Breaks.{grammar_breaks, name_breaks, compiled}
 use Rattle.yspec.specs.document.Reading.{member_visits, node_visits, item_visits, instance_visits, stored_rows, document_of}
 use Rattle.yspec.specs.document.Writing.{row_members}
 use Rattle.yspec.specs.document.Play.{items_in_play}
@@ -21,9 +19,9 @@ use Rattle.yspec.specs.linking.Source.{kept, numbered, sources_from}
 use Rattle.yspec.specs.linking.TypeStatements.{built_in_named, verdicts}
 use Rattle.yspec.specs.linking.Parts.{parts}
 use Rattle.yspec.specs.linking.Planned.{planned, type_within, leads_to}
-use Rattle.yspec.specs.linking.Compiling as linking
+use Rattle.yspec.specs.linking.Compiling.{compiled}
 use Rattle.yspec.specs.program.Output.{outcome}
 
 unfoldable pub yspec_on_literals : ⊤
-unfolding digits chars is_utf8 utf8_valid_len serde_json_on_literals tokens_from joined_breaks trimmed_ends stripped_starts unescaped bad_escape_line pieces_from wrong_escape given_of pieces statements module_of data_size data_levels nodes_from grammar_breaks name_breaks compiled member_visits node_visits item_visits instance_visits stored_rows document_of items_in_play told_in faults_of outcome row_members cut_at parts_at path_of edit_of applied cut_at_dots row_breaks breaks_from kept numbered sources_from built_in_named verdicts parts planned type_within leads_to linking.compiled
+unfolding digits chars is_utf8 utf8_valid_len serde_json_on_literals tokens_from joined_breaks trimmed_ends stripped_starts unescaped bad_escape_line pieces_from wrong_escape given_of pieces statements module_of member_visits node_visits item_visits instance_visits stored_rows document_of items_in_play told_in faults_of outcome row_members cut_at parts_at path_of edit_of applied cut_at_dots row_breaks breaks_from kept numbered sources_from built_in_named verdicts parts planned type_within leads_to compiled
 yspec_on_literals = tt

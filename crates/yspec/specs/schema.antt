@@ -1,5 +1,4 @@
--- The grammar of statements, the schema that modules make, and the rules that they break.
-pub mod Grammar
+-- The schema of a set of modules, and the rules that they break.
 pub mod References
 pub mod Schema
 pub mod Breaks

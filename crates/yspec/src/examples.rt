@@ -13,6 +13,9 @@ pub fn documents_of_a_container()
     ensures good { shown_by_p (codes "{\"p:c\":{\"id\":255}}") ≡ without_faults }
     ensures implied { shown_by_p (codes "{}")
         ≡ found 1 (codes "V3 data-missing - /p:c/id -\n1 faults\n") }
+    ensures implied_of_int32 { shown (container_module (codes "int32")) (codes "{}")
+        ≡ found 1 (codes "V3 data-missing - /p:c/id -\n1 faults\n") }
+    ensures good_of_int32 { shown (container_module (codes "int32")) (codes "{\"p:c\":{\"id\":-256}}") ≡ without_faults }
 {}
 
 /// Faults stand in order of definition.
@@ -59,7 +62,7 @@ pub fn written_documents()
 
 /// Refusals of a module, each with its line.
 pub fn refused_modules()
-    ensures type_outside { shown (container_module (codes "int32")) (codes "{}") ≡ failed 2 (codes "m.yang:6: C1") }
+    ensures type_outside { shown (container_module (codes "binary")) (codes "{}") ≡ failed 2 (codes "m.yang:6: C1") }
     ensures two_types { compiled_alone (codes "  leaf a { type string;\n type uint8; }\n")
         ≡ failed 2 (codes "m.yang:5: C2") }
     ensures no_name { compiled_alone (codes "  container;\n") ≡ failed 2 (codes "m.yang:5: C3") }

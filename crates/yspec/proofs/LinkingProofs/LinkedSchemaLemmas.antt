@@ -1,16 +1,60 @@
 -- What a schema has of which it is known that it is that of some linked modules, though not of which.
-use Rattle.std.proofs.Common.{◌≤◌}
+use Rattle.std.proofs.Common.{◌≡◌, ℕ, ◌≤◌, Option, Some, None, refl, sym, ◌∙◌}
+use mathlib.Core.Path.{path_j}
 use mathlib.Core.Logic.{∥∥₁_elim}
-use Rattle.std.specs.Coded.{le_prop}
-use Rattle.yspec.specs.Forest.{levels, size}
-use Rattle.yspec.specs.schema.Schema.{Schema}
+use mathlib.Core.HLevel.{⊥_prop, ×₃_prop}
+use Rattle.std.specs.Coded.{×_prop, →_prop, Unit-prop, le_prop}
+use Rattle.yspec.specs.Forest.{Forest, end, node, levels, size}
+use Rattle.yspec.specs.text.Text.{Text}
+use Rattle.yspec.specs.schema.Schema.{Schema, SchemaNode, Kind, data_row, written_name}
 use Rattle.yspec.specs.schema.Breaks.{level_limit, node_limit}
-use Rattle.yspec.specs.document.Fitting.{LeafsAreBare}
-use Rattle.yspec.specs.document.Writing.{NamesDiffer}
+use Rattle.yspec.specs.document.Fitting.{IsBare, LeafsAreBare}
+use Rattle.yspec.specs.document.Writing.{IsNew, RowDiffers, AllDiffer, NamesDiffer}
 use Rattle.yspec.specs.linking.Compiling.{IsCompiled}
-use Rattle.yspec.proofs.SchemaProofs.CompiledLemmas.{leafs_bare-prop, names_differ-prop}
 use Rattle.yspec.proofs.LinkingProofs.LinkedLemmas.{linked_bare, linked_few, linked_within}
 use Rattle.yspec.proofs.LinkingProofs.LinkedNameLemmas.{linked_names}
+
+-- ---- each fact has one proof at most
+
+-- a row without nodes is so in one way
+EndsOnce : (f : Forest SchemaNode) → end ≡ f → Type 0
+EndsOnce end p = p ≡ refl
+EndsOnce (node n below after) p = Unit {0}
+
+ends_once : (f : Forest SchemaNode) (p : end ≡ f) → EndsOnce f p
+unfolding EndsOnce
+ends_once f p = path_j EndsOnce refl p
+
+end_prop : (f : Forest SchemaNode) → IsProp (f ≡ end)
+unfolding EndsOnce
+end_prop end p q = ends_once end p ∙ sym (ends_once end q)
+end_prop (node n below after) p q = absurd cc
+
+is_bare-prop : (k : Kind) (f : Forest SchemaNode) → IsProp (IsBare k f)
+is_bare-prop k f = →_prop (end_prop f)
+
+leafs_bare-prop : (f : Forest SchemaNode) → IsProp (LeafsAreBare f)
+leafs_bare-prop end = Unit-prop
+leafs_bare-prop (node n below after) = ×₃_prop (is_bare-prop n.kind below) (leafs_bare-prop below) (leafs_bare-prop after)
+
+is_new-prop : (s : Schema) (parent : Option ℕ) (name : Text) (f : Forest SchemaNode) → IsProp (IsNew s parent name f)
+is_new-prop s parent name end = Unit-prop
+is_new-prop s parent name (node n below after) = ×_prop (→_prop ⊥_prop) (is_new-prop s parent name after)
+
+row_differs-prop : (s : Schema) (parent : Option ℕ) (f : Forest SchemaNode) → IsProp (RowDiffers s parent f)
+row_differs-prop s parent end = Unit-prop
+row_differs-prop s parent (node n below after) =
+    ×_prop (is_new-prop s parent (written_name s parent n) after) (row_differs-prop s parent after)
+
+all_differ-prop : (s : Schema) (f : Forest SchemaNode) → IsProp (AllDiffer s f)
+all_differ-prop s end = Unit-prop
+all_differ-prop s (node n below after) =
+    ×₃_prop (→_prop (row_differs-prop s (Some n.module_number) (data_row below))) (all_differ-prop s below) (all_differ-prop s after)
+
+names_differ-prop : (s : Schema) → IsProp (NamesDiffer s)
+names_differ-prop s = ×_prop (row_differs-prop s None (data_row s.nodes)) (all_differ-prop s s.nodes)
+
+-- ---- what every compiled schema has
 
 pub leafs_bare_of : (s : Schema) → ∥ IsCompiled s ∥₁ → LeafsAreBare s.nodes
 leafs_bare_of s compiled = ∥∥₁_elim compiled (leafs_bare-prop s.nodes) (λ c. linked_bare c.0 s c.1)

@@ -2,8 +2,9 @@
 use Rattle.std.specs.Prelude.{ℕ, Bool, true, false, List, length, Result, Ok, Err}
 use Rattle.yspec.specs.Forest.{Forest}
 use Rattle.yspec.specs.text.Statement.{Statement}
-use Rattle.yspec.specs.schema.Breaks.{Break, compiled}
+use Rattle.yspec.specs.schema.Breaks.{Break}
 use Rattle.yspec.specs.schema.Schema.{Schema}
+use Rattle.yspec.specs.linking.Compiling.{compiled}
 use Rattle.yspec.specs.document.Document.{Tree}
 use Rattle.yspec.specs.document.Reading.{Refusal, document_of}
 use Rattle.yspec.specs.document.Fault.{Fault}

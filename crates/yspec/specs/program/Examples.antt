@@ -3,7 +3,8 @@ use Rattle.std.specs.Prelude.{ℕ, List, ◌++◌, [], ◌∷◌, codes, Option,
 use Rattle.std.specs.Result.{result_ok}
 use Rattle.yspec.specs.text.Text.{Text}
 use Rattle.yspec.specs.text.Statement.{module_of}
-use Rattle.yspec.specs.schema.Schema.{Schema, schema_of}
+use Rattle.yspec.specs.schema.Schema.{Schema}
+use Rattle.yspec.specs.linking.Compiling.{schema_of}
 use Rattle.yspec.specs.document.Reading.{document_of}
 use Rattle.yspec.specs.document.Writing.{written_text}
 use Rattle.yspec.specs.program.Output.{Outcome, validate, outcome, found}

@@ -4,8 +4,9 @@ use Rattle.std.specs.List.{flat_map}
 use Rattle.yspec.specs.Forest.{Forest, end, join}
 use Rattle.yspec.specs.text.Text.{Text}
 use Rattle.yspec.specs.text.Statement.{Statement, Slip, module_of}
-use Rattle.yspec.specs.schema.Breaks.{Break, compiled}
+use Rattle.yspec.specs.schema.Breaks.{Break}
 use Rattle.yspec.specs.schema.Schema.{Schema}
+use Rattle.yspec.specs.linking.Compiling.{compiled}
 use Rattle.yspec.specs.document.Document.{Tree}
 use Rattle.yspec.specs.document.Reading.{Refusal, document_of}
 use Rattle.yspec.specs.document.Fault.{Fault}

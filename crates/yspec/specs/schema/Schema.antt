@@ -1,10 +1,10 @@
 -- The schema tree of a set of modules (RFC 7950, 4.2.2 and 7).
-use Rattle.std.specs.Prelude.{ℕ, suc, ◌+◌, ◌==◌, Bool, true, false, List, [], ◌∷◌, codes, Option, Some, None, option_map, option_and_then, unwrap_or, if◌then◌else◌, find, slice_get, ◌&&◌, ◌||◌, ◌++◌, max}
+use Rattle.std.specs.Prelude.{ℕ, ◌==◌, Bool, true, false, List, [], codes, Option, Some, None, option_map, unwrap_or, if◌then◌else◌, find, slice_get, ◌&&◌, ◌++◌}
 use Rattle.std.specs.Option.{option_map_or}
 use Rattle.yspec.specs.Forest.{Forest, end, node, row, join, find_label, find_below}
 use Rattle.yspec.specs.text.Text.{Text, is_text}
 use Rattle.yspec.specs.text.Statement.{Statement}
-use Rattle.yspec.specs.types.Types.{YangType, Val, string_type, built_in}
+use Rattle.yspec.specs.types.Types.{YangType, Val}
 
 -- ---- what only one kind of node has
 
@@ -12,6 +12,10 @@ use Rattle.yspec.specs.types.Types.{YangType, Val, string_type, built_in}
 pub record LeafType : Type 0 where
   pub type : YangType
   pub target : Option ℕ
+
+-- the type of a leaf that refers to no other
+abbrev pub own_type : YangType → LeafType
+own_type type = record { type = type; target = None }
 
 -- what it means that a leaf isn't stored: nothing; its default is in use; it is mandatory; it is a key of its list
 pub data Absence : Type 0 where
@@ -102,79 +106,6 @@ keys_in _ = []
 
 abbrev pub argument_text : Statement → Text
 argument_text s = unwrap_or s.argument []
-
--- the argument of the first statement of a row with this keyword
-abbrev pub argument_of : Text → Forest Statement → Option Text
-argument_of keyword statements =
-    option_map argument_text (find (λ s. is_text s.keyword keyword) (row statements))
-
--- a statement that stands for a data node
-abbrev pub is_data_definition : Text → Bool
-is_data_definition keyword = is_text keyword (codes "container") || is_text keyword (codes "leaf")
-
--- how many data nodes statements stand for
-unfoldable pub data_size : Forest Statement → ℕ
-data_size end = 0
-data_size (node s below after) =
-    if is_data_definition s.keyword then suc (data_size below + data_size after) else data_size after
-
--- how many levels of them there are
-unfoldable pub data_levels : Forest Statement → ℕ
-data_levels end = 0
-data_levels (node s below after) = if is_data_definition s.keyword then max (suc (data_levels below)) (data_levels after)
-    else data_levels after
-
-abbrev pub absence_of : Forest Statement → Absence
-absence_of below = if option_map_or (λ t. is_text t (codes "true")) (argument_of (codes "mandatory") below) false
-    then mandatory else allowed
-
--- the type of a leaf that refers to no other
-abbrev pub own_type : YangType → LeafType
-own_type type = record { type = type; target = None }
-
-abbrev pub leaf_type : Forest Statement → LeafType
-leaf_type below = own_type (unwrap_or (option_and_then built_in (argument_of (codes "type") below)) string_type)
-
-abbrev pub leaf_kind : Forest Statement → Kind
-leaf_kind below = leaf (leaf_type below) (absence_of below)
-
-abbrev pub kind_of : Statement → Forest Statement → Kind
-kind_of s below = if is_text s.keyword (codes "container") then container false else leaf_kind below
-
-abbrev pub schema_node : ℕ → ℕ → Statement → Forest Statement → SchemaNode
-schema_node module_number number s below = record {
-  number = number;
-  module_number = module_number;
-  name = argument_text s;
-  config = true;
-  status = current;
-  kind = kind_of s below;
-}
-
--- the schema nodes of a module's statements, numbered from a number on
-unfoldable pub nodes_from : ℕ → ℕ → Forest Statement → Forest SchemaNode
-nodes_from module_number next end = end
-nodes_from module_number next (node s below after) = if is_data_definition s.keyword
-    then node (schema_node module_number next s below) (nodes_from module_number (next + 1) below)
-    (nodes_from module_number (next + 1 + data_size below) after)
-    else nodes_from module_number next after
-
-abbrev pub schema_module : Statement → Forest Statement → SchemaModule
-schema_module s below =
-    record { name = argument_text s; prefix = unwrap_or (argument_of (codes "prefix") below) [] }
-
-abbrev pub modules_of : Forest Statement → List SchemaModule
-modules_of end = []
-modules_of (node s below after) = schema_module s below ∷ modules_of after
-
-abbrev pub all_nodes : ℕ → ℕ → Forest Statement → Forest SchemaNode
-all_nodes module_number next end = end
-all_nodes module_number next (node s below after) =
-    join (nodes_from module_number next below) (all_nodes (module_number + 1) (next + data_size below) after)
-
--- the schema of the row of the `module` statements of a set in which no rule is broken
-abbrev pub schema_of : Forest Statement → Schema
-schema_of modules = record { modules = modules_of modules; nodes = all_nodes 0 0 modules }
 
 -- ---- what a schema holds
 

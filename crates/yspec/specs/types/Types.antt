@@ -1,5 +1,5 @@
 -- Types, and the values that they take (RFC 7950, 9; the forms of JSON by RFC 7951, 6).
-use Rattle.std.specs.Prelude.{ℕ, ◌+◌, ◌-◌, ◌^◌, ℤ, pos, negsuc, Bool, true, false, not, ◌||◌, ◌==◌, List, [], ◌∷◌, length, Option, Some, None, is_some, codes, option_map, option_and_then, find, if◌then◌else◌}
+use Rattle.std.specs.Prelude.{ℕ, ◌+◌, ◌-◌, ◌^◌, ℤ, pos, negsuc, Bool, true, false, not, ◌||◌, ◌==◌, List, [], ◌∷◌, length, Option, Some, None, is_some, option_map, option_and_then, find, if◌then◌else◌}
 use Rattle.std.specs.List.{list_all}
 use Rattle.std.specs.Str.{chars}
 use Rattle.yspec.specs.text.Text.{Text, is_text, is_yang_char, carriage_return}
@@ -95,11 +95,6 @@ string_type = plain string_base
 
 abbrev pub uint8_type : YangType
 uint8_type = integer_type uint8
-
--- the built-in type of a name
-abbrev pub built_in : Text → Option YangType
-built_in name = if is_text name (codes "string") then Some string_type
-    else (if is_text name (codes "uint8") then Some uint8_type else None)
 
 -- ---- what a built-in type takes
 
