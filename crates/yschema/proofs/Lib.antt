@@ -14,3 +14,4 @@ pub mod PassedLemmas
 pub mod NearestLemmas
 pub mod DataChildLemmas
 pub mod QualifiedLemmas
+pub mod MakingLemmas
