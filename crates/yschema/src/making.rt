@@ -183,29 +183,29 @@ fn kind_of<'a, 't>(
         IfOk result (λ kind. kind_view kind ≡ spec.kind_by (plan_view.view plan.now) p p.part.source.keyword) }
 {
     let planned = &node.planned;
-    Ok(match planned.keyword() {
-        Keyword::Container => Kind::Container {
+    match planned.keyword() {
+        Keyword::Container => Ok(Kind::Container {
             presence: planned.has_presence(),
-        },
-        Keyword::Leaf => Kind::Leaf {
+        }),
+        Keyword::Leaf => Ok(Kind::Leaf {
             leaf_type: leaf_type_of(alloc, plan, resolved, node)?,
             absence: absence_of(alloc, plan, resolved, node)?,
-        },
-        Keyword::LeafList => Kind::LeafList {
+        }),
+        Keyword::LeafList => Ok(Kind::LeafList {
             leaf_type: leaf_type_of(alloc, plan, resolved, node)?,
             defaults: values_of(alloc, plan, resolved, node)?,
             amount: amount_of(planned.amount()),
-        },
-        Keyword::List => Kind::List {
+        }),
+        Keyword::List => Ok(Kind::List {
             tuples: tuples_made(alloc, plan, node)?,
             amount: amount_of(planned.amount()),
-        },
-        Keyword::Choice => Kind::Choice {
+        }),
+        Keyword::Choice => Ok(Kind::Choice {
             default_case: id_of(plan.default_case(node.number, planned)),
             mandatory: planned.is_mandatory(),
-        },
-        _ => Kind::Case,
-    })
+        }),
+        _ => Ok(Kind::Case),
+    }
 }
 
 /// The schema node that a planned one stands for.
