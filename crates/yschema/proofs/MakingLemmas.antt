@@ -1,5 +1,5 @@
 -- Schema nodes made from planned ones, and how they lie in rows.
-use Rattle.std.proofs.Common.{◌≡◌, ◌≢◌, ℕ, suc, Bool, ◌+◌, ◌<◌, ◌≤◌, List, [], ◌∷◌, ◌++◌, length, drop, get_or, map, Option, Some, None, refl, sym, ap, ap₂, ◌∙◌, arith, append_assoc}
+use Rattle.std.proofs.Common.{◌≡◌, ◌≢◌, ℕ, suc, Bool, ◌+◌, ◌<◌, ◌≤◌, List, [], ◌∷◌, ◌++◌, length, drop, get_or, map, Option, Some, None, refl, sym, ap, ap₂, ◌∙◌, subst, length-append, arith, append_assoc}
 use Rattle.std.specs.Prelude.{option_map, option_and_then, slice_get, if◌then◌else◌}
 use Rattle.std.specs.List.{filter_map}
 use Rattle.std.proofs.lemmas.Option.{slice_get-get_or}
@@ -16,7 +16,7 @@ use Rattle.ylink.specs.KeywordView.{keyword_view}
 use Rattle.ylink.specs.declared.keyword.Keyword.{Keyword}
 use Rattle.ylink.specs.declared.keyword.Keyword.TheVariants as words
 use Rattle.ypreorder.specs.Layout as preorder
-use Rattle.ypreorder.specs.Layout.{seen, numbered_by}
+use Rattle.ypreorder.specs.Layout.{seen, numbered_by, labels_by}
 use Rattle.ypreorder.specs.View.{rows_in, forest_in}
 use Rattle.ypreorder.specs.declared.row.Row as plan_rows
 use Rattle.ypreorder.proofs.LayoutLemmas.{seen-append}
@@ -115,13 +115,19 @@ node_by number module_number config name status kind =
 abbrev pub ahead : (spec.Planned → SchemaNode) → ℕ → List (plan_rows.Row code.Planned) → List Place
 ahead make number rows = map (place_made make) (seen planned_view number (preorder.laid rows))
 
-pub row_more : (make : spec.Planned → SchemaNode) (rows : List (plan_rows.Row code.Planned)) (i : ℕ) (r : plan_rows.Row code.Planned)
+-- a row more of those that are made
+pub count_more : (made more : List Row) (m : Row) (i : ℕ) → more ≡ made ++ m ∷ [] → length made ≡ i → length more ≡ i + 1
+count_more made more m i pushed count = ap length pushed ∙ (length-append made (m ∷ []) ∙ omega (arith, count))
+
+pub row_more : (make : spec.Planned → SchemaNode) (shown rows : List (plan_rows.Row code.Planned)) → shown ≡ rows → (i : ℕ) (r : plan_rows.Row code.Planned)
     (made more : List Row) (m : Row) (whole : List Place)
-    → i < length rows → r ≡ get_or rows i r → length made ≡ i → place_of i m ≡ place_made make (planned_place i r)
+    → i < length shown → r ≡ get_or shown i r → length made ≡ i → place_of i m ≡ place_made make (planned_place i r)
     → more ≡ made ++ m ∷ []
     → laid 0 made ++ ahead make i (drop i rows) ≡ whole
     → laid 0 more ++ ahead make (i + 1) (drop (i + 1) rows) ≡ whole
-row_more make rows i r made more m whole within is count placed pushed so =
+row_more make shown rows are i r made more m whole inside at count placed pushed so =
+    let within : i < length rows = subst (λ xs. i < length xs) are inside in
+    let is : r ≡ get_or rows i r = at ∙ ap (λ xs. get_or xs i r) are in
     let rest = ahead make (i + 1) (drop (i + 1) rows) in
     let first : ahead make i (drop i rows) ≡ place_made make (planned_place i r) ∷ rest =
     at_drop_more (ahead make i) rows i r within ∙ ap (λ x. ahead make i (x ∷ drop (i + 1) rows)) (sym is) in
@@ -150,22 +156,24 @@ module _ (plan : spec.Plan) where
       ∙ ap₂ (λ a b. a ++ b) (rows_made (Some k) (k + 1) below) (rows_made p (k + suc (size below)) after)))
 
 -- the node of a row of a plan stands at its number
-pub row_stands : (plan : Plan) (i : ℕ) (r : plan_rows.Row code.Planned) → i < length (rows_in plan.table) → r ≡ get_or (rows_in plan.table) i r
+pub row_stands : (plan : Plan) (rows : List (plan_rows.Row code.Planned)) (i : ℕ) (r : plan_rows.Row code.Planned)
+    → rows ≡ rows_in plan.table → i < length rows → r ≡ get_or rows i r
     → slice_get (spec.nodes_of (view plan)) i ≡ Some (planned_view i r.label)
-row_stands plan i r within is =
-    let rows = rows_in plan.table in
+row_stands plan rows i r are within is =
     let from_start : 0 + i ≡ i = omega arith in
     let there : slice_get rows i ≡ Some r = slice_get-get_or rows i r within ∙ ap Some (sym is) in
-    ap (λ nodes. slice_get nodes i) (nodes_are plan)
+    ap (λ nodes. slice_get nodes i) (nodes_are plan ∙ ap (labels_by planned_view 0) (sym are))
     ∙ (label_at planned_view 0 rows i
     ∙ (ap (option_map (λ x. planned_view (0 + i) x.label)) there ∙ ap (λ n. Some (planned_view n r.label)) from_start))
 
 -- what is laid in the end
-pub all_made : (plan : Plan) (rows : List (plan_rows.Row code.Planned)) (i : ℕ) (made : List Row) → rows ≡ rows_in plan.table → length rows ≤ i
-    → laid 0 made ++ ahead (schema_node (view plan)) i (drop i rows) ≡ ahead (schema_node (view plan)) 0 rows
+pub all_made : (plan : Plan) (shown : List (plan_rows.Row code.Planned)) (i : ℕ) (made : List Row) → shown ≡ rows_in plan.table → length shown ≤ i
+    → laid 0 made ++ ahead (schema_node (view plan)) i (drop i (rows_in plan.table)) ≡ ahead (schema_node (view plan)) 0 (rows_in plan.table)
     → laid 0 made ≡ places None (schema_nodes (view plan))
-all_made plan rows i made are ended so =
+all_made plan shown i made are past so =
     let make = schema_node (view plan) in
+    let rows = rows_in plan.table in
+    let ended : length rows ≤ i = subst (λ xs. length xs ≤ i) are past in
     let whole : ahead make 0 rows ≡ places None (schema_nodes (view plan)) =
-    ap (ahead make 0) are ∙ (ap (λ ps. map (place_made make) (seen planned_view 0 ps)) plan.laid_out ∙ rows_made (view plan) None 0 (forest_in plan.table)) in
+    ap (λ ps. map (place_made make) (seen planned_view 0 ps)) plan.laid_out ∙ rows_made (view plan) None 0 (forest_in plan.table) in
     sym (append-nil (laid 0 made)) ∙ (ap (λ ps. laid 0 made ++ ps) (sym (at_drop_all (ahead make i) rows i ended)) ∙ (so ∙ whole))

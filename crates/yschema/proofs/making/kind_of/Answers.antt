@@ -13,24 +13,24 @@ returns-in-Container c =
     ap container (c.has_presence.ensures p.number)
     ∙ ap (kind_by (view c.args.plan.now) p) (ap keyword_view (sym c.in-Container.is) ∙ c.keyword.ensures)
 
-pub returns-in-Leaf : goal.returns-in-Leaf
-returns-in-Leaf c =
+pub returns-in_ok-absence_of-in-Leaf : goal.returns-in_ok-absence_of-in-Leaf
+returns-in_ok-absence_of-in-Leaf c =
     let p = node_view c.args.node in
-    ap₂ leaf c.in_ok-leaf_type_of.ensures c.in_ok-absence_of.ensures
+    ap₂ leaf c.in_ok-leaf_type_of-in-Leaf.ensures c.in_ok-absence_of-in-Leaf.ensures
     ∙ ap (kind_by (view c.args.plan.now) p) (ap keyword_view (sym c.in-Leaf.is) ∙ c.keyword.ensures)
 
-pub returns-in-LeafList : goal.returns-in-LeafList
-returns-in-LeafList c =
+pub returns-in_ok-values_of-in-LeafList : goal.returns-in_ok-values_of-in-LeafList
+returns-in_ok-values_of-in-LeafList c =
     let plan = view c.args.plan.now in
     let p = node_view c.args.node in
-    ap₂ (λ t vs. leaf_list t vs _) c.in_ok-leaf_type_of-in-LeafList.ensures c.in_ok-values_of.ensures
+    ap₂ (λ t vs. leaf_list t vs _) c.in_ok-leaf_type_of-in-LeafList.ensures c.in_ok-values_of-in-LeafList.ensures
     ∙ (ap (leaf_list (leaf_type plan p) (default_values plan p)) (c.amount_of.ensures ∙ c.amount.ensures p.number)
     ∙ ap (kind_by plan p) (ap keyword_view (sym c.in-LeafList.is) ∙ c.keyword.ensures))
 
-pub returns-in-List : goal.returns-in-List
-returns-in-List c =
+pub returns-in_ok-tuples_made-in-List : goal.returns-in_ok-tuples_made-in-List
+returns-in_ok-tuples_made-in-List c =
     let p = node_view c.args.node in
-    ap₂ list c.in_ok-tuples_made.ensures (c.amount_of-in-List.ensures ∙ c.amount-in-List.ensures p.number)
+    ap₂ list c.in_ok-tuples_made-in-List.ensures (c.amount_of-in-List.ensures ∙ c.amount-in-List.ensures p.number)
     ∙ ap (kind_by (view c.args.plan.now) p) (ap keyword_view (sym c.in-List.is) ∙ c.keyword.ensures)
 
 pub returns-in-Choice : goal.returns-in-Choice
