@@ -4,6 +4,7 @@ use Rattle.yspec.specs.linking.SchemaNodes.{kind_by, amount_of, leaf_type, defau
 use Rattle.ylink.specs.KeywordView.{keyword_view}
 use Rattle.yplan.specs.NodesView.{node_view}
 use Rattle.yplan.specs.PlanView.{view}
+use Rattle.yschema.specs.Layout.{amount_view}
 use Rattle.yschema.proofs.MakingLemmas.{other_kind}
 use Rattle.yschema.proofs.making.kind_of.Goals as goal
 
@@ -23,7 +24,7 @@ pub returns-in_ok-values_of-in-LeafList : goal.returns-in_ok-values_of-in-LeafLi
 returns-in_ok-values_of-in-LeafList c =
     let plan = view c.args.plan.now in
     let p = node_view c.args.node in
-    ap₂ (λ t vs. leaf_list t vs _) c.in_ok-leaf_type_of-in-LeafList.ensures c.in_ok-values_of-in-LeafList.ensures
+    ap₂ (λ t vs. leaf_list t vs (amount_view c.amount_of.result)) c.in_ok-leaf_type_of-in-LeafList.ensures c.in_ok-values_of-in-LeafList.ensures
     ∙ (ap (leaf_list (leaf_type plan p) (default_values plan p)) (c.amount_of.ensures ∙ c.amount.ensures p.number)
     ∙ ap (kind_by plan p) (ap keyword_view (sym c.in-LeafList.is) ∙ c.keyword.ensures))
 
