@@ -12,3 +12,4 @@ pub mod PassedLemmas
 pub mod NearestLemmas
 pub mod DataChildLemmas
 pub mod QualifiedLemmas
+pub mod MakingLemmas

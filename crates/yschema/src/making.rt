@@ -1,6 +1,7 @@
 //! Schema nodes from planned ones (RFC 7950, 7.5 to 7.9).
 
-ghost use Rattle.std.specs.Prelude.{◌≡◌, Some, None, map, slice_get, IfOk};
+ghost use Rattle.std.specs.Prelude.{◌≡◌, Some, None, map, option_map, slice_get, unwrap_or, IfOk};
+ghost use Rattle.yspec.specs.types.Types.{string_type};
 ghost use Rattle.yspec.specs.linking.Planned.{nodes_of};
 ghost use Rattle.yspec.specs.linking.SchemaNodes as spec;
 ghost use Rattle.ylink.specs.WordView as word;
@@ -106,6 +107,13 @@ fn values_of<'a, 't>(
     }
 }
 
+/// The first of some values.
+fn first_of(values: Vec<Val>) -> Option<Val>
+    ensures { result ≡ spec.first_value values.items }
+{
+    values.into_iter().next()
+}
+
 /// What it means that a leaf isn't stored.
 fn absence_of<'a, 't>(
     alloc: Global,
@@ -124,10 +132,24 @@ fn absence_of<'a, 't>(
     if node.planned.is_mandatory() {
         return Ok(Absence::Mandatory);
     }
-    match values_of(alloc, plan, resolved, node)?.into_iter().next() {
+    let defaults = values_of(alloc, plan, resolved, node)?;
+    match first_of(defaults) {
         Some(value) => Ok(Absence::DefaultUsed(value)),
         None => Ok(Absence::Allowed),
     }
+}
+
+/// A copy of a type; that of texts where there is none.
+fn type_or_text(alloc: Global, value_type: Option<&YType>) -> Result<YType, AllocError>
+    ensures { IfOk result (λ made. made ≡ unwrap_or (option_map (λ t. t.now) value_type.entry) string_type) }
+{
+    let Some(value_type) = value_type else {
+        return match YType::string(alloc) {
+            Ok(made) => Ok(made),
+            Err(_) => Err(AllocError),
+        };
+    };
+    value_type.clone()
 }
 
 /// The type of a leaf or of items, and to which node it refers.
@@ -141,17 +163,11 @@ fn leaf_type_of<'a, 't>(
     requires stands { slice_get (nodes_of (plan_view.view plan.now)) node.number ≡ Some (plans.node_view node) }
     ensures { IfOk result (λ made. leaf_type_view made ≡ spec.leaf_type (plan_view.view plan.now) (plans.node_view node.entry)) }
 {
-    let target = id_of(resolved.target(node.number));
-    if let Some(value_type) = resolved.value_type(node.number) {
-        return Ok(LeafType {
-            value_type: value_type.clone()?,
-            target,
-        });
-    }
-    match YType::string(alloc) {
-        Ok(value_type) => Ok(LeafType { value_type, target }),
-        Err(_) => Err(AllocError),
-    }
+    let value_type = type_or_text(alloc, resolved.value_type(node.number))?;
+    Ok(LeafType {
+        value_type,
+        target: id_of(resolved.target(node.number)),
+    })
 }
 
 /// What only its kind of node has.
@@ -167,29 +183,29 @@ fn kind_of<'a, 't>(
         IfOk result (λ kind. kind_view kind ≡ spec.kind_by (plan_view.view plan.now) p p.part.source.keyword) }
 {
     let planned = &node.planned;
-    Ok(match planned.keyword() {
-        Keyword::Container => Kind::Container {
+    match planned.keyword() {
+        Keyword::Container => Ok(Kind::Container {
             presence: planned.has_presence(),
-        },
-        Keyword::Leaf => Kind::Leaf {
+        }),
+        Keyword::Leaf => Ok(Kind::Leaf {
             leaf_type: leaf_type_of(alloc, plan, resolved, node)?,
             absence: absence_of(alloc, plan, resolved, node)?,
-        },
-        Keyword::LeafList => Kind::LeafList {
+        }),
+        Keyword::LeafList => Ok(Kind::LeafList {
             leaf_type: leaf_type_of(alloc, plan, resolved, node)?,
             defaults: values_of(alloc, plan, resolved, node)?,
             amount: amount_of(planned.amount()),
-        },
-        Keyword::List => Kind::List {
+        }),
+        Keyword::List => Ok(Kind::List {
             tuples: tuples_made(alloc, plan, node)?,
             amount: amount_of(planned.amount()),
-        },
-        Keyword::Choice => Kind::Choice {
+        }),
+        Keyword::Choice => Ok(Kind::Choice {
             default_case: id_of(plan.default_case(node.number, planned)),
             mandatory: planned.is_mandatory(),
-        },
-        _ => Kind::Case,
-    })
+        }),
+        _ => Ok(Kind::Case),
+    }
 }
 
 /// The schema node that a planned one stands for.

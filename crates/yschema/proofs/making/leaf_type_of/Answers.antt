@@ -1,0 +1,15 @@
+use Rattle.std.proofs.Common.{ap, ap₂, ◌∙◌}
+use Rattle.std.specs.Prelude.{unwrap_or}
+use Rattle.yspec.specs.types.Types.{string_type}
+use Rattle.yplan.specs.NodesView.{node_view}
+use Rattle.yplan.specs.PlanView.{view}
+use Rattle.yschema.proofs.MakingLemmas.{leaf_type_by}
+use Rattle.yschema.proofs.making.leaf_type_of.Goals as goal
+
+pub returns : goal.returns
+returns c =
+    let plan = view c.args.plan.now in
+    let p = node_view c.args.node in
+    let type = c.value_type.ensures plan p c.requires.of_plan c.requires.stands in
+    let target = c.target.ensures plan p c.requires.of_plan c.requires.stands in
+    ap₂ leaf_type_by (c.in_ok-value_type.ensures ∙ ap (λ t. unwrap_or t string_type) type) (c.id_of.ensures ∙ target)

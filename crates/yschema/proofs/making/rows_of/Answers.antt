@@ -1,0 +1,27 @@
+use Rattle.std.proofs.Common.{arith}
+use Rattle.yspec.specs.linking.SchemaNodes.{schema_node}
+use Rattle.ypreorder.specs.View.{rows_in}
+use Rattle.yplan.specs.PlanView.{view}
+use Rattle.yschema.proofs.MakingLemmas.{ahead, row_stands, row_more, count_more, all_made}
+use Rattle.yschema.proofs.making.rows_of.Goals as goal
+
+pub row_of-requires-clause-stands : goal.row_of-requires-clause-stands
+row_of-requires-clause-stands c =
+    row_stands c.args.plan.now c.rows-row-items.result.now c.loop-number.number c.row-item.result c.rows-row-items.ensures.rows c.loop-number-test.true c.row-item.is
+
+pub loop-number-preserved : goal.loop-number-preserved
+loop-number-preserved c =
+    let plan = c.args.plan.now in
+    let make = schema_node (view plan) in
+    let made = c.loop-number.rows.items in
+    record {
+      counted = count_more made c.push.new.self.items c.in_ok-row_of.field-0 c.loop-number.number c.in_ok-push.ensures.items c.loop-number.invariant.counted;
+      laid = row_more make c.rows-row-items.result.now (rows_in plan.table) c.rows-row-items.ensures.rows c.loop-number.number c.row-item.result
+          made c.push.new.self.items c.in_ok-row_of.field-0 (ahead make 0 (rows_in plan.table)) c.loop-number-test.true c.row-item.is
+          c.loop-number.invariant.counted c.in_ok-row_of.ensures c.in_ok-push.ensures.items c.loop-number.invariant.laid;
+    }
+
+pub returns : goal.returns
+returns c =
+    all_made c.args.plan.now c.rows-row-items.result.now c.loop-number.number c.loop-number.rows.items c.rows-row-items.ensures.rows
+    (omega (arith, c.loop-number-test.false)) c.loop-number.invariant.laid

@@ -1,0 +1,19 @@
+use Rattle.std.proofs.Common.{ap, ◌∙◌}
+use Rattle.std.proofs.lemmas.Result.{IfOk-weaker}
+use Rattle.yspec.specs.linking.SchemaNodes.{default_texts}
+use Rattle.yplan.specs.NodesView.{node_view}
+use Rattle.yplan.specs.PlanView.{view}
+use Rattle.yschema.proofs.MakingLemmas.{made_by, nothing_made}
+use Rattle.yschema.proofs.making.values_of.Goals as goal
+
+pub returns-in-Some : goal.returns-in-Some
+returns-in-Some c =
+    let p = node_view c.args.node in
+    let type = c.in-Some.ensures (view c.args.plan.now) p c.requires.of_plan c.requires.stands in
+    IfOk-weaker c.default_values.result _ _ (λ values so. so ∙ ap (λ t. made_by t (default_texts p)) type) (c.default_values.ensures c.args.node.number)
+
+pub returns-in-None : goal.returns-in-None
+returns-in-None c =
+    let p = node_view c.args.node in
+    let type = c.in-None.ensures (view c.args.plan.now) p c.requires.of_plan c.requires.stands in
+    c.new.ensures.items ∙ (nothing_made (default_texts p) ∙ ap (λ t. made_by t (default_texts p)) type)
