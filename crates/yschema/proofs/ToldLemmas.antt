@@ -5,17 +5,13 @@ use Rattle.ytext.specs.View.{view, modules_view}
 use Rattle.ytext.specs.declared.statement.Module.{Module}
 use Rattle.yspec.specs.Forest.{Forest}
 use Rattle.yspec.specs.text.Statement.{Statement}
-use Rattle.yspec.specs.schema.Breaks.{Break, lesser, broken, when, least_from, or_told, first_broken, last_module, limit_breaks}
+use Rattle.yspec.specs.schema.Breaks.{Break, broken, when, least_from, or_told, first_broken, last_module, limit_breaks}
+use Rattle.yspec.proofs.LinkingProofs.BreakLemmas.{some_told}
 use Rattle.yspec.specs.linking.Source.{Source, sources_of}
 use Rattle.yspec.specs.linking.StatementBreaks.{statement_phase}
 use Rattle.yspec.specs.linking.Planned.{Plan}
 use Rattle.yspec.specs.linking.Compiling.{phases, phases_of_sources, compiled, plan_of, schema_of, schema_of_plan}
 use Rattle.yschema.specs.Phases.{statement_part, source_part, plan_part, rule_part}
-
--- something is told of a list that has one
-some_told : (bs : List Break) (b : Break) → least_from (Some b) bs ≡ None → ⊥
-some_told [] b e = absurd cc
-some_told (x ∷ xs) b e = some_told xs (lesser (Some b) x) e
 
 -- the first phase that has one tells it
 pub told_here : (phase : List Break) (later : Option Break) (b : Break) → Some b ≡ least_from None phase → Some b ≡ or_told phase later
