@@ -139,7 +139,7 @@ row_more make shown rows are i r made more m whole inside at count placed pushed
 
 -- the rows of a forest of planned nodes give those of the forest of schema nodes
 module _ (plan : spec.Plan) where
-  pub rows_made : (p : Option ℕ) (k : ℕ) (f : Forest code.Planned)
+  rows_made : (p : Option ℕ) (k : ℕ) (f : Forest code.Planned)
       → map (place_made (schema_node plan)) (seen planned_view k (preorder.places p k f)) ≡ places p (relabelled (schema_node plan) (numbered_by planned_view k f))
   rows_made p k end = refl
   rows_made p k (node l below after) =

@@ -1,6 +1,6 @@
 use Rattle.std.proofs.Common.{ap, ap₂, sym, ◌∙◌}
 use Rattle.yspec.specs.schema.Schema.{container, leaf, leaf_list, list, choice}
-use Rattle.yspec.specs.linking.SchemaNodes.{kind_by, amount_of, leaf_type, default_values}
+use Rattle.yspec.specs.linking.SchemaNodes.{kind_by, leaf_type, default_values}
 use Rattle.ylink.specs.KeywordView.{keyword_view}
 use Rattle.yplan.specs.NodesView.{node_view}
 use Rattle.yplan.specs.PlanView.{view}

@@ -1,7 +1,6 @@
-use Rattle.std.proofs.Common.{ap, ap₂, ◌∙◌}
+use Rattle.std.proofs.Common.{ap₂, ◌∙◌}
 use Rattle.yspec.specs.linking.Source.{argument_in}
 use Rattle.yplan.specs.NodesView.{node_view}
-use Rattle.yplan.specs.PlanView.{view}
 use Rattle.yschema.specs.Layout.{status_view, kind_view}
 use Rattle.yschema.proofs.MakingLemmas.{node_by}
 use Rattle.yschema.proofs.making.node_of.Goals as goal
