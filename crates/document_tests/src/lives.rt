@@ -263,7 +263,7 @@ pub(crate) fn is_document_refused(alloc: Global) -> Option<bool> {
 
 /// Whether modules are refused before their document.
 pub(crate) fn are_modules_refused(alloc: Global) -> Option<bool> {
-    let module = module_text(alloc, " yang-version 1.1;\n list l;").ok()?;
+    let module = module_text(alloc, " yang-version 1.1;\n anydata a;").ok()?;
     is_refused(alloc, module.as_str(), "C1:4")
 }
 

@@ -179,8 +179,8 @@ fn is_told(alloc: Global, row: &str) -> Option<bool> {
 
 #[test]
 fn refusals(rt: HostRuntime) {
-    let rows = "C1:4/ yang-version 1.1;| list l;
-C1:4/ yang-version 1.1;| leaf l { type word; }
+    let rows = "C1:4/ yang-version 1.1;| anydata a;
+C8:4/ yang-version 1.1;| leaf l { type word; }
 C2:4/ yang-version 1.1;| leaf l;
 C2:1/ yang-version 1.1; prefix q;
 C3:4/ yang-version 1.1;| container 1;
@@ -188,7 +188,7 @@ C3:4/ yang-version 1.1;| container;
 C4:1/
 C4:1/ yang-version 1;
 C13:5/ yang-version 1.1;| container c;| container c;
-C1:5/ yang-version 1.1;| container c;| list l;
+C1:5/ yang-version 1.1;| container c;| anydata a;
 none/ yang-version 1.1;| container c;";
     for row in rows.lines() {
         assert!(rt; is_told(rt.alloc(), row) == Some(true), "{row:?}");

@@ -10,7 +10,7 @@ const OTHER_TYPE: &str = "module p {
   namespace \"urn:p\";
   prefix p;
   container c {
-    leaf id { type int32; mandatory true; }
+    leaf id { type binary; mandatory true; }
     leaf note { type string; }
   }
 }
