@@ -4,11 +4,17 @@
 #[cfg(test)]
 mod building;
 #[cfg(test)]
+mod compiling;
+#[cfg(test)]
 mod documents;
 #[cfg(test)]
 mod edits;
 #[cfg(test)]
 mod halves;
+#[cfg(test)]
+mod kinds;
+#[cfg(test)]
+mod lists;
 #[cfg(test)]
 mod lives;
 #[cfg(test)]

@@ -1,6 +1,6 @@
 //! Live documents: edits one after the other, lists of edits, and what is refused before any edit.
 
-use crate::building::{MODULE, live_of, module_text, modules_of};
+use crate::building::{MODULE, live_of, live_under, module_text, modules_of};
 use crate::telling::{
     have_lines, is_refusal, is_refusal_of_document, is_refusal_of_modules, is_text, number_of,
 };
@@ -77,9 +77,14 @@ fn goes(alloc: Global, live: &mut Live, row: &str) -> Option<bool> {
     Some(comes_of_line(alloc, live, line, told)? && stands(alloc, live, text, lines)?)
 }
 
-// The first row that doesn't go as it says, each after the ones before it; the document where it isn't opened.
-fn first_wrong<'a>(alloc: Global, document: &'a str, rows: &'a str) -> Option<&'a str> {
-    match live_of(alloc, document) {
+/// The first row that doesn't go as it says, each after the ones before it; the document where it isn't opened.
+pub(crate) fn first_wrong<'a>(
+    alloc: Global,
+    module: &str,
+    document: &'a str,
+    rows: &'a str,
+) -> Option<&'a str> {
+    match live_under(alloc, module, document) {
         None => Some(document),
         Some(mut live) => {
             for row in rows.lines() {
@@ -137,12 +142,12 @@ pub(crate) fn go(alloc: Global, document: &str, rows: &str) -> Option<bool> {
 
 #[test]
 fn replacements(rt: HostRuntime) {
-    assert_eq!(rt; first_wrong(rt.alloc(), FAULTY, REPLACEMENTS), None);
+    assert_eq!(rt; first_wrong(rt.alloc(), MODULE, FAULTY, REPLACEMENTS), None);
 }
 
 #[test]
 fn creations(rt: HostRuntime) {
-    assert_eq!(rt; first_wrong(rt.alloc(), "{}", CREATIONS), None);
+    assert_eq!(rt; first_wrong(rt.alloc(), MODULE, "{}", CREATIONS), None);
 }
 
 // An edit that removes what a path of one step leads to, which bears a position.
@@ -201,23 +206,34 @@ fn are_outcomes(alloc: Global, outcomes: &[Outcome], rows: &str) -> Option<bool>
     Some(rest.next().is_none())
 }
 
-fn has_outcomes(alloc: Global, live: &mut Live, edits: &[Edit]) -> Option<bool> {
-    match live.run(edits) {
-        Ok(outcomes) => are_outcomes(alloc, &outcomes, EDITS),
+// Whether the edits of rows have their outcomes.
+fn has_outcomes(alloc: Global, live: &mut Live, rows: &str) -> Option<bool> {
+    let edits = edits_of(alloc, rows)?;
+    match live.run(&edits) {
+        Ok(outcomes) => are_outcomes(alloc, &outcomes, rows),
         Err(_) => None,
     }
 }
 
-fn runs_in(alloc: Global, live: &mut Live, edits: &[Edit]) -> Option<bool> {
-    let has_run = has_outcomes(alloc, live, edits)?;
-    Some(has_run && stands(alloc, live, r#"{"p:c":{"id":7}}"#, "none")?)
+fn runs_in(alloc: Global, live: &mut Live, rows: &str, text: &str) -> Option<bool> {
+    Some(has_outcomes(alloc, live, rows)? && stands(alloc, live, text, "none")?)
+}
+
+/// Whether a list of edits of a document has its outcomes, and leaves a document of this text without faults.
+pub(crate) fn runs_under(
+    alloc: Global,
+    module: &str,
+    document: &str,
+    rows: &str,
+    text: &str,
+) -> Option<bool> {
+    let mut live = live_under(alloc, module, document)?;
+    runs_in(alloc, &mut live, rows, text)
 }
 
 /// Whether a list of edits has its outcomes, and the document is as the later ones leave it.
 pub(crate) fn runs(alloc: Global) -> Option<bool> {
-    let edits = edits_of(alloc, EDITS)?;
-    let mut live = live_of(alloc, FAULTY)?;
-    runs_in(alloc, &mut live, &edits)
+    runs_under(alloc, MODULE, FAULTY, EDITS, r#"{"p:c":{"id":7}}"#)
 }
 
 fn rebuilds(alloc: Global, live: &mut Live) -> Option<bool> {
@@ -263,8 +279,8 @@ pub(crate) fn is_document_refused(alloc: Global) -> Option<bool> {
 
 /// Whether modules are refused before their document.
 pub(crate) fn are_modules_refused(alloc: Global) -> Option<bool> {
-    let module = module_text(alloc, " yang-version 1.1;\n anydata a;").ok()?;
-    is_refused(alloc, module.as_str(), "C1:4")
+    let module = module_text(alloc, " yang-version 1.1;\n list l;").ok()?;
+    is_refused(alloc, module.as_str(), "C16:4")
 }
 
 #[test]

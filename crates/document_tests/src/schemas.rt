@@ -1,9 +1,9 @@
-//! Schemas: what is asked of one, and which modules have none.
+//! Schemas: what is asked of one.
 
-use crate::building::{FIRST, SECOND, module_text, modules_of, schema_of, with_line_feeds};
-use crate::telling::{is_refusal_of_modules, number_of};
-use std::alloc::{AllocError, Global};
-use yschema::{Absence, Child, Children, Kind, Schema, SchemaId, compile};
+use crate::building::{FIRST, SECOND, schema_of};
+use crate::telling::number_of;
+use std::alloc::Global;
+use yschema::{Absence, Child, Children, Kind, Schema, SchemaId};
 
 // Whether that is the node of a number, or none for `-`.
 fn is_node(found: Option<SchemaId>, wanted: &str) -> Option<bool> {
@@ -158,91 +158,4 @@ pub(crate) fn is_outlined(alloc: Global) -> Option<bool> {
 #[test]
 fn outline(rt: HostRuntime) {
     assert!(rt; is_outlined(rt.alloc()) == Some(true));
-}
-
-// Whether a module of these statements is compiled, for `none`, or refused so.
-fn is_compiled(alloc: Global, statements: &str, told: &str) -> Option<bool> {
-    let text = module_text(alloc, statements).ok()?;
-    let modules = modules_of(alloc, &[text.as_str()])?;
-    match compile(alloc, &modules) {
-        Ok(_) => Some(told == "none"),
-        Err(fault) => is_refusal_of_modules(alloc, fault, 0, told),
-    }
-}
-
-// `CODE:LINE/statements`
-fn is_told(alloc: Global, row: &str) -> Option<bool> {
-    let (told, statements) = row.split_once('/')?;
-    let statements = with_line_feeds(alloc, statements).ok()?;
-    is_compiled(alloc, statements.as_str(), told)
-}
-
-#[test]
-fn refusals(rt: HostRuntime) {
-    let rows = "C1:4/ yang-version 1.1;| anydata a;
-C8:4/ yang-version 1.1;| leaf l { type word; }
-C2:4/ yang-version 1.1;| leaf l;
-C2:1/ yang-version 1.1; prefix q;
-C3:4/ yang-version 1.1;| container 1;
-C3:4/ yang-version 1.1;| container;
-C4:1/
-C4:1/ yang-version 1;
-C13:5/ yang-version 1.1;| container c;| container c;
-C1:5/ yang-version 1.1;| container c;| anydata a;
-none/ yang-version 1.1;| container c;";
-    for row in rows.lines() {
-        assert!(rt; is_told(rt.alloc(), row) == Some(true), "{row:?}");
-    }
-}
-
-// Whether two modules, the second in its second line, are refused at the second.
-fn is_second_refused(alloc: Global, second: &str, told: &str) -> Option<bool> {
-    let modules = modules_of(alloc, &[FIRST, second])?;
-    match compile(alloc, &modules) {
-        Ok(_) => Some(told == "none"),
-        Err(fault) => is_refusal_of_modules(alloc, fault, 1, told),
-    }
-}
-
-// `CODE:LINE/module`
-fn is_second_told(alloc: Global, row: &str) -> Option<bool> {
-    let (told, module) = row.split_once('/')?;
-    let text = with_line_feeds(alloc, module).ok()?;
-    is_second_refused(alloc, text.as_str(), told)
-}
-
-#[test]
-fn names_of_modules(rt: HostRuntime) {
-    let rows = "C7:2/|module a { yang-version 1.1; namespace 'urn:b'; prefix pb; }
-C4:2/|module a { namespace 'urn:b'; prefix pb; }
-none/|module A { yang-version 1.1; namespace 'urn:a'; prefix pa; }";
-    for row in rows.lines() {
-        assert!(rt; is_second_told(rt.alloc(), row) == Some(true), "{row:?}");
-    }
-}
-
-// So many containers, each in the one before.
-fn nested(alloc: Global, levels: u32) -> Result<String, AllocError> {
-    let mut text = String::from_str(alloc, " yang-version 1.1;\n")?;
-    for _ in 0..levels {
-        text.push_str("container c {")?;
-    }
-    for _ in 0..levels {
-        text.push_str("}")?;
-    }
-    Ok(text)
-}
-
-// `CODE:LINE/levels`
-fn may_nest(alloc: Global, row: &str) -> Option<bool> {
-    let (told, levels) = row.split_once('/')?;
-    let statements = nested(alloc, number_of(levels)?).ok()?;
-    is_compiled(alloc, statements.as_str(), told)
-}
-
-#[test]
-fn levels(rt: HostRuntime) {
-    for row in "none/60,C18:1/61".split(',') {
-        assert!(rt; may_nest(rt.alloc(), row) == Some(true), "{row}");
-    }
 }

@@ -4,6 +4,8 @@
 #[cfg(test)]
 mod failing;
 #[cfg(test)]
+mod modules;
+#[cfg(test)]
 mod running;
 #[cfg(test)]
 mod telling;

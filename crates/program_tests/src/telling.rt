@@ -4,24 +4,24 @@ use crate::running::{BOTH_LINES, MODULE, Shown, TWO_FAULTS, WHOLLY, pair, shown_
 use std::alloc::Global;
 use ytext::Cut;
 
-/// The module of the tests with a type that the program doesn't take yet.
+/// The module of the tests with a type that the program doesn't take.
 const OTHER_TYPE: &str = "module p {
   yang-version 1.1;
   namespace \"urn:p\";
   prefix p;
   container c {
-    leaf id { type binary; mandatory true; }
+    leaf id { type instance-identifier; mandatory true; }
     leaf note { type string; }
   }
 }
 ";
 
-/// Whether a document prints so under the module: its row is the document, the status and the output.
-fn is_told(alloc: Global, row: &str) -> Option<bool> {
+/// Whether a document prints so under a module: its row is the document, the status and the output.
+pub fn is_told(alloc: Global, module: &str, row: &str) -> Option<bool> {
     let (document, rest) = row.split_once('\n')?;
     let (status, output) = rest.split_once('\n')?;
     let status = status.parse::<u8>().ok()?;
-    let shown = validated(alloc, MODULE.as_bytes(), document.as_bytes()).ok()?;
+    let shown = validated(alloc, module.as_bytes(), document.as_bytes()).ok()?;
     let is_silent = shown.errors.bytes().is_empty();
     Some(is_silent && shown.status == status && shown.output.bytes() == output.as_bytes())
 }
@@ -58,12 +58,12 @@ V1 invalid-value - /p:c/note -
 0 faults
 ";
     for row in rows.split("==\n") {
-        assert!(rt; is_told(rt.alloc(), row) == Some(true), "{row}");
+        assert!(rt; is_told(rt.alloc(), MODULE, row) == Some(true), "{row}");
     }
 }
 
 /// Whether a document or its module is refused with these lines, and nothing is printed.
-fn is_refused_pair(alloc: Global, module: &[u8], document: &str, lines: &str) -> Option<bool> {
+pub fn is_refused_pair(alloc: Global, module: &[u8], document: &str, lines: &str) -> Option<bool> {
     let shown = validated(alloc, module, document.as_bytes()).ok()?;
     let is_said = shown.errors.bytes() == lines.as_bytes();
     Some(is_said && shown.output.bytes().is_empty() && shown.status == 2)

@@ -1,0 +1,269 @@
+//! Which sets of modules are compiled, and how the others are refused.
+
+use crate::building::{FIRST, SECOND, module_text, modules_of, with_line_feeds};
+use crate::telling::{is_refusal_of_modules, number_of};
+use std::alloc::{AllocError, Global};
+use yschema::compile;
+
+// Whether modules are compiled to so many nodes, or refused at the one at a place.
+fn comes_of(alloc: Global, texts: &[&str], place: usize, told: &str) -> Option<bool> {
+    let modules = modules_of(alloc, texts)?;
+    match compile(alloc, &modules) {
+        Ok(schema) => match told.split_once(' ') {
+            Some((nodes, "nodes")) => Some(number_of(nodes)? as usize == schema.nodes()),
+            _ => Some(false),
+        },
+        Err(fault) => is_refusal_of_modules(alloc, fault, place, told),
+    }
+}
+
+// Whether this comes of a module of these statements.
+fn is_compiled(alloc: Global, statements: &str, told: &str) -> Option<bool> {
+    let text = module_text(alloc, statements).ok()?;
+    comes_of(alloc, &[text.as_str()], 0, told)
+}
+
+// `N nodes/statements` or `CODE:LINE/statements`
+fn is_told(alloc: Global, row: &str) -> Option<bool> {
+    let (told, statements) = row.split_once('/')?;
+    let statements = with_line_feeds(alloc, statements).ok()?;
+    is_compiled(alloc, statements.as_str(), told)
+}
+
+// The same of statements behind a version, from the fourth line on.
+fn is_told_of(alloc: Global, row: &str) -> Option<bool> {
+    let (told, statements) = row.split_once('/')?;
+    let mut text = String::from_str(alloc, " yang-version 1.1;\n").ok()?;
+    let statements = with_line_feeds(alloc, statements).ok()?;
+    text.push_str(statements.as_str()).ok()?;
+    is_compiled(alloc, text.as_str(), told)
+}
+
+#[test]
+fn versions(rt: HostRuntime) {
+    let rows = "C2:1/ yang-version 1.1; prefix q;
+C4:1/
+C4:1/ yang-version 1;
+0 nodes/ yang-version 1.1;";
+    for row in rows.lines() {
+        assert!(rt; is_told(rt.alloc(), row) == Some(true), "{row:?}");
+    }
+}
+
+#[test]
+fn compiled(rt: HostRuntime) {
+    let rows = "1 nodes/container c;
+1 nodes/leaf a { type uint8; default 0x1F; }
+2 nodes/list l { config false; leaf a { type string; } }
+3 nodes/choice c { leaf a { type string; } }
+2 nodes/list l { key k; leaf k { type uint8; mandatory true; default 256; } }
+3 nodes/list l { key k; unique d; leaf k { type int64; } leaf d { type boolean; default true; } }
+4 nodes/container c { config false; container d { leaf a { type string; } } leaf b { type empty; } }
+1 nodes/leaf-list a { config false; type uint8; default 1; default 1; }
+1 nodes/leaf-list a { type uint8; default 1; default 2; max-elements 1; ordered-by user; }
+2 nodes/leaf a { type leafref { path /p:b; } } leaf b { type bits { bit x { position 3; } bit y; } default 'y x'; }
+2 nodes/leaf a { type leafref { path /b; require-instance false; } } leaf b { config false; type string; }
+6 nodes/choice c { default a; case a { leaf a { type string; } container b { presence x; } } case d { leaf e { type int8; } } }
+2 nodes/list l { key p:k; leaf k { type enumeration { enum a; enum b { value 5; } } } }
+1 nodes/leaf a { type union { type uint8; type string { length 1..3; } } default 256; }
+1 nodes/leaf a { type decimal64 { fraction-digits 2; range 'min..1.5'; } default +1.50; }";
+    for row in rows.lines() {
+        assert!(rt; is_told_of(rt.alloc(), row) == Some(true), "{row:?}");
+    }
+}
+
+#[test]
+fn refused_statements(rt: HostRuntime) {
+    let rows = "C1:5/leaf l { type string;| must 'x'; }
+C1:4/rpc r;
+C1:5/container c {| key k; }
+C1:4/leaf l { type instance-identifier; }
+C1:4/leaf l { type binary; }
+C2:4/leaf l;
+C2:4/list l { key k; key k;| leaf k { type string; } }
+C3:4/container 1;
+C3:4/container;
+C3:5/leaf-list l { type string;| min-elements 01; }
+C3:5/list l { config false;| max-elements 0; }
+C6:5/leaf l {| type q:t; }
+C6:5/leaf l { type leafref {| path /q:l; } }
+C6:5/list l {| key q:k; leaf k { type string; } }
+C6:6/list l {| key k; leaf k { type string; }| unique q:k; }
+C8:5/leaf l {| type word; }
+C8:4/leaf l { type p:word; }";
+    for row in rows.lines() {
+        assert!(rt; is_told_of(rt.alloc(), row) == Some(true), "{row:?}");
+    }
+}
+
+#[test]
+fn refused_types(rt: HostRuntime) {
+    let rows = "C10:5/leaf l {| type uint8 { range 5..1; } }
+C10:4/leaf l { type uint8 { range 0..256; } }
+C10:4/leaf l { type uint8 { range 1.5; } }
+C10:4/leaf l { type uint8 { length 1; } }
+C10:4/leaf l { type string { range 1; } }
+C10:4/leaf l { type decimal64; }
+C10:4/leaf l { type enumeration; }
+C10:4/leaf l { type enumeration { enum a; enum a; } }
+C10:4/leaf l { type enumeration { enum ' a'; } }
+C10:4/leaf l { type enumeration { enum a { value 2147483647; } enum b; } }
+C10:4/leaf l { type bits; }
+C10:4/leaf l { type leafref; }
+C10:4/leaf l { type union; }
+C10:5/leaf l { type union {| type leafref { path /l; } } }
+C10:4/leaf l { type boolean { require-instance true; } }";
+    for row in rows.lines() {
+        assert!(rt; is_told_of(rt.alloc(), row) == Some(true), "{row:?}");
+    }
+}
+
+#[test]
+fn refused_values(rt: HostRuntime) {
+    let rows = "C11:4/leaf a { type uint8; default 256; }
+C11:4/leaf a { type uint8; default 08; }
+C11:4/leaf a { type uint8;| mandatory true; default 1; }
+C11:4/leaf a { type empty; default ''; }
+C11:5/container c {| leaf-list a { type uint8; default 1; default 0x1; } }
+C11:4/leaf-list a { type uint8; min-elements 1; default 1; }
+C11:4/choice c { default b; case a { leaf b { type string; } } }
+C11:4/choice c { default a; mandatory true; leaf a { type string; } }
+C11:4/choice c { default a; case a { leaf b { type string; mandatory true; } } }
+C11:4/choice c { default a; case a { container b { list l { min-elements 1; config false; } } } }
+C16:4/list l { leaf a { type string; } }
+C16:5/container c;| list l;
+C16:5/container c { config false;| leaf a { config true; type string; } }";
+    for row in rows.lines() {
+        assert!(rt; is_told_of(rt.alloc(), row) == Some(true), "{row:?}");
+    }
+}
+
+#[test]
+fn refused_names(rt: HostRuntime) {
+    let rows = "C12:4/list l {| key k; leaf a { type string; } }
+C12:4/list l {| key k; container k { } }
+C12:4/list l { key 'k k'; leaf k { type string; } }
+C12:4/list l { key k; leaf k { config false; type string; } }
+C12:4/list l { key k; choice c { leaf k { type string; } } }
+C12:4/list l { key k; unique b; leaf k { type string; } }
+C12:4/list l { key k; unique c; leaf k { type string; } container c; }
+C12:4/list l { key k; unique 'k s'; leaf k { type string; } leaf s { config false; type string; } }
+C12:4/list l { key k; unique m/n; leaf k { type string; } list m { key n; leaf n { type string; } } }
+C13:5/container c;| container c;
+C13:5/leaf a { type string; }| choice c { leaf a { type string; } }
+C13:5/choice c { case a { leaf b { type string; } }| case a { leaf d { type string; } } }
+C13:6/choice c {| case a { leaf b { type string; } }| case c { leaf b { type string; } } }
+C17:4/leaf a {| type leafref { path /b; } }
+C17:5/container c;| leaf a { type leafref { path /p:c; } }
+C17:4/leaf a { type leafref { path /p:a; } }
+C17:4/leaf a { type leafref { path /b; } }| leaf b { config false; type string; }
+C17:4/leaf a { type leafref { path /c/b; } }| choice c { leaf b { type string; } }";
+    for row in rows.lines() {
+        assert!(rt; is_told_of(rt.alloc(), row) == Some(true), "{row:?}");
+    }
+}
+
+// A code is told only where no earlier phase has one, and within a phase the first line's.
+#[test]
+fn first_phase(rt: HostRuntime) {
+    let rows = "C1:6/leaf a { type word; }| leaf a { type q:t; }| rpc r;
+C6:5/leaf a { type word; }| leaf a { type q:t; }
+C8:5/leaf a { type uint8 { range 5..1; } }| leaf a { type word; }
+C10:4/leaf a { type uint8 { range 5..1; } }| leaf b { type string; }| leaf b { type string; }
+C13:6/leaf a { type uint8; default 256; }| leaf b { type string; }| leaf b { type string; }
+C16:4/list l;| leaf a { type uint8; default 256; }
+C11:4/leaf a { type uint8; default 256; }| list l;";
+    for row in rows.lines() {
+        assert!(rt; is_told_of(rt.alloc(), row) == Some(true), "{row:?}");
+    }
+}
+
+// `CODE:LINE/module`, of a second module, which begins in its second line.
+fn is_second_told(alloc: Global, row: &str) -> Option<bool> {
+    let (told, module) = row.split_once('/')?;
+    let text = with_line_feeds(alloc, module).ok()?;
+    comes_of(alloc, &[FIRST, text.as_str()], 1, told)
+}
+
+#[test]
+fn second_modules(rt: HostRuntime) {
+    let rows = "C1:2/|submodule s { }
+C4:2/|module a { namespace 'urn:b'; prefix pb; }
+C6:3/|module b { yang-version 1.1; namespace 'urn:b'; prefix pb;| leaf l { type pa:t; } }
+C7:2/|module a { yang-version 1.1; namespace 'urn:b'; prefix pb; }
+C12:3/|module b { yang-version 1.1; namespace 'urn:b'; prefix pb;| list l { key x; } }
+C17:3/|module b { yang-version 1.1; namespace 'urn:b'; prefix pb;| leaf l { type leafref { path /c/x; } } }
+7 nodes/|module b { yang-version 1.1; namespace 'urn:b'; prefix pb; container c { leaf x { type string; } } }
+5 nodes/|module A { yang-version 1.1; namespace 'urn:a'; prefix pa; }";
+    for row in rows.lines() {
+        assert!(rt; is_second_told(rt.alloc(), row) == Some(true), "{row:?}");
+    }
+    let is_told = comes_of(rt.alloc(), &[FIRST, SECOND, FIRST], 2, "C7:1");
+    assert!(rt; is_told == Some(true), "a module given twice");
+}
+
+#[test]
+fn no_modules(rt: HostRuntime) {
+    assert!(rt; comes_of(rt.alloc(), &[], 0, "0 nodes") == Some(true));
+}
+
+fn push_times(text: &mut String, part: &str, times: u32) -> Result<(), AllocError> {
+    for _ in 0..times {
+        text.push_str(part)?;
+    }
+    Ok(())
+}
+
+// So many containers, each in the one before, around a statement.
+fn nested(alloc: Global, levels: u32, inside: &str) -> Result<String, AllocError> {
+    let mut text = String::from_str(alloc, " yang-version 1.1;\n")?;
+    push_times(&mut text, "container c {", levels)?;
+    text.push_str(inside)?;
+    push_times(&mut text, "}", levels)?;
+    Ok(text)
+}
+
+// `N nodes/levels/statement` or `CODE:LINE/levels/statement`
+fn may_nest(alloc: Global, row: &str) -> Option<bool> {
+    let (told, row) = row.split_once('/')?;
+    let (levels, inside) = row.split_once('/')?;
+    let statements = nested(alloc, number_of(levels)?, inside).ok()?;
+    is_compiled(alloc, statements.as_str(), told)
+}
+
+// Choices and cases are levels too.
+#[test]
+fn levels(rt: HostRuntime) {
+    let rows = "60 nodes/60/
+C18:1/61/
+60 nodes/57/choice d { leaf a { type string; } }
+C18:1/58/choice d { leaf a { type string; } }";
+    for row in rows.lines() {
+        assert!(rt; may_nest(rt.alloc(), row) == Some(true), "{row}");
+    }
+}
+
+// Whether the limit of levels is told at the last module, in its line.
+fn is_told_at_last(alloc: Global, levels: u32) -> Option<bool> {
+    let statements = nested(alloc, levels, "").ok()?;
+    let text = module_text(alloc, statements.as_str()).ok()?;
+    comes_of(alloc, &[text.as_str(), SECOND], 1, "C18:1")
+}
+
+#[test]
+fn limits_of_sets(rt: HostRuntime) {
+    assert!(rt; is_told_at_last(rt.alloc(), 61) == Some(true));
+}
+
+// Whether this comes of so many containers beside each other, all of one name.
+fn may_stand(alloc: Global, nodes: u32, told: &str) -> Option<bool> {
+    let mut text = String::from_str(alloc, " yang-version 1.1;\n").ok()?;
+    push_times(&mut text, "container c;", nodes).ok()?;
+    is_compiled(alloc, text.as_str(), told)
+}
+
+// The number of nodes is judged before their names.
+#[test]
+fn numbers_of_nodes(rt: HostRuntime) {
+    assert!(rt; may_stand(rt.alloc(), 65536, "C18:1") == Some(true));
+}

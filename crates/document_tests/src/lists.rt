@@ -1,0 +1,135 @@
+//! Live documents under modules with lists and choices: edits one after the other.
+
+use crate::building::{DEFAULT_CASE, ENTRIES, NETWORK, STATE};
+use crate::lives::{first_wrong, runs_under};
+use std::alloc::Global;
+
+// The first of some histories that doesn't go as it says, or its first row that doesn't. A history is a document and the
+// rows of its edits; lines `==` stand between them.
+fn first_wrong_history<'a>(alloc: Global, module: &str, histories: &'a str) -> Option<&'a str> {
+    for history in histories.split("\n==\n") {
+        let wrong = match history.split_once('\n') {
+            Some((document, rows)) => first_wrong(alloc, module, document, rows),
+            None => Some(history),
+        };
+        if wrong.is_some() {
+            return wrong;
+        }
+    }
+    None
+}
+
+#[test]
+fn defaults_in_use(rt: HostRuntime) {
+    let histories = r#"{"ex-net:net":{"host":[{"name":"a","auto":[null],"use-port":80}]}}
+# opened => passed over => {"ex-net:net":{"host":[{"auto":[null],"name":"a","use-port":80}]}} => none
+create /ex-net:net/host[1]/port 22 => 0 to 1 => {"ex-net:net":{"host":[{"auto":[null],"name":"a","port":22,"use-port":80}]}} => V11 data-missing instance-required /ex-net:net/host[1]/use-port -|
+remove /ex-net:net/host[1]/port => 1 to 0 => {"ex-net:net":{"host":[{"auto":[null],"name":"a","use-port":80}]}} => none"#;
+    assert_eq!(rt; first_wrong_history(rt.alloc(), NETWORK, histories), None);
+    let histories = r#"{"k:want":3}
+# opened => passed over => {"k:want":3} => none
+create /k:boost 1 => 0 to 1 => {"k:boost":1,"k:want":3} => V11 data-missing instance-required /k:want -|
+remove /k:boost => 1 to 0 => {"k:want":3} => none"#;
+    assert_eq!(rt;
+        first_wrong_history(rt.alloc(), DEFAULT_CASE, histories),
+        None
+    );
+}
+
+#[test]
+fn references(rt: HostRuntime) {
+    let histories =
+        r#"{"ex-net:net":{"host":[{"name":"a","auto":[null],"uplink":"b"},{"name":"b","auto":[null]}]}}
+# opened => passed over => {"ex-net:net":{"host":[{"auto":[null],"name":"a","uplink":"b"},{"auto":[null],"name":"b"}]}} => none
+remove /ex-net:net/host[name='b'] => 0 to 1 => {"ex-net:net":{"host":[{"auto":[null],"name":"a","uplink":"b"}]}} => V11 data-missing instance-required /ex-net:net/host[1]/uplink -|
+==
+{"ex-net:net":{"host":[{"name":"a","auto":[null],"uplink":"b"},{"name":"b","auto":[null]}]}}
+replace /ex-net:net/host[2] {"name":"b","speed":7} => 0 to 0 => {"ex-net:net":{"host":[{"auto":[null],"name":"a","uplink":"b"},{"name":"b","speed":7}]}} => none"#;
+    assert_eq!(rt; first_wrong_history(rt.alloc(), NETWORK, histories), None);
+}
+
+#[test]
+fn positions_and_keys(rt: HostRuntime) {
+    let histories =
+        r#"{"ex-net:net":{"host":[{"name":"a","auto":[null]},{"name":"b","auto":[null]},{"name":"c"}]}}
+# opened => passed over => {"ex-net:net":{"host":[{"auto":[null],"name":"a"},{"auto":[null],"name":"b"},{"name":"c"}]}} => V4 data-missing missing-choice /ex-net:net/host[3] mode|
+remove /ex-net:net/host[1] => 1 to 1 => {"ex-net:net":{"host":[{"auto":[null],"name":"b"},{"name":"c"}]}} => V4 data-missing missing-choice /ex-net:net/host[2] mode|
+==
+{"ex-net:net":{"host":[{"name":"a","auto":[null]},{"name":"a","auto":[null]}]}}
+# opened => passed over => {"ex-net:net":{"host":[{"auto":[null],"name":"a"},{"auto":[null],"name":"a"}]}} => V8 operation-failed - /ex-net:net/host[1] -|V8 operation-failed - /ex-net:net/host[2] -|
+remove /ex-net:net/host[name='a'] => E6 => {"ex-net:net":{"host":[{"auto":[null],"name":"a"},{"auto":[null],"name":"a"}]}} => V8 operation-failed - /ex-net:net/host[1] -|V8 operation-failed - /ex-net:net/host[2] -|
+remove /ex-net:net/host[2] => 2 to 0 => {"ex-net:net":{"host":[{"auto":[null],"name":"a"}]}} => none
+==
+{"ex-net:net":{"host":[{"name":"a","auto":[null]},{"name":"b","auto":[null]},{"name":"c","auto":[null]},{"name":"d","auto":[null]}]}}
+# opened => passed over => {"ex-net:net":{"host":[{"auto":[null],"name":"a"},{"auto":[null],"name":"b"},{"auto":[null],"name":"c"},{"auto":[null],"name":"d"}]}} => V7 operation-failed too-many-elements /ex-net:net/host -|
+remove /ex-net:net/host[4] => 1 to 0 => {"ex-net:net":{"host":[{"auto":[null],"name":"a"},{"auto":[null],"name":"b"},{"auto":[null],"name":"c"}]}} => none"#;
+    assert_eq!(rt; first_wrong_history(rt.alloc(), NETWORK, histories), None);
+}
+
+#[test]
+fn edits_of_entries(rt: HostRuntime) {
+    let histories = r#"{"ex-net:net":{"host":[{"name":"a","auto":[null]}]}}
+# opened => passed over => {"ex-net:net":{"host":[{"auto":[null],"name":"a"}]}} => none
+create /ex-net:net/host[1]/name "b" => E8 => {"ex-net:net":{"host":[{"auto":[null],"name":"a"}]}} => none
+replace /ex-net:net/host[1]/port 9 => E7 => {"ex-net:net":{"host":[{"auto":[null],"name":"a"}]}} => none
+replace /ex-net:net/host[1]/name {} => E10 J5 => {"ex-net:net":{"host":[{"auto":[null],"name":"a"}]}} => none
+remove /ex-net:net/host => E3 => {"ex-net:net":{"host":[{"auto":[null],"name":"a"}]}} => none
+remove /ex-net:net/host[2] => E5 => {"ex-net:net":{"host":[{"auto":[null],"name":"a"}]}} => none
+replace /ex-net:net/host[9]/zz 1 => E2 => {"ex-net:net":{"host":[{"auto":[null],"name":"a"}]}} => none
+remove /ex-net:net[1] => E3 => {"ex-net:net":{"host":[{"auto":[null],"name":"a"}]}} => none
+create /ex-net:net/host[1] {} => E3 => {"ex-net:net":{"host":[{"auto":[null],"name":"a"}]}} => none
+remove /ex-net:net/host[0] => E1 => {"ex-net:net":{"host":[{"auto":[null],"name":"a"}]}} => none
+remove /ex-net:net/host[01] => E1 => {"ex-net:net":{"host":[{"auto":[null],"name":"a"}]}} => none
+remove /ex-net:net/host[1] => 0 to 1 => {"ex-net:net":{}} => V6 operation-failed too-few-elements /ex-net:net/host -|
+==
+{"ex-net:net":{"host":[{"name":"a","auto":[null]}]}}
+create /ex-net:net/host[name="a"]/addr "q" => 0 to 0 => {"ex-net:net":{"host":[{"addr":"q","auto":[null],"name":"a"}]}} => none
+==
+{}
+# opened => passed over => {} => V6 operation-failed too-few-elements /ex-net:net/host -|
+create /ex-net:net/host {"name":"z","auto":[null]} => E4 => {} => V6 operation-failed too-few-elements /ex-net:net/host -|
+==
+{"ex-net:net": {"host": [{"name":"a","auto":[null]}]}}
+# opened => passed over => {"ex-net:net":{"host":[{"auto":[null],"name":"a"}]}} => none"#;
+    assert_eq!(rt; first_wrong_history(rt.alloc(), NETWORK, histories), None);
+}
+
+#[test]
+fn items(rt: HostRuntime) {
+    let histories = r#"{}
+create /w:c/tag "a" => E4 => {} => none
+create /w:c {} => 0 to 0 => {"w:c":{}} => none
+create /w:c/tag "a" => 0 to 0 => {"w:c":{"tag":["a"]}} => none
+remove /w:c/tag[1] => 0 to 0 => {"w:c":{}} => none"#;
+    assert_eq!(rt; first_wrong_history(rt.alloc(), STATE, histories), None);
+}
+
+#[test]
+fn tuples(rt: HostRuntime) {
+    let histories =
+        r#"{"v:e":[{"id":1,"in":{"x":"p"}},{"id":2,"in":{"x":"p"},"m":[4,5,4]},{"in":{}}]}
+# opened => passed over => {"v:e":[{"id":1,"in":{"x":"p"}},{"id":2,"in":{"x":"p"},"m":[4,5,4]},{"in":{}}]} => V9 operation-failed data-not-unique /v:e[1] 1|V9 operation-failed data-not-unique /v:e[2] 1|V10 operation-failed - /v:e[2]/m[1] -|V10 operation-failed - /v:e[2]/m[3] -|V2 missing-element - /v:e[3]/id -|
+replace /v:e[2]/in/x "q" => 5 to 3 => {"v:e":[{"id":1,"in":{"x":"p"}},{"id":2,"in":{"x":"q"},"m":[4,5,4]},{"in":{}}]} => V10 operation-failed - /v:e[2]/m[1] -|V10 operation-failed - /v:e[2]/m[3] -|V2 missing-element - /v:e[3]/id -|
+==
+{"v:e":[{"id":1,"in":{"x":"p"}},{"id":2,"in":{"x":"p"},"m":[4,5,4]},{"in":{}}]}
+remove /v:e[1] => 5 to 3 => {"v:e":[{"id":2,"in":{"x":"p"},"m":[4,5,4]},{"in":{}}]} => V10 operation-failed - /v:e[1]/m[1] -|V10 operation-failed - /v:e[1]/m[3] -|V2 missing-element - /v:e[2]/id -|
+==
+{"v:e":[{"id":1,"in":{"x":"p"}},{"id":2,"in":{"x":"p"},"m":[4,5,4]},{"in":{}}]}
+create /v:e[3]/id 2 => 5 to 6 => {"v:e":[{"id":1,"in":{"x":"p"}},{"id":2,"in":{"x":"p"},"m":[4,5,4]},{"id":2,"in":{}}]} => V9 operation-failed data-not-unique /v:e[1] 1|V8 operation-failed - /v:e[2] -|V9 operation-failed data-not-unique /v:e[2] 1|V10 operation-failed - /v:e[2]/m[1] -|V10 operation-failed - /v:e[2]/m[3] -|V8 operation-failed - /v:e[3] -|"#;
+    assert_eq!(rt; first_wrong_history(rt.alloc(), ENTRIES, histories), None);
+}
+
+// Whether edits of two entries of one key are decided so, and leave one of them.
+fn removes_one(alloc: Global) -> Option<bool> {
+    let rows = "remove /ex-net:net/host[name='a'] => E6
+remove /ex-net:net/host[2] => accepted";
+    let document =
+        r#"{"ex-net:net":{"host":[{"name":"a","auto":[null]},{"name":"a","auto":[null]}]}}"#;
+    let text = r#"{"ex-net:net":{"host":[{"auto":[null],"name":"a"}]}}"#;
+    runs_under(alloc, NETWORK, document, rows, text)
+}
+
+#[test]
+fn lists_of_edits(rt: HostRuntime) {
+    assert!(rt; removes_one(rt.alloc()) == Some(true));
+}
