@@ -151,11 +151,7 @@ pub fn default_texts<'t>(
 }
 
 /// Whether the default case of a choice isn't there, or is needless, or holds what must be stored (RFC 7950, 7.9.3).
-pub fn is_wrong_case<'a, 't>(
-    plan: &Plan<'a, 't>,
-    number: u32,
-    planned: &Planned<'a, 't>,
-) -> bool
+pub fn is_wrong_case<'a, 't>(plan: &Plan<'a, 't>, number: u32, planned: &Planned<'a, 't>) -> bool
     ensures { let p = planned_view number planned.now in result ≡ breaks.is_wrong_case (view plan.now) p (spec.default_case (view plan.now) p) }
 {
     match plan.default_case(number, planned) {

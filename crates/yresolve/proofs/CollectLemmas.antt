@@ -1,5 +1,5 @@
 -- Loops that collect what is said of each node.
-use Rattle.std.proofs.Common.{◌≡◌, List, [], ◌∷◌, ◌++◌, map, sym, ap, ap₂, ◌∙◌}
+use Rattle.std.proofs.Common.{◌≡◌, List, [], ◌∷◌, ◌++◌, map, sym, ap, ◌∙◌}
 use Rattle.std.proofs.lemmas.List.{append_assoc, map-append}
 
 pub collected : {A B : Type 0} (f : A → B) (so_far more : List B) (x : A) (y : B) (before rest all : List A) → before ≡ x ∷ rest

@@ -1,7 +1,6 @@
 -- What `type` statements mean, and where paths lead.
-use Rattle.std.proofs.Common.{◌≡◌, ℕ, Bool, true, false, cond, List, [], ◌∷◌, ◌++◌, map, Option, Some, None, refl, sym, ap, ap₂, ◌∙◌}
+use Rattle.std.proofs.Common.{◌≡◌, Bool, true, false, cond, List, [], ◌∷◌, Option, Some, None, refl, sym, ap, ◌∙◌}
 use Rattle.std.specs.Prelude.{option_map, option_and_then}
-use Rattle.std.proofs.lemmas.List.{append_assoc}
 use Rattle.yspec.specs.Forest.{Forest, end, node}
 use Rattle.yspec.specs.linking.Keyword.{type_word}
 use Rattle.yspec.specs.linking.Source as spec_source
@@ -11,7 +10,7 @@ use Rattle.yspec.specs.linking.Prefixes.{NodeName}
 use Rattle.yspec.specs.linking.Planned as spec
 use Rattle.yspec.specs.linking.Planned.{Plan, data_node_at, data_child_called}
 use Rattle.yspec.specs.linking.SchemaNodes.{number_in}
-use Rattle.yspec.specs.linking.TypeStatements.{Meant, Verdict, verdict, verdicts, first_meant, type_meant}
+use Rattle.yspec.specs.linking.TypeStatements.{Verdict, verdict, verdicts, first_meant, type_meant}
 use Rattle.ypreorder.specs.View.{row_by, label_by}
 use Rattle.ylink.specs.SourceView.{source_view}
 use Rattle.yplan.specs.PlannedView.{implied_or, part_at}

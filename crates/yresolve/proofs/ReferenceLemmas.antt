@@ -1,5 +1,5 @@
 -- References that are wrong.
-use Rattle.std.proofs.Common.{◌≡◌, ◌||◌, ℕ, Bool, true, false, List, Option, refl, sym, ap, ap₂, ◌∙◌}
+use Rattle.std.proofs.Common.{◌≡◌, ◌||◌, ℕ, Bool, true, false, List, Option, sym, ap, ap₂, ◌∙◌}
 use Rattle.yspec.specs.linking.Arguments.{Name}
 use Rattle.yspec.specs.linking.Planned.{Planned, Plan, target_meant, is_on_circle}
 use Rattle.yspec.specs.linking.NodeBreaks.{is_wrong_target, is_wrong_reference}

@@ -1,6 +1,6 @@
 -- Types and circles of a plan's nodes, from where the chains of their references end.
-use Rattle.std.proofs.Common.{◌≡◌, ℕ, zero, suc, ◌+◌, ◌<◌, ◌≤◌, Bool, true, false, cond, List, [], ◌∷◌, length, map, Option, Some, None, refl, sym, ap, ap₂, ◌∙◌, subst, arith}
-use Rattle.std.specs.Prelude.{◌==◌, ◌&&◌, find, option_map, option_and_then, slice_get, unwrap_or}
+use Rattle.std.proofs.Common.{◌≡◌, ℕ, zero, suc, ◌+◌, ◌<◌, ◌≤◌, Bool, true, false, cond, List, [], ◌∷◌, length, map, Option, Some, None, refl, sym, ap, ap₂, ◌∙◌, arith}
+use Rattle.std.specs.Prelude.{◌&&◌, option_map, option_and_then, slice_get, unwrap_or}
 use Rattle.std.proofs.lemmas.Option.{slice_get-map}
 use Rattle.std.proofs.lemmas.List.{length-map}
 use Rattle.yspec.specs.Forest.{size}
@@ -11,7 +11,6 @@ use Rattle.yspec.specs.linking.TypeStatements.{own, of_target, type_meant}
 use Rattle.yspec.specs.linking.Planned as spec
 use Rattle.yspec.specs.linking.Planned.{nodes_of, node_of, is_data, same_number, is_called, data_child_called, data_node_at, leaf_found, is_leaf_or_leaf_list, target_meant, target_of, type_of, is_on_circle}
 use Rattle.yspec.specs.linking.SchemaNodes.{number_in}
-use Rattle.ypreorder.specs.Layout.{labels_by}
 use Rattle.ypreorder.specs.View.{rows_in, forest_in}
 use Rattle.ypreorder.specs.declared.row.Row.{Row}
 use Rattle.ypreorder.proofs.LabelLemmas.{label_at, length-labels, size-by}
@@ -28,7 +27,7 @@ use Rattle.yplan.proofs.PlanLemmas.{nodes_are}
 use Rattle.yplan.proofs.NodeLemmas.{found_stands, find-filter, stands_at}
 use Rattle.yplan.proofs.ChainPlanLemmas.{Stands, circles_same, type_by_end, no_type}
 use Rattle.yplan.proofs.ChainLemmas.{some_same, some_none, end_here, end_there, end_none}
-use Rattle.yresolve.specs.TypesView.{meant_at, own_at, type_told, types_told, stated_in, target_number}
+use Rattle.yresolve.specs.TypesView.{meant_at, type_told, types_told, stated_in, target_number}
 
 some_is : {X : Type 0} → (x y : X) → Some x ≡ Some y → x ≡ y
 some_is x y e = ap (λ o. unwrap_or o x) e

@@ -37,7 +37,10 @@ fn own_fault<'a, 't>(
     let told = least_when(tuples, told, planned.broken(CompileCode::C12));
     let reference = is_wrong_reference(plan, &resolved.types, node);
     let told = least_when(reference, told, planned.broken(CompileCode::C17));
-    let (is_key, value_type) = (resolved.is_key(node.number), resolved.value_type(node.number));
+    let (is_key, value_type) = (
+        resolved.is_key(node.number),
+        resolved.value_type(node.number),
+    );
     let default = has_wrong_default(alloc, plan, node.number, planned, is_key, value_type)?;
     Ok(least_when(default, told, planned.broken(CompileCode::C11)))
 }

@@ -24,10 +24,7 @@ pub(crate) struct Meanings<'t> {
 }
 
 /// What the type of a node means; none of a node without a type that is right.
-fn meaning_of<'t>(
-    alloc: Global,
-    planned: &Planned<'_, 't>,
-) -> Result<Option<Meant<'t>>, AllocError>
+fn meaning_of<'t>(alloc: Global, planned: &Planned<'_, 't>) -> Result<Option<Meant<'t>>, AllocError>
     ensures { (number : _) → IfOk result (λ meant. option_map meant_view meant ≡ type_meant (planned_view number planned.now).part.own) }
 {
     if planned.is_implied {
@@ -113,7 +110,10 @@ fn target_of<'a, 't>(
 }
 
 /// Those of all nodes.
-pub(crate) fn meanings_of<'t>(alloc: Global, plan: &Plan<'_, 't>) -> Result<Meanings<'t>, AllocError>
+pub(crate) fn meanings_of<'t>(
+    alloc: Global,
+    plan: &Plan<'_, 't>,
+) -> Result<Meanings<'t>, AllocError>
     ensures meant { IfOk result (λ m. map (option_map meant_view) m.meant.items ≡ map (λ p. type_meant p.part.own) (nodes_of (view plan.now))) }
     ensures targets { let p = view plan.now in IfOk result (λ m. m.targets.items ≡ map (λ q. option_map number_in (spec.target_of p q)) (nodes_of p)) }
 {

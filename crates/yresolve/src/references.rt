@@ -17,7 +17,11 @@ use ylink::Meant;
 use yplan::{Plan, PlanNode, Planned};
 
 /// Whether the target of a leafref isn't there, or is state where configuration requires an instance of it.
-fn is_wrong_target(planned: &Planned<'_, '_>, required: bool, target: Option<PlanNode<'_, '_>>) -> bool
+fn is_wrong_target(
+    planned: &Planned<'_, '_>,
+    required: bool,
+    target: Option<PlanNode<'_, '_>>,
+) -> bool
     ensures { (number : _) → result ≡ breaks.is_wrong_target (planned_view number planned.now) required (option_map node_view target.entry) }
 {
     match target {

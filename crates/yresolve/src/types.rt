@@ -29,7 +29,10 @@ pub struct Types<'t> {
 }
 
 /// What the type of the node of a number means.
-pub(crate) fn meant_at<'m, 't>(meant: &'m [Option<Meant<'t>>], number: usize) -> Option<&'m Meant<'t>>
+pub(crate) fn meant_at<'m, 't>(
+    meant: &'m [Option<Meant<'t>>],
+    number: usize,
+) -> Option<&'m Meant<'t>>
     ensures { option_map (λ m. meant_view m.now) result ≡ meant_at (meants_view meant.entry.now) number }
 {
     match meant.get(number) {

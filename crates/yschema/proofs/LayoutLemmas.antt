@@ -1,10 +1,10 @@
 -- Rows that lie as a forest does are that forest.
-use Rattle.std.proofs.Common.{◌≡◌, ℕ, zero, suc, ◌+◌, ◌≤◌, ◌<◌, true, false, List, [], ◌∷◌, ◌++◌, length, take, drop, get_or, Option, Some, None, refl, sym, ap, ap₂, ◌∙◌, append_assoc, arith, length-append, add-zero}
-use Rattle.std.proofs.lemmas.List.{take_at, drop_at, append-nil, at_drop_all}
-use Rattle.yspec.specs.Forest.{Forest, node, end, size, join}
+use Rattle.std.proofs.Common.{◌≡◌, ℕ, zero, suc, ◌+◌, ◌≤◌, List, [], ◌∷◌, ◌++◌, length, take, drop, Option, Some, None, refl, sym, ap, ap₂, ◌∙◌, arith, length-append, add-zero}
+use Rattle.std.proofs.lemmas.List.{take_at, drop_at}
+use Rattle.yspec.specs.Forest.{Forest, node, end, size}
 use Rattle.yspec.specs.schema.Schema.{SchemaNode}
 use Rattle.yschema.specs.declared.children.Row.{Row}
-use Rattle.yschema.specs.Layout.{node_view, Place, place_of, places, laid, IsLaidOut}
+use Rattle.yschema.specs.Layout.{node_view, place_of, places, laid, IsLaidOut}
 use Rattle.yschema.specs.View.{forest_of}
 use Rattle.yschema.proofs.RowLemmas.{forest_of-cons, no_node}
 

@@ -176,8 +176,8 @@ fn rule_fault<'t>(
 
 fn module_of(alloc: Global, module: Node<'_, Source<'_>>) -> Result<SchemaModule, AllocError>
     ensures { IfOk result (λ made. module_view made ≡ record {
-        name = sources.argument_in (label_by source_view module.entry);
-        prefix = unwrap_or (sources.argument_with prefix_word (row_by source_view module.entry.children)) [];
+      name = sources.argument_in (label_by source_view module.entry);
+      prefix = unwrap_or (sources.argument_with prefix_word (row_by source_view module.entry.children)) [];
     }) }
 {
     let prefix = argument_with(Keyword::Prefix, module.children()).unwrap_or("");

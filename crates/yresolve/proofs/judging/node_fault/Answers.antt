@@ -1,4 +1,4 @@
-use Rattle.std.proofs.Common.{◌≡◌, ◌++◌, ◌∷◌, [], None, refl}
+use Rattle.std.proofs.Common.{◌++◌, ◌∷◌, [], None}
 use Rattle.yspec.specs.schema.Breaks.{least_from}
 use Rattle.yspec.specs.linking.NodeBreaks as breaks
 use Rattle.yspec.specs.linking.Planned.{nodes_of}

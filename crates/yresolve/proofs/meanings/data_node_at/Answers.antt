@@ -1,10 +1,9 @@
-use Rattle.std.proofs.Common.{◌≡◌, ◌+◌, List, map, drop, get_or, None, Some, sym, ap, ap₂, ◌∙◌}
+use Rattle.std.proofs.Common.{◌+◌, List, map, drop, sym, ap, ap₂, ◌∙◌}
 use Rattle.std.specs.Prelude.{option_map}
 use Rattle.std.proofs.lemmas.List.{at_drop_more}
 use Rattle.yspec.specs.linking.Prefixes.{node_name}
 use Rattle.yspec.specs.linking.Planned as spec
-use Rattle.yspec.specs.linking.SchemaNodes.{number_in}
-use Rattle.ylink.specs.NameView.{names_view, name_view}
+use Rattle.ylink.specs.NameView.{names_view}
 use Rattle.ylink.specs.declared.name.Name.{Name}
 use Rattle.yplan.specs.NodesView.{node_view}
 use Rattle.yplan.specs.PlanView.{view}

@@ -11,4 +11,4 @@ abbrev pub invariant-loop-step : goal.invariant-loop-step
 invariant-loop-step l =
     let p = view l.plan in
     onwards p (option_map node_view l.found) (map (node_name p.modules l.home l.owner) (names_view (drop l.step-index l.steps)))
-        ≡ spec.data_node_at p None (map (node_name p.modules l.home l.owner) (names_view l.steps))
+    ≡ spec.data_node_at p None (map (node_name p.modules l.home l.owner) (names_view l.steps))

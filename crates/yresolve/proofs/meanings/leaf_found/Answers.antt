@@ -1,4 +1,4 @@
-use Rattle.std.proofs.Common.{true, false, cond, Some, None, sym, ap, ◌∙◌}
+use Rattle.std.proofs.Common.{cond, Some, None, sym, ap, ◌∙◌}
 use Rattle.std.specs.Prelude.{option_map}
 use Rattle.yspec.specs.linking.Planned as spec
 use Rattle.yplan.specs.NodesView.{node_view}

@@ -1,5 +1,4 @@
-use Rattle.std.proofs.Common.{◌≡◌, ap, ◌∙◌, IfOk}
-use Rattle.std.specs.Prelude.{option_map}
+use Rattle.std.proofs.Common.{ap, ◌∙◌}
 use Rattle.ylink.proofs.GrammarLemmas.{if_ok_then}
 use Rattle.yspec.specs.linking.TypeStatements.{type_meant}
 use Rattle.ypreorder.specs.View.{row_by}

@@ -1,6 +1,5 @@
-use Rattle.std.proofs.Common.{◌≡◌, ◌<◌, ◌≤◌, ◌^◌, List, length, None, Ok, sym, ap, ap₂, subst, ◌∙◌, arith}
-use Rattle.yspec.specs.Forest.{Forest, size}
-use Rattle.yspec.specs.schema.Schema.{SchemaNode}
+use Rattle.std.proofs.Common.{◌≡◌, ◌<◌, ◌≤◌, ◌^◌, List, length, None, Ok, sym, ap, ap₂, ◌∙◌, arith}
+use Rattle.yspec.specs.Forest.{size}
 use Rattle.yspec.specs.schema.Breaks.{node_limit}
 use Rattle.yspec.specs.linking.Planned.{Plan}
 use Rattle.yspec.specs.linking.SchemaNodes.{schema_nodes}
@@ -8,7 +7,7 @@ use Rattle.yspec.specs.linking.Compiling.{IsCompiled, schema_modules, schema_of_
 use Rattle.yspec.proofs.LinkingProofs.LinkedLemmas.{linked_few}
 use Rattle.yplan.specs.PlanView as plans
 use Rattle.yschema.specs.declared.children.Row.{Row}
-use Rattle.yschema.specs.Layout.{places, laid, schema_view, IsLaidOut}
+use Rattle.yschema.specs.Layout.{places, laid}
 use Rattle.yschema.proofs.LayoutLemmas.{length-laid, length-places, forest_of-laid, laid_as}
 use Rattle.yschema.proofs.building.build.Goals as goal
 

@@ -1,4 +1,4 @@
-use Rattle.std.proofs.Common.{◌≡◌, ◌++◌, [], None, Some, sym, ap, ◌∙◌}
+use Rattle.std.proofs.Common.{◌++◌, [], None, sym, ap, ◌∙◌}
 use Rattle.yspec.proofs.SchemaProofs.LeastLemmas.{least_of_both}
 use Rattle.yspec.specs.schema.Breaks.{least_from, module_breaks}
 use Rattle.yspec.specs.linking.Prefixes.{prefix_breaks, type_name_breaks}

@@ -1,8 +1,6 @@
-use Rattle.std.proofs.Common.{◌≡◌, ◌<◌, ◌≤◌, ◌^◌, ◌+◌, suc, length, None, Some, sym, ap, ◌∙◌, subst, vec_len, arith}
+use Rattle.std.proofs.Common.{◌<◌, ◌≤◌, ◌^◌, suc, length, sym, ap, ◌∙◌, subst, vec_len, arith}
 use Rattle.std.specs.Prelude.{option_map}
-use Rattle.yspec.specs.linking.Planned as spec
 use Rattle.ypreorder.specs.View.{rows_in}
-use Rattle.yplan.specs.PlanView.{view}
 use Rattle.yplan.specs.NodesView.{TakesNode, node_view}
 use Rattle.yplan.proofs.NodeLemmas.{first_from, none_from, is_within}
 use Rattle.yplan.proofs.nodes.PlanNodesIterator.next.Goals as goal
