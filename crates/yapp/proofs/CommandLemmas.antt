@@ -1,8 +1,11 @@
 -- What clap's answers come to.
 use Rattle.std.proofs.Common.{◌≡◌, ◌⊎◌, inl, inr, List, [], ◌∷◌, ℕ, Bool, Option, Some, None, Bor, map, false, true, refl, sym, subst, ap, ◌∙◌}
-use Rattle.std.specs.Prelude.{Result, Ok, Err, IsErrAnd, option_map, unwrap_or, if◌then◌else◌}
+use Rattle.std.specs.Prelude.{Result, Ok, Err, IsErrAnd, IsSomeAnd, option_map, unwrap_or, if◌then◌else◌}
 use Rattle.yspec.specs.program.Output.{found, validate}
-use Rattle.clap.specs.Words.{Kinds, IsAmong, Row, Text, is_simple, is_simple_and_free}
+use Rattle.clap.specs.Lexer.{usize_max}
+use Rattle.clap.specs.Words.{Kinds, IsAmong, Row, Rule, Text, is_simple, is_simple_and_free, rule_of}
+use Rattle.clap.specs.declared.builder.arg.Arg.{Arg}
+use Rattle.clap.specs.declared.builder.range.ValueRange.{ValueRange}
 use Rattle.clap.specs.declared.error.kind.ErrorKind.{ErrorKind}
 use Rattle.clap.specs.declared.error.kind.ErrorKind.TheVariants.{OutOfMemory}
 use Rattle.clap.proofs.OnLiterals.{clap_on_literals}
@@ -22,6 +25,20 @@ is_free = refl
 pub is_plain : is_simple yanglive ≡ true
 unfolding clap_on_literals
 is_plain = refl
+
+-- all the words from a place on, one at least
+abbrev pub from_one : ValueRange
+from_one = record { start_inclusive = 1; end_inclusive = usize_max }
+
+some_range : (o : Option ValueRange) → IsSomeAnd o (λ v. v ≡ from_one) → o ≡ Some from_one
+some_range None is = absurd is
+some_range (Some v) is = ap Some is
+
+-- an argument that takes them
+pub takes_all : (a ranged : Arg) (rule : Rule) → rule_of a ≡ rule → (ranged ≡ record a { num_vals = ranged.num_vals })
+    → IsSomeAnd ranged.num_vals (λ v. v ≡ from_one) → rule_of ranged ≡ record rule { range = Some from_one }
+takes_all a ranged rule same others range = ap rule_of others ∙ ap (λ v. rule_of (record a { num_vals = v })) (some_range ranged.num_vals range)
+    ∙ ap (λ (r : Rule). record r { range = Some from_one }) same
 
 pub now_or : {X : Type 0} → (o : Option (Bor X)) (d : Bor X) → (unwrap_or o d).now ≡ unwrap_or (option_map (λ b. b.now) o) d.now
 now_or None d = refl
