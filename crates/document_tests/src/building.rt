@@ -5,7 +5,7 @@ use std::alloc::{AllocError, Global};
 use yinst::read;
 use ylive::Live;
 use yschema::{Schema, compile};
-use ytext::{Module, parse};
+use ytext::{Module, TextFault, parse};
 
 /// A module whose container has the name of one of the other module, and the name of its leaf twice.
 pub(crate) const FIRST: &str = "module a {
@@ -104,11 +104,15 @@ pub(crate) const STATE: &str = "module w {
 }
 ";
 
+/// The modules of texts, without those that are refused. Nothing for want of memory.
 pub(crate) fn modules_of(alloc: Global, texts: &[&str]) -> Option<Vec<Module>> {
     let mut modules = Vec::new(alloc);
     for text in texts {
-        let module = parse(alloc, text.as_bytes()).ok()?;
-        modules.push(module).ok()?;
+        match parse(alloc, text.as_bytes()) {
+            Ok(module) => modules.push(module).ok()?,
+            Err(TextFault::Memory) => return None,
+            Err(_) => {}
+        }
     }
     Some(modules)
 }
@@ -139,6 +143,13 @@ pub(crate) fn with_line_feeds(alloc: Global, text: &str) -> Result<String, Alloc
         whole.push(if letter == '|' { '\n' } else { letter })?;
     }
     Ok(whole)
+}
+
+pub(crate) fn push_times(text: &mut String, part: &str, times: u32) -> Result<(), AllocError> {
+    for _ in 0..times {
+        text.push_str(part)?;
+    }
+    Ok(())
 }
 
 /// A module of these statements, the first of which stands in line 3.

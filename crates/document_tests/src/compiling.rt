@@ -1,12 +1,12 @@
 //! Which sets of modules are compiled, and how the others are refused.
 
-use crate::building::{FIRST, SECOND, module_text, modules_of, with_line_feeds};
+use crate::building::{FIRST, SECOND, module_text, modules_of, push_times, with_line_feeds};
 use crate::telling::{is_refusal_of_modules, number_of};
 use std::alloc::{AllocError, Global};
 use yschema::compile;
 
-// Whether modules are compiled to so many nodes, or refused at the one at a place.
-fn comes_of(alloc: Global, texts: &[&str], place: usize, told: &str) -> Option<bool> {
+/// Whether modules are compiled to so many nodes, or refused at the one at a place. Nothing for want of memory.
+pub(crate) fn comes_of(alloc: Global, texts: &[&str], place: usize, told: &str) -> Option<bool> {
     let modules = modules_of(alloc, texts)?;
     match compile(alloc, &modules) {
         Ok(schema) => match told.split_once(' ') {
@@ -207,13 +207,6 @@ fn no_modules(rt: HostRuntime) {
     assert!(rt; comes_of(rt.alloc(), &[], 0, "0 nodes") == Some(true));
 }
 
-fn push_times(text: &mut String, part: &str, times: u32) -> Result<(), AllocError> {
-    for _ in 0..times {
-        text.push_str(part)?;
-    }
-    Ok(())
-}
-
 // So many containers, each in the one before, around a statement.
 fn nested(alloc: Global, levels: u32, inside: &str) -> Result<String, AllocError> {
     let mut text = String::from_str(alloc, " yang-version 1.1;\n")?;
@@ -262,8 +255,26 @@ fn may_stand(alloc: Global, nodes: u32, told: &str) -> Option<bool> {
     is_compiled(alloc, text.as_str(), told)
 }
 
-// The number of nodes is judged before their names.
+// So many leafs beside each other, no two of one name.
+fn leafs(alloc: Global, nodes: u32) -> Result<String, AllocError> {
+    let mut text = String::from_str(alloc, " yang-version 1.1;\n")?;
+    for number in 0..nodes {
+        let name = format!(in alloc; "leaf l{number}")?;
+        text.push_str(name.as_str())?;
+        text.push_str(" { type empty; }\n")?;
+    }
+    Ok(text)
+}
+
+// Whether this comes of so many leafs.
+fn may_differ(alloc: Global, nodes: u32, told: &str) -> Option<bool> {
+    let text = leafs(alloc, nodes).ok()?;
+    is_compiled(alloc, text.as_str(), told)
+}
+
+// The number of nodes is judged before their names; at the limit they compile.
 #[test]
 fn numbers_of_nodes(rt: HostRuntime) {
     assert!(rt; may_stand(rt.alloc(), 65536, "C18:1") == Some(true));
+    assert!(rt; may_differ(rt.alloc(), 65535, "65535 nodes") == Some(true));
 }

@@ -4,20 +4,30 @@ use crate::building::{MODULE, schema_of};
 use crate::telling::{have_lines, is_text};
 use std::alloc::Global;
 use ycheck::faults;
-use yinst::{Tree, read, write};
+use yinst::{DocFault, Tree, read, write};
 use yschema::Schema;
 
 fn is_text_of(alloc: Global, schema: &Schema, document: &str, text: &str) -> Option<bool> {
     match read(alloc, schema, document.as_bytes()) {
         Ok(tree) => is_text(write(alloc, schema, &tree), text),
-        Err(_) => None,
+        Err(DocFault::Memory) => None,
+        Err(_) => Some(false),
     }
 }
 
-/// Whether a document that is read is written as this text.
-pub(crate) fn is_rewritten(alloc: Global, document: &str, text: &str) -> Option<bool> {
-    let schema = schema_of(alloc, &[MODULE])?;
+/// Whether a document under a module that is read is written as this text.
+pub(crate) fn is_rewritten_under(
+    alloc: Global,
+    module: &str,
+    document: &str,
+    text: &str,
+) -> Option<bool> {
+    let schema = schema_of(alloc, &[module])?;
     is_text_of(alloc, &schema, document, text)
+}
+
+pub(crate) fn is_rewritten(alloc: Global, document: &str, text: &str) -> Option<bool> {
+    is_rewritten_under(alloc, MODULE, document, text)
 }
 
 fn are_lines_of(alloc: Global, schema: &Schema, tree: &Tree, lines: &str) -> Option<bool> {

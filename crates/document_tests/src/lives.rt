@@ -7,7 +7,7 @@ use crate::telling::{
 use std::alloc::Global;
 use ycheck::Fault;
 use yinst::{Edit, EditFault, NamedStep, Path, Predicate, write};
-use ylive::{Applied, CheckFault, Live, Outcome, Refused, check_edits};
+use ylive::{Applied, CheckFault, ListFault, Live, Outcome, Refused, check_edits};
 
 /// A document with one fault.
 pub(crate) const FAULTY: &str = r#"{"p:c":{"id":256,"note":"x"}}"#;
@@ -21,7 +21,8 @@ replace /p:c/zz 1 => E2
 replace /p:c/note {} => E10 J5
 remove /p:c/note => accepted";
 
-fn is_stored(alloc: Global, live: &Live, text: &str) -> Option<bool> {
+/// Whether a document has this text.
+pub(crate) fn is_stored(alloc: Global, live: &Live, text: &str) -> Option<bool> {
     match live.tree() {
         Ok(tree) => is_text(write(alloc, live.schema(), &tree), text),
         Err(_) => None,
@@ -36,7 +37,8 @@ fn are_told(alloc: Global, live: &Live, faults: &[Fault], lines: &str) -> Option
 fn is_listed(alloc: Global, live: &Live, lines: &str) -> Option<bool> {
     match live.list() {
         Ok(faults) => are_told(alloc, live, &faults, lines),
-        Err(_) => None,
+        Err(ListFault::Memory) => None,
+        Err(ListFault::Stale) => Some(false),
     }
 }
 
@@ -52,13 +54,23 @@ fn are_counts(applied: Applied, told: &str) -> Option<bool> {
     Some(is_before && number_of(after)? as usize == applied.after)
 }
 
-// Whether this comes of an edit: its counts, or the codes of its refusal.
-fn comes_of(alloc: Global, live: &mut Live, edit: &Edit, told: &str) -> Option<bool> {
-    match live.edit(edit) {
+/// Whether an edit is answered so: with its counts, or the codes of its refusal. Nothing for want of memory.
+pub(crate) fn is_answer(
+    alloc: Global,
+    answer: Result<Applied, Refused>,
+    told: &str,
+) -> Option<bool> {
+    match answer {
         Ok(applied) => are_counts(applied, told),
         Err(Refused::Edit(fault)) => is_refusal(alloc, fault, told),
-        Err(_) => None,
+        Err(Refused::Memory) => None,
+        Err(Refused::Stale) => Some(false),
     }
+}
+
+// Whether this comes of an edit.
+fn comes_of(alloc: Global, live: &mut Live, edit: &Edit, told: &str) -> Option<bool> {
+    is_answer(alloc, live.edit(edit), told)
 }
 
 fn comes_of_line(alloc: Global, live: &mut Live, line: &str, told: &str) -> Option<bool> {
@@ -173,8 +185,8 @@ fn paths_that_no_text_spells(rt: HostRuntime) {
     assert!(rt; is_removal_refused(rt.alloc(), 1, "E3") == Some(true));
 }
 
-// The edits of rows `line => what comes of it`.
-fn edits_of(alloc: Global, rows: &str) -> Option<Vec<Edit>> {
+/// The edits of rows `line => what comes of it`.
+pub(crate) fn edits_of(alloc: Global, rows: &str) -> Option<Vec<Edit>> {
     let mut edits = Vec::new(alloc);
     for row in rows.lines() {
         let (line, _) = row.split_once(" => ")?;
@@ -195,8 +207,8 @@ fn is_outcome(alloc: Global, outcome: &Outcome, row: &str) -> Option<bool> {
     }
 }
 
-// Whether there are so many outcomes as rows, and each is its row's.
-fn are_outcomes(alloc: Global, outcomes: &[Outcome], rows: &str) -> Option<bool> {
+/// Whether there are so many outcomes as rows, and each is its row's.
+pub(crate) fn are_outcomes(alloc: Global, outcomes: &[Outcome], rows: &str) -> Option<bool> {
     let mut rest = rows.lines();
     for outcome in outcomes {
         if !is_outcome(alloc, outcome, rest.next()?)? {
@@ -247,17 +259,27 @@ pub(crate) fn is_rebuilt(alloc: Global) -> Option<bool> {
     rebuilds(alloc, &mut live)
 }
 
-/// Whether edits are checked from a module and a document on.
-pub(crate) fn are_checked(alloc: Global) -> Option<bool> {
-    let modules = modules_of(alloc, &[MODULE])?;
-    let edits = edits_of(alloc, EDITS)?;
-    match check_edits(alloc, &modules, FAULTY.as_bytes(), &edits) {
+/// Whether a list of edits is checked from a module and a document on, has its outcomes, and leaves no faults.
+pub(crate) fn are_checked_under(
+    alloc: Global,
+    module: &str,
+    document: &str,
+    rows: &str,
+) -> Option<bool> {
+    let modules = modules_of(alloc, &[module])?;
+    let edits = edits_of(alloc, rows)?;
+    match check_edits(alloc, &modules, document.as_bytes(), &edits) {
         Ok(checked) => {
-            Some(checked.faults.is_empty() && are_outcomes(alloc, &checked.outcomes, EDITS)?)
+            Some(checked.faults.is_empty() && are_outcomes(alloc, &checked.outcomes, rows)?)
         }
         Err(CheckFault::Memory) => None,
         Err(_) => Some(false),
     }
+}
+
+/// Whether edits are checked so.
+pub(crate) fn are_checked(alloc: Global) -> Option<bool> {
+    are_checked_under(alloc, MODULE, FAULTY, EDITS)
 }
 
 // Whether edits of this document under a module are refused before the first, with `J2` for the document, or with the

@@ -25,11 +25,13 @@ pub(crate) fn is_refusal_of_modules(
 ) -> Option<bool> {
     match fault {
         CompileFault::Memory => None,
-        CompileFault::Refused { module, line, .. } => {
-            let (rule, at) = told.split_once(':')?;
-            let is_there = module == place && number_of(at)? == line;
-            Some(is_there && is_text(format!(in alloc; "{fault}"), rule)?)
-        }
+        CompileFault::Refused { module, line, .. } => match told.split_once(':') {
+            Some((rule, at)) => {
+                let is_there = module == place && number_of(at)? == line;
+                Some(is_there && is_text(format!(in alloc; "{fault}"), rule)?)
+            }
+            None => Some(false),
+        },
     }
 }
 
