@@ -232,3 +232,13 @@ found_in hash test passes count bucket number (x ∷ xs) own same =
         each true e p f g = ap (λ b. cond b (Some number) (find passes rest)) g ∙ ap (cond p (Some number)) more
         each false e true f g = absurd (let yes = eq-eqb (hash x % count) bucket (own x f) in let no = sym yes ∙ e in cc)
         each false e false f g = more
+
+-- ---- one number after another
+
+pub found_now : (passes : ℕ → Bool) (before after : List ℕ) (number : ℕ) → before ≡ number ∷ after → passes number ≡ true → find passes before ≡ Some number
+found_now passes before after number first passed =
+    ap (find passes) first ∙ ap (λ b. cond b (Some number) (find passes after)) passed
+
+pub found_later : (passes : ℕ → Bool) (before after : List ℕ) (number : ℕ) → before ≡ number ∷ after → passes number ≡ false → find passes before ≡ find passes after
+found_later passes before after number first refused =
+    ap (find passes) first ∙ ap (λ b. cond b (Some number) (find passes after)) refused
