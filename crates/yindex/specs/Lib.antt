@@ -1,2 +1,4 @@
+pub mod Buckets
+pub mod Hashes
 pub mod Keys
 pub mod Lookup

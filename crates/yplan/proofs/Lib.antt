@@ -7,3 +7,4 @@ pub mod ChainPlanLemmas
 pub mod BelowLemmas
 pub mod FactLemmas
 pub mod NodeLemmas
+pub mod BucketLemmas

@@ -1,15 +1,14 @@
-//! How planned nodes come into an index.
+//! How planned nodes are found by their names.
 
-ghost use Rattle.std.specs.Prelude.{◌≡◌, ◌++◌, ◌∷◌, [], OnOk, IfOk, filter};
+ghost use Rattle.std.specs.Prelude.{◌≡◌, ◌++◌, ◌∷◌, ◌&&◌, [], Some, OnOk, IfOk, map};
 ghost use Rattle.yspec.specs.linking.Planned as spec;
-ghost use Rattle.yspec.specs.linking.Planned.{is_data};
-ghost use Rattle.ypreorder.specs.View.{rows_in};
+ghost use Rattle.yspec.specs.linking.Planned.{is_called, same_number};
 ghost use Rattle.yplan.specs.PlannedView.{planned_view};
-ghost use Rattle.yplan.specs.Finding.{Finds, list_of, parent_in, scope_in};
+ghost use Rattle.yplan.specs.Finding.{Finds, hash_below, list_of, parent_in, scope_in};
 
 use crate::planned::Planned;
 use std::alloc::{AllocError, Global};
-use yindex::Index;
+use yindex::{Index, hash_of};
 use ypreorder::Table;
 
 /// Holds a node of a number below another, or at the top, unless one of its name is held there.
@@ -27,44 +26,44 @@ pub(crate) fn hold(
     index.put(above, Some(planned.owner()), name, number)
 }
 
-/// The index of all nodes, by those right above them.
-pub(crate) fn index_of_children(
-    alloc: Global,
-    table: &Table<Planned<'_, '_>>,
-) -> Result<Index, AllocError>
-    ensures { IfOk result (λ index. Finds index parent_in (list_of table.now)) }
+/// Whether a node that stands below one of a number, or at the top, stands there below this one, and has this module and name.
+pub(crate) fn is_named(
+    planned: &Planned<'_, '_>,
+    above: Option<u32>,
+    parent: Option<u32>,
+    module: usize,
+    name: &str,
+) -> bool
+    ensures { (number : _) → result
+        ≡ (same_number parent above && is_called (record { module_number = Some «module»; name = name.now }) (planned_view number planned.now)) }
 {
-    let mut index = Index::new(alloc);
-    for (number, row) in table.rows().iter().enumerate() {
-        hold(
-            alloc,
-            &mut index,
-            row.label.parent,
-            number as u32,
-            &row.label,
-        )?;
-    }
-    Ok(index)
+    parent == above && (module == planned.owner() && name == planned.name())
 }
 
-/// The index of data nodes, by the data nodes above them, choices and cases passed through.
-pub(crate) fn index_of_data(
+/// The hashes of all nodes by their names below those right above them.
+pub(crate) fn hashes_of_children(
     alloc: Global,
     table: &Table<Planned<'_, '_>>,
-) -> Result<Index, AllocError>
-    ensures { IfOk result (λ index. Finds index scope_in (filter is_data (list_of table.now))) }
+) -> Result<Vec<u32>, AllocError>
+    ensures { IfOk result (λ hashes. hashes.items ≡ map (hash_below parent_in) (list_of table.now)) }
 {
-    let mut index = Index::new(alloc);
-    for (number, row) in table.rows().iter().enumerate() {
-        if row.label.is_data() {
-            hold(
-                alloc,
-                &mut index,
-                row.label.scope,
-                number as u32,
-                &row.label,
-            )?;
-        }
+    let mut hashes = Vec::with_capacity(alloc, table.len())?;
+    for row in table.rows() {
+        hashes.push(hash_of(row.label.parent, row.label.name()))?;
     }
-    Ok(index)
+    Ok(hashes)
+}
+
+/// The hashes of all nodes by their names below the data nodes above them, choices and cases passed through.
+pub(crate) fn hashes_of_data(
+    alloc: Global,
+    table: &Table<Planned<'_, '_>>,
+) -> Result<Vec<u32>, AllocError>
+    ensures { IfOk result (λ hashes. hashes.items ≡ map (hash_below scope_in) (list_of table.now)) }
+{
+    let mut hashes = Vec::with_capacity(alloc, table.len())?;
+    for row in table.rows() {
+        hashes.push(hash_of(row.label.scope, row.label.name()))?;
+    }
+    Ok(hashes)
 }

@@ -1,20 +1,20 @@
 //! The plan of a set of modules.
 
-ghost use Rattle.std.specs.Prelude.{filter};
+ghost use Rattle.std.specs.Prelude.{◌≡◌, map};
+ghost use Rattle.yindex.specs.Buckets.{hashes_in};
 ghost use Rattle.ypreorder.specs.Layout.{IsLaidOut};
 ghost use Rattle.ypreorder.specs.View.{rows_in};
-ghost use Rattle.yplan.specs.Finding.{Finds, list_of, parent_in, scope_in};
-ghost use Rattle.yspec.specs.linking.Planned.{is_data};
+ghost use Rattle.yplan.specs.Finding.{hash_below, list_of, parent_in, scope_in};
 ghost use Rattle.ylink.specs.LinkView as link;
 ghost use Rattle.ylink.specs.PrefixView.{IsOf};
 
-use crate::finding::{index_of_children, index_of_data};
+use crate::finding::{hashes_of_children, hashes_of_data, is_named};
 use crate::levels::levels_of;
 use crate::nodes::{PlanNode, PlanNodes};
 use crate::planned::Planned;
 use crate::planning::planned;
 use std::alloc::{AllocError, Global};
-use yindex::Index;
+use yindex::{Buckets, hash_of};
 use ylink::{Keyword, Name, NodeName, Prefixes, Sources};
 use ypreorder::{Nodes, Row, Table};
 
@@ -24,16 +24,19 @@ pub struct Plan<'a, 't> {
     sources: &'a Sources<'t>,
     prefixes: Prefixes<'t>,
     table: Table<Planned<'a, 't>>,
-    children: Index,
-    data_children: Index,
+    // Its nodes by their names, below those right above them and below the data nodes above them.
+    children: Buckets,
+    data_children: Buckets,
     ghost prefixed: { IsOf prefixes (link.view sources.now) },
     ghost laid_out: { IsLaidOut (rows_in table) },
-    ghost found: { Finds children parent_in (list_of table) },
-    ghost data_found: { Finds data_children scope_in (filter is_data (list_of table)) },
+    ghost found: { hashes_in children ≡ map (hash_below parent_in) (list_of table) },
+    ghost data_found: { hashes_in data_children ≡ map (hash_below scope_in) (list_of table) },
 }
 
 impl<'a, 't> Plan<'a, 't> {
-    ghost use Rattle.std.specs.Prelude.{◌≡◌, IfOk, option_map, length};
+    ghost use Rattle.std.specs.Prelude.{◌≡◌, IfOk, option_map, length, false};
+    ghost use Rattle.std.specs.Option.{option_map_or};
+    ghost use Rattle.yplan.specs.Finding.{is_child, is_data_child};
     ghost use Rattle.yspec.specs.linking.Compiling.{plan_of};
     ghost use Rattle.yspec.specs.linking.Planned as spec;
     ghost use Rattle.ylink.specs.LinkView as link;
@@ -55,8 +58,8 @@ impl<'a, 't> Plan<'a, 't> {
     {
         let prefixes = Prefixes::of(alloc, sources)?;
         let table = planned(alloc, sources)?;
-        let children = index_of_children(alloc, &table)?;
-        let data_children = index_of_data(alloc, &table)?;
+        let children = Buckets::of(alloc, hashes_of_children(alloc, &table)?)?;
+        let data_children = Buckets::of(alloc, hashes_of_data(alloc, &table)?)?;
         Ok(Plan {
             sources,
             prefixes,
@@ -130,9 +133,22 @@ impl<'a, 't> Plan<'a, 't> {
     pub fn child(&self, parent: Option<u32>, module: Option<usize>, name: &str) -> Option<u32>
         ensures { result ≡ option_map number_in (spec.child_called (view self.now) parent (record { module_number = «module»; name = name.now })) }
     {
-        match module {
-            Some(module) => self.children.get(parent, Some(module), name),
-            None => None,
+        let module = module?;
+        for number in self.children.numbers(hash_of(parent, name)) {
+            if self.is_child(number, parent, module, name) {
+                return Some(number);
+            }
+        }
+        None
+    }
+
+    /// Whether the node of a number stands right below this one, or at the top, and has this module and name.
+    fn is_child(&self, number: u32, parent: Option<u32>, module: usize, name: &str) -> bool
+        ensures { result ≡ option_map_or (is_child parent «module» name.now) (spec.node_of (view self.now) number) false }
+    {
+        match self.node(number) {
+            Some(planned) => is_named(planned, planned.parent, parent, module, name),
+            None => false,
         }
     }
 
@@ -140,9 +156,24 @@ impl<'a, 't> Plan<'a, 't> {
     pub fn data_child(&self, scope: Option<u32>, module: Option<usize>, name: &str) -> Option<u32>
         ensures { result ≡ option_map number_in (spec.data_child_called (view self.now) scope (record { module_number = «module»; name = name.now })) }
     {
-        match module {
-            Some(module) => self.data_children.get(scope, Some(module), name),
-            None => None,
+        let module = module?;
+        for number in self.data_children.numbers(hash_of(scope, name)) {
+            if self.is_data_child(number, scope, module, name) {
+                return Some(number);
+            }
+        }
+        None
+    }
+
+    /// Whether the node of a number is a data node below this one, or at the top, and has this module and name.
+    fn is_data_child(&self, number: u32, scope: Option<u32>, module: usize, name: &str) -> bool
+        ensures { result ≡ option_map_or (is_data_child scope «module» name.now) (spec.node_of (view self.now) number) false }
+    {
+        match self.node(number) {
+            Some(planned) => {
+                planned.is_data() && is_named(planned, planned.scope, scope, module, name)
+            }
+            None => false,
         }
     }
 

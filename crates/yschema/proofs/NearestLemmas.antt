@@ -66,7 +66,7 @@ above_last done x number is =
     (is ∙ sym (length-map done (λ (p : Place). data_at p.parent p.label)))
     ∙ ap (option_and_then (λ above. above)) (get-last (nearest_of done) [] (data_at x.parent x.label))
 
-length-data_places : (p : Option ℕ) (f : Forest SchemaNode) → length (data_places p f) ≡ size f
+pub length-data_places : (p : Option ℕ) (f : Forest SchemaNode) → length (data_places p f) ≡ size f
 length-data_places p end = refl
 length-data_places p (node l below after) = ap suc (length-append (data_places (data_at p l) below) (data_places p after)
     ∙ ap₂ (λ a b. a + b) (length-data_places (data_at p l) below) (length-data_places p after))

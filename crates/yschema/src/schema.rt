@@ -8,12 +8,11 @@ ghost use Rattle.yschema.specs.Lookup.{FindsNamed, FindsWritten};
 ghost use Rattle.yschema.specs.References.{FindsReferences};
 
 use crate::children::{Children, Row};
-use crate::index::{id_of, parent_number};
+use crate::index::{Index, id_of, parent_number};
 use crate::node::{SchemaId, SchemaNode};
 use crate::references::References;
 use crate::written::{first_written, other_name, written_name};
 use std::alloc::{AllocError, Global};
-use yindex::Index;
 
 /// A module of a schema.
 #[derive(Debug, Drop)]
@@ -112,7 +111,10 @@ impl Schema {
     pub fn child(&self, parent: Option<SchemaId>, module: usize, name: &str) -> Option<SchemaId>
         ensures { number_of result ≡ child_named (view self.now) (number_of parent) «module» name.now }
     {
-        id_of(self.index.get(parent_number(parent), Some(module), name))
+        id_of(
+            self.index
+                .named(&self.rows, parent_number(parent), module, name),
+        )
     }
 
     /// The child of a node, or the top node, whose name a document writes so; choices and cases are passed through.
@@ -121,7 +123,10 @@ impl Schema {
     {
         match self.module_passed(parent) {
             Some(module) => first_written(&self.modules, module, self.children(parent?), name),
-            None => id_of(self.index.get(parent_number(parent), None, name)),
+            None => id_of(
+                self.index
+                    .written(&self.modules, &self.rows, parent_number(parent), name),
+            ),
         }
     }
 

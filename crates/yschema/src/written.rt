@@ -94,18 +94,23 @@ fn written_at(
 {
     if !child.node().kind.is_data() {
         first_written(modules, parent_module, child.children(), name)
-    } else if is_written(modules, parent_module, child.node(), name) {
+    } else if is_written(modules, Some(parent_module), child.node(), name) {
         Some(child.id())
     } else {
         None
     }
 }
 
-/// Whether a document writes the name of a node so where the parent is of a module.
-fn is_written(modules: &[SchemaModule], parent_module: usize, node: &SchemaNode, name: &str) -> bool
-    ensures { result ≡ is_text name.now (spec.written_name (schema_view modules.now []) (Some parent_module) (node_view 0 node.now)) }
+/// Whether a document writes the name of a node so where the parent is of a module, or the node stands at the top.
+pub(crate) fn is_written(
+    modules: &[SchemaModule],
+    parent_module: Option<usize>,
+    node: &SchemaNode,
+    name: &str,
+) -> bool
+    ensures { result ≡ is_text name.now (spec.written_name (schema_view modules.now []) parent_module (node_view 0 node.now)) }
 {
-    if node.module == parent_module {
+    if parent_module == Some(node.module) {
         name == node.name.as_str()
     } else {
         let module = name_at(modules, node.module);

@@ -34,8 +34,8 @@ base_of (base.Decimal d) = types.decimal_base d
 base_of base.Text = types.string_base
 base_of base.Boolean = types.boolean_base
 base_of base.Empty = types.empty_base
-base_of (base.Enumeration names) = types.enumeration_base names
-base_of (base.Bits names) = types.bits_base names
+base_of (base.Enumeration names) = types.enumeration_base names.value
+base_of (base.Bits names) = types.bits_base names.value
 
 abbrev pub found_of : Found → types.Content
 found_of (found.Text t) = types.text_value t.now

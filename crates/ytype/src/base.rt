@@ -12,6 +12,7 @@ ghost use Rattle.ytype.specs.Founds.{founds};
 use crate::raw::Raw;
 use crate::val::Content;
 use std::alloc::{AllocError, Global};
+use std::rc::Rc;
 use ynumber::{
     FractionDigits, Names, Part, decimal_in, default_integer_in, integer_in, positions_in,
 };
@@ -123,7 +124,7 @@ impl<'a> Found<'a> {
     }
 }
 
-/// A built-in type, or what a derived type begins with.
+/// A built-in type, or what a derived type begins with. Copies share their names.
 #[derive(Debug, Drop)]
 pub(crate) enum Base {
     Integer(Integer),
@@ -131,8 +132,8 @@ pub(crate) enum Base {
     Text,
     Boolean,
     Empty,
-    Enumeration(Names),
-    Bits(Names),
+    Enumeration(Rc<Names>),
+    Bits(Rc<Names>),
 }
 
 impl Clone for Base {

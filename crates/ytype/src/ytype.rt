@@ -20,6 +20,7 @@ use crate::simple::SimpleType;
 use crate::val::Val;
 use std::alloc::{AllocError, Global};
 use std::marker::Model;
+use std::rc::Rc;
 use ynumber::{FractionDigits, Naming, NarrowFault, Restriction, bit_names, enum_names};
 
 #[derive(Debug, Drop)]
@@ -184,7 +185,7 @@ impl YType {
     {
         match enum_names(alloc, namings) {
             Err(fault) => Err(fault),
-            Ok(names) => Ok(plain(alloc, Base::Enumeration(names))),
+            Ok(names) => Ok(plain(alloc, Base::Enumeration(Rc::new(alloc, names)?))),
         }
     }
 
@@ -196,7 +197,7 @@ impl YType {
     {
         match bit_names(alloc, namings) {
             Err(fault) => Err(fault),
-            Ok(names) => Ok(plain(alloc, Base::Bits(names))),
+            Ok(names) => Ok(plain(alloc, Base::Bits(Rc::new(alloc, names)?))),
         }
     }
 

@@ -1,17 +1,19 @@
-use Rattle.std.proofs.Common.{◌≡◌, ◌+◌, ◌∷◌, ◌++◌, [], take, length, sym, ap, ap₂, ◌∙◌, subst, arith, length-take, Some, None}
-use Rattle.std.proofs.lemmas.List.{take_more, take_all}
-use Rattle.yschema.specs.Layout.{laid, place_of, number_of, node_view, data_at, data_above, data_place_of, schema_view}
-use Rattle.yschema.specs.Lookup.{FindsNamed, FindsWritten}
-use Rattle.yschema.proofs.LayoutLemmas.{laid_push}
-use Rattle.yschema.proofs.NearestLemmas.{nearest_of, handed_on, handed, handed-last, handed_laid, map-append}
+use Rattle.std.proofs.Common.{◌≡◌, ◌+◌, ◌∷◌, ◌++◌, [], map, take, length, sym, ap, ap₂, ◌∙◌, arith, length-take, None}
+use Rattle.std.proofs.lemmas.List.{take_more, take_all, length-map}
+use Rattle.yindex.specs.Hashes.{hash_of}
+use Rattle.yschema.specs.Layout.{Place, laid, place_of, number_of, node_view, data_at, data_above, data_place_of, forest_of, schema_view}
+use Rattle.yschema.specs.Lookup.{written_hash}
+use Rattle.yschema.proofs.LayoutLemmas.{laid_push, length-laid, length-places}
+use Rattle.yschema.proofs.NearestLemmas.{nearest_of, handed_on, handed, handed-last, handed_laid, map-append, length-data_places}
 use Rattle.yschema.proofs.index.index_of.Goals as goal
 
 pub loop-number-init : goal.loop-number-init
 unfolding handed
 loop-number-init c = record {
-  named = λ parent m t. c.new-index.ensures parent (Some m) t;
-  written = λ parent t. c.new-index.ensures parent None t;
-  nearest = c.new-nearest.ensures.items;
+  named = c.in_ok-named.ensures.items;
+  written = c.in_ok-written.ensures.items;
+  above = c.in_ok-above.ensures.items;
+  nearest = c.in_ok-nearest.ensures.items;
 }
 
 pub loop-number-preserved : goal.loop-number-preserved
@@ -29,27 +31,61 @@ loop-number-preserved c =
     let before = handed [] (laid 0 done) in
     let all : handed [] (laid 0 (take (i + 1) rows)) ≡ before ++ handed_on before (place_of i row) ∷ [] =
     ap (handed []) step ∙ handed-last [] (laid 0 done) (place_of i row) in
-    let above : c.above-above.result ≡ data_above (nearest_of before) (number_of row.parent) =
-    c.above-above.ensures ∙ ap (λ xs. data_above xs (number_of row.parent)) (c.deref.ensures.value ∙ c.loop-number.invariant.nearest) in
-    let added : before ++ data_place_of c.above-above.result i row ∷ [] ≡ handed [] (laid 0 (take (i + 1) rows)) =
+    let parent = c.data_parent-data_parent.result in
+    let above : parent ≡ data_above (nearest_of before) (number_of row.parent) =
+    c.data_parent-data_parent.ensures ∙ ap (λ xs. data_above xs (number_of row.parent)) (c.deref.ensures.value ∙ c.loop-number.invariant.nearest) in
+    let place = data_place_of parent i row in
+    let added : before ++ place ∷ [] ≡ handed [] (laid 0 (take (i + 1) rows)) =
     ap (λ q. before ++ data_place_of q i row ∷ []) above ∙ sym all in
+    let named_hash = λ (p : Place). hash_of p.parent p.label.name in
     record {
-      named = subst (FindsNamed c.put_written.new.index) (sym step)
-          (c.in_ok-put_written.ensures.named (laid 0 done ++ place_of i row ∷ []) (c.in_ok-put_named.ensures.named (laid 0 done) c.loop-number.invariant.named));
-      written = subst (FindsWritten c.put_written.new.index schema) added
-          (c.in_ok-put_written.ensures.written before (c.in_ok-put_named.ensures.written schema before c.loop-number.invariant.written));
-      nearest = c.in_ok-push.ensures.items
+      named = c.in_ok-push.ensures.items
+          ∙ (ap₂ (λ xs h. xs ++ h ∷ []) c.loop-number.invariant.named (c.hash_of.ensures ∙ ap₂ hash_of c.parent_number.ensures c.as_str.ensures.value)
+          ∙ sym (ap (map named_hash) step ∙ map-append named_hash (laid 0 done) (place_of i row ∷ [])));
+      written = c.in_ok-push-2.ensures.items
+          ∙ (ap₂ (λ xs h. xs ++ h ∷ []) c.loop-number.invariant.written (c.in_ok-written_hash.ensures i)
+          ∙ (sym (map-append (written_hash schema) before (place ∷ [])) ∙ ap (map (written_hash schema)) added));
+      above = c.in_ok-push-3.ensures.items
+          ∙ (ap (λ xs. xs ++ parent ∷ []) c.loop-number.invariant.above
+          ∙ (sym (map-append (λ p. p.parent) before (place ∷ [])) ∙ ap (map (λ p. p.parent)) added));
+      nearest = c.in_ok-push-4.ensures.items
           ∙ (ap₂ (λ xs q. xs ++ q ∷ []) c.loop-number.invariant.nearest (c.nearest_to.ensures ∙ ap (λ q. data_at q (node_view i row.node)) above)
           ∙ sym (ap nearest_of all ∙ map-append (λ p. data_at p.parent p.label) before (handed_on before (place_of i row) ∷ [])));
     }
 
+pub of-requires : goal.of-requires
+of-requires c =
+    let rows = c.args.rows.now in
+    let all = take_all c.loop-number.number rows (omega arith) in
+    let places = laid 0 (take c.loop-number.number rows) in
+    let count = ap length c.loop-number.invariant.named
+        ∙ (length-map places (λ (p : Place). hash_of p.parent p.label.name) ∙ (ap (λ xs. length (laid 0 xs)) all ∙ length-laid 0 rows)) in
+    let bound = c.requires.numbered in
+    omega (arith, count, bound)
+
+pub of-requires-2 : goal.of-requires-2
+of-requires-2 c =
+    let rows = c.args.rows.now in
+    let all = take_all c.loop-number.number rows (omega arith) in
+    let places = handed [] (laid 0 (take c.loop-number.number rows)) in
+    let schema = schema_view c.args.modules.now rows in
+    let count = ap length c.loop-number.invariant.written
+        ∙ (length-map places (written_hash schema) ∙ (ap (λ xs. length (handed [] (laid 0 xs))) all
+        ∙ (ap length (handed_laid rows c.requires.laid_out) ∙ (length-data_places None (forest_of 0 rows)
+        ∙ (sym (length-places None (forest_of 0 rows)) ∙ (ap length (sym c.requires.laid_out) ∙ length-laid 0 rows)))))) in
+    let bound = c.requires.numbered in
+    omega (arith, count, bound)
+
 pub returns-clause-named : goal.returns-clause-named
 returns-clause-named c =
     let all = take_all c.loop-number.number c.args.rows.now (omega arith) in
-    subst (λ rows. FindsNamed c.loop-number.index (laid 0 rows)) all c.loop-number.invariant.named
+    c.in_ok-of.ensures ∙ (c.loop-number.invariant.named ∙ ap (λ rows. map (λ p. hash_of p.parent p.label.name) (laid 0 rows)) all)
 
 pub returns-clause-written : goal.returns-clause-written
 returns-clause-written c =
-    let all = take_all c.loop-number.number c.args.rows.now (omega arith) in
-    subst (FindsWritten c.loop-number.index (schema_view c.args.modules.now c.args.rows.now)) (ap (λ rows. handed [] (laid 0 rows)) all ∙ handed_laid c.args.rows.now c.requires.laid_out)
-    c.loop-number.invariant.written
+    let rows = c.args.rows.now in
+    let all = take_all c.loop-number.number rows (omega arith) in
+    let places = ap (λ rs. handed [] (laid 0 rs)) all ∙ handed_laid rows c.requires.laid_out in (
+      c.in_ok-of-2.ensures ∙ (c.loop-number.invariant.written ∙ ap (map (written_hash (schema_view c.args.modules.now rows))) places),
+      c.loop-number.invariant.above ∙ ap (map (λ p. p.parent)) places,
+    )

@@ -1,12 +1,16 @@
-use Rattle.std.proofs.Common.{◌≡◌, [], take}
+use Rattle.std.proofs.Common.{◌≡◌, [], map, take}
+use Rattle.yindex.specs.Hashes.{hash_of}
 use Rattle.yschema.specs.Layout.{laid, schema_view}
-use Rattle.yschema.specs.Lookup.{FindsNamed, FindsWritten}
+use Rattle.yschema.specs.Lookup.{written_hash}
 use Rattle.yschema.proofs.NearestLemmas.{nearest_of, handed}
 use Rattle.yschema.proofs.index.index_of.Given as goal
 
 abbrev pub invariant-loop-number : goal.invariant-loop-number
-invariant-loop-number l = record {
-  named : FindsNamed l.index (laid 0 (take l.number l.rows));
-  written : FindsWritten l.index (schema_view l.modules l.rows) (handed [] (laid 0 (take l.number l.rows)));
-  nearest : l.nearest.items ≡ nearest_of (handed [] (laid 0 (take l.number l.rows)));
-}
+invariant-loop-number l =
+    let places = handed [] (laid 0 (take l.number l.rows)) in
+    record {
+      named : l.named.items ≡ map (λ p. hash_of p.parent p.label.name) (laid 0 (take l.number l.rows));
+      written : l.written.items ≡ map (written_hash (schema_view l.modules l.rows)) places;
+      above : l.above.items ≡ map (λ p. p.parent) places;
+      nearest : l.nearest.items ≡ nearest_of places;
+    }

@@ -1,4 +1,7 @@
-use Rattle.std.proofs.Common.{ap}
+use Rattle.std.proofs.Common.{◌∙◌, length, ap, arith}
+use Rattle.std.proofs.lemmas.List.{length-map}
+use Rattle.ypreorder.proofs.LabelLemmas.{length-labels}
+use Rattle.yplan.specs.Finding.{hash_below, list_of, parent_in, scope_in}
 use Rattle.yspec.specs.linking.Parts.{parts_of_modules}
 use Rattle.yspec.specs.linking.Planned as spec
 use Rattle.yspec.specs.linking.Planned.{at_top, planned}
@@ -12,8 +15,8 @@ pub invariant_of-result : goal.invariant_of-result
 invariant_of-result c = record {
   prefixed = c.in_ok-prefixes.ensures;
   laid_out = (shown planned_view (planned 0 at_top (parts_of_modules (link.view c.args.sources.now))) (rows_in c.in_ok-table.table) c.in_ok-table.ensures).1;
-  found = c.in_ok-children.ensures;
-  data_found = c.in_ok-data_children.ensures;
+  found = c.in_ok-children.ensures ∙ c.in_ok-hashes_of_children.ensures;
+  data_found = c.in_ok-data_children.ensures ∙ c.in_ok-hashes_of_data.ensures;
 }
 
 pub returns : goal.returns
@@ -21,3 +24,17 @@ returns c =
     let made : spec.Plan = record { modules = link.view c.args.sources.now; nodes = planned 0 at_top (parts_of_modules (link.view c.args.sources.now)) } in
     ap (λ nodes. record made { nodes = nodes })
     (shown planned_view (planned 0 at_top (parts_of_modules (link.view c.args.sources.now))) (rows_in c.in_ok-table.table) c.in_ok-table.ensures).0
+
+pub of-requires-2 : goal.of-requires-2
+of-requires-2 c =
+    let rows = rows_in c.in_ok-table.table in
+    let count = ap length c.in_ok-hashes_of_children.ensures ∙ (length-map (list_of c.in_ok-table.table) (hash_below parent_in) ∙ length-labels planned_view 0 rows) in
+    let bound = c.in_ok-table.table.numbered in
+    omega (arith, count, bound)
+
+pub of-requires-3 : goal.of-requires-3
+of-requires-3 c =
+    let rows = rows_in c.in_ok-table.table in
+    let count = ap length c.in_ok-hashes_of_data.ensures ∙ (length-map (list_of c.in_ok-table.table) (hash_below scope_in) ∙ length-labels planned_view 0 rows) in
+    let bound = c.in_ok-table.table.numbered in
+    omega (arith, count, bound)

@@ -1,15 +1,15 @@
-use Rattle.std.proofs.Common.{Some, ap, ◌∙◌}
+use Rattle.std.proofs.Common.{ap, ◌∙◌}
 use Rattle.yspec.specs.schema.Schema.{is_called}
-use Rattle.yindex.specs.Lookup.{held}
-use Rattle.yschema.specs.Layout.{number_of}
+use Rattle.yschema.specs.Layout.{laid, number_of}
+use Rattle.yschema.specs.Lookup.{first_below}
 use Rattle.yschema.proofs.ChildLemmas.{first_child}
 use Rattle.yschema.proofs.schema.Schema.child.Goals as goal
 
 pub returns : goal.returns
 returns c =
     let schema = c.args.self.now in
-    let p = number_of c.args.parent in
-    let m = c.args.«module» in
-    let t = c.args.name.now in
-    c.id_of.ensures ∙ (c.get.ensures ∙ (ap (λ q. held schema.index q (Some m) t) c.parent_number.ensures
-    ∙ (schema.named p m t ∙ first_child schema.modules.items schema.rows.items p (is_called m t) schema.laid_out)))
+    let rows = schema.rows.items in
+    let test = is_called c.args.«module» c.args.name.now in
+    c.id_of.ensures ∙ (c.named.ensures ∙ (ap (λ xs. first_below c.parent_number.result test (laid 0 xs)) c.deref.ensures.value
+    ∙ (ap (λ q. first_below q test (laid 0 rows)) c.parent_number.ensures
+    ∙ first_child schema.modules.items rows (number_of c.args.parent) test schema.laid_out)))

@@ -1,0 +1,29 @@
+use Rattle.std.proofs.Common.{◌≡◌, ◌≤◌, ◌++◌, ◌∷◌, [], suc, map, take, length, get_or, arith, sym, ap, ap₂, ◌∙◌}
+use Rattle.std.proofs.lemmas.List.{take_all, map-append}
+use Rattle.ypreorder.specs.Layout.{labels_by}
+use Rattle.ypreorder.specs.View.{rows_in}
+use Rattle.ypreorder.proofs.LabelLemmas.{labels_more}
+use Rattle.yindex.specs.Hashes.{hash_of}
+use Rattle.yplan.specs.PlannedView.{planned_view}
+use Rattle.yplan.specs.Finding.{hash_below, parent_in}
+use Rattle.yplan.proofs.finding.hashes_of_children.Goals as goal
+
+pub loop-row-preserved : goal.loop-row-preserved
+loop-row-preserved c =
+    let rows = rows_in c.args.table.now in
+    let i = c.loop-row.row-index in
+    let row = c.row-item.result in
+    let p = planned_view i row.label in
+    let done = labels_by planned_view 0 (take i rows) in
+    let same = c.rows-row-items.ensures in
+    let is = c.row-item.is ∙ ap (λ xs. get_or xs i row) same in
+    let within : suc i ≤ length rows = omega (arith, ap length same) in
+    c.in_ok-push.ensures.items
+    ∙ (ap₂ (λ xs h. xs ++ h ∷ []) c.loop-row.invariant (c.hash_of.ensures ∙ ap (hash_of p.parent) c.name.ensures)
+    ∙ (sym (map-append (hash_below parent_in) done (p ∷ [])) ∙ ap (map (hash_below parent_in)) (sym (labels_more planned_view rows i row within is))))
+
+pub returns : goal.returns
+returns c =
+    let rows = rows_in c.args.table.now in
+    let all = take_all c.loop-row.row-index rows (omega (arith, ap length c.rows-row-items.ensures)) in
+    c.loop-row.invariant ∙ ap (λ xs. map (hash_below parent_in) (labels_by planned_view 0 xs)) all
