@@ -135,6 +135,6 @@ written_found schema above name rows parents hashes laid_out are parents_are =
         let parent : slice_get parents i ≡ Some p.parent =
         ap (λ xs. slice_get xs i) parents_are ∙ (slice_get-map (λ q. q.parent) ps i ∙ ap (option_map (λ q. q.parent)) e) in (
           ap₂ (λ o q. option_map_or (λ r. matches above (is_stored_as schema above name) (data_place_of (unwrap_or q None) i r)) o false) there.1 parent
-          ∙ ap (λ l. same_number above p.parent && is_stored_as schema above name l) (sym there.2),
+              ∙ ap (λ l. same_number above p.parent && is_stored_as schema above name l) (sym there.2),
           ap (λ l. l.number) there.2,
         )

@@ -42,10 +42,7 @@ pub(crate) fn index_of(
     let mut nearest = Vec::with_capacity(alloc, rows.len())?;
     for (number, row) in rows.iter().enumerate() {
         let data_parent = data_parent(&nearest, row.parent);
-        named.push(hash_of(
-            parent_number(row.parent),
-            row.node.name.as_str(),
-        ))?;
+        named.push(hash_of(parent_number(row.parent), row.node.name.as_str()))?;
         written.push(written_hash(alloc, modules, rows, row, data_parent)?)?;
         above.push(data_parent)?;
         nearest.push(nearest_to(row, data_parent, number as u32))?;

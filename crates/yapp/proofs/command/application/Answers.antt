@@ -11,7 +11,7 @@ returns c =
     let document_is : rule_of c.required-document.result ≡ wanted (codes "DATA") = search rules in
     let wanted_is : rule_of c.required.result ≡ wanted (codes "MODULE") = search rules in
     let module_is : rule_of c.num_args-module.result ≡ wanted_all (codes "MODULE") =
-        takes_all c.required.result c.num_args-module.result (wanted (codes "MODULE")) wanted_is c.num_args-module.ensures.0 c.num_args-module.ensures.1 in
+    takes_all c.required.result c.num_args-module.result (wanted (codes "MODULE")) wanted_is c.num_args-module.ensures.0 c.num_args-module.ensures.1 in
     let bare_is : app_of c.about.result ≡ new_app (codes "validate") = ap app_of_fields c.about.ensures ∙ c.new-3.ensures.app in
     let first_is = c.in_ok-arg.ensures.shape (search rules) ∙ ap₂ with_rule bare_is document_is in
     let validate_is : app_of c.in_ok-validate.validate ≡ validate_app = c.in_ok-validate.ensures.shape (search rules) ∙ ap₂ with_rule first_is module_is in

@@ -59,7 +59,7 @@ of-requires c =
     let all = take_all c.loop-number.number rows (omega arith) in
     let places = laid 0 (take c.loop-number.number rows) in
     let count = ap length c.loop-number.invariant.named
-        ∙ (length-map places (λ (p : Place). hash_of p.parent p.label.name) ∙ (ap (λ xs. length (laid 0 xs)) all ∙ length-laid 0 rows)) in
+    ∙ (length-map places (λ (p : Place). hash_of p.parent p.label.name) ∙ (ap (λ xs. length (laid 0 xs)) all ∙ length-laid 0 rows)) in
     let bound = c.requires.numbered in
     omega (arith, count, bound)
 
@@ -70,9 +70,9 @@ of-requires-2 c =
     let places = handed [] (laid 0 (take c.loop-number.number rows)) in
     let schema = schema_view c.args.modules.now rows in
     let count = ap length c.loop-number.invariant.written
-        ∙ (length-map places (written_hash schema) ∙ (ap (λ xs. length (handed [] (laid 0 xs))) all
-        ∙ (ap length (handed_laid rows c.requires.laid_out) ∙ (length-data_places None (forest_of 0 rows)
-        ∙ (sym (length-places None (forest_of 0 rows)) ∙ (ap length (sym c.requires.laid_out) ∙ length-laid 0 rows)))))) in
+    ∙ (length-map places (written_hash schema) ∙ (ap (λ xs. length (handed [] (laid 0 xs))) all
+    ∙ (ap length (handed_laid rows c.requires.laid_out) ∙ (length-data_places None (forest_of 0 rows)
+    ∙ (sym (length-places None (forest_of 0 rows)) ∙ (ap length (sym c.requires.laid_out) ∙ length-laid 0 rows)))))) in
     let bound = c.requires.numbered in
     omega (arith, count, bound)
 

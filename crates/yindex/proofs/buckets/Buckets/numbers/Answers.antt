@@ -16,7 +16,7 @@ invariant_of-result-2 c =
     let below = mod_below c.args.hash c.len-count.result (omega (arith, some)) in
     let low : bucket < length hashes = omega (arith, below, count_is) in
     let at_is : c.index.result.now ≡ next_in (length hashes) bucket 0 hashes = c.index.ensures
-        ∙ get_or_from_slice_get buckets.first.items bucket (next_in (length hashes) bucket 0 hashes) c.index.result.now (buckets.first_are bucket low) in
+    ∙ get_or_from_slice_get buckets.first.items bucket (next_in (length hashes) bucket 0 hashes) c.index.result.now (buckets.first_are bucket low) in
     record { stands = (begins (length hashes) bucket c.index.result.now hashes at_is).stands }
 
 pub returns : goal.returns
@@ -29,5 +29,5 @@ returns c =
     let below = mod_below c.args.hash c.len-count.result (omega (arith, some)) in
     let low : bucket < length hashes = omega (arith, below, count_is) in
     let at_is : c.index.result.now ≡ next_in (length hashes) bucket 0 hashes = c.index.ensures
-        ∙ get_or_from_slice_get buckets.first.items bucket (next_in (length hashes) bucket 0 hashes) c.index.result.now (buckets.first_are bucket low) in
+    ∙ get_or_from_slice_get buckets.first.items bucket (next_in (length hashes) bucket 0 hashes) c.index.result.now (buckets.first_are bucket low) in
     (begins (length hashes) bucket c.index.result.now hashes at_is).all ∙ ap (λ n. all_in (length hashes) (c.args.hash % n) 0 hashes) count_is

@@ -38,11 +38,11 @@ loop-at-preserved c =
     let hash = c.index.result.now in
     let one : suc at ≡ at + 1 = omega arith in
     let cut : drop at hashes ≡ hash ∷ drop (at + 1) hashes = drop-cons hashes at hash low
-        ∙ ap₂ (λ (h : ℕ) (n : ℕ). h ∷ drop n hashes) (sym c.index.ensures) one in
+    ∙ ap₂ (λ (h : ℕ) (n : ℕ). h ∷ drop n hashes) (sym c.index.ensures) one in
     let bucket_is : hash % c.len-count.result ≡ hash % length hashes = ap (λ n. hash % n) count_is in
     let below : hash % length hashes < length hashes = mod_below hash (length hashes) (omega (arith, low)) in
     let was = λ (b : ℕ) (in_row : b < length hashes). kept.first b in_row
-        ∙ ap (λ n. Some (next_in (length hashes) b n (drop n hashes))) (sym on) in
+    ∙ ap (λ n. Some (next_in (length hashes) b n (drop n hashes))) (sym on) in
     let first_count = kept.first_count in
     let next_count = kept.next_count in
     record {

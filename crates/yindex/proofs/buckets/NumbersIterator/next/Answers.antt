@@ -23,8 +23,8 @@ invariant_of-self c =
     let hashes = buckets.hashes.items in
     let found = c.in_ok-next.ensures.lookup in
     let linked : slice_get (links (length hashes) 0 hashes) numbers.at ≡ Some c.in_ok-next.next.now =
-        sym (ap (λ xs. slice_get xs numbers.at) (c.deref.ensures.value ∙ buckets.next_are))
-        ∙ slice_get_read c.deref.result.now (length c.deref.result.now) numbers.at c.in_ok-next.next.now refl found.3.0 found.1 in
+    sym (ap (λ xs. slice_get xs numbers.at) (c.deref.ensures.value ∙ buckets.next_are))
+    ∙ slice_get_read c.deref.result.now (length c.deref.result.now) numbers.at c.in_ok-next.next.now refl found.3.0 found.1 in
     record { stands = (steps (length hashes) numbers.bucket numbers.at c.in_ok-next.next.now hashes numbers.stands linked).stands }
 
 pub returns-clause-steps : goal.returns-clause-steps
@@ -34,8 +34,8 @@ returns-clause-steps c =
     let hashes = buckets.hashes.items in
     let found = c.in_ok-next.ensures.lookup in
     let linked : slice_get (links (length hashes) 0 hashes) numbers.at ≡ Some c.in_ok-next.next.now =
-        sym (ap (λ xs. slice_get xs numbers.at) (c.deref.ensures.value ∙ buckets.next_are))
-        ∙ slice_get_read c.deref.result.now (length c.deref.result.now) numbers.at c.in_ok-next.next.now refl found.3.0 found.1 in
+    sym (ap (λ xs. slice_get xs numbers.at) (c.deref.ensures.value ∙ buckets.next_are))
+    ∙ slice_get_read c.deref.result.now (length c.deref.result.now) numbers.at c.in_ok-next.next.now refl found.3.0 found.1 in
     (steps (length hashes) numbers.bucket numbers.at c.in_ok-next.next.now hashes numbers.stands linked).first
 
 pub returns-clause-goes : goal.returns-clause-goes
@@ -45,8 +45,8 @@ returns-clause-goes c =
     let hashes = buckets.hashes.items in
     let found = c.in_ok-next.ensures.lookup in
     let linked : slice_get (links (length hashes) 0 hashes) numbers.at ≡ Some c.in_ok-next.next.now =
-        sym (ap (λ xs. slice_get xs numbers.at) (c.deref.ensures.value ∙ buckets.next_are))
-        ∙ slice_get_read c.deref.result.now (length c.deref.result.now) numbers.at c.in_ok-next.next.now refl found.3.0 found.1 in
+    sym (ap (λ xs. slice_get xs numbers.at) (c.deref.ensures.value ∙ buckets.next_are))
+    ∙ slice_get_read c.deref.result.now (length c.deref.result.now) numbers.at c.in_ok-next.next.now refl found.3.0 found.1 in
     let step = steps (length hashes) numbers.bucket numbers.at c.in_ok-next.next.now hashes numbers.stands linked in
     let more = step.more in
     let inside = step.inside in
