@@ -1,16 +1,20 @@
 -- Numbers parted into buckets by hashes.
-use Rattle.std.specs.Prelude.{ℕ, ◌+◌, ◌*◌, ◌%◌, ◌^◌, ◌==◌, List, [], ◌∷◌, Option, Some, None, length, if◌then◌else◌}
+use Rattle.std.specs.Prelude.{ℕ, bit_xor, ◌+◌, ◌*◌, ◌%◌, ◌^◌, ◌==◌, List, [], ◌∷◌, Option, Some, None, length, if◌then◌else◌}
 use Rattle.yspec.specs.text.Text.{Text}
 
--- the hash of bytes behind others
+-- the state of FNV-1a, of 64 bits, behind more bytes
 abbrev pub mixed : ℕ → List ℕ → ℕ
 mixed hash [] = hash
-mixed hash (byte ∷ bytes) = mixed (((hash * 16777619) % 2 ^ 32 + byte) % 2 ^ 32) bytes
+mixed hash (byte ∷ bytes) = mixed ((bit_xor hash byte * 1099511628211) % 2 ^ 64) bytes
+
+-- the node above, or the top
+abbrev pub above : Option ℕ → ℕ
+above None = 0
+above (Some parent) = parent + 1
 
 -- the hash of a name below a node, or at the top
 abbrev pub hash_of : Option ℕ → Text → ℕ
-hash_of None name = mixed 0 name
-hash_of (Some parent) name = mixed ((parent + 1) % 2 ^ 32) name
+hash_of parent name = mixed (bit_xor 14695981039346656037 (above parent)) name % 4294967291
 
 -- the first number in a bucket, of a count of buckets, where these are the hashes from a number on; else the number past them
 abbrev pub next_in : ℕ → ℕ → ℕ → List ℕ → ℕ

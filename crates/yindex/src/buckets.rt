@@ -27,18 +27,26 @@ pub struct Numbers<'b> {
     ghost stands: { next_in (length buckets.now.hashes.items) bucket at (drop at buckets.now.hashes.items) ≡ at },
 }
 
-/// The hash of a name below a node of a number, or at the top.
+// The first state and the factor of the hash FNV-1a of 64 bits.
+const BASIS: u64 = 14_695_981_039_346_656_037;
+const FACTOR: u64 = 1_099_511_628_211;
+
+// The greatest prime below 2^32.
+const RANGE: u64 = 4_294_967_291;
+
+/// The hash of a name below a node of a number, or at the top: FNV-1a of 64 bits, brought into 32.
 pub fn hash_of(parent: Option<u32>, name: &str) -> u32
     ensures { result ≡ hash_of parent name.now }
 {
-    let mut hash = match parent {
-        Some(number) => number.wrapping_add(1),
+    let above = match parent {
+        Some(number) => u64::from(number) + 1,
         None => 0,
     };
+    let mut hash = BASIS ^ above;
     for byte in name.as_bytes() {
-        hash = hash.wrapping_mul(16_777_619).wrapping_add(u32::from(*byte));
+        hash = (hash ^ u64::from(*byte)).wrapping_mul(FACTOR);
     }
-    hash
+    (hash % RANGE) as u32
 }
 
 fn put(numbers: &mut Vec<u32>, place: usize, number: u32)
