@@ -136,6 +136,26 @@ fn first_of(contents: &[Vec<u8>]) -> &[u8]
     }
 }
 
+/// The schema of modules, by the contents of their files, and the files behind theirs. Statements are let go.
+fn schema_of_files<'a, 'b>(
+    alloc: Global,
+    modules: &[&'a str],
+    contents: &'b [Vec<u8>],
+) -> Result<(Schema, &'b [Vec<u8>]), Failure<'a>>
+    ensures { let names = map (λ n. n.now) modules.now in (next : schema_spec.Schema → List (List ℕ) → Outcome)
+        → LeadsTo (with_modules names (map (λ c. c.items) contents.entry.now)
+        (λ statements files. with_compiled names (compiled statements) (λ schema. next schema files)))
+        (λ made. next (schema_view.view made.0) (map (λ c. c.items) made.1.now)) result }
+{
+    match parse_modules(alloc, modules, contents) {
+        Ok((parsed, rest)) => match compile_modules(alloc, modules, &parsed) {
+            Ok(schema) => Ok((schema, rest)),
+            Err(failure) => Err(failure),
+        },
+        Err(failure) => Err(failure),
+    }
+}
+
 /// The faults of a document under modules, by the contents of their files: those of the modules, then the document's.
 fn judge_files<'a>(
     alloc: Global,
@@ -145,11 +165,8 @@ fn judge_files<'a>(
 ) -> Result<Report, Failure<'a>>
     ensures { LeadsTo (validation document.entry.now (map (λ n. n.now) modules.now) (map (λ c. c.items) contents.now)) reported result }
 {
-    match parse_modules(alloc, modules, contents) {
-        Ok((parsed, rest)) => match compile_modules(alloc, modules, &parsed) {
-            Ok(schema) => judge(alloc, document, schema, first_of(rest)),
-            Err(failure) => Err(failure),
-        },
+    match schema_of_files(alloc, modules, contents) {
+        Ok((schema, rest)) => judge(alloc, document, schema, first_of(rest)),
         Err(failure) => Err(failure),
     }
 }

@@ -29,6 +29,7 @@ pub struct Numbers<'b> {
 
 // The first state and the factor of the hash FNV-1a of 64 bits.
 const BASIS: u64 = 14_695_981_039_346_656_037;
+
 const FACTOR: u64 = 1_099_511_628_211;
 
 // The greatest prime below 2^32.
