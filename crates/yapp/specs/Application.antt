@@ -1,5 +1,6 @@
 -- The program as clap sees it: an application with its commands and their arguments.
-use Rattle.std.specs.Prelude.{codes, true}
+use Rattle.std.specs.Prelude.{codes, true, Some}
+use Rattle.clap.specs.Lexer.{usize_max}
 use Rattle.clap.specs.Words.{App, Rule, Shape, Text, new_app, new_rule, with_rule, with_subcommand}
 use Rattle.clap.specs.Simple.{on_top}
 
@@ -7,9 +8,13 @@ use Rattle.clap.specs.Simple.{on_top}
 abbrev pub wanted : Text → Rule
 wanted name = record (new_rule name) { required = true }
 
--- `validate DATA MODULE`
+-- one that takes all the words from its place on, one at least
+abbrev pub wanted_all : Text → Rule
+wanted_all name = record (wanted name) { range = Some (record { start_inclusive = 1; end_inclusive = usize_max }) }
+
+-- `validate DATA MODULE..`
 abbrev pub validate_app : App
-validate_app = with_rule (with_rule (new_app (codes "validate")) (wanted (codes "DATA"))) (wanted (codes "MODULE"))
+validate_app = with_rule (with_rule (new_app (codes "validate")) (wanted (codes "DATA"))) (wanted_all (codes "MODULE"))
 
 -- a command with subcommands, of which one has to be named, and no `help` among them
 abbrev pub with_commands : Shape → Shape

@@ -50,10 +50,11 @@ fn application<'a>(alloc: Global) -> Result<Command<'a>, AllocError>
         .help("The document, in JSON")
         .required(true);
     let module = Arg::new(alloc, "MODULE")
-        .help("The module of its data, in YANG 1.1")
-        .required(true);
+        .help("The modules of its data, in YANG 1.1")
+        .required(true)
+        .num_args(1..);
     let validate = Command::new(alloc, "validate")
-        .about("Prints the faults of a document under a module")
+        .about("Prints the faults of a document under modules")
         .arg(document)?
         .arg(module)?;
     Command::new(alloc, "yanglive")
