@@ -7,7 +7,7 @@ use Rattle.std.proofs.lemmas.List.{append-nil, length-append, length-map, map-ap
 use Rattle.yspec.specs.Forest.{Forest, end, node, join}
 use Rattle.yspec.specs.text.Statement.{Statement, Slip, module_of}
 use Rattle.yspec.specs.text.Text.{Text}
-use Rattle.yspec.specs.program.Output.{Outcome, Request, files_of, outcome, validate, validation, with_files, with_module, with_modules}
+use Rattle.yspec.specs.program.Output.{Outcome, Request, files_of, outcome, performed, with_files, with_module, with_modules}
 use Rattle.yspec.proofs.ForestLemmas.{join_end, join_assoc}
 use Rattle.ytext.specs.View.{view, modules_view}
 use Rattle.ytext.specs.declared.statement.Module.{Module}
@@ -196,24 +196,27 @@ came_of_answer before after request answers (Err (failures.Compile name code lin
 came_of_answer before after request answers (Err (failures.Document name schema code place)) read same is = inl (answers, read, sym is)
 came_of_answer before after request answers (Err failures.Memory) read same is = inr (same, refl)
 
--- a validation after its files were read
-pub came_of_texts : (before after : Store) (document : Text) (names files : List Text) (texts : List (List ℕ)) (r : Result Report Failure)
-    → files ≡ names ++ document ∷ [] → WereRead before after files (map Some texts) → LeadsTo (validation document names texts) reported r
-    → IsOutcome before after (validate document names) (came_to r)
+-- a request after its files were read
+pub came_of_texts : (before after : Store) (request : Request) (files : List Text) (texts : List (List ℕ)) (r : Result Report Failure)
+    → files ≡ files_of request → WereRead before after files (map Some texts) → LeadsTo (performed request texts) reported r
+    → IsOutcome before after request (came_to r)
 unfolding outcome
-came_of_texts before after document names files texts r e read is =
-    let told : WereRead before after (names ++ document ∷ []) (map Some texts) = subst (λ ns. WereRead before after ns (map Some texts)) e read in
+came_of_texts before after request files texts r e read is =
+    let told : WereRead before after (files_of request) (map Some texts) = subst (λ ns. WereRead before after ns (map Some texts)) e read in
     let none : after.failures ≡ before.failures = omega (arith, read.failures, none_unread texts) in
-    let goes_on = with_all_read before.contents (names ++ document ∷ []) texts (validation document names) told.answered in
-    came_of_answer before after (validate document names) (map Some texts) r told none (subst (λ o. LeadsTo o reported r) (sym goes_on) is)
+    let goes_on = with_all_read before.contents (files_of request) texts (performed request) told.answered in
+    came_of_answer before after request (map Some texts) r told none (subst (λ o. LeadsTo o reported r) (sym goes_on) is)
 
--- a validation whose files couldn't all be read
-pub came_of_reading : (before after : Store) (document : Text) (names files : List Text) (f : Failure) → files ≡ names ++ document ∷ []
-    → ReadsNot before after files f → IsOutcome before after (validate document names) (outcome_of f)
+-- a request whose files couldn't all be read
+pub came_of_reading : (before after : Store) (request : Request) (files : List Text) (f : Failure) → files ≡ files_of request
+    → ReadsNot before after files f → IsOutcome before after request (outcome_of f)
 unfolding outcome
-came_of_reading before after document names files f e (inl read) = inl (
+came_of_reading before after request files f e (inl read) = inl (
   read.0,
   subst (λ ns. WereRead before after ns read.0) e read.1,
-  sym (subst (λ ns. with_files ns read.0 (validation document names) ≡ outcome_of f) e (read.2 (validation document names))),
+  sym (subst (λ ns. with_files ns read.0 (performed request) ≡ outcome_of f) e (read.2 (performed request))),
 )
-came_of_reading before after document names files f e (inr none) = inr (none.0, ap outcome_of none.1)
+came_of_reading before after request files f e (inr none) = inr (none.0, ap outcome_of none.1)
+
+pub outcome_same : (before after : Store) (asked request : Request) (o : Outcome) → asked ≡ request → IsOutcome before after asked o → IsOutcome before after request o
+outcome_same before after asked request o e is = subst (λ (r : Request). IsOutcome before after r o) e is

@@ -1,8 +1,8 @@
 use Rattle.std.proofs.Common.{ℕ, Global, Vec, [], ◌∷◌, ◌+◌, ◌∙◌, ap, arith, drop, get_or, length, refl, subst, sym}
 use Rattle.std.proofs.lemmas.List.{at_drop_all, at_drop_more, length-append, length-map, map-append}
 use Rattle.yapp.specs.Files.{IsTold, store}
-use Rattle.yapp.proofs.ValidationLemmas.{ReadSoFar, memory_reads, names_in, no_name, none_read, one_read, reading_fails, texts_in, were_read}
-use Rattle.yapp.proofs.validation.read_files.Goals as goal
+use Rattle.yapp.proofs.ContentsLemmas.{ReadSoFar, memory_reads, names_in, no_name, none_read, one_read, reading_fails, texts_in, were_read}
+use Rattle.yapp.proofs.contents.read_files.Goals as goal
 
 pub loop-name-init : goal.loop-name-init
 loop-name-init g c =

@@ -1,7 +1,7 @@
 use Rattle.std.proofs.Common.{◌≡◌, ◌+◌, drop, length}
 use Rattle.yspec.specs.text.Text.{Text}
-use Rattle.yapp.proofs.ValidationLemmas.{ReadSoFar, names_in, texts_in}
-use Rattle.yapp.proofs.validation.read_files.Given as goal
+use Rattle.yapp.proofs.ContentsLemmas.{ReadSoFar, names_in, texts_in}
+use Rattle.yapp.proofs.contents.read_files.Given as goal
 
 abbrev pub invariant-loop-name : goal.invariant-loop-name
 invariant-loop-name g l = record {

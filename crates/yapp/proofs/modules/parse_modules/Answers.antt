@@ -4,8 +4,8 @@ use Rattle.yspec.specs.program.Output.{with_module}
 use Rattle.yspec.specs.text.Statement.{module_of}
 use Rattle.ytext.specs.View.{modules_view}
 use Rattle.yapp.specs.Failing.{FailsWith}
-use Rattle.yapp.proofs.ValidationLemmas.{ParsedSoFar, all_parsed, names_in, no_name, none_parsed, one_parsed, parsed_same, parsing_fails, texts_in, texts_parsed}
-use Rattle.yapp.proofs.validation.parse_modules.Goals as goal
+use Rattle.yapp.proofs.ContentsLemmas.{ParsedSoFar, all_parsed, names_in, no_name, none_parsed, one_parsed, parsed_same, parsing_fails, texts_in, texts_parsed}
+use Rattle.yapp.proofs.modules.parse_modules.Goals as goal
 
 pub loop-name-init : goal.loop-name-init
 loop-name-init c =

@@ -1,7 +1,7 @@
 use Rattle.std.proofs.Common.{drop}
 use Rattle.ytext.specs.View.{modules_view}
-use Rattle.yapp.proofs.ValidationLemmas.{ParsedSoFar, names_in, texts_in}
-use Rattle.yapp.proofs.validation.parse_modules.Given as goal
+use Rattle.yapp.proofs.ContentsLemmas.{ParsedSoFar, names_in, texts_in}
+use Rattle.yapp.proofs.modules.parse_modules.Given as goal
 
 abbrev pub invariant-loop-name : goal.invariant-loop-name
 invariant-loop-name l =
