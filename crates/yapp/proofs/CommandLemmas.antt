@@ -1,21 +1,50 @@
 -- What clap's answers come to.
-use Rattle.std.proofs.Common.{◌≡◌, ◌⊎◌, inl, inr, List, [], ◌∷◌, ℕ, Bool, Option, Some, None, Bor, map, false, true, refl, sym, subst, ap, ◌∙◌}
-use Rattle.std.specs.Prelude.{Result, Ok, Err, IsErrAnd, IsSomeAnd, option_map, unwrap_or, if◌then◌else◌}
-use Rattle.yspec.specs.program.Output.{found, validate}
-use Rattle.clap.specs.Lexer.{usize_max}
-use Rattle.clap.specs.Words.{Kinds, IsAmong, Row, Rule, Text, is_simple, is_simple_and_free, rule_of}
+use Rattle.std.proofs.Common.{◌≡◌, ◌⊎◌, inl, inr, List, [], ◌∷◌, ℕ, Bool, Option, Some, None, Bor, map, false, true, refl, sym, subst, ap, ap₂, ◌∙◌}
+use Rattle.std.specs.Prelude.{Result, Ok, Err, IsErrAnd, option_map, unwrap_or, ◌||◌, if◌then◌else◌}
+use Rattle.yspec.specs.program.Output.{compile, edit, found}
+use Rattle.clap.specs.Words.{AddsArg, AddsSubcommand, App, Kinds, IsAmong, Row, Rule, Text, app_of, first_value, rows_of, is_simple, is_simple_and_free, new_app, with_rule, with_subcommand}
+use Rattle.clap.specs.Simple.{app_of_fields}
 use Rattle.clap.specs.declared.builder.arg.Arg.{Arg}
-use Rattle.clap.specs.declared.builder.range.ValueRange.{ValueRange}
+use Rattle.clap.specs.declared.builder.command.Command.{Command}
+use Rattle.clap.specs.declared.builder.command.Command.TheViews.{out-Command}
+use Rattle.clap.specs.declared.builder.command.Command.TheOpen.{Command-F}
 use Rattle.clap.specs.declared.error.kind.ErrorKind.{ErrorKind}
 use Rattle.clap.specs.declared.error.kind.ErrorKind.TheVariants.{OutOfMemory}
+use Rattle.clap.specs.declared.parser.matches.Found.{Found}
+use Rattle.clap.proofs.WalkLemmas.{first_value-rows}
 use Rattle.clap.proofs.OnLiterals.{clap_on_literals}
-use Rattle.yapp.specs.Application.{yanglive}
-use Rattle.yapp.specs.Command.{Declines, Explains, Understands, asked_by, asks_help, is_help, validation_of}
+use Rattle.yapp.specs.Application.{IsArgument, IsCommand, yanglive}
+use Rattle.yapp.specs.Command.{Declines, Explains, Understands, asked_by, asked_of, asks_help, is_help, value_of}
 use Rattle.yapp.specs.Running.{refused, with_text}
 use Rattle.yapp.specs.declared.command.Request.{Request}
 use Rattle.yapp.specs.declared.command.NoRequest.{NoRequest}
 use Rattle.yapp.specs.declared.command.NoRequest.TheVariants as none
 use Rattle.yapp.proofs.HelpLemmas.{Alike, said_by}
+
+-- ---- the commands as they are built
+
+-- a command without arguments, with its texts for help
+pub told_command : (name : Text) (fresh about told : Command) (what text : Bor Text) → app_of fresh ≡ new_app name → (out-Command fresh).has_globals ≡ false
+    → out-Command about ≡ record (out-Command fresh) { about = Some what } → out-Command told ≡ record (out-Command about) { after_help = Some text }
+    → IsCommand (new_app name) told
+told_command name fresh about told what text is none about_is told_is = (
+  ap app_of_fields told_is ∙ (ap app_of_fields about_is ∙ is),
+  ap (λ (c : Command-F Command). c.has_globals) told_is ∙ (ap (λ (c : Command-F Command). c.has_globals) about_is ∙ none),
+)
+
+pub with_argument : (app : App) (rule : Rule) (old new : Command) (a : Arg) → IsCommand app old → IsArgument rule a → AddsArg old a new
+    → IsCommand (with_rule app rule) new
+with_argument app rule old new a command argument added =
+    (added.shape argument.1 ∙ ap₂ with_rule command.0 argument.0, added.globals ∙ ap₂ (λ x y. x || y) command.1 argument.1)
+
+pub with_command : (app inner : App) (old sub new : Command) → IsCommand app old → IsCommand inner sub → AddsSubcommand old sub new
+    → IsCommand (with_subcommand app inner.top) new
+with_command app inner old sub new command subcommand added = (
+  added.shape subcommand.1 ∙ ap₂ with_subcommand command.0 (ap (λ (a : App). a.top) subcommand.0),
+  added.globals ∙ ap₂ (λ x y. x || y) command.1 subcommand.1,
+)
+
+-- ---- what clap takes
 
 -- clap says exactly which words the program takes
 pub is_free : is_simple_and_free yanglive ≡ true
@@ -26,20 +55,6 @@ pub is_plain : is_simple yanglive ≡ true
 unfolding clap_on_literals
 is_plain = refl
 
--- all the words from a place on, one at least
-abbrev pub from_one : ValueRange
-from_one = record { start_inclusive = 1; end_inclusive = usize_max }
-
-some_range : (o : Option ValueRange) → IsSomeAnd o (λ v. v ≡ from_one) → o ≡ Some from_one
-some_range None is = absurd is
-some_range (Some v) is = ap Some is
-
--- an argument that takes them
-pub takes_all : (a ranged : Arg) (rule : Rule) → rule_of a ≡ rule → (ranged ≡ record a { num_vals = ranged.num_vals })
-    → IsSomeAnd ranged.num_vals (λ v. v ≡ from_one) → rule_of ranged ≡ record rule { range = Some from_one }
-takes_all a ranged rule same others range = ap rule_of others ∙ ap (λ v. rule_of (record a { num_vals = v })) (some_range ranged.num_vals range)
-    ∙ ap (λ (r : Rule). record r { range = Some from_one }) same
-
 pub now_or : {X : Type 0} → (o : Option (Bor X)) (d : Bor X) → (unwrap_or o d).now ≡ unwrap_or (option_map (λ b. b.now) o) d.now
 now_or None d = refl
 now_or (Some b) d = refl
@@ -49,11 +64,22 @@ pub names_or : (o : Option (Bor (List (Bor Text)))) (d : Bor (List (Bor Text)))
 names_or None d = refl
 names_or (Some b) d = refl
 
-pub asked_some : (o : Option (Text × List Row)) (rows : List Row) → Some rows ≡ option_map (λ p. p.1) o → validation_of rows ≡ asked_by o
-asked_some None rows e = cc
-asked_some (Some p) rows e = ap (λ (r : Option (List Row)). validation_of (unwrap_or r rows)) e
+-- the text of an argument, or an empty one
+pub given : (found : Found) (name : Text) (o : Option (Bor Text)) (d b : Bor Text) → option_map (λ s. s.now) o ≡ first_value found name
+    → b ≡ unwrap_or o d → d.now ≡ [] → b.now ≡ value_of name (rows_of found)
+given found name o d b is taken none = ap (λ (x : Bor Text). x.now) taken ∙ (now_or o d ∙ (ap (unwrap_or (option_map (λ s. s.now) o)) none
+    ∙ ap (λ (x : Option Text). unwrap_or x []) (is ∙ first_value-rows found name)))
 
-pub asked_none : (o : Option (Text × List Row)) → None ≡ option_map (λ p. p.1) o → validate [] [] ≡ asked_by o
+pub edit_same : (d e : Bool) (a b s t : Text) (ms ns : List Text) → d ≡ e → a ≡ b → s ≡ t → ms ≡ ns → edit d a s ms ≡ edit e b t ns
+edit_same d e a b s t ms ns flags documents scripts modules =
+    ap₂ (λ f n. edit f n s ms) flags documents ∙ ap₂ (edit e b) scripts modules
+
+pub asked_some : (o : Option (Text × List Row)) (name : Text) (rows : List Row) → Some name ≡ option_map (λ p. p.0) o
+    → Some rows ≡ option_map (λ p. p.1) o → asked_of name rows ≡ asked_by o
+asked_some None name rows e f = cc
+asked_some (Some p) name rows e f = ap₂ (λ (n : Option Text) (r : Option (List Row)). asked_of (unwrap_or n name) (unwrap_or r rows)) e f
+
+pub asked_none : (o : Option (Text × List Row)) → None ≡ option_map (λ p. p.1) o → compile [] ≡ asked_by o
 asked_none None e = refl
 asked_none (Some p) e = cc
 

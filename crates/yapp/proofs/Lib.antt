@@ -1,4 +1,6 @@
 pub mod HelpLemmas
 pub mod CommandLemmas
 pub mod RunningLemmas
-pub mod ValidationLemmas
+pub mod ContentsLemmas
+pub mod ScriptLemmas
+pub mod DocumentLemmas

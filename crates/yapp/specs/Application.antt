@@ -1,8 +1,12 @@
 -- The program as clap sees it: an application with its commands and their arguments.
-use Rattle.std.specs.Prelude.{codes, true, Some}
+use Rattle.std.specs.Prelude.{◌≡◌, codes, false, true, Some}
 use Rattle.clap.specs.Lexer.{usize_max}
-use Rattle.clap.specs.Words.{App, Rule, Shape, Text, new_app, new_rule, with_rule, with_subcommand}
+use Rattle.clap.specs.Words.{App, Rule, Shape, Text, app_of, new_app, new_rule, rule_of, with_rule, with_subcommand}
 use Rattle.clap.specs.Simple.{on_top}
+use Rattle.clap.specs.declared.builder.action.ArgAction.TheVariants.{SetTrue}
+use Rattle.clap.specs.declared.builder.arg.Arg.{Arg}
+use Rattle.clap.specs.declared.builder.command.Command.{Command}
+use Rattle.clap.specs.declared.builder.command.Command.TheViews.{out-Command}
 
 -- an argument that has to be given
 abbrev pub wanted : Text → Rule
@@ -12,13 +16,35 @@ wanted name = record (new_rule name) { required = true }
 abbrev pub wanted_all : Text → Rule
 wanted_all name = record (wanted name) { range = Some (record { start_inclusive = 1; end_inclusive = usize_max }) }
 
+-- a flag, as `--dump`, that may be given
+abbrev pub flag : Text → Rule
+flag name = record (new_rule name) { long = Some name; action = Some SetTrue }
+
+-- `compile MODULE..`
+abbrev pub compile_app : App
+compile_app = with_rule (new_app (codes "compile")) (wanted_all (codes "MODULE"))
+
 -- `validate DATA MODULE..`
 abbrev pub validate_app : App
 validate_app = with_rule (with_rule (new_app (codes "validate")) (wanted (codes "DATA"))) (wanted_all (codes "MODULE"))
+
+-- `edit [--dump] DATA SCRIPT MODULE..`
+abbrev pub edit_app : App
+edit_app = with_rule (with_rule (with_rule (with_rule (new_app (codes "edit")) (flag (codes "dump")))
+    (wanted (codes "DATA"))) (wanted (codes "SCRIPT"))) (wanted_all (codes "MODULE"))
 
 -- a command with subcommands, of which one has to be named, and no `help` among them
 abbrev pub with_commands : Shape → Shape
 with_commands s = record s { disable_help_subcommand = true; subcommand_required = true }
 
 abbrev pub yanglive : App
-yanglive = with_subcommand (on_top with_commands (new_app (codes "yanglive"))) validate_app.top
+yanglive = with_subcommand (with_subcommand (with_subcommand (on_top with_commands (new_app (codes "yanglive")))
+    compile_app.top) validate_app.top) edit_app.top
+
+-- ---- what is built of these
+
+abbrev pub IsArgument : Rule → Arg → Type 0
+IsArgument rule a = (rule_of a ≡ rule) × (a.global ≡ false)
+
+abbrev pub IsCommand : App → Command → Type 0
+IsCommand app c = (app_of c ≡ app) × ((out-Command c).has_globals ≡ false)

@@ -1,7 +1,8 @@
 -- What the words of a command line ask for, by clap's own definition of what it takes.
-use Rattle.std.specs.Prelude.{◌≡◌, Bool, true, false, List, [], ◌∷◌, map, codes, Option, Some, None, unwrap_or, Result, Ok, Err}
+use Rattle.std.specs.Prelude.{◌≡◌, Bool, true, false, List, [], ◌∷◌, map, codes, Option, Some, None, unwrap_or, Result, Ok, Err, if◌then◌else◌}
+use Rattle.std.specs.Str.{bytes_eq}
 use Rattle.yspec.specs.program.Output as spec
-use Rattle.yspec.specs.program.Output.{validate}
+use Rattle.yspec.specs.program.Output.{compile, validate, edit}
 use Rattle.clap.specs.Words.{Kinds, Row, Text, all_of, fault_of, first_of, subcommand_of}
 use Rattle.clap.specs.declared.error.kind.ErrorKind.{ErrorKind}
 use Rattle.clap.specs.declared.error.kind.ErrorKind.TheVariants.{DisplayHelp, OutOfMemory}
@@ -17,15 +18,32 @@ use Rattle.yapp.specs.declared.command.NoRequest.TheVariants as none
 abbrev pub refusals : List Text → Kinds
 refusals words = fault_of yanglive words
 
--- what the arguments of `validate` ask for
+abbrev pub value_of : Text → List Row → Text
+value_of name rows = unwrap_or (first_of name rows) []
+
+abbrev pub modules_of : List Row → List Text
+modules_of rows = unwrap_or (all_of (codes "MODULE") rows) []
+
+-- what the arguments of a command ask for
+abbrev pub compilation_of : List Row → spec.Request
+compilation_of rows = compile (modules_of rows)
+
 abbrev pub validation_of : List Row → spec.Request
-validation_of rows =
-    validate (unwrap_or (first_of (codes "DATA") rows) []) (unwrap_or (all_of (codes "MODULE") rows) [])
+validation_of rows = validate (value_of (codes "DATA") rows) (modules_of rows)
+
+abbrev pub edition_of : List Row → spec.Request
+edition_of rows = edit (bytes_eq (value_of (codes "dump") rows) (codes "true")) (value_of (codes "DATA") rows)
+    (value_of (codes "SCRIPT") rows) (modules_of rows)
+
+-- what the command of a name asks for
+abbrev pub asked_of : Text → List Row → spec.Request
+asked_of name rows = if bytes_eq name (codes "compile") then compilation_of rows
+    else (if bytes_eq name (codes "validate") then validation_of rows else edition_of rows)
 
 -- what a subcommand and its arguments ask for; taken words name one
 abbrev pub asked_by : Option (Text × List Row) → spec.Request
-asked_by None = validate [] []
-asked_by (Some command) = validation_of command.1
+asked_by None = compile []
+asked_by (Some command) = asked_of command.0 command.1
 
 -- what taken words ask for
 abbrev pub request_of : List Text → spec.Request
@@ -34,7 +52,10 @@ request_of words = asked_by (subcommand_of yanglive words)
 -- ---- the code's values as these
 
 abbrev pub view : Request → spec.Request
+view (requests.Compile modules) = compile (map (λ name. name.now) modules.items)
 view (requests.Validate document modules) = validate document.now (map (λ name. name.now) modules.items)
+view (requests.Edit is_dump document script modules) =
+    edit is_dump document.now script.now (map (λ name. name.now) modules.items)
 
 -- ---- what comes in place of a request
 

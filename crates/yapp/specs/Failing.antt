@@ -1,5 +1,6 @@
 -- What a report or a failure comes to, as the outcome that it prints.
-use Rattle.std.specs.Prelude.{◌≡◌, ℕ, ◌++◌, ◌==◌, List, length, codes, decimal, Result, Ok, Err, if◌then◌else◌}
+use Rattle.std.specs.Prelude.{◌≡◌, ℕ, ◌++◌, ◌==◌, ◌&&◌, List, length, codes, decimal, string_bytes, Result, Ok, Err, if◌then◌else◌}
+use Rattle.std.specs.Option.{option_map_or}
 use Rattle.ytext.specs.Told.{number_of}
 use Rattle.yschema.specs.Told.{code_number}
 use Rattle.yschema.specs.View as schema_view
@@ -8,12 +9,15 @@ use Rattle.ytree.specs.View.{place_view}
 use Rattle.ycheck.specs.View.{views}
 use Rattle.yspec.specs.program.Output.{Outcome, failed, found, refusal_line, report, unread}
 use Rattle.yspec.specs.text.Text.{Text}
+use Rattle.yapp.specs.Asked.{refused_texts}
 use Rattle.yapp.specs.Running.{without_memory}
 use Rattle.yapp.specs.declared.failure.Failure.{Failure}
 use Rattle.yapp.specs.declared.failure.Failure.TheVariants as failures
 use Rattle.yapp.specs.declared.files.FileFault.{FileFault}
 use Rattle.yapp.specs.declared.files.FileFault.TheVariants.{Unread, Memory}
 use Rattle.yapp.specs.declared.report.Report.{Report}
+use Rattle.yapp.specs.declared.report.Report.TheVariants as reports
+use Rattle.yapp.specs.declared.report.DocumentReport.{DocumentReport}
 
 -- a file's name, a line of it, and a code: what a module's refusal prints
 abbrev pub refusal_in : Text → ℕ → Text → ℕ → List ℕ
@@ -27,8 +31,18 @@ outcome_of (failures.Document name schema code place) = failed 2 (refusal_line (
     (record { code = document.code_number code; place = place_view place.items }))
 outcome_of failures.Memory = without_memory
 
+-- a document's text in a line, or its faults and how many there are
+abbrev pub document_text : DocumentReport → List ℕ
+document_text r = option_map_or (λ text. string_bytes text ++ codes "\n") r.text
+    (report (schema_view.view r.schema) (views r.faults.items))
+
 abbrev pub reported : Report → Outcome
-reported r = found (if length r.faults.items == 0 then 0 else 1) (report (schema_view.view r.schema) (views r.faults.items))
+reported (reports.Nodes count) = found 0 (decimal count ++ codes " nodes\n")
+reported (reports.Document r) = record {
+  output = document_text r;
+  errors = refused_texts r.refused.items;
+  status = if length r.faults.items == 0 && length r.refused.items == 0 then 0 else 1;
+}
 
 -- the failure of the file of a name
 abbrev pub FromFile : Text → FileFault → Failure → Type 0

@@ -75,7 +75,7 @@ IsOutcome before after request o =
     ((answers : FileAnswers) × WereRead before after (files_of request) answers × (o ≡ outcome request answers))
     ⊎ ((after.failures ≡ before.failures) × (o ≡ without_memory))
 
--- what a validation comes to
+-- what was found, or why nothing was, as an outcome
 abbrev pub came_to : Result Report Failure → Outcome
 came_to (Ok r) = reported r
 came_to (Err failure) = outcome_of failure

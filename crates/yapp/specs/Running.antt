@@ -1,5 +1,5 @@
 -- What a run comes to: an outcome, and what of it goes out on the two sides.
-use Rattle.std.specs.Prelude.{◌≡◌, ◌⊎◌, ℕ, List, [], codes, take, if◌then◌else◌}
+use Rattle.std.specs.Prelude.{◌≡◌, ◌⊎◌, ℕ, List, [], codes, take, Result, Ok, Err, if◌then◌else◌}
 use Rattle.clap.specs.Words.{Kinds}
 use Rattle.yspec.specs.program.Output.{Outcome, failed, found}
 use Rattle.youtput.specs.Writing.{Side, Wrote, Broke}
@@ -27,6 +27,15 @@ abbrev pub Brings : Side → Side → Side → Side → Outcome → ℕ → Type
 Brings output output_after errors errors_after o status = BringsAll output output_after errors errors_after o status
     ⊎ (OutputBreaks output output_after errors errors_after o status
     ⊎ ErrorsBreak output output_after errors errors_after o status)
+
+-- The error side gets its part of an outcome, and then the output. Or one call fails: then the output isn't begun, or
+-- the error side has got its part.
+abbrev pub WritesBoth : {X E : Type 0} → Side → Side → Side → Side → Outcome → Result X E → Type 0
+WritesBoth output output_after errors errors_after o (Ok x) =
+    Wrote output output_after o.output × Wrote errors errors_after o.errors
+WritesBoth output output_after errors errors_after o (Err e) =
+    (Broke output output_after o.output × Wrote errors errors_after o.errors)
+    ⊎ ((output_after ≡ output) × Broke errors errors_after o.errors)
 
 -- a run that writes to one side alone ends with some bytes and a status, or with the status of a failure where a call
 -- failed

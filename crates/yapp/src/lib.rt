@@ -1,18 +1,24 @@
 //! The commands of the program, over files and sinks that the caller gives.
 #![tactic(auto)]
 
+mod answering;
 mod command;
+mod contents;
+mod document;
 mod failure;
 mod files;
+mod modules;
 mod program;
 mod report;
+mod script;
 mod status;
-mod validation;
 
+pub use answering::answer;
 pub use command::{NoRequest, Request, read_request};
+pub use document::{Document, edit_document};
 pub use failure::Failure;
 pub use files::{FileFault, Files};
 pub use program::{refuse, run, tell_memory};
-pub use report::Report;
+pub use report::{DocumentReport, Report};
+pub use script::{Refusal, RefusedLine};
 pub use status::{FAILED, FAULTY, GOOD, MISUSED, REFUSED};
-pub use validation::validate;

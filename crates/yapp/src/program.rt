@@ -1,17 +1,18 @@
 //! A run of the program.
 
-ghost use Rattle.std.specs.Prelude.{◌≡◌, [], codes, is_ok, if◌then◌else◌, map, string_bytes};
-ghost use Rattle.yspec.specs.program.Output as spec;
+ghost use Rattle.std.specs.Prelude.{◌≡◌, [], is_ok, if◌then◌else◌, map, string_bytes};
 ghost use Rattle.yspec.specs.program.Output.{Outcome};
-ghost use Rattle.yapp.specs.Command.{refusals, request_of, view};
-ghost use Rattle.yapp.specs.Files.{IsOutcome, store};
+ghost use Rattle.yapp.specs.Command.{refusals, request_of};
+ghost use Rattle.yapp.specs.Files.{IsOutcome, came_to, store};
 ghost use Rattle.yapp.specs.Running.{AnswersWords, Brings, Ends, refused, without_memory};
 ghost use Rattle.youtput.specs.Writing.{side};
 
-use crate::command::{NoRequest, Request, read_request};
+use crate::answering::answer;
+use crate::command::{NoRequest, read_request};
+use crate::failure::Failure;
 use crate::files::Files;
+use crate::report::Report;
 use crate::status::{FAILED, GOOD, MISUSED};
-use crate::validation::validate;
 use std::alloc::Global;
 use youtput::{Sink, SinkFault, write_texts};
 
@@ -49,48 +50,14 @@ fn show<O: Sink>(text: &str, output: &mut O) -> u8
     status_after(write_texts(output, &[text]), GOOD)
 }
 
-/// Does what was asked for.
-fn perform<F: Files, O: Sink, E: Sink>(
-    alloc: Global,
-    request: &Request<'_>,
-    files: &mut F,
-    output: &mut O,
-    errors: &mut E,
-) -> u8
-    ensures { (o : Outcome) × IsOutcome (store F.contents F.reads F.failures files.old) (store F.contents F.reads F.failures files.new) (view request.now) o
-        × Brings (side O.taken O.failures output.old) (side O.taken O.failures output.new)
-        (side E.taken E.failures errors.old) (side E.taken E.failures errors.new) o result }
+/// Tells what was found, or why nothing was.
+fn tell<O: Sink, E: Sink>(found: Result<Report, Failure<'_>>, output: &mut O, errors: &mut E) -> u8
+    ensures { Brings (side O.taken O.failures output.old) (side O.taken O.failures output.new)
+        (side E.taken E.failures errors.old) (side E.taken E.failures errors.new) (came_to found.entry) result }
 {
-    match request {
-        Request::Validate { document, modules } => {
-            tell_faults(alloc, *document, modules, files, output, errors)
-        }
-    }
-}
-
-/// Tells the faults of a document under modules, or why they can't be told.
-fn tell_faults<F: Files, O: Sink, E: Sink>(
-    alloc: Global,
-    document: &str,
-    modules: &[&str],
-    files: &mut F,
-    output: &mut O,
-    errors: &mut E,
-) -> u8
-    ensures { (o : Outcome) × IsOutcome (store F.contents F.reads F.failures files.old) (store F.contents F.reads F.failures files.new)
-        (spec.validate document.now (map (λ n. n.now) modules.now)) o
-        × Brings (side O.taken O.failures output.old) (side O.taken O.failures output.new)
-        (side E.taken E.failures errors.old) (side E.taken E.failures errors.new) o result }
-{
-    match validate(alloc, document, modules, files) {
-        Ok(report) => {
-            let status = report.status();
-            status_after(report.write(output), status)
-        }
-        Err(failure) => {
-            let status = failure.status();
-            status_after(failure.write(errors), status)
-        }
+    match found {
+        Ok(report) => status_after(report.write(output, errors), report.status()),
+        Err(failure) => status_after(failure.write(errors), failure.status()),
     }
 }
 
@@ -114,7 +81,7 @@ pub fn run<F: Files, O: Sink, E: Sink>(
     ensures untouched { ¬ (refusals (map string_bytes words.now) ≡ []) → files.new ≡ files.old }
 {
     match read_request(alloc, words) {
-        Ok(request) => perform(alloc, &request, files, output, errors),
+        Ok(request) => tell(answer(alloc, &request, files), output, errors),
         Err(NoRequest::Help(text)) => show(text.as_str(), output),
         Err(NoRequest::Refused(text)) => refuse(text.as_str(), errors),
         Err(NoRequest::Memory) => tell_memory(errors),

@@ -1,24 +1,40 @@
-//! The faults of a document, and how they are printed.
+//! What a command found, and how it is printed.
 
 ghost use Rattle.std.specs.Prelude.{◌≡◌, ◌++◌, codes, decimal};
 ghost use Rattle.std.specs.List.{flat_map};
 ghost use Rattle.yspec.specs.document.Faults.{line_of};
+ghost use Rattle.yspec.specs.program.Output.{report};
 ghost use Rattle.youtput.specs.Writing.{Writes, side};
 ghost use Rattle.yschema.specs.View as schema_view;
 ghost use Rattle.ycheck.specs.View.{views};
+ghost use Rattle.yapp.specs.Asked.{refused_text, refused_texts};
 ghost use Rattle.yapp.specs.Failing.{reported};
+ghost use Rattle.yapp.specs.Running.{WritesBoth};
+ghost use Rattle.yapp.specs.declared.report.Report.TheVariants.{Document};
 
+use crate::script::RefusedLine;
 use crate::status::{FAULTY, GOOD};
 use itoa::Buffer;
 use ycheck::{Fault, write_line};
 use youtput::{Sink, SinkFault, write_texts};
 use yschema::Schema;
 
-/// The faults of a document under its schema, in order.
+/// What a command found.
 #[derive(Drop)]
-pub struct Report {
+pub enum Report {
+    /// How many nodes modules define.
+    Nodes(usize),
+    Document(DocumentReport),
+}
+
+/// The faults of a document under its schema, in order, and the lines of its script that are refused. Where it is to be
+/// dumped its text stands in place of the faults.
+#[derive(Drop)]
+pub struct DocumentReport {
     pub schema: Schema,
     pub faults: Vec<Fault>,
+    pub refused: Vec<RefusedLine>,
+    pub text: Option<String>,
 }
 
 impl Report {
@@ -26,18 +42,58 @@ impl Report {
     pub fn status(&self) -> u8
         ensures { result ≡ (reported self.now).status }
     {
-        if self.faults.is_empty() { GOOD } else { FAULTY }
+        match self {
+            Report::Nodes(_) => GOOD,
+            Report::Document(report) => report.status(),
+        }
     }
 
-    /// Writes a line for each fault, and then how many there are.
-    pub fn write<S: Sink>(&self, sink: &mut S) -> Result<(), SinkFault>
-        ensures { Writes (side S.taken S.failures sink.old) (side S.taken S.failures sink.new)
-            (reported self.now).output result }
+    /// Writes the refused lines on the error side, and then what was found.
+    pub fn write<O: Sink, E: Sink>(&self, output: &mut O, errors: &mut E) -> Result<(), SinkFault>
+        ensures { WritesBoth (side O.taken O.failures output.old) (side O.taken O.failures output.new)
+            (side E.taken E.failures errors.old) (side E.taken E.failures errors.new) (reported self.now) result }
     {
-        let faults = self.faults.as_slice();
-        write_lines(&self.schema, faults, sink)?;
-        write_count(faults.len(), sink)
+        match self {
+            Report::Nodes(count) => write_count(*count, " nodes\n", output),
+            Report::Document(report) => {
+                write_refused(&report.refused, errors)?;
+                report.write_document(output)
+            }
+        }
     }
+}
+
+impl DocumentReport {
+    /// The exit status that it brings.
+    fn status(&self) -> u8
+        ensures { result ≡ (reported (Document self.now)).status }
+    {
+        if self.faults.is_empty() && self.refused.is_empty() {
+            GOOD
+        } else {
+            FAULTY
+        }
+    }
+
+    /// Writes the faults and how many there are, or the text.
+    fn write_document<S: Sink>(&self, sink: &mut S) -> Result<(), SinkFault>
+        ensures { Writes (side S.taken S.failures sink.old) (side S.taken S.failures sink.new)
+            (reported (Document self.now)).output result }
+    {
+        match &self.text {
+            Some(text) => write_texts(sink, &[text.as_str(), "\n"]),
+            None => write_faults(&self.schema, &self.faults, sink),
+        }
+    }
+}
+
+/// Writes a line for each fault, and then how many there are.
+fn write_faults<S: Sink>(schema: &Schema, faults: &[Fault], sink: &mut S) -> Result<(), SinkFault>
+    ensures { Writes (side S.taken S.failures sink.old) (side S.taken S.failures sink.new)
+        (report (schema_view.view schema.now) (views faults.now)) result }
+{
+    write_lines(schema, faults, sink)?;
+    write_count(faults.len(), " faults\n", sink)
 }
 
 /// Writes a line for each fault.
@@ -54,11 +110,41 @@ fn write_lines<S: Sink>(schema: &Schema, faults: &[Fault], sink: &mut S) -> Resu
     Ok(())
 }
 
-/// Writes how many faults there are.
-fn write_count<S: Sink>(count: usize, sink: &mut S) -> Result<(), SinkFault>
+/// Writes a number and what is counted.
+fn write_count<S: Sink>(count: usize, counted: &str, sink: &mut S) -> Result<(), SinkFault>
     ensures { Writes (side S.taken S.failures sink.old) (side S.taken S.failures sink.new)
-        (decimal count ++ codes " faults\n") result }
+        (decimal count ++ counted.now) result }
 {
     let mut digits = Buffer::new();
-    write_texts(sink, &[digits.format(count), " faults\n"])
+    write_texts(sink, &[digits.format(count), counted])
+}
+
+/// Writes refused lines.
+fn write_refused<S: Sink>(lines: &[RefusedLine], sink: &mut S) -> Result<(), SinkFault>
+    ensures { Writes (side S.taken S.failures sink.old) (side S.taken S.failures sink.new)
+        (refused_texts lines.now) result }
+{
+    for line in lines {
+        write_refused_line(*line, sink)?;
+    }
+    Ok(())
+}
+
+/// Writes the line of a refused line: `line K: CODE`.
+fn write_refused_line<S: Sink>(line: RefusedLine, sink: &mut S) -> Result<(), SinkFault>
+    ensures { Writes (side S.taken S.failures sink.old) (side S.taken S.failures sink.new)
+        (refused_text line) result }
+{
+    let mut number_digits = Buffer::new();
+    let mut code_digits = Buffer::new();
+    let number = number_digits.format(line.number);
+    let code = code_digits.format(line.refusal.code.number());
+    match line.refusal.doc {
+        Some(doc) => {
+            let mut doc_digits = Buffer::new();
+            let doc = doc_digits.format(doc.number());
+            write_texts(sink, &["line ", number, ": E", code, " J", doc, "\n"])
+        }
+        None => write_texts(sink, &["line ", number, ": E", code, "\n"]),
+    }
 }

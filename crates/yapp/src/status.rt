@@ -3,7 +3,7 @@
 /// No fault, or help was asked for.
 pub const GOOD: u8 = 0;
 
-/// The document has faults.
+/// The document has faults, or an edit of it is refused.
 pub const FAULTY: u8 = 1;
 
 /// A module or a document is refused.

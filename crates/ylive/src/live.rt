@@ -117,6 +117,16 @@ impl Live {
         &self.schema
     }
 
+    /// The schema of the document, and what it stores, also of a stale one.
+    pub fn into_parts(self) -> (Schema, Tree)
+        ensures schema { schema_view.view result.0 ≡ (view self).schema }
+        ensures tree { tree_view result.1 ≡ (view self).tree }
+        ensures fitting { Fits (view self).schema (tree_view result.1) }
+    {
+        let Live { schema, tree, .. } = self;
+        (schema, tree)
+    }
+
     /// How many faults the document has; nothing of a stale one.
     pub fn fault_count(&self) -> Option<usize>
         ensures { result ≡ known_count (view self.now) }

@@ -5,6 +5,7 @@
 
 pub mod changes;
 pub mod checking;
+pub mod commands;
 pub mod compiling;
 pub mod documents;
 pub mod editing;

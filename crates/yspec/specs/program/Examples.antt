@@ -1,5 +1,5 @@
 -- Worked examples: modules and documents whose faults and refusals are known from the standard's rules.
-use Rattle.std.specs.Prelude.{ℕ, List, ◌++◌, [], ◌∷◌, codes, Option, Some, None, option_map, option_and_then, Result, Ok}
+use Rattle.std.specs.Prelude.{ℕ, true, false, List, ◌++◌, [], ◌∷◌, codes, Option, Some, None, option_map, option_and_then, Result, Ok}
 use Rattle.std.specs.Result.{result_ok}
 use Rattle.yspec.specs.text.Text.{Text}
 use Rattle.yspec.specs.text.Statement.{module_of}
@@ -7,7 +7,7 @@ use Rattle.yspec.specs.schema.Schema.{Schema}
 use Rattle.yspec.specs.linking.Compiling.{schema_of}
 use Rattle.yspec.specs.document.Reading.{document_of}
 use Rattle.yspec.specs.document.Writing.{written_text}
-use Rattle.yspec.specs.program.Output.{Outcome, validate, outcome, found}
+use Rattle.yspec.specs.program.Output.{Outcome, compile, edit, validate, outcome, found}
 use Rattle.yspec.specs.document.Document.{Tree, step_to}
 use Rattle.yspec.specs.edit.EditText.{Edit, edit_of}
 use Rattle.yspec.specs.edit.Editing.{Decision, after, decisions}
@@ -61,6 +61,26 @@ read_and_written schema document = option_map (written_text schema) (result_ok (
 abbrev pub rewritten : Text → Text → Option Text
 rewritten module_bytes document =
     option_and_then (λ m. read_and_written (schema_of m) document) (result_ok (module_of module_bytes))
+
+-- ---- commands
+
+-- what `compile m.yang` prints of a module's text
+abbrev pub counted : Text → Outcome
+counted module_bytes = outcome (compile (codes "m.yang" ∷ [])) (Some module_bytes ∷ [])
+
+-- what `edit d.json s.txt m.yang` prints of a module's text, a document's and a script's
+abbrev pub scripted : Text → Text → Text → Outcome
+scripted module_bytes document script = outcome (edit false (codes "d.json") (codes "s.txt") (codes "m.yang" ∷ []))
+    (Some module_bytes ∷ Some document ∷ Some script ∷ [])
+
+-- the same with `--dump`
+abbrev pub dumped : Text → Text → Text → Outcome
+dumped module_bytes document script = outcome (edit true (codes "d.json") (codes "s.txt") (codes "m.yang" ∷ []))
+    (Some module_bytes ∷ Some document ∷ Some script ∷ [])
+
+-- what is printed on both sides where there is a fault, or a refused edit
+abbrev pub faulty : Text → Text → Outcome
+faulty errors output = record { output = output; errors = errors; status = 1 }
 
 -- ---- edits
 

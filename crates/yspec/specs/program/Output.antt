@@ -1,7 +1,7 @@
 -- What a run of the program prints, as a function of the files that it asks for and of what they contain.
-use Rattle.std.specs.Prelude.{ℕ, ◌++◌, List, [], ◌∷◌, length, codes, decimal, Option, Some, None, Result, Ok, Err, if◌then◌else◌, ◌==◌, slice_get, unwrap_or}
+use Rattle.std.specs.Prelude.{ℕ, ◌++◌, ◌&&◌, Bool, false, List, [], ◌∷◌, length, codes, decimal, Option, Some, None, Result, Ok, Err, if◌then◌else◌, ◌==◌, slice_get, unwrap_or}
 use Rattle.std.specs.List.{flat_map}
-use Rattle.yspec.specs.Forest.{Forest, end, join}
+use Rattle.yspec.specs.Forest.{Forest, end, join, size}
 use Rattle.yspec.specs.text.Text.{Text}
 use Rattle.yspec.specs.text.Statement.{Statement, Slip, module_of}
 use Rattle.yspec.specs.schema.Breaks.{Break}
@@ -12,11 +12,17 @@ use Rattle.yspec.specs.document.Reading.{Refusal, document_of}
 use Rattle.yspec.specs.document.Fault.{Fault}
 use Rattle.yspec.specs.document.Faults.{faults_of, line_of}
 use Rattle.yspec.specs.document.Path.{path_text}
+use Rattle.yspec.specs.document.Writing.{written_text}
+use Rattle.yspec.specs.program.Script.{after_lines, lines_of, refused_lines}
 
 -- what the words of a command line ask for
 pub data Request : Type 0 where
-  -- the fault lines of a document under modules
+  -- how many schema nodes modules define
+  compile : List Text → Request
+  -- the faults of a document under modules
   validate : Text → List Text → Request
+  -- the same after the edits of a script; or, where it is to be dumped, the document then
+  edit : Bool → Text → Text → List Text → Request
 
 -- both sides' bytes, and the exit status
 pub record Outcome : Type 0 where
@@ -32,9 +38,11 @@ failed status errors = record { output = []; errors = errors ++ codes "\n"; stat
 
 -- ---- the files
 
--- the words for files in the order in which they are read: modules, then the document
+-- the words for files in the order in which they are read: modules, the document, the script
 abbrev pub files_of : Request → List Text
+files_of (compile modules) = modules
 files_of (validate document modules) = modules ++ document ∷ []
+files_of (edit is_dump document script modules) = modules ++ document ∷ script ∷ []
 
 abbrev pub unread : Text → Outcome
 unread name = failed 4 (codes "cannot read " ++ name)
@@ -74,6 +82,11 @@ abbrev pub with_compiled : List Text → Result Schema Break → (Schema → Out
 with_compiled names (Err b) next = failed 2 (break_line names b)
 with_compiled names (Ok schema) next = next schema
 
+-- `next` goes on with the schema of modules whose files have these contents, and with the files that are left
+abbrev pub with_schema : List Text → List (List ℕ) → (Schema → List (List ℕ) → Outcome) → Outcome
+with_schema names contents next = with_modules names contents (λ modules files.
+    with_compiled names (compiled modules) (λ schema. next schema files))
+
 -- ---- the document
 
 abbrev pub refusal_line : Schema → Text → Refusal → List ℕ
@@ -88,23 +101,58 @@ abbrev pub first_file : List (List ℕ) → List ℕ
 first_file [] = []
 first_file (bytes ∷ files) = bytes
 
+abbrev pub other_files : List (List ℕ) → List (List ℕ)
+other_files [] = []
+other_files (bytes ∷ files) = files
+
+-- `next` goes on with the document, too
+abbrev pub with_document : Text → List Text → List (List ℕ) → (Schema → Tree → List (List ℕ) → Outcome) → Outcome
+with_document document names contents next = with_schema names contents (λ schema files.
+    with_tree schema document (document_of schema (first_file files)) (λ tree. next schema tree (other_files files)))
+
 -- ---- reports
+
+abbrev pub counted : Schema → Outcome
+counted schema = found 0 (decimal (size schema.nodes) ++ codes " nodes\n")
 
 -- a line for each fault, and then how many there are
 abbrev pub report : Schema → List Fault → List ℕ
 report schema faults = flat_map (line_of schema) faults ++ (decimal (length faults) ++ codes " faults\n")
 
-abbrev pub judged : Schema → Tree → Outcome
-judged schema tree =
-    let faults = faults_of schema tree in found (if length faults == 0 then 0 else 1) (report schema faults)
+-- the text of a document, in a line
+abbrev pub dump : Schema → Tree → List ℕ
+dump schema tree = written_text schema tree ++ codes "\n"
 
--- what `validate` prints of a document and modules whose files have these contents
+-- a document after edits, of which the refused ones are told in these lines
+abbrev pub left : Bool → Schema → Tree → List ℕ → Outcome
+left is_dump schema tree refused = let faults = faults_of schema tree in record {
+  output = if is_dump then dump schema tree else report schema faults;
+  errors = refused;
+  status = if length faults == 0 && length refused == 0 then 0 else 1;
+}
+
+-- a document after the lines of a script
+abbrev pub edited : Bool → Schema → Tree → List Text → Outcome
+edited is_dump schema tree lines = left is_dump schema (after_lines schema tree lines) (refused_lines schema 1 tree lines)
+
+-- ---- what is printed where all files could be read, and have these contents
+
+abbrev pub compilation : List Text → List (List ℕ) → Outcome
+compilation names contents = with_schema names contents (λ schema files. counted schema)
+
+-- as an edit by a script without lines
 abbrev pub validation : Text → List Text → List (List ℕ) → Outcome
-validation document names contents = with_modules names contents (λ modules files.
-    with_compiled names (compiled modules) (λ schema.
-    with_tree schema document (document_of schema (first_file files)) (judged schema)))
+validation document names contents = with_document document names contents (λ schema tree files. edited false schema tree [])
+
+abbrev pub edition : Bool → Text → List Text → List (List ℕ) → Outcome
+edition is_dump document names contents = with_document document names contents (λ schema tree files.
+    edited is_dump schema tree (lines_of (first_file files)))
+
+abbrev pub performed : Request → List (List ℕ) → Outcome
+performed (compile names) contents = compilation names contents
+performed (validate document names) contents = validation document names contents
+performed (edit is_dump document script names) contents = edition is_dump document names contents
 
 -- the outcome of a request, where the files answered so, in order and up to the first failure
 unfoldable pub outcome : Request → List (Option (List ℕ)) → Outcome
-outcome (validate document names) answers =
-    with_files (files_of (validate document names)) answers (validation document names)
+outcome request answers = with_files (files_of request) answers (performed request)

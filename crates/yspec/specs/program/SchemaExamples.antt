@@ -11,7 +11,7 @@ use Rattle.yspec.specs.document.Writing.{written_text}
 use Rattle.yspec.specs.document.Faults.{faults_of}
 use Rattle.yspec.specs.edit.EditText.{Edit}
 use Rattle.yspec.specs.edit.Editing.{Decision, after, decisions}
-use Rattle.yspec.specs.program.Output.{Outcome, with_tree, report, judged}
+use Rattle.yspec.specs.program.Output.{Outcome, with_tree, report, edited}
 use Rattle.yspec.specs.program.Examples.{edits_of}
 
 -- ---- how schemas are written here
@@ -131,7 +131,7 @@ m_schema = record {
 
 -- what is printed of a document under a schema
 abbrev pub shown_under : Schema → Text → Outcome
-shown_under schema document = with_tree schema (codes "d.json") (document_of schema document) (judged schema)
+shown_under schema document = with_tree schema (codes "d.json") (document_of schema document) (λ tree. edited false schema tree [])
 
 -- the first refusal of a document where there is room for so many nodes
 abbrev pub refused_within : ℕ → Schema → Text → Option Refusal

@@ -1,11 +1,20 @@
 use Rattle.std.proofs.Common.{inl, inr, refl, map, string_bytes, false, true}
 use Rattle.yspec.specs.program.Output.{found}
+use Rattle.yapp.specs.Files.{came_to}
+use Rattle.yapp.proofs.ContentsLemmas.{outcome_same}
 use Rattle.yapp.specs.Command.{Declines, refusals}
 use Rattle.yapp.specs.declared.command.NoRequest.TheVariants as none
 use Rattle.yapp.specs.Running.{refused, without_memory}
 use Rattle.yapp.proofs.CommandLemmas.{asked_help, text_is}
 use Rattle.yapp.proofs.RunningLemmas.{on_output, on_errors}
 use Rattle.yapp.proofs.program.run.Goals as goal
+
+pub returns-in-Ok-clause-taken : goal.returns-in-Ok-clause-taken
+returns-in-Ok-clause-taken g c = λ taken. (
+  came_to c.answer.result,
+  outcome_same _ _ _ _ _ c.in-Ok.ensures.1 c.answer.ensures,
+  c.tell.ensures,
+)
 
 pub returns-in-Err-Help : goal.returns-in-Err-Help
 returns-in-Err-Help g c =

@@ -1,0 +1,222 @@
+-- Reading files and modules one after another.
+use Rattle.std.proofs.Common.{◌≡◌, ◌⊎◌, inl, inr, ℕ, ◌+◌, List, [], ◌∷◌, ◌++◌, map, Some, None, refl, sym, subst, ap, ◌∙◌, append_assoc, arith}
+use Rattle.std.proofs.Common.{Vec, Global, length}
+use Rattle.std.specs.Borrow.{Bor}
+use Rattle.std.specs.Prelude.{Result, Ok, Err, IsErrAnd}
+use Rattle.std.proofs.lemmas.List.{append-nil, length-append, length-map, map-append}
+use Rattle.yspec.specs.Forest.{Forest, end, node, join}
+use Rattle.yspec.specs.text.Statement.{Statement, Slip, module_of}
+use Rattle.yspec.specs.text.Text.{Text}
+use Rattle.yspec.specs.program.Output.{Outcome, Request, files_of, outcome, performed, with_files, with_module, with_modules}
+use Rattle.yspec.proofs.ForestLemmas.{join_end, join_assoc}
+use Rattle.ytext.specs.View.{view, modules_view}
+use Rattle.ytext.specs.declared.statement.Module.{Module}
+use Rattle.yapp.specs.Failing.{FailsWith, FromFile, LeadsTo, outcome_of, reported}
+use Rattle.yapp.specs.Files.{Answered, Contents, FileAnswers, IsOutcome, IsTold, ReadsAll, Store, WereRead, came_to, failed_reads, unread_in}
+use Rattle.yapp.specs.declared.failure.Failure.{Failure}
+use Rattle.yapp.specs.declared.failure.Failure.TheVariants as failures
+use Rattle.yapp.specs.declared.files.FileFault.{FileFault}
+use Rattle.yapp.specs.declared.files.FileFault.TheVariants as faults
+use Rattle.yapp.specs.declared.report.Report.{Report}
+
+-- the names and the texts that the code holds
+abbrev pub names_in : List (Bor Text) → List Text
+names_in = map (λ n. n.now)
+
+abbrev pub texts_in : List (Vec ℕ Global) → List (List ℕ)
+texts_in = map (λ t. t.items)
+
+-- what stands in the place of a name that isn't there
+abbrev pub no_name : Bor Text
+no_name = record { ref_ptr = (0, 0); now = [] }
+
+-- ---- files
+
+with_files_same : (names : List Text) (answers : FileAnswers) (f g : List (List ℕ) → Outcome) → ((texts : List (List ℕ)) → f texts ≡ g texts)
+    → with_files names answers f ≡ with_files names answers g
+with_files_same [] answers f g same = same []
+with_files_same (name ∷ names) [] f g same = refl
+with_files_same (name ∷ names) (None ∷ answers) f g same = refl
+with_files_same (name ∷ names) (Some bytes ∷ answers) f g same =
+    with_files_same names answers (λ rest. f (bytes ∷ rest)) (λ rest. g (bytes ∷ rest)) (λ rest. same (bytes ∷ rest))
+
+-- so much is read of the files of some names, and these names are left
+pub record ReadSoFar (contents : Contents) (names left : List Text) (texts : List (List ℕ)) : Type 0 where
+  pub answered : (rest : FileAnswers) → Answered contents left rest → Answered contents names (map Some texts ++ rest)
+  pub goes_on : (rest : FileAnswers) (next : List (List ℕ) → Outcome)
+      → with_files names (map Some texts ++ rest) next ≡ with_files left rest (λ more. next (texts ++ more))
+
+pub none_read : (contents : Contents) (names : List Text) → ReadSoFar contents names names []
+none_read contents names = record { answered = λ rest a. a; goes_on = λ rest next. refl }
+
+behind : (texts : List (List ℕ)) (text : List ℕ) (rest : FileAnswers) → map Some texts ++ (Some text ∷ rest) ≡ map Some (texts ++ text ∷ []) ++ rest
+behind texts text rest = sym (append_assoc (map Some texts) (Some text ∷ []) rest) ∙ ap (λ (xs : FileAnswers). xs ++ rest) (sym (map-append Some texts (text ∷ [])))
+
+pub one_read : (contents : Contents) (names left : List Text) (texts : List (List ℕ)) (name : Text) (text : List ℕ)
+    → IsTold (contents name) text → ReadSoFar contents names (name ∷ left) texts → ReadSoFar contents names left (texts ++ text ∷ [])
+one_read contents names left texts name text tells so_far = record {
+  answered = λ rest a. subst (Answered contents names) (behind texts text rest) (so_far.answered (Some text ∷ rest) (tells, a));
+  goes_on = λ rest next. ap (λ (answers : FileAnswers). with_files names answers next) (sym (behind texts text rest))
+      ∙ so_far.goes_on (Some text ∷ rest) next
+      ∙ with_files_same left rest (λ more. next (texts ++ (text ∷ more))) (λ more. next ((texts ++ text ∷ []) ++ more))
+      (λ more. ap next (sym (append_assoc texts (text ∷ []) more)));
+}
+
+pub all_read : (contents : Contents) (names : List Text) (texts : List (List ℕ)) → ReadSoFar contents names [] texts
+    → Answered contents names (map Some texts)
+all_read contents names texts so_far = subst (Answered contents names) (append-nil (map Some texts)) (so_far.answered [] tt)
+
+pub none_unread : (texts : List (List ℕ)) → unread_in (map Some texts) ≡ 0
+none_unread [] = refl
+none_unread (text ∷ texts) = none_unread texts
+
+pub with_all_read : (contents : Contents) (names : List Text) (texts : List (List ℕ)) (next : List (List ℕ) → Outcome)
+    → Answered contents names (map Some texts) → with_files names (map Some texts) next ≡ next texts
+with_all_read contents [] [] next a = refl
+with_all_read contents [] (text ∷ texts) next a = absurd a
+with_all_read contents (name ∷ names) [] next a = absurd a
+with_all_read contents (name ∷ names) (text ∷ texts) next a = with_all_read contents names texts (λ rest. next (text ∷ rest)) a.1
+
+length_behind : (texts : List (List ℕ)) → length (map Some texts ++ None ∷ []) ≡ length texts + 1
+length_behind texts = omega (arith, length-append (map (λ (t : List ℕ). Some t) texts) (None ∷ []), length-map texts (λ (t : List ℕ). Some t))
+
+unread_behind : (texts : List (List ℕ)) → unread_in (map Some texts ++ None ∷ []) ≡ 1
+unread_behind [] = refl
+unread_behind (text ∷ texts) = unread_behind texts
+
+-- ---- modules
+
+with_module_same : (name : Text) (read : Result (Forest Statement) Slip) (f g : Forest Statement → Outcome) → ((top : Forest Statement) → f top ≡ g top)
+    → with_module name read f ≡ with_module name read g
+with_module_same name (Ok top) f g same = same top
+with_module_same name (Err slip) f g same = refl
+
+with_modules_same : (names : List Text) (texts : List (List ℕ)) (f g : Forest Statement → List (List ℕ) → Outcome)
+    → ((rest : Forest Statement) (files : List (List ℕ)) → f rest files ≡ g rest files) → with_modules names texts f ≡ with_modules names texts g
+with_modules_same [] texts f g same = same end texts
+with_modules_same (name ∷ names) [] f g same = same end []
+with_modules_same (name ∷ names) (text ∷ texts) f g same = with_module_same name (module_of text)
+    (λ top. with_modules names texts (λ rest. f (join top rest))) (λ top. with_modules names texts (λ rest. g (join top rest)))
+    (λ top. with_modules_same names texts (λ rest. f (join top rest)) (λ rest. g (join top rest)) (λ rest files. same (join top rest) files))
+
+modules_behind : (ms : List Module) (m : Module) → modules_view (ms ++ m ∷ []) ≡ join (modules_view ms) (modules_view (m ∷ []))
+modules_behind [] m = refl
+modules_behind (x ∷ ms) m = ap (node (view x.top).0 (view x.top).1) (modules_behind ms m)
+
+-- so many modules are read, and these names and texts are left
+abbrev pub ParsedSoFar : List Text → List (List ℕ) → List Text → List (List ℕ) → Forest Statement → Type 0
+ParsedSoFar names texts left_names left_texts modules = (next : Forest Statement → List (List ℕ) → Outcome)
+    → with_modules names texts next ≡ with_modules left_names left_texts (λ rest files. next (join modules rest) files)
+
+pub parsed_same : (names left_names : List Text) (texts left_texts : List (List ℕ)) (modules : Forest Statement) (names' : List Text) (texts' : List (List ℕ))
+    → left_names ≡ names' → left_texts ≡ texts' → ParsedSoFar names texts left_names left_texts modules → ParsedSoFar names texts names' texts' modules
+parsed_same names left_names texts left_texts modules names' texts' same_names same_texts so_far =
+    subst (λ ns. ParsedSoFar names texts ns texts' modules) same_names (subst (λ ts. ParsedSoFar names texts left_names ts modules) same_texts so_far)
+
+pub none_parsed : (names : List Text) (texts : List (List ℕ)) → ParsedSoFar names texts names texts end
+none_parsed names texts next = refl
+
+pub one_parsed : (names left_names : List Text) (texts left_texts : List (List ℕ)) (name : Text) (text : List ℕ) (ms : List Module) (m : Module)
+    → ParsedSoFar names texts (name ∷ left_names) (text ∷ left_texts) (modules_view ms)
+    → ((next : Forest Statement → Outcome) → with_module name (module_of text) next ≡ next (modules_view (m ∷ [])))
+    → ParsedSoFar names texts left_names left_texts (modules_view (ms ++ m ∷ []))
+one_parsed names left_names texts left_texts name text ms m so_far read next = so_far next
+    ∙ read (λ top. with_modules left_names left_texts (λ rest files. next (join (modules_view ms) (join top rest)) files))
+    ∙ with_modules_same left_names left_texts (λ rest files. next (join (modules_view ms) (join (modules_view (m ∷ [])) rest)) files)
+    (λ rest files. next (join (modules_view (ms ++ m ∷ [])) rest) files)
+    (λ rest files. ap (λ (f : Forest Statement). next f files)
+    (sym (join_assoc (modules_view ms) (modules_view (m ∷ [])) rest)
+    ∙ ap (λ (f : Forest Statement). join f rest) (sym (modules_behind ms m))))
+
+pub all_parsed : (names : List Text) (texts left_texts : List (List ℕ)) (ms : List Module) → ParsedSoFar names texts [] left_texts (modules_view ms)
+    → (next : Forest Statement → List (List ℕ) → Outcome) → with_modules names texts next ≡ next (modules_view ms) left_texts
+all_parsed names texts left_texts ms so_far next = so_far next ∙ ap (λ (f : Forest Statement). next f left_texts) (join_end (modules_view ms))
+
+pub texts_parsed : (names left_names : List Text) (texts left_texts : List (List ℕ)) (name : Text) (ms : List Module) → length left_texts ≡ 0
+    → ParsedSoFar names texts (name ∷ left_names) left_texts (modules_view ms)
+    → (next : Forest Statement → List (List ℕ) → Outcome) → with_modules names texts next ≡ next (modules_view ms) left_texts
+texts_parsed names left_names texts [] name ms none so_far next = so_far next ∙ ap (λ (f : Forest Statement). next f []) (join_end (modules_view ms))
+texts_parsed names left_names texts (text ∷ left_texts) name ms none so_far next = cc
+
+-- the module of which the text is refused
+pub parsing_fails : (names left_names : List Text) (texts left_texts : List (List ℕ)) (name : Text) (text : List ℕ) (ms : List Module) (f : Failure)
+    → ParsedSoFar names texts (name ∷ left_names) (text ∷ left_texts) (modules_view ms)
+    → ((next : Forest Statement → Outcome) → FailsWith f (with_module name (module_of text) next))
+    → (next : Forest Statement → List (List ℕ) → Outcome) → FailsWith f (with_modules names texts next)
+parsing_fails names left_names texts left_texts name text ms f so_far refused next = subst (FailsWith f) (sym (so_far next))
+    (refused (λ top. with_modules left_names left_texts (λ rest files. next (join (modules_view ms) (join top rest)) files)))
+
+-- ---- what a call answers
+
+-- all files were read
+pub were_read : (before after : Store) (names : List Text) (texts : List (List ℕ)) → ReadSoFar before.contents names [] texts
+    → after.reads ≡ before.reads + length texts → after.failures ≡ before.failures → WereRead before after names (map Some texts)
+were_read before after names texts so_far reads same = record {
+  answered = all_read before.contents names texts so_far;
+  reads = omega (arith, reads, length-map texts (λ (t : List ℕ). Some t));
+  failures = omega (arith, same, none_unread texts);
+}
+
+-- one couldn't be read, whatever is to be made of the files; or memory was wanting
+abbrev pub ReadsNot : Store → Store → List Text → Failure → Type 0
+ReadsNot before after names f = ((answers : FileAnswers) × WereRead before after names answers
+    × ((next : List (List ℕ) → Outcome) → with_files names answers next ≡ outcome_of f))
+    ⊎ ((after.failures ≡ before.failures) × (f ≡ failures.Memory))
+
+-- the file at hand couldn't be read, or there was no memory for it
+pub reading_fails : (X : Type 0) (before now after : Store) (names left : List Text) (texts : List (List ℕ)) (name : Text) (fault : FileFault) (f : Failure)
+    → ReadSoFar before.contents names (name ∷ left) texts → now.reads ≡ before.reads + length texts → now.failures ≡ before.failures
+    → after.reads ≡ now.reads + 1 → after.failures ≡ now.failures + failed_reads {X = X} (Err fault) → FromFile name fault f
+    → ReadsNot before after names f
+reading_fails X before now after names left texts name faults.Unread f so_far reads same one_more counted is = inl (
+  map Some texts ++ None ∷ [],
+  record {
+    answered = so_far.answered (None ∷ []) refl;
+    reads = omega (arith, one_more, reads, length_behind texts);
+    failures = omega (arith, counted, same, unread_behind texts);
+  },
+  λ next. so_far.goes_on (None ∷ []) next ∙ sym is,
+)
+reading_fails X before now after names left texts name faults.Memory f so_far reads same one_more counted is =
+    inr (omega (arith, counted, same), is)
+
+pub memory_reads : {X : Type 0} (see : X → List (List ℕ)) (before after : Store) (names : List Text) (r : Result X Failure)
+    → IsErrAnd r (λ e. e ≡ failures.Memory) → after.failures ≡ before.failures → ReadsAll see before after names r
+memory_reads see before after names (Ok x) e same = absurd e
+memory_reads see before after names (Err f) e same = inr (same, e)
+
+-- what is returned is the outcome, or there was no memory
+came_of_answer : (before after : Store) (request : Request) (answers : FileAnswers) (r : Result Report Failure)
+    → WereRead before after (files_of request) answers → after.failures ≡ before.failures → LeadsTo (outcome request answers) reported r
+    → IsOutcome before after request (came_to r)
+came_of_answer before after request answers (Ok report) read same is = inl (answers, read, sym is)
+came_of_answer before after request answers (Err (failures.Unread name)) read same is = inl (answers, read, sym is)
+came_of_answer before after request answers (Err (failures.Text name code line)) read same is = inl (answers, read, sym is)
+came_of_answer before after request answers (Err (failures.Compile name code line)) read same is = inl (answers, read, sym is)
+came_of_answer before after request answers (Err (failures.Document name schema code place)) read same is = inl (answers, read, sym is)
+came_of_answer before after request answers (Err failures.Memory) read same is = inr (same, refl)
+
+-- a request after its files were read
+pub came_of_texts : (before after : Store) (request : Request) (files : List Text) (texts : List (List ℕ)) (r : Result Report Failure)
+    → files ≡ files_of request → WereRead before after files (map Some texts) → LeadsTo (performed request texts) reported r
+    → IsOutcome before after request (came_to r)
+unfolding outcome
+came_of_texts before after request files texts r e read is =
+    let told : WereRead before after (files_of request) (map Some texts) = subst (λ ns. WereRead before after ns (map Some texts)) e read in
+    let none : after.failures ≡ before.failures = omega (arith, read.failures, none_unread texts) in
+    let goes_on = with_all_read before.contents (files_of request) texts (performed request) told.answered in
+    came_of_answer before after request (map Some texts) r told none (subst (λ o. LeadsTo o reported r) (sym goes_on) is)
+
+-- a request whose files couldn't all be read
+pub came_of_reading : (before after : Store) (request : Request) (files : List Text) (f : Failure) → files ≡ files_of request
+    → ReadsNot before after files f → IsOutcome before after request (outcome_of f)
+unfolding outcome
+came_of_reading before after request files f e (inl read) = inl (
+  read.0,
+  subst (λ ns. WereRead before after ns read.0) e read.1,
+  sym (subst (λ ns. with_files ns read.0 (performed request) ≡ outcome_of f) e (read.2 (performed request))),
+)
+came_of_reading before after request files f e (inr none) = inr (none.0, ap outcome_of none.1)
+
+pub outcome_same : (before after : Store) (asked request : Request) (o : Outcome) → asked ≡ request → IsOutcome before after asked o → IsOutcome before after request o
+outcome_same before after asked request o e is = subst (λ (r : Request). IsOutcome before after r o) e is

@@ -1,0 +1,104 @@
+-- Documents after the lines of a script, and what is told of them.
+use Rattle.std.proofs.Common.{◌≡◌, ◌≤◌, ◌<◌, ℕ, Bool, true, false, List, [], ◌∷◌, ◌++◌, Option, Some, None, Global, String, string_bytes, codes, drop, length, refl, sym, subst, ap, ap₂, ◌∙◌, arith, eqb-true}
+use Rattle.std.specs.Prelude.{◌==◌, ◌&&◌, Result, Ok, Err, IsErrAnd, option_map, if◌then◌else◌}
+use Rattle.std.specs.Option.{option_map_or}
+use Rattle.std.proofs.lemmas.List.{length-map}
+use Rattle.yspec.specs.Forest.{size}
+use Rattle.yspec.specs.text.Text.{Text}
+use Rattle.yspec.specs.schema.Schema as spec
+use Rattle.yspec.specs.document.Document.{Tree, document_limit}
+use Rattle.yspec.specs.document.Fitting.{Fits}
+use Rattle.yspec.specs.document.Writing.{IsDocument, written_text}
+use Rattle.yspec.specs.edit.EditText.{Edit}
+use Rattle.yspec.specs.edit.Editing as editing
+use Rattle.yspec.specs.edit.Editing.{after}
+use Rattle.yspec.specs.document.Fault as spec_fault
+use Rattle.yspec.specs.document.Faults.{faults_of}
+use Rattle.yspec.specs.program.Output.{Outcome, dump, left, report}
+use Rattle.yspec.specs.program.Script.{after_lines, refused_lines}
+use Rattle.yspec.proofs.EditProofs.FittingEditLemmas.{edits_whole}
+use Rattle.yspec.proofs.EditProofs.LimitLemmas.{edits_within}
+use Rattle.ycheck.specs.View.{view, views}
+use Rattle.ycheck.specs.declared.fault.Fault.{Fault}
+use Rattle.yschema.specs.View as schema_view
+use Rattle.yschema.specs.declared.schema.Schema.{Schema}
+use Rattle.yschema.proofs.CallerLemmas.{names_differ, numbered}
+use Rattle.yapp.specs.Asked.{IsScript, Line, decision_text, edits_of, kinds_of, refused_texts, told_from}
+use Rattle.yapp.specs.Edited.{IsEdited, IsRun, IsSound, refused_of, schema_of, tree_of}
+use Rattle.yapp.specs.Failing.{LeadsTo}
+use Rattle.yapp.specs.declared.document.Document.{Document}
+use Rattle.yapp.specs.declared.failure.Failure.{Failure}
+use Rattle.yapp.specs.declared.failure.Failure.TheVariants as failures
+use Rattle.yapp.specs.declared.script.RefusedLine.{RefusedLine}
+use Rattle.yapp.proofs.ScriptLemmas.{after_is, refused_is}
+
+-- what fits after edits is sound as before them
+sound_after : (schema : Schema) (t u : Tree) (edits : List Edit) → IsSound (schema_view.view schema) t → u ≡ after (schema_view.view schema) t edits
+    → Fits (schema_view.view schema) u → IsSound (schema_view.view schema) u
+sound_after schema t u edits sound is fits = let s = schema_view.view schema in record {
+  fits = fits;
+  whole = subst (IsDocument s) (sym is) (edits_whole s t edits (numbered schema) (names_differ schema) sound.whole);
+  within = subst (λ (v : Tree). size v ≤ document_limit) (sym is) (edits_within s t edits sound.within);
+}
+
+-- a run of the edits of a script is the script's
+pub edited_by : (schema : Schema) (t : Tree) (kinds : List Line) (edits : List Edit) (lines : List Text) (d : Document)
+    → IsSound (schema_view.view schema) t → IsScript kinds edits lines → IsRun (schema_view.view schema) t kinds edits d
+    → IsEdited (schema_view.view schema) t lines d
+edited_by schema t kinds edits lines d sound script run = let s = schema_view.view schema in record {
+  schema_is = run.schema_is;
+  tree_is = run.tree_is ∙ ap (after s t) script.edits_are ∙ sym (after_is s t lines);
+  refused_is = run.refused_is
+      ∙ ap₂ (λ (ks : List Line) (es : List Edit). told_from 1 ks (editing.decisions s t es)) script.kinds_are script.edits_are
+      ∙ sym (refused_is s 1 t lines);
+  sound = subst (λ (x : spec.Schema). IsSound x (tree_of d)) (sym run.schema_is) (sound_after schema t (tree_of d) edits sound run.tree_is run.fits);
+}
+
+-- want of memory leads anywhere
+pub memory_leads : {X : Type 0} (o : Outcome) (next : X → Outcome) (r : Result X Failure) → IsErrAnd r (λ e. e ≡ failures.Memory) → LeadsTo o next r
+memory_leads o next (Ok x) e = absurd e
+memory_leads o next (Err f) e = subst (λ g. LeadsTo o next (Err g)) (sym e) tt
+
+by_test : (n : ℕ) (b : Bool) → (n == 0) ≡ b → 0 < n → (n == 0) ≡ false
+by_test n true is some = let none = eqb-true n 0 is in absurd (omega (arith, none, some))
+by_test n false is some = is
+
+nonempty : {X : Type 0} (x : X) (xs : List X) → (length (x ∷ xs) == 0) ≡ false
+nonempty x xs = by_test (length (x ∷ xs)) _ refl (omega arith)
+
+-- there are refused lines exactly where they have a text
+pub none_refused : (lines : List RefusedLine) → (length (refused_texts lines) == 0) ≡ (length lines == 0)
+none_refused [] = refl
+none_refused (line ∷ lines) = nonempty {X = ℕ} 108 (drop 1 (refused_texts (line ∷ lines))) ∙ sym (nonempty line lines)
+
+pub edited_same : (next : spec.Schema → Tree → List ℕ → Outcome) (s : spec.Schema) (t : Tree) (lines : List Text) (d : Document) → IsEdited s t lines d
+    → next s (after_lines s t lines) (refused_lines s 1 t lines) ≡ next (schema_of d) (tree_of d) (refused_of d)
+edited_same next s t lines d edited = ap (λ (x : spec.Schema). next x (after_lines s t lines) (refused_lines s 1 t lines)) (sym edited.schema_is)
+    ∙ ap₂ (next (schema_of d)) (sym edited.tree_is) (sym edited.refused_is)
+
+-- ---- reports
+
+abbrev outcome_with : List ℕ → List ℕ → Bool → Bool → Outcome
+outcome_with output errors no_fault none_refused =
+    record { output = output; errors = errors; status = if no_fault && none_refused then 0 else 1 }
+
+text_shown : (is_dump : Bool) (text : Option (String Global)) (written shown : List ℕ)
+    → option_map string_bytes text ≡ (if is_dump then Some written else None)
+    → option_map_or (λ t. string_bytes t ++ codes "\n") text shown ≡ (if is_dump then written ++ codes "\n" else shown)
+text_shown true text written shown is = by_text text ∙ ap (λ (o : Option (List ℕ)). option_map_or (λ t. t ++ codes "\n") o shown) is
+  where
+    by_text : (text : Option (String Global)) → option_map_or (λ t. string_bytes t ++ codes "\n") text shown ≡ option_map_or (λ t. t ++ codes "\n") (option_map string_bytes text) shown
+    by_text None = refl
+    by_text (Some t) = refl
+text_shown false None written shown is = refl
+text_shown false (Some t) written shown is = cc
+
+pub report_is : (is_dump : Bool) (s : spec.Schema) (t : Tree) (found : List Fault) (refused : List RefusedLine) (text : Option (String Global))
+    → views found ≡ faults_of s t → option_map string_bytes text ≡ (if is_dump then Some (written_text s t) else None)
+    → outcome_with (option_map_or (λ t. string_bytes t ++ codes "\n") text (report s (views found))) (refused_texts refused) (length found == 0) (length refused == 0)
+    ≡ left is_dump s t (refused_texts refused)
+report_is is_dump s t found refused text same is =
+    ap (λ (b : Bool). outcome_with (option_map_or (λ t. string_bytes t ++ codes "\n") text (report s (views found))) (refused_texts refused) (length found == 0) b) (sym (none_refused refused))
+    ∙ (ap (λ (o : List ℕ). outcome_with o (refused_texts refused) (length found == 0) (length (refused_texts refused) == 0)) (text_shown is_dump text (written_text s t) (report s (views found)) is)
+    ∙ (ap (λ (n : ℕ). outcome_with (if is_dump then dump s t else report s (views found)) (refused_texts refused) (n == 0) (length (refused_texts refused) == 0)) (sym (length-map found view))
+    ∙ ap (λ (fs : List spec_fault.Fault). outcome_with (if is_dump then dump s t else report s fs) (refused_texts refused) (length fs == 0) (length (refused_texts refused) == 0)) same))

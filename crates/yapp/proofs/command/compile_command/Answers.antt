@@ -1,0 +1,12 @@
+use Rattle.std.proofs.Common.{codes, ap, ◌∙◌}
+use Rattle.std.proofs.lemmas.Result.{IfOk-weaker}
+use Rattle.clap.specs.Words.{new_app}
+use Rattle.clap.specs.Simple.{app_of_fields}
+use Rattle.yapp.specs.Application.{wanted_all}
+use Rattle.yapp.proofs.CommandLemmas.{told_command, with_argument}
+use Rattle.yapp.proofs.command.compile_command.Goals as goal
+
+pub returns : goal.returns
+returns c =
+    let bare = told_command (codes "compile") c.new.result c.about.result c.after_help.result _ _ c.new.ensures.app c.new.ensures.local c.about.ensures c.after_help.ensures in
+    IfOk-weaker c.arg.result _ _ (λ r added. with_argument _ (wanted_all (codes "MODULE")) _ r _ bare c.modules_argument.ensures added) c.arg.ensures

@@ -1,0 +1,7 @@
+use Rattle.std.proofs.Common.{drop}
+use Rattle.yapp.specs.Asked.{edits_in, kinds_in}
+use Rattle.yapp.proofs.ScriptLemmas.{ReadSoFar, lines_in}
+use Rattle.yapp.proofs.script.Script.with_lines.Given as goal
+
+abbrev pub invariant-loop-line : goal.invariant-loop-line
+invariant-loop-line l = ReadSoFar (kinds_in l.script) (edits_in l.script) (lines_in l.lines) (lines_in (drop l.line-index l.lines))

@@ -1,0 +1,44 @@
+-- Documents that were read and edited, as the definitions' trees.
+use Rattle.std.specs.Prelude.{◌≡◌, ◌≤◌, ℕ, List}
+use Rattle.yspec.specs.Forest.{size}
+use Rattle.yspec.specs.text.Text.{Text}
+use Rattle.yspec.specs.schema.Schema.{Schema}
+use Rattle.yspec.specs.document.Document.{Tree, document_limit}
+use Rattle.yspec.specs.document.Fitting.{Fits}
+use Rattle.yspec.specs.document.Writing.{IsDocument}
+use Rattle.yspec.specs.edit.EditText.{Edit}
+use Rattle.yspec.specs.edit.Editing.{after, decisions}
+use Rattle.yspec.specs.program.Script.{after_lines, refused_lines}
+use Rattle.yschema.specs.View as schema_view
+use Rattle.ytree.specs.View.{tree_view}
+use Rattle.yapp.specs.Asked.{Line, refused_texts, told_from}
+use Rattle.yapp.specs.declared.document.Document.{Document}
+
+abbrev pub schema_of : Document → Schema
+schema_of d = schema_view.view d.schema
+
+abbrev pub tree_of : Document → Tree
+tree_of d = tree_view d.tree
+
+abbrev pub refused_of : Document → List ℕ
+refused_of d = refused_texts d.refused.items
+
+-- a document fits its schema, in its values too, and isn't too large
+pub record IsSound (schema : Schema) (tree : Tree) : Type 0 where
+  pub fits : Fits schema tree
+  pub whole : IsDocument schema tree
+  pub within : size tree ≤ document_limit
+
+-- one that a tree became by a script of lines, of which these kinds are
+pub record IsRun (schema : Schema) (tree : Tree) (kinds : List Line) (edits : List Edit) (d : Document) : Type 0 where
+  pub schema_is : schema_of d ≡ schema
+  pub tree_is : tree_of d ≡ after schema tree edits
+  pub refused_is : refused_of d ≡ told_from 1 kinds (decisions schema tree edits)
+  pub fits : Fits schema (tree_of d)
+
+-- one that a tree became by the lines of a script
+pub record IsEdited (schema : Schema) (tree : Tree) (lines : List Text) (d : Document) : Type 0 where
+  pub schema_is : schema_of d ≡ schema
+  pub tree_is : tree_of d ≡ after_lines schema tree lines
+  pub refused_is : refused_of d ≡ refused_lines schema 1 tree lines
+  pub sound : IsSound (schema_of d) (tree_of d)

@@ -1,0 +1,100 @@
+//! From a request to what was found.
+
+ghost use Rattle.std.specs.Prelude.{◌≡◌, map};
+ghost use Rattle.yspec.specs.program.Output.{compilation, edition, performed, validation};
+ghost use Rattle.yapp.specs.Command.{view};
+ghost use Rattle.yapp.specs.Failing.{LeadsTo, reported};
+ghost use Rattle.yapp.specs.Files.{IsOutcome, came_to, store};
+
+use crate::command::Request;
+use crate::contents::{names_of, read_files};
+use crate::document::{edit_document, read_document, report_on};
+use crate::failure::Failure;
+use crate::files::Files;
+use crate::modules::compile_contents;
+use crate::report::Report;
+use std::alloc::Global;
+
+/// How many nodes modules define, by the contents of their files.
+fn count_nodes<'a>(
+    alloc: Global,
+    modules: &[&'a str],
+    contents: &[Vec<u8>],
+) -> Result<Report, Failure<'a>>
+    ensures { LeadsTo (compilation (map (λ n. n.now) modules.now) (map (λ c. c.items) contents.now)) reported result }
+{
+    match compile_contents(alloc, modules, contents) {
+        Ok(compiled) => Ok(Report::Nodes(compiled.value.nodes())),
+        Err(failure) => Err(failure),
+    }
+}
+
+/// The faults of a document under modules, by the contents of the files.
+fn validate<'a>(
+    alloc: Global,
+    document: &'a str,
+    modules: &[&'a str],
+    contents: &[Vec<u8>],
+) -> Result<Report, Failure<'a>>
+    ensures { LeadsTo (validation document.entry.now (map (λ n. n.now) modules.now) (map (λ c. c.items) contents.now)) reported result }
+{
+    match read_document(alloc, document, modules, contents) {
+        Ok(read) => Ok(report_on(alloc, read.value, false)?),
+        Err(failure) => Err(failure),
+    }
+}
+
+/// The same after the edits of a script; or, where it is to be dumped, the document then.
+fn edit<'a>(
+    alloc: Global,
+    is_dump: bool,
+    document: &'a str,
+    modules: &[&'a str],
+    contents: &[Vec<u8>],
+) -> Result<Report, Failure<'a>>
+    ensures { LeadsTo (edition is_dump document.entry.now (map (λ n. n.now) modules.now) (map (λ c. c.items) contents.now)) reported result }
+{
+    match edit_document(alloc, document, modules, contents) {
+        Ok(edited) => Ok(report_on(alloc, edited, is_dump)?),
+        Err(failure) => Err(failure),
+    }
+}
+
+/// What a request comes to, by the contents of its files.
+fn perform<'a>(
+    alloc: Global,
+    request: &Request<'a>,
+    contents: &[Vec<u8>],
+) -> Result<Report, Failure<'a>>
+    ensures { LeadsTo (performed (view request.now) (map (λ c. c.items) contents.now)) reported result }
+{
+    match request {
+        Request::Compile { modules } => count_nodes(alloc, modules, contents),
+        Request::Validate { document, modules } => validate(alloc, *document, modules, contents),
+        Request::Edit {
+            is_dump,
+            document,
+            modules,
+            ..
+        } => edit(alloc, *is_dump, *document, modules, contents),
+    }
+}
+
+/// What a request comes to. All files are read first: the modules in order, then the document, then the script. The first
+/// file that can't be read, and then the first text, module or document that is refused, ends it.
+pub fn answer<'a, F: Files>(
+    alloc: Global,
+    request: &Request<'a>,
+    files: &mut F,
+) -> Result<Report, Failure<'a>>
+    ensures { IsOutcome (store F.contents F.reads F.failures files.old) (store F.contents F.reads F.failures files.new)
+        (view request.now) (came_to result) }
+{
+    match names_of(alloc, request) {
+        Ok(names) => match read_files(alloc, &names, files) {
+            Ok(contents) => perform(alloc, request, &contents),
+            Err(failure) => Err(failure),
+        },
+        Err(_) => Err(Failure::Memory),
+    }
+}

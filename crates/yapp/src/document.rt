@@ -1,0 +1,173 @@
+//! Documents: read, edited, and reported on.
+
+ghost use Rattle.std.specs.Prelude.{◌≡◌, ◌++◌, ◌∷◌, [], ℕ, List, IfOk, length, map, option_map, string_bytes, take, Option, Some, None, false, if◌then◌else◌};
+ghost use Rattle.yspec.specs.document.Document as document_spec;
+ghost use Rattle.yspec.specs.document.Fitting.{Fits};
+ghost use Rattle.yspec.specs.document.Reading.{document_of};
+ghost use Rattle.yspec.specs.document.Writing.{written_text};
+ghost use Rattle.yspec.specs.program.Output.{Outcome, dump, edition, first_file, left, validation, with_document, with_tree};
+ghost use Rattle.yspec.specs.program.Script.{after_lines, lines_of, refused_lines};
+ghost use Rattle.yspec.specs.schema.Schema as schema_spec;
+ghost use Rattle.yschema.specs.View as schema_view;
+ghost use Rattle.ytree.specs.View.{tree_view};
+ghost use Rattle.ylive.specs.View as live_view;
+ghost use Rattle.yapp.specs.Asked.{edits_in, kinds_in};
+ghost use Rattle.yapp.specs.Edited.{IsEdited, IsRun, IsSound, refused_of, schema_of, tree_of};
+ghost use Rattle.yapp.specs.Failing.{LeadsTo, reported};
+
+use crate::contents::{Taken, behind_first, first_of};
+use crate::failure::Failure;
+use crate::modules::compile_contents;
+use crate::report::{DocumentReport, Report};
+use crate::script::{RefusedLine, Script};
+use std::alloc::{AllocError, Global};
+use ycheck::faults;
+use ylive::Live;
+use yschema::Schema;
+use ytree::{DocFault, Tree, read, write};
+
+/// A document under its schema, with the lines of a script that were refused on the way to it.
+#[derive(Drop)]
+pub struct Document {
+    pub schema: Schema,
+    pub tree: Tree,
+    pub refused: Vec<RefusedLine>,
+}
+
+/// The document that bytes denote under a schema.
+fn read_under<'a>(
+    alloc: Global,
+    name: &'a str,
+    schema: Schema,
+    bytes: &[u8],
+) -> Result<Document, Failure<'a>>
+    ensures leads { let s = schema_view.view schema in (next : schema_spec.Schema → document_spec.Tree → Outcome)
+        → LeadsTo (with_tree s name.entry.now (document_of s bytes.now) (next s)) (λ d. next (schema_of d) (tree_of d)) result }
+    ensures sound { IfOk result (λ d. IsSound (schema_of d) (tree_of d)) }
+    ensures unrefused { IfOk result (λ d. refused_of d ≡ []) }
+{
+    match read(alloc, &schema, bytes) {
+        Ok(tree) => Ok(Document {
+            schema,
+            tree,
+            refused: Vec::new(alloc),
+        }),
+        Err(DocFault::Refused { code, place }) => Err(Failure::Document {
+            name,
+            schema,
+            code,
+            place,
+        }),
+        Err(DocFault::Memory) => Err(Failure::Memory),
+    }
+}
+
+/// A document under modules, by the contents of their files and its own.
+pub(crate) fn read_document<'a, 'b>(
+    alloc: Global,
+    document: &'a str,
+    modules: &[&'a str],
+    contents: &'b [Vec<u8>],
+) -> Result<Taken<'b, Document>, Failure<'a>>
+    ensures leads { (next : schema_spec.Schema → document_spec.Tree → List (List ℕ) → Outcome)
+        → LeadsTo (with_document document.entry.now (map (λ n. n.now) modules.now) (map (λ c. c.items) contents.entry.now) next)
+        (λ read. next (schema_of read.value) (tree_of read.value) (map (λ c. c.items) read.rest.now)) result }
+    ensures sound { IfOk result (λ read. IsSound (schema_of read.value) (tree_of read.value)) }
+    ensures unrefused { IfOk result (λ read. refused_of read.value ≡ []) }
+{
+    match compile_contents(alloc, modules, contents) {
+        Ok(compiled) => {
+            match read_under(alloc, document, compiled.value, first_of(compiled.rest)) {
+                Ok(document) => Ok(Taken {
+                    value: document,
+                    rest: behind_first(compiled.rest),
+                }),
+                Err(failure) => Err(failure),
+            }
+        }
+        Err(failure) => Err(failure),
+    }
+}
+
+/// A document after the lines of a script.
+fn edit(alloc: Global, document: Document, script: &[u8]) -> Result<Document, AllocError>
+    requires { IsSound (schema_of document) (tree_of document) }
+    ensures { IfOk result (λ d. IsEdited (schema_of document) (tree_of document) (lines_of script.now) d) }
+{
+    let script = Script::read(alloc, script)?;
+    match Live::open(alloc, document.schema, document.tree) {
+        Ok(live) => run_script(live, &script),
+        Err(_) => Err(AllocError),
+    }
+}
+
+/// A live document after the lines of a script.
+fn run_script(mut live: Live, script: &Script) -> Result<Document, AllocError>
+    ensures { let l = live_view.view live in
+        IfOk result (λ d. IsRun l.schema l.tree (kinds_in script.now) (edits_in script.now) d) }
+{
+    match live.run(script.edits()) {
+        Ok(outcomes) => {
+            let refused = script.refused(&outcomes)?;
+            let (schema, tree) = live.into_parts();
+            Ok(Document {
+                schema,
+                tree,
+                refused,
+            })
+        }
+        Err(_) => Err(AllocError),
+    }
+}
+
+/// A document after the lines of a script, by the contents of the files: those of the modules, the document's, and the
+/// script's.
+pub fn edit_document<'a>(
+    alloc: Global,
+    document: &'a str,
+    modules: &[&'a str],
+    contents: &[Vec<u8>],
+) -> Result<Document, Failure<'a>>
+    ensures leads { (next : schema_spec.Schema → document_spec.Tree → List ℕ → Outcome)
+        → LeadsTo (with_document document.entry.now (map (λ n. n.now) modules.now) (map (λ c. c.items) contents.now) (λ schema tree files.
+        next schema (after_lines schema tree (lines_of (first_file files))) (refused_lines schema 1 tree (lines_of (first_file files)))))
+        (λ d. next (schema_of d) (tree_of d) (refused_of d)) result }
+    ensures sound { IfOk result (λ d. IsSound (schema_of d) (tree_of d)) }
+{
+    match read_document(alloc, document, modules, contents) {
+        Ok(read) => Ok(edit(alloc, read.value, first_of(read.rest))?),
+        Err(failure) => Err(failure),
+    }
+}
+
+/// What is to be told of a document: its faults, or its text where it is to be dumped.
+pub(crate) fn report_on(
+    alloc: Global,
+    document: Document,
+    is_dump: bool,
+) -> Result<Report, AllocError>
+    requires { IsSound (schema_of document) (tree_of document) }
+    ensures { IfOk result (λ r. reported r ≡ left is_dump (schema_of document) (tree_of document) (refused_of document)) }
+{
+    let faults = faults(alloc, &document.schema, &document.tree)?;
+    let text = text_of(alloc, &document, is_dump)?;
+    Ok(Report::Document(DocumentReport {
+        schema: document.schema,
+        faults,
+        refused: document.refused,
+        text,
+    }))
+}
+
+/// The text of a document that is to be dumped.
+fn text_of(alloc: Global, document: &Document, is_dump: bool) -> Result<Option<String>, AllocError>
+    requires { IsSound (schema_of document.now) (tree_of document.now) }
+    ensures { IfOk result (λ text. option_map string_bytes text
+        ≡ (if is_dump then Some (written_text (schema_of document.now) (tree_of document.now)) else None)) }
+{
+    if is_dump {
+        Ok(Some(write(alloc, &document.schema, &document.tree)?))
+    } else {
+        Ok(None)
+    }
+}

@@ -1,0 +1,105 @@
+//! From the contents of modules' files to their schema.
+
+ghost use Rattle.std.specs.Prelude.{◌≡◌, ◌∷◌, [], ℕ, List, map};
+ghost use Rattle.yspec.specs.Forest.{Forest};
+ghost use Rattle.yspec.specs.linking.Compiling.{compiled};
+ghost use Rattle.yspec.specs.program.Output as spec;
+ghost use Rattle.yspec.specs.program.Output.{Outcome, with_compiled, with_modules, with_schema};
+ghost use Rattle.yspec.specs.schema.Schema as schema_spec;
+ghost use Rattle.yspec.specs.text.Statement.{Statement, module_of};
+ghost use Rattle.ytext.specs.View.{modules_view};
+ghost use Rattle.yschema.specs.View as schema_view;
+ghost use Rattle.yapp.specs.Failing.{LeadsTo};
+
+use crate::contents::Taken;
+use crate::failure::Failure;
+use std::alloc::Global;
+use yschema::{CompileFault, Schema, compile};
+use ytext::{Module, TextFault, parse};
+
+/// The statements of the modules of some names, in order, up to the first whose text is refused.
+fn parse_modules<'a, 'b>(
+    alloc: Global,
+    names: &[&'a str],
+    contents: &'b [Vec<u8>],
+) -> Result<Taken<'b, Vec<Module>>, Failure<'a>>
+    ensures { (next : Forest Statement → List (List ℕ) → Outcome)
+        → LeadsTo (with_modules (map (λ n. n.now) names.now) (map (λ c. c.items) contents.entry.now) next)
+        (λ parsed. next (modules_view parsed.value.items) (map (λ c. c.items) parsed.rest.now)) result }
+{
+    let mut modules = Vec::new(alloc);
+    let mut rest = contents;
+    for name in names {
+        match rest.split_first() {
+            Some((text, others)) => {
+                match parse_module(alloc, *name, text) {
+                    Ok(module) => modules.push(module)?,
+                    Err(failure) => return Err(failure),
+                }
+                rest = others;
+            }
+            None => return Ok(Taken {
+                value: modules,
+                rest,
+            }),
+        }
+    }
+    Ok(Taken {
+        value: modules,
+        rest,
+    })
+}
+
+fn parse_module<'a>(alloc: Global, name: &'a str, text: &[u8]) -> Result<Module, Failure<'a>>
+    ensures { (next : Forest Statement → Outcome)
+        → LeadsTo (spec.with_module name.entry.now (module_of text.now) next)
+        (λ parsed. next (modules_view (parsed ∷ []))) result }
+{
+    match parse(alloc, text) {
+        Ok(module) => Ok(module),
+        Err(TextFault::Refused { code, line }) => Err(Failure::Text { name, code, line }),
+        Err(TextFault::Memory) => Err(Failure::Memory),
+    }
+}
+
+/// The schema of the modules of some names.
+fn compile_modules<'a>(
+    alloc: Global,
+    names: &[&'a str],
+    modules: &[Module],
+) -> Result<Schema, Failure<'a>>
+    ensures { (next : schema_spec.Schema → Outcome)
+        → LeadsTo (with_compiled (map (λ n. n.now) names.now) (compiled (modules_view modules.now)) next)
+        (λ schema. next (schema_view.view schema)) result }
+{
+    match compile(alloc, modules) {
+        Ok(schema) => Ok(schema),
+        Err(CompileFault::Refused { code, module, line }) => {
+            let name = names.get(module).copied().unwrap_or("");
+            Err(Failure::Compile { name, code, line })
+        }
+        Err(CompileFault::Memory) => Err(Failure::Memory),
+    }
+}
+
+/// The schema of the modules of some names, by the contents of their files. Their statements go as soon as it stands.
+pub fn compile_contents<'a, 'b>(
+    alloc: Global,
+    names: &[&'a str],
+    contents: &'b [Vec<u8>],
+) -> Result<Taken<'b, Schema>, Failure<'a>>
+    ensures { (next : schema_spec.Schema → List (List ℕ) → Outcome)
+        → LeadsTo (with_schema (map (λ n. n.now) names.now) (map (λ c. c.items) contents.entry.now) next)
+        (λ compiled. next (schema_view.view compiled.value) (map (λ c. c.items) compiled.rest.now)) result }
+{
+    match parse_modules(alloc, names, contents) {
+        Ok(parsed) => match compile_modules(alloc, names, &parsed.value) {
+            Ok(schema) => Ok(Taken {
+                value: schema,
+                rest: parsed.rest,
+            }),
+            Err(failure) => Err(failure),
+        },
+        Err(failure) => Err(failure),
+    }
+}

@@ -1,0 +1,214 @@
+//! Scripts of edits, one a line.
+
+ghost use Rattle.std.specs.Prelude.{◌≡◌, ◌++◌, ◌==◌, IfOk, OnOk, map, option_map};
+ghost use Rattle.std.specs.List.{slice_split};
+ghost use Rattle.yspec.specs.Results.{Gives};
+ghost use Rattle.yspec.specs.edit.EditText as text;
+ghost use Rattle.yspec.specs.program.Script as spec;
+ghost use Rattle.yspec.specs.text.Text.{line_feed};
+ghost use Rattle.yinst.specs.Applying.{told_by};
+ghost use Rattle.yinst.specs.EditView.{edit_view};
+ghost use Rattle.ylive.specs.View.{outcomes_view};
+ghost use Rattle.yapp.specs.Asked.{behind, decision_text, line_view, refusal_in, refusal_of, refused_texts};
+
+use std::alloc::{AllocError, Global};
+use yinst::{DocCode, Edit, EditCode, EditFault};
+use ylive::Outcome;
+
+/// Why a line is refused, and with E10 why the value doesn't fit.
+#[derive(Clone, Copy, Debug)]
+pub struct Refusal {
+    pub code: EditCode,
+    pub doc: Option<DocCode>,
+}
+
+/// What a line of a script asks for.
+#[derive(Clone, Copy, Debug)]
+enum Asked {
+    /// It is passed over.
+    Nothing,
+    Edit,
+    /// It is no edit's.
+    Refused(Refusal),
+}
+
+/// A refused line of a script, by its number from 1.
+#[derive(Clone, Copy, Debug)]
+pub struct RefusedLine {
+    pub number: usize,
+    pub refusal: Refusal,
+}
+
+/// A script: what each of its lines asks for, and the edits among them.
+#[derive(Debug, Drop)]
+pub struct Script {
+    alloc: Global,
+    lines: Vec<Asked>,
+    edits: Vec<Edit>,
+}
+
+impl Script {
+    ghost use Rattle.std.specs.Prelude.{◌≡◌, ◌++◌, [], ◌∷◌, IfOk, OnOk, map};
+    ghost use Rattle.yspec.specs.program.Script.{asked_in, lines_of, without_return};
+    ghost use Rattle.ylive.specs.View.{edits_view, outcomes_view};
+    ghost use Rattle.yapp.specs.Asked.{IsScript, edit_of, edits_in, kinds_in, line_of, refused_texts, told_from};
+
+    /// A script without lines.
+    fn new(alloc: Global) -> Script
+        ensures kinds { kinds_in result ≡ [] }
+        ensures edits { edits_in result ≡ [] }
+    {
+        Script {
+            alloc,
+            lines: Vec::new(alloc),
+            edits: Vec::new(alloc),
+        }
+    }
+
+    /// The script that bytes are.
+    pub fn read(alloc: Global, bytes: &[u8]) -> Result<Script, AllocError>
+        ensures { IfOk result (λ script. IsScript (kinds_in script) (edits_in script) (lines_of bytes.now)) }
+    {
+        let parts = parts_of(alloc, bytes)?;
+        match parts.split_last() {
+            Some((last, lines)) => Script::with_lines(alloc, lines, *last),
+            None => Ok(Script::new(alloc)),
+        }
+    }
+
+    /// A script of lines that line feeds end, and a last one.
+    fn with_lines(alloc: Global, lines: &[&[u8]], last: &[u8]) -> Result<Script, AllocError>
+        ensures { IfOk result (λ script. IsScript (kinds_in script) (edits_in script) (map (λ line. without_return line.now) lines.now ++ last.now ∷ [])) }
+    {
+        let mut script = Script::new(alloc);
+        for line in lines {
+            script.add(without_return(*line))?;
+        }
+        script.add(last)?;
+        Ok(script)
+    }
+
+    /// Adds a line.
+    fn add(&mut self, line: &[u8]) -> Result<(), AllocError>
+        ensures kinds { OnOk result (kinds_in self.new ≡ kinds_in self.old ++ line_of (asked_in line.now) ∷ []) }
+        ensures edits { OnOk result (edits_in self.new ≡ edits_in self.old ++ edit_of (asked_in line.now)) }
+    {
+        let asked = match asked_in(self.alloc, line) {
+            Ok(None) => Asked::Nothing,
+            Ok(Some(edit)) => {
+                self.edits.push(edit)?;
+                Asked::Edit
+            }
+            Err(EditFault::Refused { code, doc }) => Asked::Refused(Refusal { code, doc }),
+            Err(EditFault::Memory) => return Err(AllocError),
+        };
+        self.lines.push(asked)?;
+        Ok(())
+    }
+
+    /// The edits among its lines.
+    pub fn edits(&self) -> &[Edit]
+        ensures { edits_view result.now ≡ edits_in self.now }
+    {
+        &self.edits
+    }
+
+    /// Its refused lines, by what came of each edit.
+    pub fn refused(&self, outcomes: &[Outcome]) -> Result<Vec<RefusedLine>, AllocError>
+        ensures { IfOk result (λ lines. refused_texts lines.items ≡ told_from 1 (kinds_in self.now) (outcomes_view outcomes.now)) }
+    {
+        let mut refused = Vec::new(self.alloc);
+        let mut rest = outcomes;
+        let mut number = 0;
+        for line in &self.lines {
+            number += 1;
+            add_refused(&mut refused, number, refusal_of(*line, rest))?;
+            rest = outcomes_behind(*line, rest);
+        }
+        Ok(refused)
+    }
+}
+
+/// Adds a line, where it is refused.
+fn add_refused(
+    lines: &mut Vec<RefusedLine>,
+    number: usize,
+    refusal: Option<Refusal>,
+) -> Result<(), AllocError>
+    ensures { OnOk result (refused_texts lines.new.items ≡ refused_texts lines.old.items ++ decision_text number (option_map refusal_of refusal)) }
+{
+    if let Some(refusal) = refusal {
+        lines.push(RefusedLine { number, refusal })?;
+    }
+    Ok(())
+}
+
+/// Why a line is refused, if it is, by what came of the edits from it on.
+fn refusal_of(line: Asked, outcomes: &[Outcome]) -> Option<Refusal>
+    ensures { option_map refusal_of result ≡ refusal_in (line_view line) (outcomes_view outcomes.now) }
+{
+    match line {
+        Asked::Nothing => None,
+        Asked::Refused(refusal) => Some(refusal),
+        Asked::Edit => match outcomes.first() {
+            Some(Outcome::Refused { code, doc }) => Some(Refusal {
+                code: *code,
+                doc: *doc,
+            }),
+            _ => None,
+        },
+    }
+}
+
+/// What came of the edits behind a line.
+fn outcomes_behind(line: Asked, outcomes: &[Outcome]) -> &[Outcome]
+    ensures { outcomes_view result.now ≡ behind (line_view line) (outcomes_view outcomes.entry.now) }
+{
+    match (line, outcomes.split_first()) {
+        (Asked::Edit, Some((_, behind))) => behind,
+        _ => outcomes,
+    }
+}
+
+/// What stands between line feeds.
+fn parts_of(alloc: Global, bytes: &[u8]) -> Result<Vec<&[u8]>, AllocError>
+    ensures { IfOk result (λ parts. map (λ part. part.now) parts.items ≡ slice_split (λ x. x == line_feed) bytes.now) }
+{
+    bytes.split(|byte| *byte == b'\n').collect(alloc)
+}
+
+/// A line without one carriage return at its end.
+fn without_return(line: &[u8]) -> &[u8]
+    ensures { result.now ≡ spec.without_return line.now }
+{
+    match line.split_last() {
+        Some((last, front)) => { if *last == b'\r' { front } else { line } }
+        None => line,
+    }
+}
+
+/// Whether a line is empty or begins with `#`.
+fn is_passed_over(line: &[u8]) -> bool
+    ensures { result ≡ text.is_passed_over line.now }
+{
+    match line.first() {
+        Some(byte) => *byte == b'#',
+        None => true,
+    }
+}
+
+/// The edit that a line spells, if it asks for one.
+fn asked_in(alloc: Global, line: &[u8]) -> Result<Option<Edit>, EditFault>
+    ensures { Gives (option_map edit_view) told_by result (spec.asked_in line.now) }
+{
+    if is_passed_over(line) {
+        return Ok(None);
+    }
+    match str::from_utf8(line) {
+        Ok(text) => Edit::parse(alloc, text),
+        Err(_) => Err(EditFault::Refused {
+            code: EditCode::E1,
+            doc: None,
+        }),
+    }
+}

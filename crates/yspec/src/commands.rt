@@ -1,0 +1,81 @@
+//! Worked examples of commands: what is printed of the nodes of modules, and of documents after scripts of edits.
+
+ghost use Rattle.std.specs.Prelude.{◌≡◌, ◌++◌, [], ◌∷◌, codes};
+ghost use Rattle.yspec.specs.linking.CompilingSamples.{net_module, k_module};
+ghost use Rattle.yspec.specs.program.Output.{failed, found};
+ghost use Rattle.yspec.specs.program.Script.{lines_of};
+ghost use Rattle.yspec.specs.program.SchemaExamples.{hosts, one_host};
+ghost use Rattle.yspec.specs.program.Examples.{counted, dumped, faulty, module_p, scripted, shown, without_faults};
+
+/// How many nodes modules define.
+pub fn counts()
+    ensures network { counted net_module ≡ found 0 (codes "12 nodes\n") }
+    ensures container { counted module_p ≡ found 0 (codes "3 nodes\n") }
+    ensures refused { counted (codes "module a { prefix \"x") ≡ failed 2 (codes "m.yang:1: L3") }
+{}
+
+/// Lines of scripts. A carriage return goes with its line feed alone.
+pub fn lines_of_scripts()
+    ensures none { lines_of [] ≡ [] ∷ [] }
+    ensures unended { lines_of (codes "a\nb") ≡ codes "a" ∷ codes "b" ∷ [] }
+    ensures ended { lines_of (codes "a\n") ≡ codes "a" ∷ [] ∷ [] }
+    ensures returns { lines_of (codes "a\r\r\n\rb\r") ≡ codes "a\r" ∷ codes "\rb\r" ∷ [] }
+{}
+
+/// Lines are passed over, refused and applied.
+pub fn lines_of_every_kind()
+    ensures shown { scripted module_p (codes "{}") (codes "# x\n\ncreate /p:c {\"id\":1}\r\n" ++ (255 ∷ codes "\nreplace /p:c/id 300"))
+        ≡ faulty (codes "line 4: E1\n") (codes "V1 invalid-value - /p:c/id -\n1 faults\n") }
+    ensures dumped { dumped module_p (codes "{}") (codes "# x\n\ncreate /p:c {\"id\":1}\r\n" ++ (255 ∷ codes "\nreplace /p:c/id 300"))
+        ≡ faulty (codes "line 4: E1\n") (codes "{\"p:c\":{\"id\":300}}\n") }
+    ensures other_bytes_behind_a_sign { scripted module_p (codes "{\"p:c\":{\"id\":1}}") (codes "#" ++ (255 ∷ [])) ≡ without_faults }
+    ensures unread { scripted module_p (codes "{\"c\":{}}") (codes "#") ≡ failed 2 (codes "d.json: J4 /") }
+{}
+
+/// Without edits it is what `validate` prints.
+pub fn scripts_without_edits()
+    ensures faulty { scripted module_p (codes "{\"p:c\":{\"id\":256}}") [] ≡ shown module_p (codes "{\"p:c\":{\"id\":256}}") }
+    ensures good { scripted module_p (codes "{\"p:c\":{\"id\":7}}") (codes "\n\n") ≡ without_faults }
+{}
+
+/// Defaults in use go out of use and come back.
+pub fn defaults_in_use()
+    ensures stored { scripted net_module (hosts (codes "{\"name\":\"a\",\"auto\":[null],\"use-port\":80}")) (codes "create /ex-net:net/host[1]/port 22")
+        ≡ found 1 (codes "V11 data-missing instance-required /ex-net:net/host[1]/use-port -\n1 faults\n") }
+    ensures removed { scripted net_module (hosts (codes "{\"name\":\"a\",\"auto\":[null],\"use-port\":80}"))
+        (codes "create /ex-net:net/host[1]/port 22\nremove /ex-net:net/host[1]/port") ≡ without_faults }
+    ensures of_a_case { scripted k_module (codes "{\"k:want\":3}") (codes "create /k:boost 1")
+        ≡ found 1 (codes "V11 data-missing instance-required /k:want -\n1 faults\n") }
+    ensures of_a_case_again { scripted k_module (codes "{\"k:want\":3}") (codes "create /k:boost 1\nremove /k:boost\n") ≡ without_faults }
+{}
+
+/// References lose what they refer to, or keep it in another entry.
+pub fn references()
+    ensures lost { scripted net_module (hosts (codes "{\"name\":\"a\",\"auto\":[null],\"uplink\":\"b\"},{\"name\":\"b\",\"auto\":[null]}"))
+        (codes "remove /ex-net:net/host[name='b']")
+        ≡ found 1 (codes "V11 data-missing instance-required /ex-net:net/host[1]/uplink -\n1 faults\n") }
+    ensures kept { scripted net_module (hosts (codes "{\"name\":\"a\",\"auto\":[null],\"uplink\":\"b\"},{\"name\":\"b\",\"auto\":[null]}"))
+        (codes "replace /ex-net:net/host[2] {\"name\":\"b\",\"speed\":7}") ≡ without_faults }
+{}
+
+/// Positions move, and a key that two entries have names neither.
+pub fn entries_removed()
+    ensures moved { scripted net_module (hosts (codes "{\"name\":\"a\",\"auto\":[null]},{\"name\":\"b\",\"auto\":[null]},{\"name\":\"c\"}"))
+        (codes "remove /ex-net:net/host[1]")
+        ≡ found 1 (codes "V4 data-missing missing-choice /ex-net:net/host[2] mode\n1 faults\n") }
+    ensures twice { scripted net_module (hosts (codes "{\"name\":\"a\",\"auto\":[null]},{\"name\":\"a\",\"auto\":[null]}"))
+        (codes "remove /ex-net:net/host[name='a']\nremove /ex-net:net/host[2]") ≡ faulty (codes "line 1: E6\n") (codes "0 faults\n") }
+    ensures one_left { scripted net_module one_host (codes "create /ex-net:net/host[1]/name \"b\"\nremove /ex-net:net/host[1]")
+        ≡ faulty (codes "line 1: E8\n") (codes "V6 operation-failed too-few-elements /ex-net:net/host -\n1 faults\n") }
+    ensures none_left { dumped net_module one_host (codes "create /ex-net:net/host[1]/name \"b\"\nremove /ex-net:net/host[1]")
+        ≡ faulty (codes "line 1: E8\n") (codes "{\"ex-net:net\":{}}\n") }
+{}
+
+/// Refused edits, of which the first is told with its line.
+pub fn refused_edits()
+    ensures above { scripted net_module (codes "{}") (codes "create /ex-net:net/host {\"name\":\"z\",\"auto\":[null]}")
+        ≡ faulty (codes "line 1: E4\n") (codes "V6 operation-failed too-few-elements /ex-net:net/host -\n1 faults\n") }
+    ensures others { scripted net_module one_host (codes "replace /ex-net:net/host[1]/port 9\nreplace /ex-net:net/host[1]/name {}\n"
+        ++ codes "remove /ex-net:net/host\n\nremove /ex-net:net/host[2]\n")
+        ≡ faulty (codes "line 1: E7\nline 2: E10 J5\nline 3: E3\nline 5: E5\n") (codes "0 faults\n") }
+{}
