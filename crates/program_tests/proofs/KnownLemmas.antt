@@ -4,7 +4,8 @@ use Rattle.yspec.specs.program.Output.{Outcome, Request, files_of, outcome, vali
 use Rattle.clap.proofs.OnLiterals.{clap_on_literals}
 use Rattle.yapp.specs.Command.{refusals, request_of}
 use Rattle.yapp.specs.Files.{Answered, Contents, FileAnswers, IsOutcome, Store, WereRead, unread_in}
-use Rattle.program_tests.specs.Known.{IsKnown, pair_contents, validate_words}
+use Rattle.program_tests.specs.Known.{IsKnown, contents_in, told_in, validate_words}
+use Rattle.yspec.specs.text.Text.{Text}
 
 pub are_taken : refusals validate_words ≡ []
 unfolding clap_on_literals
@@ -15,22 +16,23 @@ unfolding clap_on_literals
 ask_for = refl
 
 -- files of which none failed answered what they contain
-known_answers : (text document : List ℕ) (answers : FileAnswers) → Answered (pair_contents text document) (codes "p.yang" ∷ codes "d.json" ∷ []) answers
-    → unread_in answers ≡ 0 → answers ≡ Some text ∷ Some document ∷ []
-known_answers text document [] answered none = absurd answered
-known_answers text document (None ∷ answers) answered none = absurd (omega (arith, none))
-known_answers text document (Some a ∷ []) answered none = absurd answered.1
-known_answers text document (Some a ∷ None ∷ answers) answered none = absurd (omega (arith, none))
-known_answers text document (Some a ∷ Some b ∷ []) answered none =
-    ap (λ (bytes : List ℕ). Some bytes ∷ Some b ∷ []) (sym answered.0) ∙ ap (λ (bytes : List ℕ). Some text ∷ Some bytes ∷ []) (sym answered.1.0)
-known_answers text document (Some a ∷ Some b ∷ answer ∷ answers) answered none = absurd answered.1.1
+known_answers : (names : List Text) (texts : List (List ℕ)) (answers : FileAnswers) → Answered (told_in names texts) (codes "p.yang" ∷ codes "d.json" ∷ []) answers
+    → unread_in answers ≡ 0 → answers ≡ told_in names texts (codes "p.yang") ∷ told_in names texts (codes "d.json") ∷ []
+known_answers names texts [] answered none = absurd answered
+known_answers names texts (None ∷ answers) answered none = absurd (omega (arith, none))
+known_answers names texts (Some a ∷ []) answered none = absurd answered.1
+known_answers names texts (Some a ∷ None ∷ answers) answered none = absurd (omega (arith, none))
+known_answers names texts (Some a ∷ Some b ∷ []) answered none =
+    ap (λ (bytes : List ℕ). Some bytes ∷ Some b ∷ []) (sym answered.0)
+    ∙ ap (λ (bytes : List ℕ). Some (contents_in names texts (codes "p.yang")) ∷ Some bytes ∷ []) (sym answered.1.0)
+known_answers names texts (Some a ∷ Some b ∷ answer ∷ answers) answered none = absurd answered.1.1
 
-pub is_known : (before after : Store) (request : Request) (text document : List ℕ) (o : Outcome) → before.contents ≡ pair_contents text document
-    → after.failures ≡ before.failures → request ≡ validate (codes "d.json") (codes "p.yang" ∷ []) → IsOutcome before after request o → IsKnown text document o
-is_known before after request text document o tells same asked (inl came) =
+pub is_known : (before after : Store) (request : Request) (names : List Text) (texts : List (List ℕ)) (o : Outcome) → before.contents ≡ told_in names texts
+    → after.failures ≡ before.failures → request ≡ validate (codes "d.json") (codes "p.yang" ∷ []) → IsOutcome before after request o → IsKnown names texts o
+is_known before after request names texts o tells same asked (inl came) =
     let read = subst (λ (r : Request). WereRead before after (files_of r) came.0) asked came.1 in
     let none : unread_in came.0 ≡ 0 = omega (arith, read.failures, same) in
     let answered = subst (λ (contents : Contents). Answered contents (codes "p.yang" ∷ codes "d.json" ∷ []) came.0) tells read.answered in
     inl (came.2 ∙ ap (λ (r : Request). outcome r came.0) asked
-    ∙ ap (outcome (validate (codes "d.json") (codes "p.yang" ∷ []))) (known_answers text document came.0 answered none))
-is_known before after request text document o tells same asked (inr none) = inr none.1
+    ∙ ap (outcome (validate (codes "d.json") (codes "p.yang" ∷ []))) (known_answers names texts came.0 answered none))
+is_known before after request names texts o tells same asked (inr none) = inr none.1

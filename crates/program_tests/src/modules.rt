@@ -6,7 +6,7 @@ use crate::telling::{is_refused_pair, is_told};
 use std::alloc::{AllocError, Global};
 
 /// Hosts with a key, a `unique`, amounts, a default, references and a choice.
-const NETWORK: &str = "module ex-net {
+pub const NETWORK: &str = "module ex-net {
   yang-version 1.1;
   namespace \"urn:ex-net\";
   prefix n;
@@ -32,7 +32,7 @@ const NETWORK: &str = "module ex-net {
 ";
 
 /// A choice with a default case, to whose leaf another one refers.
-const DEFAULT_CASE: &str = "module k {
+pub const DEFAULT_CASE: &str = "module k {
   yang-version 1.1;
   namespace \"urn:k\";
   prefix k;

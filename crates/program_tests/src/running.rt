@@ -4,7 +4,7 @@ ghost use Rattle.std.specs.Prelude.{◌≡◌, IfOk, map, string_bytes};
 ghost use Rattle.yspec.specs.program.Output.{Outcome};
 ghost use Rattle.youtput.specs.Writing.{side};
 ghost use Rattle.yapp.specs.Running.{Brings};
-ghost use Rattle.program_tests.specs.Known.{IsKnown, pair_contents, validate_words};
+ghost use Rattle.program_tests.specs.Known.{IsKnown, contents_in, told_in, validate_words};
 
 use std::alloc::{AllocError, Global};
 use yapp::{FileFault, Files, run};
@@ -31,20 +31,45 @@ V1 invalid-value - /p:c/note -
 /// The words that check the document of the tests under their module.
 pub const VALIDATE: &str = "yanglive validate d.json p.yang";
 
-/// A module and a document in memory.
+/// A file of a name.
+#[derive(Clone, Copy)]
+pub struct NamedFile<'a> {
+    pub name: &'a str,
+    pub bytes: &'a [u8],
+}
+
+/// The file of a name with a text.
+pub fn file<'a>(name: &'a str, text: &'a str) -> NamedFile<'a> {
+    NamedFile {
+        name,
+        bytes: text.as_bytes(),
+    }
+}
+
+/// What the first file of a name contains; nothing where there is none.
+fn bytes_of<'a>(files: &[NamedFile<'a>], name: &str) -> &'a [u8]
+    ensures { result.now ≡ contents_in (map (λ f. f.name.now) files.now) (map (λ f. f.bytes.now) files.now) name.now }
+{
+    for file in files {
+        if file.name == name {
+            return file.bytes;
+        }
+    }
+    b""
+}
+
+/// Files in memory, which tell what they contain.
 #[derive(Drop)]
 pub struct Known<'a> {
-    module: &'a [u8],
-    document: &'a [u8],
+    files: &'a [NamedFile<'a>],
     reads: u64,
     count: CallCount,
 }
 
 impl<'a> Known<'a> {
-    fn new(module: &'a [u8], document: &'a [u8]) -> Known<'a> {
+    fn new(files: &'a [NamedFile<'a>]) -> Known<'a> {
         Known {
-            module,
-            document,
+            files,
             reads: 0,
             count: CallCount::new(),
         }
@@ -52,7 +77,7 @@ impl<'a> Known<'a> {
 }
 
 impl Files for Known<'_> {
-    ghost contents = { λ s. pair_contents s.«module».now s.document.now };
+    ghost contents = { λ s. told_in (map (λ f. f.name.now) s.files.now) (map (λ f. f.bytes.now) s.files.now) };
 
     ghost reads = { λ s. s.count.calls };
 
@@ -61,48 +86,45 @@ impl Files for Known<'_> {
     fn read(&mut self, alloc: Global, name: &str) -> Result<Vec<u8>, FileFault> {
         self.reads = self.reads.saturating_add(1);
         self.count.rise();
-        let contents = if name == "p.yang" {
-            self.module
-        } else {
-            self.document
-        };
-        match Vec::from_slice(alloc, contents) {
+        match Vec::from_slice(alloc, bytes_of(self.files, name)) {
             Ok(bytes) => Ok(bytes),
             Err(_) => Err(FileFault::Memory),
         }
     }
 }
 
-/// A module and a document in memory, of which one read may fail. Reads count from 1.
+/// Files in memory, of which one read may fail. Reads count from 1.
 #[derive(Drop)]
 pub struct InMemory<'a> {
-    pair: Known<'a>,
+    known: Known<'a>,
     failing_read: Option<u64>,
     count: CallCount,
 }
 
-impl Files for InMemory<'_> {
-    ghost contents = { λ s. pair_contents s.pair.«module».now s.pair.document.now };
+impl<'a> InMemory<'a> {
+    pub fn new(files: &'a [NamedFile<'a>], failing_read: Option<u64>) -> InMemory<'a> {
+        InMemory {
+            known: Known::new(files),
+            failing_read,
+            count: CallCount::new(),
+        }
+    }
+}
 
-    ghost reads = { λ s. s.pair.count.calls };
+impl Files for InMemory<'_> {
+    ghost contents = { λ s. told_in (map (λ f. f.name.now) s.known.files.now) (map (λ f. f.bytes.now) s.known.files.now) };
+
+    ghost reads = { λ s. s.known.count.calls };
 
     ghost failures = { λ s. s.count.calls };
 
     fn read(&mut self, alloc: Global, name: &str) -> Result<Vec<u8>, FileFault> {
-        let read = self.pair.read(alloc, name);
-        if self.failing_read == Some(self.pair.reads) {
+        let read = self.known.read(alloc, name);
+        if self.failing_read == Some(self.known.reads) {
             self.count.rise();
             return Err(FileFault::Unread);
         }
         read
-    }
-}
-
-pub fn pair<'a>(module: &'a [u8], document: &'a [u8], failing_read: Option<u64>) -> InMemory<'a> {
-    InMemory {
-        pair: Known::new(module, document),
-        failing_read,
-        count: CallCount::new(),
     }
 }
 
@@ -118,14 +140,14 @@ fn validate_words(alloc: Global) -> Result<Vec<String>, AllocError>
     Ok(words)
 }
 
-/// Checks a document under a module whose contents are known, and answers the status.
+/// Checks a document under a module in files whose contents are known, and answers the status.
 fn validate_known<O: Sink, E: Sink>(
     alloc: Global,
     files: &mut Known<'_>,
     output: &mut O,
     errors: &mut E,
 ) -> Result<u8, AllocError>
-    ensures { IfOk result (λ status. (o : Outcome) × IsKnown files.old.«module».now files.old.document.now o
+    ensures { IfOk result (λ status. (o : Outcome) × IsKnown (map (λ f. f.name.now) files.old.files.now) (map (λ f. f.bytes.now) files.old.files.now) o
         × Brings (side O.taken O.failures output.old) (side O.taken O.failures output.new)
         (side E.taken E.failures errors.old) (side E.taken E.failures errors.new) o status) }
 {
@@ -182,15 +204,30 @@ pub fn shown_by(
         output,
         errors,
         status,
-        reads: files.pair.reads,
+        reads: files.known.reads,
     })
+}
+
+/// Runs a line of words over files of which none fails, to sides that take all.
+pub fn shown_of(alloc: Global, line: &str, files: &[NamedFile<'_>]) -> Result<Shown, AllocError> {
+    shown_by(alloc, line, InMemory::new(files, None), WHOLLY, WHOLLY)
 }
 
 /// Checks a document under a module.
 pub fn validated(alloc: Global, module: &[u8], document: &[u8]) -> Result<Shown, AllocError> {
     let mut output = side(alloc, WHOLLY)?;
     let mut errors = side(alloc, WHOLLY)?;
-    let mut files = Known::new(module, document);
+    let files = [
+        NamedFile {
+            name: "p.yang",
+            bytes: module,
+        },
+        NamedFile {
+            name: "d.json",
+            bytes: document,
+        },
+    ];
+    let mut files = Known::new(&files);
     let status = validate_known(alloc, &mut files, &mut output, &mut errors)?;
     Ok(Shown {
         output,

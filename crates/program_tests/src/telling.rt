@@ -1,6 +1,6 @@
 //! What the program prints. Where a row has lines of its own, the rows are parted by lines `==`.
 
-use crate::running::{BOTH_LINES, MODULE, Shown, TWO_FAULTS, WHOLLY, pair, shown_by, validated};
+use crate::running::{BOTH_LINES, MODULE, Shown, TWO_FAULTS, file, shown_of, validated};
 use std::alloc::Global;
 use ytext::Cut;
 
@@ -128,8 +128,7 @@ fn is_answered(alloc: Global, row: &str) -> Option<bool> {
     let (place, part) = rest.split_once('\n')?;
     let (side, status) = place.split_once(' ')?;
     let status = status.parse::<u8>().ok()?;
-    let files = pair(MODULE.as_bytes(), b"{}", None);
-    let shown = shown_by(alloc, line, files, WHOLLY, WHOLLY).ok()?;
+    let shown = shown_of(alloc, line, &[]).ok()?;
     let is_said = match side {
         "output" => has_part(&shown.output, part) && shown.errors.bytes().is_empty(),
         "errors" => has_part(&shown.errors, part) && shown.output.bytes().is_empty(),
@@ -143,17 +142,23 @@ fn command_lines(rt: HostRuntime) {
     let rows = "yanglive validate
 errors 3
 <DATA>
-  <MODULE>
+  <MODULE>...
 
 ==
 yanglive validate d.json
 errors 3
-<MODULE>
+<MODULE>...
 
 ==
-yanglive validate d.json p.yang q.yang
+yanglive compile
 errors 3
-'q.yang'
+<MODULE>...
+
+==
+yanglive edit d.json s.txt
+errors 3
+<MODULE>...
+
 ==
 yanglive
 errors 3
@@ -171,13 +176,29 @@ yanglive validate --dump d.json p.yang
 errors 3
 '--dump'
 ==
+yanglive edit --dump --dump d.json s.txt p.yang
+errors 3
+'--dump'
+==
 yanglive --help
 output 0
   validate  
 ==
+yanglive compile -h
+output 0
+Example: yanglive compile 
+==
 yanglive validate -h
 output 0
-<DATA>";
+Example: yanglive validate 
+==
+yanglive edit --help
+output 0
+Example: yanglive edit 
+==
+yanglive edit d.json --help
+output 0
+[OPTIONS] <DATA> <SCRIPT> <MODULE>...";
     for row in rows.split("\n==\n") {
         assert!(rt; is_answered(rt.alloc(), row) == Some(true), "{row}");
     }

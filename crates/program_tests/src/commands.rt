@@ -1,0 +1,335 @@
+//! What is printed of several modules, of their nodes, and of documents after scripts of edits. Rows are parted by lines
+//! `==`, and what belongs to one by lines `--`.
+
+use crate::modules::{DEFAULT_CASE, NETWORK};
+use crate::running::{MODULE, NamedFile, Shown, file, shown_of};
+use std::alloc::Global;
+
+/// Another module, which the program takes.
+const SECOND: &str = "module q {
+  yang-version 1.1;
+  namespace \"urn:q\";
+  prefix q;
+  leaf n { type uint8; mandatory true; }
+}
+";
+
+/// One with a list without a key.
+const SECOND_REFUSED: &str = "module q {
+  yang-version 1.1;
+  namespace \"urn:q\";
+  prefix q;
+  list l { leaf a { type string; } }
+}
+";
+
+/// Whether a run has this status, and these bytes on both sides.
+fn is_shown(shown: &Shown, status: &str, errors: &str, output: &str) -> Option<bool> {
+    let status = status.parse::<u8>().ok()?;
+    let are_told = shown.errors.bytes() == errors.as_bytes();
+    Some(are_told && shown.output.bytes() == output.as_bytes() && shown.status == status)
+}
+
+/// Whether words show so of two modules and an empty document: the row is the words, the status, what is said on the
+/// error side, and the output.
+fn is_shown_of_two(alloc: Global, second: &str, row: &str) -> Option<bool> {
+    let (line, rest) = row.split_once('\n')?;
+    let (status, rest) = rest.split_once('\n')?;
+    let (errors, output) = rest.split_once("--\n")?;
+    let files = [
+        file("p.yang", MODULE),
+        file("k.yang", second),
+        file("d.json", "{}"),
+        file("s.txt", "create /q:n 7"),
+    ];
+    let shown = shown_of(alloc, line, &files).ok()?;
+    is_shown(&shown, status, errors, output)
+}
+
+#[test]
+fn several_modules(rt: HostRuntime) {
+    let rows = "yanglive validate d.json p.yang k.yang
+1
+--
+V3 data-missing - /p:c/id -
+V3 data-missing - /q:n -
+2 faults
+==
+yanglive validate d.json k.yang p.yang
+1
+--
+V3 data-missing - /q:n -
+V3 data-missing - /p:c/id -
+2 faults
+==
+yanglive validate d.json p.yang p.yang
+2
+p.yang:1: C7
+--
+==
+yanglive compile p.yang k.yang
+0
+--
+4 nodes
+==
+yanglive compile p.yang
+0
+--
+3 nodes
+==
+yanglive edit d.json s.txt p.yang k.yang
+1
+--
+V3 data-missing - /p:c/id -
+1 faults
+==
+yanglive edit --dump d.json s.txt p.yang k.yang
+1
+--
+{\"q:n\":7}
+";
+    for row in rows.split("==\n") {
+        assert!(rt;
+            is_shown_of_two(rt.alloc(), SECOND, row) == Some(true),
+            "{row}"
+        );
+    }
+    let rows = "yanglive validate d.json p.yang k.yang
+2
+k.yang:5: C16
+--
+==
+yanglive compile p.yang k.yang
+2
+k.yang:5: C16
+--
+==
+yanglive edit d.json s.txt k.yang p.yang
+2
+k.yang:5: C16
+--
+==
+yanglive compile p.yang d.json
+2
+d.json:1: L5
+--
+";
+    for row in rows.split("==\n") {
+        assert!(rt;
+            is_shown_of_two(rt.alloc(), SECOND_REFUSED, row) == Some(true),
+            "{row}"
+        );
+    }
+}
+
+#[test]
+fn counts(rt: HostRuntime) {
+    let files = [file("m.yang", NETWORK)];
+    let shown = shown_of(rt.alloc(), "yanglive compile m.yang", &files);
+    let is_counted = shown.map(|shown| is_shown(&shown, "0", "", "12 nodes\n") == Some(true));
+    assert!(rt; is_counted == Ok(true));
+}
+
+/// Whether an edit shows so under a module: the row is the document, the script, the status, what is said on the error
+/// side, and the output.
+fn is_edited(alloc: Global, words: &str, module: &str, row: &str) -> Option<bool> {
+    let (document, rest) = row.split_once('\n')?;
+    let (script, rest) = rest.split_once("--\n")?;
+    let (status, rest) = rest.split_once('\n')?;
+    let (errors, output) = rest.split_once("--\n")?;
+    let files = [
+        file("p.yang", module),
+        file("d.json", document),
+        file("s.txt", script),
+    ];
+    let shown = shown_of(alloc, words, &files).ok()?;
+    is_shown(&shown, status, errors, output)
+}
+
+/// The first row that isn't shown so.
+fn first_wrong<'a>(alloc: Global, words: &str, module: &str, rows: &'a str) -> Option<&'a str> {
+    for row in rows.split("==\n") {
+        if is_edited(alloc, words, module, row) != Some(true) {
+            return Some(row);
+        }
+    }
+    None
+}
+
+const EDIT: &str = "yanglive edit d.json s.txt p.yang";
+
+const DUMP: &str = "yanglive edit --dump d.json s.txt p.yang";
+
+#[test]
+fn edits(rt: HostRuntime) {
+    let rows = "{}
+# x
+
+create /p:c {\"id\":1}\r
+move /p:c
+replace /p:c/id 300--
+1
+line 4: E1
+--
+V1 invalid-value - /p:c/id -
+1 faults
+==
+{\"p:c\":{\"id\":256}}
+--
+1
+--
+V1 invalid-value - /p:c/id -
+1 faults
+==
+{\"p:c\":{\"id\":7}}
+
+
+--
+0
+--
+0 faults
+==
+{\"p:c\":{\"id\":7}}
+remove /p:d
+--
+1
+line 1: E2
+--
+0 faults
+==
+{\"c\":{}}
+#
+--
+2
+d.json: J4 /
+--
+";
+    assert_eq!(rt; first_wrong(rt.alloc(), EDIT, MODULE, rows), None);
+}
+
+#[test]
+fn dumps(rt: HostRuntime) {
+    let rows = "{}
+# x
+
+create /p:c {\"id\":1}\r
+move /p:c
+replace /p:c/id 300--
+1
+line 4: E1
+--
+{\"p:c\":{\"id\":300}}
+==
+{ \"p:c\": {\"note\": \"x\", \"id\": 7} }
+--
+0
+--
+{\"p:c\":{\"id\":7,\"note\":\"x\"}}
+==
+{\"p:c\":{\"id\":7}}
+remove /p:c
+--
+1
+--
+{}
+==
+{\"c\":{}}
+#
+--
+2
+d.json: J4 /
+--
+";
+    assert_eq!(rt; first_wrong(rt.alloc(), DUMP, MODULE, rows), None);
+}
+
+#[test]
+fn edits_of_lists(rt: HostRuntime) {
+    let rows = r#"{"ex-net:net":{"host":[{"name":"a","auto":[null],"use-port":80}]}}
+create /ex-net:net/host[1]/port 22--
+1
+--
+V11 data-missing instance-required /ex-net:net/host[1]/use-port -
+1 faults
+==
+{"ex-net:net":{"host":[{"name":"a","auto":[null],"use-port":80}]}}
+create /ex-net:net/host[1]/port 22
+remove /ex-net:net/host[1]/port--
+0
+--
+0 faults
+==
+{"ex-net:net":{"host":[{"name":"a","auto":[null],"uplink":"b"},{"name":"b","auto":[null]}]}}
+remove /ex-net:net/host[name='b']--
+1
+--
+V11 data-missing instance-required /ex-net:net/host[1]/uplink -
+1 faults
+==
+{"ex-net:net":{"host":[{"name":"a","auto":[null]},{"name":"b","auto":[null]},{"name":"c"}]}}
+remove /ex-net:net/host[1]--
+1
+--
+V4 data-missing missing-choice /ex-net:net/host[2] mode
+1 faults
+==
+{"ex-net:net":{"host":[{"name":"a","auto":[null]},{"name":"a","auto":[null]}]}}
+remove /ex-net:net/host[name='a']
+remove /ex-net:net/host[2]--
+1
+line 1: E6
+--
+0 faults
+==
+{"ex-net:net":{"host":[{"name":"a","auto":[null]}]}}
+replace /ex-net:net/host[1]/port 9
+replace /ex-net:net/host[1]/name {}
+remove /ex-net:net/host
+
+remove /ex-net:net/host[2]
+--
+1
+line 1: E7
+line 2: E10 J5
+line 3: E3
+line 5: E5
+--
+0 faults
+"#;
+    assert_eq!(rt; first_wrong(rt.alloc(), EDIT, NETWORK, rows), None);
+    let rows = "{\"k:want\":3}
+create /k:boost 1--
+1
+--
+V11 data-missing instance-required /k:want -
+1 faults
+==
+{\"k:want\":3}
+create /k:boost 1
+remove /k:boost
+--
+0
+--
+0 faults
+";
+    assert_eq!(rt; first_wrong(rt.alloc(), EDIT, DEFAULT_CASE, rows), None);
+}
+
+/// Whether a script of any bytes shows so of an empty document.
+fn is_shown_of_bytes(alloc: Global, script: &[u8], errors: &str, output: &str) -> Option<bool> {
+    let script = NamedFile {
+        name: "s.txt",
+        bytes: script,
+    };
+    let files = [file("p.yang", MODULE), file("d.json", "{}"), script];
+    let shown = shown_of(alloc, EDIT, &files).ok()?;
+    is_shown(&shown, "1", errors, output)
+}
+
+#[test]
+fn bytes_that_are_no_text(rt: HostRuntime) {
+    let output = "V1 invalid-value - /p:c/id -\n1 faults\n";
+    let script = b"#\xFF\n\xFF\ncreate /p:c {\"id\":300}";
+    let is_told = is_shown_of_bytes(rt.alloc(), script, "line 2: E1\n", output);
+    assert!(rt; is_told == Some(true));
+}
