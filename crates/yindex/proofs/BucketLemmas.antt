@@ -6,6 +6,7 @@ use Rattle.std.proofs.lemmas.Bool.Decides.{Decides-eqb}
 use Rattle.std.proofs.lemmas.List.{drop-set, get_or-replicate, length-replicate}
 use Rattle.std.proofs.lemmas.Option.{slice_get-get_or}
 use Rattle.std.proofs.Math.ListN.{drop_of_length-le}
+use Rattle.yspec.specs.linking.Planned.{same_number}
 use Rattle.yindex.specs.Hashes.{next_in, all_in, links}
 
 some_is : {X : Type 0} → (x y : X) → Some x ≡ Some y → x ≡ y
@@ -232,6 +233,14 @@ found_in hash test passes count bucket number (x ∷ xs) own same =
         each true e p f g = ap (λ b. cond b (Some number) (find passes rest)) g ∙ ap (cond p (Some number)) more
         each false e true f g = absurd (let yes = eq-eqb (hash x % count) bucket (own x f) in let no = sym yes ∙ e in cc)
         each false e false f g = more
+
+-- ---- where numbers are the same
+
+pub same_number-is : (a b : Option ℕ) → same_number a b ≡ true → a ≡ b
+same_number-is None None e = refl
+same_number-is None (Some b) e = absurd cc
+same_number-is (Some a) None e = absurd cc
+same_number-is (Some a) (Some b) e = ap Some ((Decides-eqb a b).0 e)
 
 -- ---- one number after another
 

@@ -1,2 +1,1 @@
 pub mod BucketLemmas
-pub mod IndexLemmas

@@ -1,4 +1,2 @@
 pub mod Buckets
 pub mod Hashes
-pub mod Keys
-pub mod Lookup

@@ -1,26 +1,27 @@
 -- What is found among the nodes of a plan by their hashes.
 use Rattle.std.proofs.Common.{◌≡◌, ℕ, suc, ◌+◌, Bool, true, false, cond, ◌&&◌, map, List, [], ◌∷◌, length, Option, Some, None, refl, sym, ap, ap₂, ◌∙◌, arith}
-use Rattle.std.specs.Prelude.{◌==◌, ◌%◌, find, filter, option_map, slice_get, unwrap_or}
+use Rattle.std.specs.Prelude.{◌==◌, ◌%◌, find, option_map, slice_get, unwrap_or}
 use Rattle.std.specs.Option.{option_map_or}
 use Rattle.std.proofs.lemmas.Bool.{and_parts}
 use Rattle.std.proofs.lemmas.Slice.Eq.{bytes_eq-Decides}
 use Rattle.yspec.specs.text.Text.{Text, is_text}
 use Rattle.yspec.specs.linking.Source.{argument_in}
+use Rattle.yspec.specs.linking.Prefixes.{NodeName}
 use Rattle.yspec.specs.linking.Planned as spec
-use Rattle.yspec.specs.linking.Planned.{Planned, same_number, is_called, is_data, nodes_of}
+use Rattle.yspec.specs.linking.Planned.{Planned, same_number, is_called, nodes_of}
 use Rattle.yspec.specs.linking.SchemaNodes.{number_in}
 use Rattle.ypreorder.specs.View.{rows_in}
 use Rattle.ypreorder.specs.declared.row.Row.{Row}
 use Rattle.yindex.specs.Hashes.{hash_of, candidates, all_in}
-use Rattle.yindex.proofs.IndexLemmas.{same_number-is}
-use Rattle.yindex.proofs.BucketLemmas.{first_place, found_in}
-use Rattle.yplan.specs.Finding.{hash_below, is_child, is_data_child, list_of, parent_in, scope_in}
+use Rattle.yindex.proofs.BucketLemmas.{first_place, found_in, same_number-is}
+use Rattle.yplan.specs.Finding.{above_in, hash_among, is_found, is_looked_for, list_of}
+use Rattle.yplan.specs.declared.finding.Among.{Among}
 use Rattle.yplan.specs.PlannedView.{planned_view}
 use Rattle.yplan.specs.PlanView.{view}
 use Rattle.yplan.specs.declared.plan.Plan.{Plan}
 use Rattle.yplan.specs.declared.planned.Planned as code
 use Rattle.yplan.proofs.PlanLemmas.{nodes_are, node_at}
-use Rattle.yplan.proofs.NodeLemmas.{find-filter, stands_at}
+use Rattle.yplan.proofs.NodeLemmas.{stands_at}
 
 some_is : {X : Type 0} → (x y : X) → Some x ≡ Some y → x ≡ y
 some_is x y e = ap (λ o. unwrap_or o x) e
@@ -61,25 +62,17 @@ found plan test hash hash_at hashes are own =
     (λ i p e. ap passes (omega arith) ∙ (ap (λ o. option_map_or test o false) (stands_at plan i ∙ e)))
     ∙ first_is test 0 nodes (λ i p e. number_is plan i p e ∙ omega arith))
 
--- a node below another of a module and a name has the hash of that name
-own_hash : (above : Planned → Option ℕ) (n : Option ℕ) (m : ℕ) (name : Text) (p : Planned)
-    → (same_number n (above p) && is_called (record { module_number = Some m; name = name }) p) ≡ true → hash_below above p ≡ hash_of n name
-own_hash above n m name p e =
-    let parts = and_parts (same_number n (above p)) (is_called (record { module_number = Some m; name = name }) p) e in
-    let called = and_parts (m == p.part.owner) (is_text name (argument_in p.part.source)) parts.1 in
-    ap₂ hash_of (sym (same_number-is n (above p) parts.0)) (sym ((bytes_eq-Decides name (argument_in p.part.source)).0 called.1))
+-- a node that is looked for has the hash of its name
+own_hash : (among : Among) (above : Option ℕ) (m : ℕ) (name : Text) (p : Planned) → is_found among above m name p ≡ true → hash_among among p ≡ hash_of above name
+own_hash among above m name p e =
+    let called : NodeName = record { module_number = Some m; name = name } in
+    let there = and_parts (is_looked_for among p) (same_number above (above_in among p) && is_called called p) e in
+    let parts = and_parts (same_number above (above_in among p)) (is_called called p) there.1 in
+    let named = and_parts (m == p.part.owner) (is_text name (argument_in p.part.source)) parts.1 in
+    ap₂ hash_of (sym (same_number-is above (above_in among p) parts.0)) (sym ((bytes_eq-Decides name (argument_in p.part.source)).0 named.1))
 
-pub child_found : (plan : Plan) (parent : Option ℕ) (m : ℕ) (name : Text) (hashes : List ℕ) → hashes ≡ map (hash_below parent_in) (list_of plan.table)
-    → find (λ n. option_map_or (is_child parent m name) (spec.node_of (view plan) n) false) (candidates (hash_of parent name) hashes)
-    ≡ option_map number_in (spec.child_called (view plan) parent (record { module_number = Some m; name = name }))
-child_found plan parent m name hashes are =
-    found plan (is_child parent m name) (hash_of parent name) (hash_below parent_in) hashes are (own_hash parent_in parent m name)
-
-pub data_child_found : (plan : Plan) (scope : Option ℕ) (m : ℕ) (name : Text) (hashes : List ℕ) → hashes ≡ map (hash_below scope_in) (list_of plan.table)
-    → find (λ n. option_map_or (is_data_child scope m name) (spec.node_of (view plan) n) false) (candidates (hash_of scope name) hashes)
-    ≡ option_map number_in (spec.data_child_called (view plan) scope (record { module_number = Some m; name = name }))
-data_child_found plan scope m name hashes are =
-    let called = λ (p : Planned). same_number scope p.scope && is_called (record { module_number = Some m; name = name }) p in
-    found plan (is_data_child scope m name) (hash_of scope name) (hash_below scope_in) hashes are
-    (λ p e. own_hash scope_in scope m name p (and_parts (is_data p) (called p) e).1)
-    ∙ ap (option_map number_in) (sym (find-filter is_data called (nodes_of (view plan))))
+pub first_found : (plan : Plan) (among : Among) (above : Option ℕ) (m : ℕ) (name : Text) (hashes : List ℕ) → hashes ≡ map (hash_among among) (list_of plan.table)
+    → find (λ n. option_map_or (is_found among above m name) (spec.node_of (view plan) n) false) (candidates (hash_of above name) hashes)
+    ≡ option_map number_in (find (is_found among above m name) (nodes_of (view plan)))
+first_found plan among above m name hashes are =
+    found plan (is_found among above m name) (hash_of above name) (hash_among among) hashes are (own_hash among above m name)

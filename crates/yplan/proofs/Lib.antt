@@ -1,5 +1,4 @@
 pub mod PartLemmas
-pub mod FindingLemmas
 pub mod PlanLemmas
 pub mod ChainLemmas
 mod ChainWalkLemmas

@@ -1,7 +1,9 @@
 -- What is found by its name is found by its number.
-use Rattle.std.proofs.Common.{◌≡◌, ◌≢◌, ℕ, zero, suc, ◌+◌, ◌≤◌, length, drop, Bool, true, false, cond, ◌&&◌, List, [], ◌∷◌, Option, Some, None, refl, sym, ap, ◌∙◌, arith}
+use Rattle.std.proofs.Common.{◌≡◌, ◌≢◌, ℕ, zero, suc, ◌+◌, ◌≤◌, length, take, drop, Bool, true, false, cond, ◌&&◌, ◌||◌, List, [], ◌∷◌, Option, Some, None, refl, sym, ap, ◌∙◌, arith}
 use Rattle.std.specs.Prelude.{◌==◌, find, filter, option_map, unwrap_or, slice_get}
-use Rattle.std.proofs.lemmas.Bool.{eq-eqb, ne_eqb}
+use Rattle.std.specs.List.{list_any}
+use Rattle.std.proofs.lemmas.Bool.{eq-eqb, ne_eqb, lt-ltb}
+use Rattle.std.proofs.lemmas.Bool.Decides.{nat_tests}
 use Rattle.yspec.specs.linking.Planned as spec
 use Rattle.yspec.specs.linking.Planned.{Planned, is_data, nodes_of}
 use Rattle.yspec.specs.linking.SchemaNodes.{number_in}
@@ -9,6 +11,7 @@ use Rattle.ypreorder.specs.Layout.{labels_by}
 use Rattle.ypreorder.specs.View.{rows_in}
 use Rattle.ypreorder.specs.declared.row.Row.{Row}
 use Rattle.yplan.specs.PlannedView.{planned_view}
+use Rattle.yplan.specs.Finding.{is_before}
 use Rattle.yplan.specs.PlanView.{view}
 use Rattle.yplan.specs.declared.plan.Plan.{Plan}
 use Rattle.yplan.specs.declared.planned.Planned as code
@@ -26,6 +29,26 @@ numbers_from test k (r ∷ rows) q e = by (numbers_from test (k + 1) rows q) (te
     by : (find test (labels_by planned_view (k + 1) rows) ≡ Some q → k + 1 ≤ q.number) → (b : Bool) → cond b (Some (planned_view k r.label)) (find test (labels_by planned_view (k + 1) rows)) ≡ Some q → k ≤ q.number
     by more true h = let same = ap number_in (some_same (planned_view k r.label) q h) in omega (arith, same)
     by more false h = let behind = more h in omega (arith, behind)
+
+not_before : (o : Option Planned) (n : ℕ) → ((q : Planned) → o ≡ Some q → n ≤ q.number) → is_before (option_map number_in o) n ≡ false
+not_before None n h = refl
+not_before (Some q) n h = let behind = h q refl in grind (arith, nat_tests)
+
+-- whether one of the nodes before a number passes a test: the first that passes is one of them
+pub earlier : (test : Planned → Bool) (k i n : ℕ) (rows : List (Row code.Planned)) → n ≡ k + i
+    → is_before (option_map number_in (find test (labels_by planned_view k rows))) n ≡ list_any test (labels_by planned_view k (take i rows))
+earlier test k zero n rows e =
+    not_before (find test (labels_by planned_view k rows)) n (λ q is. let behind = numbers_from test k rows q is in omega (arith, behind))
+earlier test k (suc i) n [] e = refl
+earlier test k (suc i) n (r ∷ rows) e = by (test (planned_view k r.label)) (earlier test (k + 1) i n rows (omega arith))
+  where
+    rest : Option Planned
+    rest = find test (labels_by planned_view (k + 1) rows)
+
+    by : (b : Bool) → is_before (option_map number_in rest) n ≡ list_any test (labels_by planned_view (k + 1) (take i rows))
+        → is_before (option_map number_in (cond b (Some (planned_view k r.label)) rest)) n ≡ (b || list_any test (labels_by planned_view (k + 1) (take i rows)))
+    by true h = lt-ltb k n (omega arith)
+    by false h = h
 
 found_again : (test : Planned → Bool) (k : ℕ) (rows : List (Row code.Planned)) (q : Planned)
     → find test (labels_by planned_view k rows) ≡ Some q → find (λ p. p.number == q.number) (labels_by planned_view k rows) ≡ Some q

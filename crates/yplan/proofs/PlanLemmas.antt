@@ -1,24 +1,20 @@
 -- What is found in a plan, by name and by number.
-use Rattle.std.proofs.Common.{◌≡◌, ◌≢◌, ℕ, zero, suc, ◌+◌, ◌≤◌, Bool, true, false, cond, ◌&&◌, ◌||◌, List, [], ◌∷◌, ◌++◌, length, drop, get_or, Option, Some, None, refl, sym, ap, ap₂, ◌∙◌, arith, is_some}
+use Rattle.std.proofs.Common.{◌≡◌, ◌≢◌, ℕ, zero, suc, ◌+◌, ◌≤◌, Bool, true, false, cond, ◌&&◌, List, [], ◌∷◌, ◌++◌, length, drop, get_or, Option, Some, None, refl, sym, ap, ap₂, ◌∙◌, arith}
 use Rattle.std.specs.Prelude.{◌==◌, find, option_map, slice_get}
 use Rattle.std.specs.List.{list_any}
 use Rattle.std.proofs.lemmas.Bool.{eq-eqb, ne_eqb}
 use Rattle.yspec.specs.text.Text.{Text}
 use Rattle.yspec.specs.schema.Breaks.{Break, least_from, when}
 use Rattle.yspec.proofs.SchemaProofs.LeastLemmas.{least_of_both}
-use Rattle.yspec.specs.linking.Source.{argument_in}
 use Rattle.yspec.specs.linking.Planned as spec
 use Rattle.yspec.specs.linking.Planned.{Planned, same_number, is_called, is_data, nodes_of, data_nodes}
-use Rattle.yspec.specs.linking.SchemaNodes.{number_in}
 use Rattle.yspec.specs.linking.NodeBreaks.{broken_at, is_like, doubled}
 use Rattle.ypreorder.specs.Layout.{labels_by}
 use Rattle.ypreorder.specs.View.{rows_in}
 use Rattle.ypreorder.specs.declared.row.Row.{Row}
 use Rattle.ypreorder.proofs.LabelLemmas.{preorder_by}
-use Rattle.yindex.specs.Lookup.{held}
-use Rattle.yindex.specs.declared.index.Index.{Index}
 use Rattle.yplan.specs.PlannedView.{planned_view}
-use Rattle.yplan.specs.Finding.{Finds, list_of, scope_in}
+use Rattle.yplan.specs.Finding.{list_of}
 use Rattle.yplan.specs.PlanView.{view}
 use Rattle.yplan.specs.declared.plan.Plan.{Plan}
 use Rattle.yplan.specs.declared.planned.Planned as code
@@ -56,19 +52,6 @@ pub node_at : (p : Plan) (n : ℕ) → spec.node_of (view p) n ≡ option_map (�
 node_at p n = ap (find (λ q. q.number == n)) (nodes_are p) ∙ numbered_at 0 n n (rows_in p.table) (omega arith)
 
 -- ---- names that come twice
-
-found_any : {A B : Type 0} (see : A → B) (test : A → Bool) (xs : List A) → is_some (option_map see (find test xs)) ≡ list_any test xs
-found_any see test [] = refl
-found_any see test (x ∷ xs) = by (test x) (found_any see test xs)
-  where
-    by : (b : Bool) → is_some (option_map see (find test xs)) ≡ list_any test xs
-        → is_some (option_map see (cond b (Some x) (find test xs))) ≡ (b || list_any test xs)
-    by true h = refl
-    by false h = h
-
-pub is_doubled : (x : Index) (before : List Planned) (p : Planned) → Finds x scope_in before
-    → is_some (held x p.scope (Some p.part.owner) (argument_in p.part.source)) ≡ list_any (is_like p) before
-is_doubled x before p finds = ap is_some (finds p.scope p.part.owner (argument_in p.part.source)) ∙ found_any number_in (is_like p) before
 
 labels_after : (k : ℕ) (rows : List (Row code.Planned)) (i : ℕ) (r : Row code.Planned) → suc i ≤ length rows → r ≡ get_or rows i r
     → labels_by planned_view (k + i) (drop i rows) ≡ planned_view (k + i) r.label ∷ labels_by planned_view (k + suc i) (drop (suc i) rows)

@@ -1,40 +1,42 @@
--- What an index of planned nodes finds.
-use Rattle.std.specs.Prelude.{◌≡◌, ℕ, ◌&&◌, Bool, List, map, Option, Some, find, option_map}
+-- How nodes of a plan are found by their names.
+use Rattle.std.specs.Prelude.{ℕ, ◌&&◌, Bool, true, false, List, Option, Some, None, nat_lt}
 use Rattle.yspec.specs.text.Text.{Text}
 use Rattle.yspec.specs.linking.Planned.{Planned, is_data, same_number, is_called}
 use Rattle.yspec.specs.linking.Source.{argument_in}
-use Rattle.yspec.specs.linking.SchemaNodes.{number_in}
 use Rattle.ypreorder.specs.Layout.{labels_by}
 use Rattle.ypreorder.specs.View.{rows_in}
 use Rattle.ypreorder.specs.declared.table.Table.{Table}
 use Rattle.yindex.specs.Hashes.{hash_of}
-use Rattle.yindex.specs.Lookup.{held}
-use Rattle.yindex.specs.declared.index.Index.{Index}
 use Rattle.yplan.specs.PlannedView.{planned_view}
+use Rattle.yplan.specs.declared.finding.Among.{Among}
+use Rattle.yplan.specs.declared.finding.Among.TheVariants.{Children, Scope, DataNodes}
 use Rattle.yplan.specs.declared.planned.Planned as code
 
 -- the nodes of a table, by number
 abbrev pub list_of : Table code.Planned → List Planned
 list_of t = labels_by planned_view 0 (rows_in t)
 
-abbrev pub parent_in : Planned → Option ℕ
-parent_in p = p.parent
+-- the node below which one is looked for
+abbrev pub above_in : Among → Planned → Option ℕ
+above_in Children p = p.parent
+above_in Scope p = p.scope
+above_in DataNodes p = p.scope
 
-abbrev pub scope_in : Planned → Option ℕ
-scope_in p = p.scope
+abbrev pub is_looked_for : Among → Planned → Bool
+is_looked_for Children p = true
+is_looked_for Scope p = true
+is_looked_for DataNodes p = is_data p
 
--- The index holds, below each number, the first node of each module and name that stands below it.
-abbrev pub Finds : Index → (Planned → Option ℕ) → List Planned → Type 0
-Finds x above nodes = (n : Option ℕ) (m : ℕ) (t : Text) → held x n (Some m) t
-    ≡ option_map number_in (find (λ p. same_number n (above p) && is_called (record { module_number = Some m; name = t }) p) nodes)
+-- whether it is among those below a node, or at the top, and has this module and name
+abbrev pub is_found : Among → Option ℕ → ℕ → Text → Planned → Bool
+is_found among above m name p = is_looked_for among p
+    && (same_number above (above_in among p) && is_called (record { module_number = Some m; name = name }) p)
 
 -- the hash of a node by its name below what stands above it
-abbrev pub hash_below : (Planned → Option ℕ) → Planned → ℕ
-hash_below above p = hash_of (above p) (argument_in p.part.source)
+abbrev pub hash_among : Among → Planned → ℕ
+hash_among among p = hash_of (above_in among p) (argument_in p.part.source)
 
--- whether it is the child of a module and a name, or the data node
-abbrev pub is_child : Option ℕ → ℕ → Text → Planned → Bool
-is_child parent m name p = same_number parent p.parent && is_called (record { module_number = Some m; name = name }) p
-
-abbrev pub is_data_child : Option ℕ → ℕ → Text → Planned → Bool
-is_data_child scope m name p = is_data p && (same_number scope p.scope && is_called (record { module_number = Some m; name = name }) p)
+-- whether a number, if there is one, is less than another
+abbrev pub is_before : Option ℕ → ℕ → Bool
+is_before None n = false
+is_before (Some m) n = nat_lt m n

@@ -1,69 +1,75 @@
 //! How planned nodes are found by their names.
 
-ghost use Rattle.std.specs.Prelude.{◌≡◌, ◌++◌, ◌∷◌, ◌&&◌, [], Some, OnOk, IfOk, map};
+ghost use Rattle.std.specs.Prelude.{◌≡◌, IfOk, map};
 ghost use Rattle.yspec.specs.linking.Planned as spec;
-ghost use Rattle.yspec.specs.linking.Planned.{is_called, same_number};
 ghost use Rattle.yplan.specs.PlannedView.{planned_view};
-ghost use Rattle.yplan.specs.Finding.{Finds, hash_below, list_of, parent_in, scope_in};
+ghost use Rattle.yplan.specs.Finding.{above_in, hash_among, is_found, is_looked_for, list_of};
 
 use crate::planned::Planned;
 use std::alloc::{AllocError, Global};
-use yindex::{Index, hash_of};
+use yindex::hash_of;
 use ypreorder::Table;
 
-/// Holds a node of a number below another, or at the top, unless one of its name is held there.
-pub(crate) fn hold(
-    alloc: Global,
-    index: &mut Index,
-    above: Option<u32>,
-    number: u32,
-    planned: &Planned<'_, '_>,
-) -> Result<(), AllocError>
-    ensures { OnOk result ((key : spec.Planned → _) (nodes : _) → key (planned_view number planned.now) ≡ above
-        → Finds index.old key nodes → Finds index.new key (nodes ++ planned_view number planned.now ∷ [])) }
-{
-    let name = String::from_str(alloc, planned.name())?;
-    index.put(above, Some(planned.owner()), name, number)
+/// The nodes among which one is looked for by its name.
+#[derive(Clone, Copy)]
+pub(crate) enum Among {
+    /// Those right below a node, or at the top.
+    Children,
+    /// Those that share their names below a node, or at the top.
+    Scope,
+    /// The data nodes of these.
+    DataNodes,
 }
 
-/// Whether a node that stands below one of a number, or at the top, stands there below this one, and has this module and name.
-pub(crate) fn is_named(
-    planned: &Planned<'_, '_>,
-    above: Option<u32>,
-    parent: Option<u32>,
-    module: usize,
-    name: &str,
-) -> bool
-    ensures { (number : _) → result
-        ≡ (same_number parent above && is_called (record { module_number = Some «module»; name = name.now }) (planned_view number planned.now)) }
-{
-    parent == above && (module == planned.owner() && name == planned.name())
-}
-
-/// The hashes of all nodes by their names below those right above them.
-pub(crate) fn hashes_of_children(
-    alloc: Global,
-    table: &Table<Planned<'_, '_>>,
-) -> Result<Vec<u32>, AllocError>
-    ensures { IfOk result (λ hashes. hashes.items ≡ map (hash_below parent_in) (list_of table.now)) }
-{
-    let mut hashes = Vec::with_capacity(alloc, table.len())?;
-    for row in table.rows() {
-        hashes.push(hash_of(row.label.parent, row.label.name()))?;
+impl Among {
+    /// The number of the node below which a node is looked for.
+    pub(crate) fn above(self, planned: &Planned<'_, '_>) -> Option<u32>
+        ensures { (number : _) → result ≡ above_in self (planned_view number planned.now) }
+    {
+        match self {
+            Among::Children => planned.parent,
+            Among::Scope | Among::DataNodes => planned.scope,
+        }
     }
-    Ok(hashes)
+
+    /// Whether a node is one of those that are looked for.
+    fn is_looked_for(self, planned: &Planned<'_, '_>) -> bool
+        ensures { (number : _) → result ≡ is_looked_for self (planned_view number planned.now) }
+    {
+        match self {
+            Among::Children | Among::Scope => true,
+            Among::DataNodes => planned.is_data(),
+        }
+    }
+
+    /// Whether a node is among those below one of a number, or at the top, and has this module and name.
+    pub(crate) fn has(
+        self,
+        planned: &Planned<'_, '_>,
+        above: Option<u32>,
+        module: usize,
+        name: &str,
+    ) -> bool
+        ensures { (number : _) → result ≡ is_found self above «module» name.now (planned_view number planned.now) }
+    {
+        self.is_looked_for(planned)
+            && (above == self.above(planned)
+                && (module == planned.owner() && name == planned.name()))
+    }
 }
 
-/// The hashes of all nodes by their names below the data nodes above them, choices and cases passed through.
-pub(crate) fn hashes_of_data(
+/// The hashes of all nodes by their names below those under which they are looked for.
+pub(crate) fn hashes_of(
     alloc: Global,
     table: &Table<Planned<'_, '_>>,
+    among: Among,
 ) -> Result<Vec<u32>, AllocError>
-    ensures { IfOk result (λ hashes. hashes.items ≡ map (hash_below scope_in) (list_of table.now)) }
+    ensures { IfOk result (λ hashes. hashes.items ≡ map (hash_among among) (list_of table.now)) }
 {
     let mut hashes = Vec::with_capacity(alloc, table.len())?;
     for row in table.rows() {
-        hashes.push(hash_of(row.label.scope, row.label.name()))?;
+        let planned = &row.label;
+        hashes.push(hash_of(among.above(planned), planned.name()))?;
     }
     Ok(hashes)
 }

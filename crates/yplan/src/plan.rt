@@ -4,11 +4,12 @@ ghost use Rattle.std.specs.Prelude.{◌≡◌, map};
 ghost use Rattle.yindex.specs.Buckets.{hashes_in};
 ghost use Rattle.ypreorder.specs.Layout.{IsLaidOut};
 ghost use Rattle.ypreorder.specs.View.{rows_in};
-ghost use Rattle.yplan.specs.Finding.{hash_below, list_of, parent_in, scope_in};
+ghost use Rattle.yplan.specs.Finding.{hash_among, list_of};
+ghost use Rattle.yplan.specs.declared.finding.Among.TheVariants as among;
 ghost use Rattle.ylink.specs.LinkView as link;
 ghost use Rattle.ylink.specs.PrefixView.{IsOf};
 
-use crate::finding::{hashes_of_children, hashes_of_data, is_named};
+use crate::finding::{Among, hashes_of};
 use crate::levels::levels_of;
 use crate::nodes::{PlanNode, PlanNodes};
 use crate::planned::Planned;
@@ -24,19 +25,20 @@ pub struct Plan<'a, 't> {
     sources: &'a Sources<'t>,
     prefixes: Prefixes<'t>,
     table: Table<Planned<'a, 't>>,
-    // Its nodes by their names, below those right above them and below the data nodes above them.
+    // Its nodes by their names, below those right above them and below those where they share them.
     children: Buckets,
-    data_children: Buckets,
+    scopes: Buckets,
     ghost prefixed: { IsOf prefixes (link.view sources.now) },
     ghost laid_out: { IsLaidOut (rows_in table) },
-    ghost found: { hashes_in children ≡ map (hash_below parent_in) (list_of table) },
-    ghost data_found: { hashes_in data_children ≡ map (hash_below scope_in) (list_of table) },
+    ghost by_parent: { hashes_in children ≡ map (hash_among among.Children) (list_of table) },
+    ghost by_scope: { hashes_in scopes ≡ map (hash_among among.Scope) (list_of table) },
 }
 
 impl<'a, 't> Plan<'a, 't> {
-    ghost use Rattle.std.specs.Prelude.{◌≡◌, IfOk, option_map, length, false};
+    ghost use Rattle.std.specs.Prelude.{◌≡◌, IfOk, option_map, find, map, length, false};
     ghost use Rattle.std.specs.Option.{option_map_or};
-    ghost use Rattle.yplan.specs.Finding.{is_child, is_data_child};
+    ghost use Rattle.yindex.specs.Buckets.{hashes_in};
+    ghost use Rattle.yplan.specs.Finding.{hash_among, is_found, list_of};
     ghost use Rattle.yspec.specs.linking.Compiling.{plan_of};
     ghost use Rattle.yspec.specs.linking.Planned as spec;
     ghost use Rattle.ylink.specs.LinkView as link;
@@ -58,14 +60,14 @@ impl<'a, 't> Plan<'a, 't> {
     {
         let prefixes = Prefixes::of(alloc, sources)?;
         let table = planned(alloc, sources)?;
-        let children = Buckets::of(alloc, hashes_of_children(alloc, &table)?)?;
-        let data_children = Buckets::of(alloc, hashes_of_data(alloc, &table)?)?;
+        let children = Buckets::of(alloc, hashes_of(alloc, &table, Among::Children)?)?;
+        let scopes = Buckets::of(alloc, hashes_of(alloc, &table, Among::Scope)?)?;
         Ok(Plan {
             sources,
             prefixes,
             table,
             children,
-            data_children,
+            scopes,
         })
     }
 
@@ -133,46 +135,50 @@ impl<'a, 't> Plan<'a, 't> {
     pub fn child(&self, parent: Option<u32>, module: Option<usize>, name: &str) -> Option<u32>
         ensures { result ≡ option_map number_in (spec.child_called (view self.now) parent (record { module_number = «module»; name = name.now })) }
     {
-        let module = module?;
-        for number in self.children.numbers(hash_of(parent, name)) {
-            if self.is_child(number, parent, module, name) {
-                return Some(number);
-            }
-        }
-        None
-    }
-
-    /// Whether the node of a number stands right below this one, or at the top, and has this module and name.
-    fn is_child(&self, number: u32, parent: Option<u32>, module: usize, name: &str) -> bool
-        ensures { result ≡ option_map_or (is_child parent «module» name.now) (spec.node_of (view self.now) number) false }
-    {
-        match self.node(number) {
-            Some(planned) => is_named(planned, planned.parent, parent, module, name),
-            None => false,
-        }
+        self.first(Among::Children, parent, module?, name)
     }
 
     /// The first data node of a module and a name below a data node, or at the top, choices and cases passed through.
     pub fn data_child(&self, scope: Option<u32>, module: Option<usize>, name: &str) -> Option<u32>
         ensures { result ≡ option_map number_in (spec.data_child_called (view self.now) scope (record { module_number = «module»; name = name.now })) }
     {
-        let module = module?;
-        for number in self.data_children.numbers(hash_of(scope, name)) {
-            if self.is_data_child(number, scope, module, name) {
+        self.first(Among::DataNodes, scope, module?, name)
+    }
+
+    /// The first of some nodes below one, or at the top, that has this module and name, by its number.
+    pub(crate) fn first(
+        &self,
+        among: Among,
+        above: Option<u32>,
+        module: usize,
+        name: &str,
+    ) -> Option<u32>
+        ensures { result ≡ option_map number_in (find (is_found among above «module» name.now) (spec.nodes_of (view self.now))) }
+    {
+        for number in self.buckets(among).numbers(hash_of(above, name)) {
+            if self.has(number, among, above, module, name) {
                 return Some(number);
             }
         }
         None
     }
 
-    /// Whether the node of a number is a data node below this one, or at the top, and has this module and name.
-    fn is_data_child(&self, number: u32, scope: Option<u32>, module: usize, name: &str) -> bool
-        ensures { result ≡ option_map_or (is_data_child scope «module» name.now) (spec.node_of (view self.now) number) false }
+    /// The nodes by their names below those under which they are looked for.
+    fn buckets(&self, among: Among) -> &Buckets
+        ensures { hashes_in result.now ≡ map (hash_among among) (list_of self.now.table) }
+    {
+        match among {
+            Among::Children => &self.children,
+            Among::Scope | Among::DataNodes => &self.scopes,
+        }
+    }
+
+    /// Whether the node of a number is among some below one, or at the top, and has this module and name.
+    fn has(&self, number: u32, among: Among, above: Option<u32>, module: usize, name: &str) -> bool
+        ensures { result ≡ option_map_or (is_found among above «module» name.now) (spec.node_of (view self.now) number) false }
     {
         match self.node(number) {
-            Some(planned) => {
-                planned.is_data() && is_named(planned, planned.scope, scope, module, name)
-            }
+            Some(planned) => among.has(planned, above, module, name),
             None => false,
         }
     }

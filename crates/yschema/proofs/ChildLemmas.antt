@@ -12,7 +12,7 @@ use Rattle.yschema.specs.Layout.{Place, places, laid, forest_of, schema_view, Is
 use Rattle.yschema.specs.Lookup.{first_below}
 use Rattle.yschema.proofs.LayoutLemmas.{laid_parts, length-laid, length-places}
 use Rattle.yspec.proofs.SchemaProofs.NodeLemmas.{map_cond}
-use Rattle.yindex.specs.Keys.{same_number}
+use Rattle.yspec.specs.linking.Planned.{same_number}
 use Rattle.yspec.proofs.BasicLemmas.{first_of_none}
 
 pub numbered_laid : (f : Forest SchemaNode) (p : Option ℕ) (k : ℕ) (rows : List Row) → laid k rows ≡ places p f → IsNumbered k f

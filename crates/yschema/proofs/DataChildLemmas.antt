@@ -8,7 +8,7 @@ use Rattle.yspec.specs.Forest.{Forest, node, end, size, first_of, find_label, fi
 use Rattle.yspec.specs.schema.Schema.{SchemaNode, is_data, data_row, row_at, node_at, first_in_row}
 use Rattle.yspec.specs.document.Fitting.{IsNumbered}
 use Rattle.yspec.proofs.BasicLemmas.{first_of_none}
-use Rattle.yindex.specs.Keys.{same_number}
+use Rattle.yspec.specs.linking.Planned.{same_number}
 use Rattle.yschema.specs.declared.children.Row.{Row}
 use Rattle.yschema.specs.declared.schema.SchemaModule.{SchemaModule}
 use Rattle.yschema.specs.Layout.{data_at, data_places, forest_of, schema_view, IsLaidOut}

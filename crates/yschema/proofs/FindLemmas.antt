@@ -8,9 +8,8 @@ use Rattle.std.proofs.lemmas.Slice.Eq.{bytes_eq-Decides}
 use Rattle.yspec.specs.text.Text.{Text, is_text}
 use Rattle.yspec.specs.schema.Schema.{Schema, SchemaNode, is_data, is_called, is_written, module_at, written_name}
 use Rattle.yindex.specs.Hashes.{hash_of, candidates, all_in}
-use Rattle.yindex.specs.Keys.{same_number}
-use Rattle.yindex.proofs.IndexLemmas.{same_number-is}
-use Rattle.yindex.proofs.BucketLemmas.{first_place, found_in}
+use Rattle.yspec.specs.linking.Planned.{same_number}
+use Rattle.yindex.proofs.BucketLemmas.{first_place, found_in, same_number-is}
 use Rattle.yschema.specs.Layout.{Place, place_of, data_place_of, laid, node_view, data_places, forest_of, IsLaidOut}
 use Rattle.yschema.specs.Lookup.{first_below, is_stored_as, matches, written_hash}
 use Rattle.yschema.specs.declared.children.Row.{Row}

@@ -82,7 +82,7 @@ fn compile_plan(
     requires second { None ≡ first_broken (source_part (modules_view modules.now) (sources_of (modules_view modules.now))) }
     ensures { Gives view told_by result (compiled (modules_view modules.now)) }
 {
-    if let Some(found) = plan_fault(alloc, modules, plan)? {
+    if let Some(found) = plan_fault(modules, plan) {
         return Err(CompileFault::from(found));
     }
     let resolved = Resolved::of(alloc, plan)?;
@@ -138,17 +138,13 @@ fn at_last(modules: &[Module], is_passed: bool) -> Option<Broken>
 }
 
 /// The rule that is told of the number of nodes, or of names of siblings.
-fn plan_fault(
-    alloc: Global,
-    modules: &[Module],
-    plan: &Plan<'_, '_>,
-) -> Result<Option<Broken>, AllocError>
-    ensures { let p = plans.view plan.now in IfOk result (λ told. seen told ≡ first_broken (plan_part (modules_view modules.now) p)) }
+fn plan_fault(modules: &[Module], plan: &Plan<'_, '_>) -> Option<Broken>
+    ensures { let p = plans.view plan.now in seen result ≡ first_broken (plan_part (modules_view modules.now) p) }
 {
     if let Some(found) = at_last(modules, plan.nodes() > NODE_LIMIT) {
-        return Ok(Some(found));
+        return Some(found);
     }
-    name_fault(alloc, plan)
+    name_fault(plan)
 }
 
 /// Whether a plan has too many nodes or levels.

@@ -1,15 +1,20 @@
-use Rattle.std.proofs.Common.{◌≡◌, ◌+◌, ◌≤◌, suc, take, drop, length, get_or, is_some, refl, sym, ap, ap₂, ◌∙◌, subst, arith, Some}
+use Rattle.std.proofs.Common.{◌≡◌, ◌+◌, ◌≤◌, suc, take, drop, length, get_or, sym, ap, ap₂, ◌∙◌, arith}
+use Rattle.std.specs.Prelude.{find, option_map}
 use Rattle.std.specs.List.{list_any}
+use Rattle.yspec.specs.linking.Planned.{nodes_of}
+use Rattle.yspec.specs.linking.SchemaNodes.{number_in}
 use Rattle.yspec.specs.schema.Breaks.{least_from, when}
 use Rattle.yspec.specs.linking.NodeBreaks.{broken_at, is_like, doubled}
-use Rattle.yindex.specs.Lookup.{held}
 use Rattle.ypreorder.specs.Layout.{labels_by}
 use Rattle.ypreorder.specs.View.{rows_in}
 use Rattle.ypreorder.proofs.LabelLemmas.{labels_more}
 use Rattle.ylink.specs.BreakView.{seen}
 use Rattle.yplan.specs.PlannedView.{planned_view}
-use Rattle.yplan.specs.Finding.{Finds, scope_in}
-use Rattle.yplan.proofs.PlanLemmas.{is_doubled, labels_from, next_told, drop_past}
+use Rattle.yplan.specs.PlanView.{view}
+use Rattle.yplan.specs.Finding.{is_before, is_found}
+use Rattle.yplan.specs.declared.finding.Among.TheVariants as among
+use Rattle.yplan.proofs.PlanLemmas.{nodes_are, labels_from, next_told, drop_past}
+use Rattle.yplan.proofs.NodeLemmas.{earlier}
 use Rattle.yplan.proofs.names.name_fault.Goals as goal
 
 pub loop-number-preserved : goal.loop-number-preserved
@@ -23,17 +28,17 @@ loop-number-preserved c =
     let is = c.row-item.is ∙ ap (λ xs. get_or xs i row) same in
     let within : suc i ≤ length rows = omega (arith, ap length same) in
     let more = labels_more planned_view rows i row within is in
-    let other : is_some c.get-other.result ≡ list_any (is_like p) before =
-    ap is_some (c.get-other.ensures ∙ ap₂ (λ m t. held c.loop-number.held p.scope (Some m) t) c.owner.ensures c.name.ensures)
-    ∙ is_doubled c.loop-number.held before p c.loop-number.invariant.finds in
+    let repeated : c.is_before-is_repeated.result ≡ list_any (is_like p) before =
+    c.is_before-is_repeated.ensures
+    ∙ (ap (λ o. is_before o i) (c.first-first.ensures
+    ∙ (ap₂ (λ m t. option_map number_in (find (is_found among.Scope p.scope m t) (nodes_of (view c.args.plan.now)))) c.owner.ensures c.name.ensures
+    ∙ ap (λ nodes. option_map number_in (find (is_like p) nodes)) (nodes_are c.args.plan.now)))
+    ∙ earlier (is_like p) 0 i i rows (omega arith)) in
     let told : seen c.least_when-told.result ≡ least_from (seen c.loop-number.told) (when (list_any (is_like p) before) (broken_at 13 p)) =
-    c.least_when-told.ensures ∙ ap₂ (λ b breaks. least_from (seen c.loop-number.told) (when b breaks)) (c.is_some.ensures ∙ other) (c.broken.ensures i) in
-    record {
-      finds = subst (Finds c.hold.new.index scope_in) (sym more) (c.in_ok-hold.ensures scope_in before refl c.loop-number.invariant.finds);
-      told = ap (λ done. least_from (seen c.least_when-told.result) (doubled done (labels_by planned_view (i + 1) (drop (i + 1) rows)))) more
-          ∙ next_told (seen c.loop-number.told) (seen c.least_when-told.result) before p (labels_by planned_view (i + 1) (drop (i + 1) rows)) _ told
-          (ap (λ rest. least_from (seen c.loop-number.told) (doubled before rest)) (sym (labels_from rows i row within is)) ∙ c.loop-number.invariant.told);
-    }
+    c.least_when-told.ensures ∙ ap₂ (λ b breaks. least_from (seen c.loop-number.told) (when b breaks)) repeated (c.broken.ensures i) in
+    ap (λ done. least_from (seen c.least_when-told.result) (doubled done (labels_by planned_view (i + 1) (drop (i + 1) rows)))) more
+    ∙ next_told (seen c.loop-number.told) (seen c.least_when-told.result) before p (labels_by planned_view (i + 1) (drop (i + 1) rows)) _ told
+    (ap (λ rest. least_from (seen c.loop-number.told) (doubled before rest)) (sym (labels_from rows i row within is)) ∙ c.loop-number.invariant)
 
 pub returns : goal.returns
 returns c =
@@ -41,4 +46,4 @@ returns c =
     let i = c.loop-number.number in
     let past : length rows ≤ i = omega (arith, ap length c.rows-row-items.ensures.rows) in
     ap (λ rest. least_from (seen c.loop-number.told) (doubled (labels_by planned_view 0 (take i rows)) (labels_by planned_view i rest))) (sym (drop_past rows i past))
-    ∙ c.loop-number.invariant.told
+    ∙ c.loop-number.invariant

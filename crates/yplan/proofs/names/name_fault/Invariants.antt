@@ -5,15 +5,11 @@ use Rattle.ypreorder.specs.Layout.{labels_by}
 use Rattle.ypreorder.specs.View.{rows_in}
 use Rattle.ylink.specs.BreakView.{seen}
 use Rattle.yplan.specs.PlannedView.{planned_view}
-use Rattle.yplan.specs.Finding.{Finds, scope_in}
 use Rattle.yplan.specs.PlanView.{view}
 use Rattle.yplan.proofs.names.name_fault.Given as goal
 
 abbrev pub invariant-loop-number : goal.invariant-loop-number
 invariant-loop-number l =
     let rows = rows_in l.plan.table in
-    record {
-      finds : Finds l.held scope_in (labels_by planned_view 0 (take l.number rows));
-      told : least_from (seen l.told) (doubled (labels_by planned_view 0 (take l.number rows)) (labels_by planned_view l.number (drop l.number rows)))
-          ≡ least_from None (name_breaks (view l.plan));
-    }
+    least_from (seen l.told) (doubled (labels_by planned_view 0 (take l.number rows)) (labels_by planned_view l.number (drop l.number rows)))
+    ≡ least_from None (name_breaks (view l.plan))

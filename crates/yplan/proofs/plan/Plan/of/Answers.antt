@@ -1,7 +1,8 @@
 use Rattle.std.proofs.Common.{◌∙◌, length, ap, arith}
 use Rattle.std.proofs.lemmas.List.{length-map}
 use Rattle.ypreorder.proofs.LabelLemmas.{length-labels}
-use Rattle.yplan.specs.Finding.{hash_below, list_of, parent_in, scope_in}
+use Rattle.yplan.specs.Finding.{hash_among, list_of}
+use Rattle.yplan.specs.declared.finding.Among.TheVariants as among
 use Rattle.yspec.specs.linking.Parts.{parts_of_modules}
 use Rattle.yspec.specs.linking.Planned as spec
 use Rattle.yspec.specs.linking.Planned.{at_top, planned}
@@ -15,8 +16,8 @@ pub invariant_of-result : goal.invariant_of-result
 invariant_of-result c = record {
   prefixed = c.in_ok-prefixes.ensures;
   laid_out = (shown planned_view (planned 0 at_top (parts_of_modules (link.view c.args.sources.now))) (rows_in c.in_ok-table.table) c.in_ok-table.ensures).1;
-  found = c.in_ok-children.ensures ∙ c.in_ok-hashes_of_children.ensures;
-  data_found = c.in_ok-data_children.ensures ∙ c.in_ok-hashes_of_data.ensures;
+  by_parent = c.in_ok-children.ensures ∙ c.in_ok-hashes_of.ensures;
+  by_scope = c.in_ok-scopes.ensures ∙ c.in_ok-hashes_of-2.ensures;
 }
 
 pub returns : goal.returns
@@ -28,13 +29,13 @@ returns c =
 pub of-requires-2 : goal.of-requires-2
 of-requires-2 c =
     let rows = rows_in c.in_ok-table.table in
-    let count = ap length c.in_ok-hashes_of_children.ensures ∙ (length-map (list_of c.in_ok-table.table) (hash_below parent_in) ∙ length-labels planned_view 0 rows) in
+    let count = ap length c.in_ok-hashes_of.ensures ∙ (length-map (list_of c.in_ok-table.table) (hash_among among.Children) ∙ length-labels planned_view 0 rows) in
     let bound = c.in_ok-table.table.numbered in
     omega (arith, count, bound)
 
 pub of-requires-3 : goal.of-requires-3
 of-requires-3 c =
     let rows = rows_in c.in_ok-table.table in
-    let count = ap length c.in_ok-hashes_of_data.ensures ∙ (length-map (list_of c.in_ok-table.table) (hash_below scope_in) ∙ length-labels planned_view 0 rows) in
+    let count = ap length c.in_ok-hashes_of-2.ensures ∙ (length-map (list_of c.in_ok-table.table) (hash_among among.Scope) ∙ length-labels planned_view 0 rows) in
     let bound = c.in_ok-table.table.numbered in
     omega (arith, count, bound)

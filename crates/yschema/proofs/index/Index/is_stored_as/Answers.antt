@@ -2,7 +2,7 @@ use Rattle.std.proofs.Common.{◌≡◌, ◌∙◌, ◌&&◌, Some, None, true, 
 use Rattle.std.specs.Prelude.{slice_get, unwrap_or}
 use Rattle.std.specs.Option.{option_map_or}
 use Rattle.std.proofs.lemmas.Option.{slice_get_read, slice_get_past}
-use Rattle.yindex.specs.Keys.{same_number}
+use Rattle.yspec.specs.linking.Planned.{same_number}
 use Rattle.yspec.specs.schema.Schema.{is_data, is_written}
 use Rattle.yschema.specs.Layout.{data_place_of, node_view, schema_view}
 use Rattle.yschema.specs.Lookup.{is_stored_as, matches}
