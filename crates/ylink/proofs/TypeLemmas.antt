@@ -1,13 +1,15 @@
 -- Names that statements give, and types, one after another.
-use Rattle.std.proofs.Common.{◌≡◌, ℤ, Bool, true, false, cond, List, [], ◌∷◌, ◌++◌, Option, Some, refl, sym, ap, ◌∙◌}
+use Rattle.std.proofs.Common.{◌≡◌, ℤ, Bool, true, false, cond, List, [], ◌∷◌, ◌++◌, Option, Some, None, arith, refl, sym, ap, ◌∙◌}
+use Rattle.std.proofs.lemmas.Bool.Decides.{Decides-eqb}
 use Rattle.std.proofs.lemmas.List.{append_assoc, append-nil}
-use Rattle.yspec.specs.Forest.{Forest, end, node}
+use Rattle.yspec.specs.Forest.{Forest, end, node, row}
 use Rattle.yspec.specs.types.Names.{Naming}
 use Rattle.yspec.specs.linking.Keyword.{Keyword}
-use Rattle.yspec.specs.linking.Source.{Source, is_source_of, argument_in, found_with}
+use Rattle.yspec.specs.linking.Arguments.{Name}
+use Rattle.yspec.specs.linking.Source.{Source, is_source_of, argument_in, first_with, found_with}
 use Rattle.yspec.specs.linking.TypeStatements as spec
-use Rattle.yspec.specs.linking.TypeStatements.{Meant, namings, verdicts, verdict, told, type_breaks_in, member_types, union_verdict, meaning_of, first_meant, type_meant}
-use Rattle.std.specs.Prelude.{◌==◌, length, map, option_and_then}
+use Rattle.yspec.specs.linking.TypeStatements.{Meant, namings, verdicts, verdict, told, type_breaks_in, member_types, union_verdict, meaning_of, first_meant, single_type, type_meant}
+use Rattle.std.specs.Prelude.{◌==◌, ℕ, is_some, length, map, not, option_and_then, option_map}
 use Rattle.std.specs.Option.{option_map_or}
 use Rattle.yspec.specs.types.Types.{YangType}
 use Rattle.yspec.specs.types.Restriction.{union_type}
@@ -15,7 +17,7 @@ use Rattle.yspec.specs.linking.Keyword.{type_word}
 use Rattle.yspec.specs.schema.Breaks.{Break, least_from, when, broken}
 use Rattle.yspec.proofs.SchemaProofs.LeastLemmas.{least_of_both}
 use Rattle.ylink.specs.declared.types.Verdict.{Verdict}
-use Rattle.ylink.specs.TypeView.{verdict_view, is_wrong}
+use Rattle.ylink.specs.TypeView.{verdict_view, is_plain, is_wrong}
 
 -- ---- names of enumerations and bits
 
@@ -120,6 +122,50 @@ no_more_verdicts is_member left so_far whole ended made =
 pub no_more_types : (is_member : Bool) (left : Forest Source) (so_far whole : Option Break) → left ≡ end
     → least_from so_far (type_breaks_in is_member left) ≡ whole → so_far ≡ whole
 no_more_types is_member left so_far whole ended made = sym (ap (λ f. least_from so_far (type_breaks_in is_member f)) ended) ∙ made
+
+-- ---- which are wrong
+
+pub is_some_map : {A B : Type 0} (f : A → B) (o : Option A) → is_some o ≡ is_some (option_map f o)
+is_some_map f None = refl
+is_some_map f (Some x) = refl
+
+pub wrong_own : (made : Option YangType) → is_wrong (option_map_or (λ type. spec.means (spec.own type)) made spec.wrong) ≡ not (is_some made)
+wrong_own None = refl
+wrong_own (Some type) = refl
+
+pub wrong_path : (home : ℕ) (required : Bool) (path : Option (List Name))
+    → is_wrong (option_map_or (λ steps. spec.means (spec.of_target home steps required)) path spec.wrong) ≡ not (is_some path)
+wrong_path home required None = refl
+wrong_path home required (Some steps) = refl
+
+-- a union without members
+pub wrong_union : (f : Forest Source) → is_wrong (union_verdict (verdicts true f)) ≡ not (is_some (first_with type_word f))
+unfolding verdicts
+wrong_union end = refl
+wrong_union (node s below after) = by (is_source_of type_word s) (wrong_union after)
+  where
+    some : (types : Option (List YangType)) → is_wrong (option_map_or (λ ts. spec.means (spec.own (union_type ts))) types spec.unjudged) ≡ false
+    some None = refl
+    some (Some ts) = refl
+
+    by : (b : Bool) → is_wrong (union_verdict (verdicts true after)) ≡ not (is_some (first_with type_word after))
+        → is_wrong (union_verdict (cond b (verdict true s below (verdicts true below) ∷ verdicts true after) (verdicts true after)))
+        ≡ not (is_some (cond b (Some s) (first_with type_word after)))
+    by true h = some (member_types (verdict true s below (verdicts true below) ∷ verdicts true after))
+    by false h = h
+
+-- a plain type alone
+pub made_plain : (t : spec.BuiltIn) (f : Forest Source) → is_plain t ≡ true → (length (row f) == 0) ≡ true → is_some (single_type t f) ≡ true
+made_plain t (node s below after) plain none = absurd (let same = (Decides-eqb (length (row (node s below after))) 0).0 none in omega (arith, same))
+made_plain (spec.integer i) end plain none = refl
+made_plain spec.string end plain none = refl
+made_plain spec.boolean end plain none = refl
+made_plain spec.empty end plain none = refl
+made_plain spec.decimal64 end plain none = absurd (let clash : false ≡ true = plain in cc)
+made_plain spec.enumeration end plain none = absurd (let clash : false ≡ true = plain in cc)
+made_plain spec.bits end plain none = absurd (let clash : false ≡ true = plain in cc)
+made_plain spec.union end plain none = absurd (let clash : false ≡ true = plain in cc)
+made_plain spec.leafref end plain none = absurd (let clash : false ≡ true = plain in cc)
 
 -- ---- what the `type` statement of a row means
 

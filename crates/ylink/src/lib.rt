@@ -7,6 +7,7 @@ mod cut;
 mod fault;
 mod form;
 mod grammar;
+mod judging;
 mod keyword;
 mod limit;
 mod name;
@@ -24,6 +25,7 @@ mod word;
 pub use builtin::BuiltIn;
 pub use fault::{Broken, CompileCode, least, least_when};
 pub use grammar::statement_fault;
+pub use judging::type_fault;
 pub use keyword::Keyword;
 pub use name::{
     Name, absolute_path, key_names, leafref_path, name_of, relative_path, unique_paths,
@@ -34,5 +36,5 @@ pub use row::{argument_of, argument_with, first_with, found_with};
 pub use source::Source;
 pub use sources::Sources;
 pub use span::spans;
-pub use types::{Meant, Verdict, type_fault, type_meant};
+pub use types::{Meant, Verdict, type_meant};
 pub use word::{OrderedBy, Status, flag_of, is_date, ordered_by_of, status_of};

@@ -1,6 +1,6 @@
 //! What `type` statements mean, and where one breaks a rule of its own (RFC 7950, 7.4 and 9).
 
-ghost use Rattle.std.specs.Prelude.{◌≡◌, ℕ, IfOk, [], false, None, map, option_map, option_and_then};
+ghost use Rattle.std.specs.Prelude.{◌≡◌, ℕ, IfOk, [], false, true, None, map, option_map, option_and_then};
 ghost use Rattle.std.specs.List.{list_all};
 ghost use Rattle.std.specs.Option.{option_map_or};
 ghost use Rattle.yspec.specs.Forest.{row};
@@ -55,13 +55,6 @@ pub enum Verdict<'t> {
     Unjudged,
 }
 
-/// The verdicts on the `type` statements of a row, and the least rule that is broken there or below.
-#[derive(Drop)]
-struct Judged<'t> {
-    verdicts: Vec<Verdict<'t>>,
-    told: Option<Broken>,
-}
-
 // Whether a built-in type may bear a substatement.
 fn may_bear(type_name: BuiltIn, keyword: Keyword) -> bool
     ensures { result ≡ spec.may_bear (built_in_view type_name) (keyword_view keyword) }
@@ -85,7 +78,7 @@ fn may_bear(type_name: BuiltIn, keyword: Keyword) -> bool
     }
 }
 
-fn are_in_place(type_name: BuiltIn, below: Nodes<'_, Source<'_>>) -> bool
+pub(crate) fn are_in_place(type_name: BuiltIn, below: Nodes<'_, Source<'_>>) -> bool
     ensures { result ≡ spec.are_in_place (built_in_view type_name) (row_by source_view below.entry) }
 {
     for statement in below {
@@ -112,7 +105,7 @@ fn decimal(alloc: Global, below: Nodes<'_, Source<'_>>) -> Result<Option<YType>,
 }
 
 // A type that is no union and no leafref.
-fn single_type(
+pub(crate) fn single_type(
     alloc: Global,
     type_name: BuiltIn,
     below: Nodes<'_, Source<'_>>,
@@ -148,7 +141,7 @@ fn is_required(below: Nodes<'_, Source<'_>>) -> bool
 }
 
 // The path of a leafref, where it has one.
-fn path_stated<'t>(
+pub(crate) fn path_stated<'t>(
     alloc: Global,
     below: Nodes<'_, Source<'t>>,
 ) -> Result<Option<Vec<Name<'t>>>, AllocError>
@@ -255,32 +248,23 @@ fn judge_type<'t>(
     verdict_in_place(alloc, is_member, type_name, statement, members)
 }
 
-// Judges the `type` statements of a row, which are members of a union or not, and those below it.
-fn judge_row<'t>(
+// The verdicts on the members of a union that stand in a row.
+fn member_verdicts<'t>(
     alloc: Global,
-    is_member: bool,
     statements: Nodes<'_, Source<'t>>,
-    so_far: Option<Broken>,
-) -> Result<Judged<'t>, AllocError>
-    ensures { let f = row_by source_view statements.entry in IfOk result (λ judged. (map verdict_view judged.verdicts.items ≡ spec.verdicts is_member f)
-        × (seen judged.told ≡ least_from (seen so_far) (spec.type_breaks_in is_member f))) }
+) -> Result<Vec<Verdict<'t>>, AllocError>
+    ensures { IfOk result (λ found. map verdict_view found.items ≡ spec.verdicts true (row_by source_view statements.entry)) }
 {
-    let mut verdicts = Vec::new(alloc);
-    let mut told = so_far;
+    let mut found = Vec::new(alloc);
     for statement in statements {
-        let source = statement.label();
-        let is_type = Keyword::Type.is(source.keyword);
-        let below = judge_row(alloc, is_type, statement.children(), told)?;
-        told = below.told;
-        if !is_type {
+        if !Keyword::Type.is(statement.label().keyword) {
             continue;
         }
-        let judged = judge_type(alloc, is_member, statement, below.verdicts)?;
-        let fault = broken(CompileCode::C10, source.home, source.statement);
-        told = least_when(judged.is_wrong(), told, fault);
-        verdicts.push(judged)?;
+        let members = member_verdicts(alloc, statement.children())?;
+        let judged = judge_type(alloc, true, statement, members)?;
+        found.push(judged)?;
     }
-    Ok(Judged { verdicts, told })
+    Ok(found)
 }
 
 /// What the first `type` statement of a row means. It costs no walk through what else stands in the row.
@@ -293,28 +277,15 @@ pub fn type_meant<'t>(
     let Some(statement) = found_with(Keyword::Type, own) else {
         return Ok(None);
     };
-    let members = judge_row(alloc, true, statement.children(), None)?;
-    let judged = judge_type(alloc, false, statement, members.verdicts)?;
+    let members = member_verdicts(alloc, statement.children())?;
+    let judged = judge_type(alloc, false, statement, members)?;
     Ok(judged.meaning())
-}
-
-/// The least of the `type` statements that break a rule of their own, by module and line.
-pub fn type_fault(alloc: Global, sources: &Sources<'_>) -> Result<Option<Broken>, AllocError>
-    ensures { IfOk result (λ told. seen told ≡ least_from None (spec.type_breaks (view sources.now))) }
-{
-    Ok(judge_row(alloc, false, sources.modules(), None)?.told)
 }
 
 impl<'t> Verdict<'t> {
     ghost use Rattle.std.specs.Prelude.{◌≡◌, option_map};
     ghost use Rattle.yspec.specs.linking.TypeStatements as spec;
-    ghost use Rattle.ylink.specs.TypeView.{is_wrong, meant_view, verdict_view};
-
-    fn is_wrong(&self) -> bool
-        ensures { result ≡ is_wrong (verdict_view self.now) }
-    {
-        matches!(self, Verdict::Wrong)
-    }
+    ghost use Rattle.ylink.specs.TypeView.{meant_view, verdict_view};
 
     fn meaning(self) -> Option<Meant<'t>>
         ensures { option_map meant_view result ≡ spec.meaning_of (verdict_view self.entry) }

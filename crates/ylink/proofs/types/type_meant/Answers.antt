@@ -16,6 +16,6 @@ returns c =
     let f = row_by source_view c.args.own in
     let s = c.in-Some.statement in
     c.meaning.ensures
-    ∙ (ap spec.meaning_of (c.in_ok-judged.ensures ∙ ap (spec.verdict false (label_by source_view s) (row_by source_view s.children)) (c.in_ok-members.ensures.0
+    ∙ (ap spec.meaning_of (c.in_ok-judged.ensures ∙ ap (spec.verdict false (label_by source_view s) (row_by source_view s.children)) (c.in_ok-members.ensures
     ∙ ap (λ nodes. spec.verdicts true (row_by source_view nodes)) c.children.ensures))
     ∙ (ap (λ o. meant_by (option_map node_view o)) (sym c.in-Some.is) ∙ (ap meant_by c.found_with.ensures ∙ sym (meant_found f))))

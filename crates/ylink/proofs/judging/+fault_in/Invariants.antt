@@ -1,24 +1,21 @@
-use Rattle.std.proofs.Common.{◌≡◌, ◌++◌, ◌≤◌, map}
+use Rattle.std.proofs.Common.{◌≡◌, ◌≤◌}
 use Rattle.yspec.specs.Forest.{size}
 use Rattle.yspec.specs.schema.Breaks.{least_from}
-use Rattle.yspec.specs.linking.TypeStatements.{verdicts, type_breaks_in}
+use Rattle.yspec.specs.linking.TypeStatements.{type_breaks_in}
 use Rattle.ypreorder.specs.View.{row_by, row_view}
 use Rattle.ylink.specs.BreakView.{seen}
 use Rattle.ylink.specs.SourceView.{source_view}
-use Rattle.ylink.specs.TypeView.{verdict_view}
-use Rattle.ylink.proofs.types.+judge_row.Given as goal
+use Rattle.ylink.proofs.judging.+fault_in.Given as goal
 
 -- what stands below a statement is smaller than its row
-abbrev pub decreases-judge_row : goal.decreases-judge_row
-decreases-judge_row l = size (row_view l.statements)
+abbrev pub decreases-fault_in : goal.decreases-fault_in
+decreases-fault_in l = size (row_view l.statements)
 
 abbrev pub invariant-loop-statement : goal.invariant-loop-statement
 invariant-loop-statement l = record {
   more : (goal.iterator-loop-statement).can_next l.statement-iterator;
   ends : (goal.iterator-loop-statement).is_finite l.statement-iterator;
   smaller : size (row_view l.statement-iterator) ≤ size (row_view l.fn.statements);
-  verdicts : map verdict_view l.verdicts.items ++ verdicts l.is_member (row_by source_view l.statement-iterator)
-      ≡ verdicts l.is_member (row_by source_view l.fn.statements);
   told : least_from (seen l.told) (type_breaks_in l.is_member (row_by source_view l.statement-iterator))
       ≡ least_from (seen l.fn.so_far) (type_breaks_in l.is_member (row_by source_view l.fn.statements));
 }

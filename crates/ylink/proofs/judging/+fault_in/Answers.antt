@@ -1,5 +1,4 @@
-use Rattle.std.proofs.Common.{◌≡◌, ◌∷◌, [], true, false, ap, sym, ◌∙◌, rules, arith, map}
-use Rattle.std.proofs.lemmas.List.{map_push}
+use Rattle.std.proofs.Common.{◌≡◌, ◌∷◌, [], true, false, refl, ap, sym, ◌∙◌, rules, arith}
 use Rattle.yspec.specs.Forest.{size}
 use Rattle.yspec.specs.schema.Breaks.{least_from, when, broken}
 use Rattle.yspec.specs.linking.Keyword.{same_keyword, type_word}
@@ -10,9 +9,9 @@ use Rattle.ypreorder.proofs.RowLemmas.{takes_by, takes_none_by}
 use Rattle.ylink.specs.BreakView.{seen, break_view}
 use Rattle.ylink.specs.KeywordView.{keyword_view}
 use Rattle.ylink.specs.SourceView.{source_view}
-use Rattle.ylink.specs.TypeView.{verdict_view, is_wrong}
-use Rattle.ylink.proofs.TypeLemmas.{no_verdict, next_verdict, no_type, next_type, no_more_verdicts, no_more_types}
-use Rattle.ylink.proofs.types.+judge_row.Goals as goal
+use Rattle.ylink.specs.TypeView.{is_wrong}
+use Rattle.ylink.proofs.TypeLemmas.{no_type, next_type, no_more_types}
+use Rattle.ylink.proofs.judging.+fault_in.Goals as goal
 
 pub loop-statement-preserved-then-not-is_type : goal.loop-statement-preserved-then-not-is_type
 loop-statement-preserved-then-not-is_type t c =
@@ -27,16 +26,15 @@ loop-statement-preserved-then-not-is_type t c =
     let keyword : c.is-is_type.result ≡ same_keyword type_word s.keyword =
     c.is-is_type.ensures ∙ ap (λ l. same_keyword type_word (keyword_view l.keyword)) c.label-source.ensures in
     let other : same_keyword type_word s.keyword ≡ false = sym keyword ∙ first_of (search rules, cc) in
-    let inner : seen c.in_ok-below.below.told ≡ least_from so_far (type_breaks_in (same_keyword type_word s.keyword) below) =
-    c.in_ok-below.ensures.1
+    let inner : seen c.in_ok-told.told ≡ least_from so_far (type_breaks_in (same_keyword type_word s.keyword) below) =
+    c.in_ok-told.ensures
     ∙ (ap (λ b. least_from so_far (type_breaks_in b (row_by source_view c.children.result))) keyword
     ∙ ap (λ n. least_from so_far (type_breaks_in (same_keyword type_word s.keyword) (row_by source_view n))) c.children.ensures) in
     record {
       more = tt;
       ends = tt;
       smaller = omega (arith, sized, c.loop-statement.invariant.smaller);
-      verdicts = no_verdict c.args.is_member s below after (row_by source_view before) first (map verdict_view c.loop-statement.verdicts.items) _ other c.loop-statement.invariant.verdicts;
-      told = no_type c.args.is_member s below after (row_by source_view before) first so_far (seen c.in_ok-below.below.told) _ other inner c.loop-statement.invariant.told;
+      told = no_type c.args.is_member s below after (row_by source_view before) first so_far (seen c.in_ok-told.told) _ other inner c.loop-statement.invariant.told;
     }
 
 pub loop-statement-preserved : goal.loop-statement-preserved
@@ -49,38 +47,30 @@ loop-statement-preserved t c =
     let sized = ap size taken.0 in
     let first = takes_by source_view before c.next.new.self c.in-Some.statement taken in
     let so_far = seen c.loop-statement.told in
-    let mid = seen c.in_ok-below.below.told in
-    let v = verdict_view c.in_ok-judged.judged in
+    let mid = seen c.in_ok-told.told in
+    let v = verdict c.args.is_member s below (verdicts true below) in
     let keyword : c.is-is_type.result ≡ same_keyword type_word s.keyword =
     c.is-is_type.ensures ∙ ap (λ l. same_keyword type_word (keyword_view l.keyword)) c.label-source.ensures in
     let is_type : c.is-is_type.result ≡ true = first_of (search rules, cc) in
     let stands : same_keyword type_word s.keyword ≡ true = sym keyword ∙ is_type in
     let inner : mid ≡ least_from so_far (type_breaks_in (same_keyword type_word s.keyword) below) =
-    c.in_ok-below.ensures.1
+    c.in_ok-told.ensures
     ∙ (ap (λ b. least_from so_far (type_breaks_in b (row_by source_view c.children.result))) keyword
     ∙ ap (λ n. least_from so_far (type_breaks_in (same_keyword type_word s.keyword) (row_by source_view n))) c.children.ensures) in
-    let members : map verdict_view c.in_ok-below.below.verdicts.items ≡ verdicts true below =
-    c.in_ok-below.ensures.0
-    ∙ (ap (λ b. verdicts b (row_by source_view c.children.result)) is_type ∙ ap (λ n. verdicts true (row_by source_view n)) c.children.ensures) in
-    let v_is : v ≡ verdict c.args.is_member s below (verdicts true below) = c.in_ok-judged.ensures ∙ ap (verdict c.args.is_member s below) members in
     let judged : seen c.least_when-told.result ≡ least_from mid (when (is_wrong v) (broken 10 s.home s.statement.line)) =
     c.least_when-told.ensures
-    ∙ (ap (λ w. least_from mid (when w (break_view c.broken-fault.result ∷ []))) c.is_wrong.ensures
-    ∙ (ap (λ b. least_from mid (when (is_wrong v) (break_view b ∷ []))) c.broken-fault.ensures
+    ∙ (ap (λ w. least_from mid (when w (break_view c.broken.result ∷ []))) c.in_ok-wrong.ensures
+    ∙ (ap (λ b. least_from mid (when (is_wrong v) (break_view b ∷ []))) c.broken.ensures
     ∙ ap (λ l. least_from mid (when (is_wrong v) (broken 10 l.home (text.view l.statement.now).0.line))) c.label-source.ensures)) in
     record {
       more = tt;
       ends = tt;
       smaller = omega (arith, sized, c.loop-statement.invariant.smaller);
-      verdicts = next_verdict c.args.is_member s below after (row_by source_view before) first (map verdict_view c.loop-statement.verdicts.items) _ v _ stands
-          (ap (map verdict_view) c.in_ok-push.ensures.items ∙ map_push verdict_view c.loop-statement.verdicts.items c.in_ok-judged.judged) v_is c.loop-statement.invariant.verdicts;
-      told = next_type c.args.is_member s below after (row_by source_view before) first so_far mid (seen c.least_when-told.result) _ v stands inner v_is judged c.loop-statement.invariant.told;
+      told = next_type c.args.is_member s below after (row_by source_view before) first so_far mid (seen c.least_when-told.result) _ v stands inner refl judged c.loop-statement.invariant.told;
     }
 
 pub returns : goal.returns
 returns t c =
     let before = c.loop-statement.statement-iterator in
-    let ended = (takes_none_by source_view before c.next.new.self c.in-None.ensures.steps).0 in (
-      no_more_verdicts c.args.is_member (row_by source_view before) (map verdict_view c.loop-statement.verdicts.items) _ ended c.loop-statement.invariant.verdicts,
-      no_more_types c.args.is_member (row_by source_view before) (seen c.loop-statement.told) _ ended c.loop-statement.invariant.told,
-    )
+    let ended = (takes_none_by source_view before c.next.new.self c.in-None.ensures.steps).0 in
+    no_more_types c.args.is_member (row_by source_view before) (seen c.loop-statement.told) _ ended c.loop-statement.invariant.told

@@ -1,0 +1,143 @@
+//! Where a `type` statement breaks a rule of its own (RFC 7950, 7.4 and 9).
+
+ghost use Rattle.std.specs.Prelude.{◌≡◌, ◌==◌, IfOk, None, is_some, length, not, true};
+ghost use Rattle.yspec.specs.Forest.{row};
+ghost use Rattle.yspec.specs.schema.Breaks.{least_from};
+ghost use Rattle.yspec.specs.linking.Keyword.{type_word};
+ghost use Rattle.yspec.specs.linking.Source as sources;
+ghost use Rattle.yspec.specs.linking.TypeStatements as spec;
+ghost use Rattle.ypreorder.specs.View.{row_by, label_by};
+ghost use Rattle.ylink.specs.BreakView.{seen};
+ghost use Rattle.ylink.specs.LinkView.{view};
+ghost use Rattle.ylink.specs.SourceView.{source_view};
+ghost use Rattle.ylink.specs.TypeView.{built_in_view, is_plain, is_wrong};
+
+use crate::builtin::BuiltIn;
+use crate::fault::{Broken, CompileCode, least_when};
+use crate::grammar::broken;
+use crate::keyword::Keyword;
+use crate::row::{argument_of, first_with};
+use crate::source::Source;
+use crate::sources::Sources;
+use crate::types::{are_in_place, path_stated, single_type};
+use std::alloc::{AllocError, Global};
+use ypreorder::{Node, Nodes};
+
+// Whether a built-in type is one that needs no substatement.
+fn is_plain(type_name: BuiltIn) -> bool
+    ensures { result ≡ is_plain (built_in_view type_name) }
+{
+    !matches!(
+        type_name,
+        BuiltIn::Decimal64
+            | BuiltIn::Enumeration
+            | BuiltIn::Bits
+            | BuiltIn::Union
+            | BuiltIn::Leafref
+    )
+}
+
+fn has_none(statements: Nodes<'_, Source<'_>>) -> bool
+    ensures { result ≡ (length (row (row_by source_view statements.entry)) == 0) }
+{
+    let mut left = statements;
+    left.next().is_none()
+}
+
+// Whether there is no such type, where it is no union and no leafref. A plain one isn't made.
+fn is_refused(
+    alloc: Global,
+    type_name: BuiltIn,
+    below: Nodes<'_, Source<'_>>,
+) -> Result<bool, AllocError>
+    ensures { IfOk result (λ b. b ≡ not (is_some (spec.single_type (built_in_view type_name) (row_by source_view below.entry)))) }
+{
+    if is_plain(type_name) && has_none(below) {
+        return Ok(false);
+    }
+    Ok(single_type(alloc, type_name, below)?.is_none())
+}
+
+// Whether a leafref breaks a rule: as a member of a union, or without a path.
+fn is_wrong_leafref(
+    alloc: Global,
+    is_member: bool,
+    below: Nodes<'_, Source<'_>>,
+) -> Result<bool, AllocError>
+    ensures { (home : _) → IfOk result (λ b. b ≡ is_wrong (spec.leafref_verdict is_member home (row_by source_view below.entry))) }
+{
+    if is_member {
+        return Ok(true);
+    }
+    Ok(path_stated(alloc, below)?.is_none())
+}
+
+// Whether a `type` statement whose substatements may stand there breaks a rule. A union does where it has no member.
+fn is_wrong_in_place(
+    alloc: Global,
+    is_member: bool,
+    type_name: BuiltIn,
+    statement: Node<'_, Source<'_>>,
+) -> Result<bool, AllocError>
+    ensures { let f = row_by source_view statement.entry.children in IfOk result (λ b. b
+        ≡ is_wrong (spec.verdict_in_place is_member (label_by source_view statement.entry).home (built_in_view type_name) f (spec.verdicts true f))) }
+{
+    let below = statement.children();
+    match type_name {
+        BuiltIn::Union => Ok(first_with(Keyword::Type, below).is_none()),
+        BuiltIn::Leafref => is_wrong_leafref(alloc, is_member, below),
+        _ => is_refused(alloc, type_name, below),
+    }
+}
+
+// Whether a `type` statement, a member of a union or not, breaks a rule of its own.
+fn is_wrong(
+    alloc: Global,
+    is_member: bool,
+    statement: Node<'_, Source<'_>>,
+) -> Result<bool, AllocError>
+    ensures { let f = row_by source_view statement.entry.children in
+        IfOk result (λ b. b ≡ is_wrong (spec.verdict is_member (label_by source_view statement.entry) f (spec.verdicts true f))) }
+{
+    let Some(type_name) = BuiltIn::named(argument_of(statement)) else {
+        return Ok(false);
+    };
+    if !are_in_place(type_name, statement.children()) {
+        return Ok(true);
+    }
+    is_wrong_in_place(alloc, is_member, type_name, statement)
+}
+
+// The least rule that the `type` statements of a row, members of a union or not, and those below it break.
+fn fault_in(
+    alloc: Global,
+    is_member: bool,
+    statements: Nodes<'_, Source<'_>>,
+    so_far: Option<Broken>,
+) -> Result<Option<Broken>, AllocError>
+    ensures { IfOk result (λ told. seen told ≡ least_from (seen so_far) (spec.type_breaks_in is_member (row_by source_view statements.entry))) }
+{
+    let mut told = so_far;
+    for statement in statements {
+        let source = statement.label();
+        let is_type = Keyword::Type.is(source.keyword);
+        told = fault_in(alloc, is_type, statement.children(), told)?;
+        if !is_type {
+            continue;
+        }
+        let wrong = is_wrong(alloc, is_member, statement)?;
+        told = least_when(
+            wrong,
+            told,
+            broken(CompileCode::C10, source.home, source.statement),
+        );
+    }
+    Ok(told)
+}
+
+/// The least of the `type` statements that break a rule of their own, by module and line.
+pub fn type_fault(alloc: Global, sources: &Sources<'_>) -> Result<Option<Broken>, AllocError>
+    ensures { IfOk result (λ told. seen told ≡ least_from None (spec.type_breaks (view sources.now))) }
+{
+    fault_in(alloc, false, sources.modules(), None)
+}
