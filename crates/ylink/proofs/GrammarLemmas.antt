@@ -1,15 +1,19 @@
 -- What is broken at statements, by their keywords.
-use Rattle.std.proofs.Common.{◌≡◌, ℕ, suc, ◌+◌, ◌<◌, Bool, true, false, cond, List, [], ◌∷◌, ◌++◌, length, get_or, drop, Option, Some, None, refl, sym, ap, ap₂, subst, ◌∙◌}
-use Rattle.std.specs.Prelude.{filter, map, ◌||◌}
+use Rattle.std.proofs.Common.{◌≡◌, ℕ, ◌+◌, ◌<◌, ◌≤◌, Bool, true, false, cond, List, [], ◌∷◌, ◌++◌, length, get_or, drop, Option, Some, None, arith, refl, sym, ap, ap₂, subst, ◌∙◌}
+use Rattle.std.specs.Prelude.{◌||◌, slice_set}
 use Rattle.std.specs.Prelude.{Result, Ok, Err, IfOk}
 use Rattle.std.specs.Option.{option_map_or}
-use Rattle.std.proofs.lemmas.List.Sums.{length-filter}
+use Rattle.std.proofs.lemmas.Bool.{eq-eqb}
+use Rattle.std.proofs.lemmas.Bool.Decides.{Decides-eqb}
+use Rattle.std.proofs.lemmas.Option.{slice_get_within, unwrap_or-slice_get}
 use Rattle.std.specs.List.{list_any}
-use Rattle.std.proofs.lemmas.List.{at_drop_more}
+use Rattle.std.proofs.lemmas.List.Sums.{sum_by-cons}
+use Rattle.std.proofs.lemmas.List.{at_drop_more, get_or-set_same, get_or-set_other}
 use Rattle.yspec.specs.Forest.{Forest, node, row}
 use Rattle.yspec.specs.text.Statement.{Statement}
-use Rattle.yspec.specs.linking.StatementBreaks.{has_keyword, occurrences, is_miscounted}
-use Rattle.yspec.specs.linking.Keyword.{Keyword, same_keyword, keyword_named, extension_word, module_word}
+use Rattle.yspec.specs.linking.StatementBreaks.{has_keyword, is_miscounted, occurrences}
+use Rattle.yspec.specs.linking.Keyword.{Keyword, same_keyword, keyword_named, keyword_number, keywords, extension_word, module_word}
+use Rattle.yspec.proofs.LinkingProofs.KeywordLemmas.{by_number}
 use Rattle.yspec.specs.linking.Table.{Allowed, Rule, rule_of}
 use Rattle.yspec.specs.schema.Breaks.{Break, broken, least_from}
 use Rattle.yspec.specs.linking.StatementBreaks.{is_prefixed, is_allowed, own_breaks, breaks_at, named_breaks, known_breaks, substatements_of, row_breaks, top_breaks, breaks_from}
@@ -18,34 +22,78 @@ use Rattle.ytext.specs.View.{view, row_view, modules_view}
 use Rattle.ytext.specs.declared.statement.Stmt.{Stmt}
 use Rattle.ytext.specs.declared.statement.Module.{Module}
 use Rattle.ytext.proofs.ViewLemmas.{row_view_at}
-use Rattle.ylink.specs.Named.{named_row, is_named, counted, is_miscounted_among, allowed_word}
-
-filtered_map : (test : Option Keyword → Bool) (xs : List Statement)
-    → length (filter test (map (λ (s : Statement). keyword_named s.keyword) xs)) ≡ length (filter (λ (s : Statement). test (keyword_named s.keyword)) xs)
-filtered_map test [] = refl
-filtered_map test (x ∷ xs) = step (test (keyword_named x.keyword)) (filtered_map test xs)
-  where
-    step : (b : Bool) → length (filter test (map (λ (s : Statement). keyword_named s.keyword) xs)) ≡ length (filter (λ (s : Statement). test (keyword_named s.keyword)) xs)
-        → length (cond b (keyword_named x.keyword ∷ filter test (map (λ (s : Statement). keyword_named s.keyword) xs)) (filter test (map (λ (s : Statement). keyword_named s.keyword) xs)))
-        ≡ length (cond b (x ∷ filter (λ (s : Statement). test (keyword_named s.keyword)) xs) (filter (λ (s : Statement). test (keyword_named s.keyword)) xs))
-    step true e = ap suc e
-    step false e = e
+use Rattle.ylink.specs.Counts.{AreOf, allowed_word, count_at, is_miscounted_by}
 
 -- what a fallible call answers, where that is another way to say it
 pub if_ok_then : {A E : Type 0} (P Q : A → Type 0) (r : Result A E) → ((x : A) → P x → Q x) → IfOk r P → IfOk r Q
 if_ok_then P Q (Ok x) h p = h x p
 if_ok_then P Q (Err e) h p = tt
 
-pub counted_row : (k : Keyword) (f : Forest Statement) → counted k (named_row f) ≡ occurrences k f
-counted_row k f =
-    sym (length-filter (is_named k) (named_row f)) ∙ filtered_map (is_named k) (row f) ∙ length-filter (has_keyword k) (row f)
+-- ---- how many there are of each
 
-miscounted_row : (f : Forest Statement) (a : Allowed) → is_miscounted_among (named_row f) a ≡ is_miscounted f a
-miscounted_row f a = rw (counted_row a.keyword f) refl
+pub number_below : (k : Keyword) → keyword_number k < 46
+number_below k = slice_get_within keywords (keyword_number k) k (by_number k)
 
-pub miscounted_rows : (f : Forest Statement) (allowed : List Allowed) → list_any (is_miscounted_among (named_row f)) allowed ≡ list_any (is_miscounted f) allowed
-miscounted_rows f [] = refl
-miscounted_rows f (a ∷ others) = ap₂ (λ x y. x || y) (miscounted_row f a) (miscounted_rows f others)
+-- one more of a keyword
+pub one_more : (counts : List ℕ) (j k : Keyword) → length counts ≡ 46
+    → count_at (slice_set counts (keyword_number j) (get_or counts (keyword_number j) 0 + 1)) k ≡ cond (same_keyword k j) (count_at counts k + 1) (count_at counts k)
+one_more counts j k long =
+    unwrap_or-slice_get (slice_set counts m (get_or counts m 0 + 1)) (keyword_number k) 0
+    ∙ (by (same_keyword k j) refl ∙ ap (λ x. cond (same_keyword k j) (x + 1) x) (sym (unwrap_or-slice_get counts (keyword_number k) 0)))
+  where
+    m : ℕ
+    m = keyword_number j
+
+    by : (b : Bool) → same_keyword k j ≡ b → get_or (slice_set counts m (get_or counts m 0 + 1)) (keyword_number k) 0
+        ≡ cond (same_keyword k j) (get_or counts (keyword_number k) 0 + 1) (get_or counts (keyword_number k) 0)
+    by true e =
+        let same : keyword_number k ≡ m = (Decides-eqb (keyword_number k) m).0 e in
+        let below = number_below j in
+        let own = get_or counts (keyword_number k) 0 in
+        ap (λ n. get_or (slice_set counts m (get_or counts m 0 + 1)) n 0) same
+        ∙ (get_or-set_same counts m (get_or counts m 0 + 1) 0 (omega (arith, below, long))
+        ∙ (ap (λ n. get_or counts n 0 + 1) (sym same) ∙ sym (ap (λ b. cond b (own + 1) own) e)))
+    by false e =
+        let own = get_or counts (keyword_number k) 0 in
+        get_or-set_other counts m (keyword_number k) (get_or counts m 0 + 1) 0 (λ same. let yes = eq-eqb (keyword_number k) m same in let no : true ≡ false = sym yes ∙ e in cc)
+        ∙ sym (ap (λ b. cond b (own + 1) own) e)
+
+-- what is counted, with what is left
+pub counts_more : (counts more : List ℕ) (o : Option Keyword) (ss : List Stmt) (i : ℕ) (s : Stmt) (whole : Keyword → ℕ)
+    → i < length ss → s ≡ get_or ss i s → o ≡ keyword_named (view s).0.keyword
+    → ((k : Keyword) → count_at more k ≡ cond (option_map_or (same_keyword k) o false) (count_at counts k + 1) (count_at counts k))
+    → ((k : Keyword) → count_at counts k + occurrences k (row_view (drop i ss)) ≡ whole k)
+    → (k : Keyword) → count_at more k + occurrences k (row_view (drop (i + 1) ss)) ≡ whole k
+counts_more counts more o ss i s whole within is named counted so k =
+    let f = row_view (drop (i + 1) ss) in
+    let first : occurrences k (row_view (drop i ss)) ≡ cond (option_map_or (same_keyword k) o false) 1 0 + occurrences k f =
+    ap (occurrences k) (row_view_at ss i s within is)
+    ∙ (sum_by-cons (λ x. cond (has_keyword k x) 1 0) (view s).0 (row f)
+    ∙ ap (λ x. cond (option_map_or (same_keyword k) x false) 1 0 + occurrences k f) (sym named)) in
+    by (option_map_or (same_keyword k) o false) refl (counted k) (occurrences k f) (occurrences k (row_view (drop i ss))) first ∙ so k
+  where
+    by : (b : Bool) → option_map_or (same_keyword k) o false ≡ b → count_at more k ≡ cond (option_map_or (same_keyword k) o false) (count_at counts k + 1) (count_at counts k)
+        → (rest all : ℕ) → all ≡ cond (option_map_or (same_keyword k) o false) 1 0 + rest → count_at more k + rest ≡ count_at counts k + all
+    by true e counted rest all first =
+        let now : count_at more k ≡ count_at counts k + 1 = counted ∙ ap (λ b. cond b (count_at counts k + 1) (count_at counts k)) e in
+        let then : all ≡ 1 + rest = first ∙ ap (λ b. cond b 1 0 + rest) e in
+        omega (arith, now, then)
+    by false e counted rest all first =
+        let now : count_at more k ≡ count_at counts k = counted ∙ ap (λ b. cond b (count_at counts k + 1) (count_at counts k)) e in
+        let then : all ≡ 0 + rest = first ∙ ap (λ b. cond b 1 0 + rest) e in
+        omega (arith, now, then)
+
+pub few_more : (b : Bool) (now before i : ℕ) → now ≡ cond b (before + 1) before → before ≤ i → now ≤ i + 1
+few_more true now before i is few = omega (arith, is, few)
+few_more false now before i is few = omega (arith, is, few)
+
+miscounted_by : (counts : List ℕ) (f : Forest Statement) → AreOf counts f → (a : Allowed) → is_miscounted_by counts a ≡ is_miscounted f a
+miscounted_by counts f are a = rw (are a.keyword) refl
+
+pub all_miscounted : (counts : List ℕ) (f : Forest Statement) → AreOf counts f → (allowed : List Allowed)
+    → list_any (is_miscounted_by counts) allowed ≡ list_any (is_miscounted f) allowed
+all_miscounted counts f are [] = refl
+all_miscounted counts f are (a ∷ others) = ap₂ (λ x y. x || y) (miscounted_by counts f are a) (all_miscounted counts f are others)
 
 -- ---- a statement where it stands
 

@@ -5,7 +5,7 @@ pub mod KeywordView
 pub mod Lengths
 pub mod LinkView
 pub mod NameView
-pub mod Named
+pub mod Counts
 pub mod PrefixView
 pub mod SourceView
 pub mod TableView

@@ -13,13 +13,12 @@ ghost use Rattle.ytext.specs.View.{view, row_view, modules_view};
 ghost use Rattle.ylink.specs.KeywordView.{keyword_view};
 ghost use Rattle.ylink.specs.FormView.{form_view};
 ghost use Rattle.ylink.specs.TableView.{count_view, allowed_view, allowed_views, rule_view};
-ghost use Rattle.ylink.specs.Named as named_as;
-ghost use Rattle.ylink.specs.Named.{keyword_views, named_row, counted, is_miscounted_among, allowed_word};
+ghost use Rattle.ylink.specs.Counts.{AreOf, allowed_word, count_at, is_miscounted_by};
 ghost use Rattle.ylink.specs.BreakView.{break_view, seen};
 
 use crate::fault::{Broken, CompileCode, least, least_when};
 use crate::form::{Form, fits};
-use crate::keyword::Keyword;
+use crate::keyword::{KEYWORDS, Keyword};
 use crate::name::colon_place;
 use crate::table::{Allowed, Count, Rule, rule_of};
 use std::alloc::{AllocError, Global};
@@ -51,60 +50,50 @@ fn has_keyword(statement: &Stmt, keyword: Keyword) -> bool
     }
 }
 
-// The keywords of the statements of a row.
-fn keywords_of(alloc: Global, statements: &[Stmt]) -> Result<Vec<Option<Keyword>>, AllocError>
-    ensures { IfOk result (λ keywords. keyword_views keywords.items ≡ named_row (row_view statements.now)) }
+// How many statements of each keyword there are, by its number.
+fn counts_of(statements: &[Stmt]) -> [usize; KEYWORDS]
+    ensures { AreOf result (row_view statements.now) }
 {
-    let mut keywords = Vec::new(alloc);
+    let mut counts = [0; KEYWORDS];
     for statement in statements {
-        keywords.push(Keyword::named(statement.keyword()))?;
-    }
-    Ok(keywords)
-}
-
-fn is_named(keyword: Keyword, named: Option<Keyword>) -> bool
-    ensures { result ≡ named_as.is_named (keyword_view keyword) (option_map keyword_view named) }
-{
-    match named {
-        Some(named) => keyword.is(named),
-        None => false,
-    }
-}
-
-fn count_of(keyword: Keyword, keywords: &[Option<Keyword>]) -> usize
-    ensures { result ≡ counted (keyword_view keyword) (keyword_views keywords.now) }
-{
-    let mut count = 0;
-    for named in keywords {
-        if is_named(keyword, *named) {
-            count += 1;
+        if let Some(keyword) = Keyword::named(statement.keyword()) {
+            counts[keyword.number() as usize] += 1;
         }
     }
-    count
+    counts
 }
 
-fn has_wrong_count(allowed: &Allowed, keywords: &[Option<Keyword>]) -> bool
-    ensures { result ≡ is_miscounted_among (keyword_views keywords.now) (allowed_view allowed.now) }
+fn count_of(keyword: Keyword, counts: &[usize]) -> usize
+    ensures { result ≡ count_at counts.now (keyword_view keyword) }
+{
+    match counts.get(keyword.number() as usize) {
+        Some(count) => *count,
+        None => 0,
+    }
+}
+
+fn has_wrong_count(allowed: &Allowed, counts: &[usize]) -> bool
+    ensures { result ≡ is_miscounted_by counts.now (allowed_view allowed.now) }
 {
     match allowed.count {
         // A missing `yang-version` is told by its own code.
         Count::One => {
-            let count = count_of(allowed.keyword, keywords);
+            let count = count_of(allowed.keyword, counts);
             count != 1 && !(allowed.keyword.is(Keyword::YangVersion) && count == 0)
         }
         Count::AtMostOne => {
-            let count = count_of(allowed.keyword, keywords);
+            let count = count_of(allowed.keyword, counts);
             count > 1 && !(allowed.keyword.is(Keyword::YangVersion) && count == 0)
         }
         Count::Any => false,
     }
 }
 
-fn has_wrong_counts(allowed: &[Allowed], keywords: &[Option<Keyword>]) -> bool
-    ensures { result ≡ list_any (is_miscounted_among (keyword_views keywords.now)) (allowed_views allowed.now) }
+fn has_wrong_counts(allowed: &[Allowed], counts: &[usize]) -> bool
+    ensures { result ≡ list_any (is_miscounted_by counts.now) (allowed_views allowed.now) }
 {
     for a in allowed {
-        if has_wrong_count(a, keywords) {
+        if has_wrong_count(a, counts) {
             return true;
         }
     }
@@ -180,12 +169,11 @@ fn judge_argument(
 }
 
 // Whether there are too many or too few of a substatement.
-#[tactic(auto, using(crate::proofs::GrammarLemmas::miscounted_rows))]
-fn is_miscounted(alloc: Global, allowed: &[Allowed], statement: &Stmt) -> Result<bool, AllocError>
-    ensures { IfOk result (λ b. b ≡ list_any (spec.is_miscounted (view statement.now).1) (allowed_views allowed.now)) }
+fn is_miscounted(allowed: &[Allowed], statement: &Stmt) -> bool
+    ensures { result ≡ list_any (spec.is_miscounted (view statement.now).1) (allowed_views allowed.now) }
 {
-    let keywords = keywords_of(alloc, statement.substatements())?;
-    Ok(has_wrong_counts(allowed, &keywords))
+    let counts = counts_of(statement.substatements());
+    has_wrong_counts(allowed, &counts)
 }
 
 // The rules that a statement breaks, apart from those that its substatements break.
@@ -210,7 +198,7 @@ fn judge_alone(
         told,
         broken(CompileCode::C4, module, statement),
     );
-    let miscounted = is_miscounted(alloc, rule.substatements, statement)?;
+    let miscounted = is_miscounted(rule.substatements, statement);
     Ok(least_when(miscounted, told, broken(CompileCode::C2, module, statement)))
 }
 

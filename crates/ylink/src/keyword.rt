@@ -57,8 +57,12 @@ pub enum Keyword {
     Unique,
 }
 
+/// How many keywords there are.
+pub(crate) const KEYWORDS: usize = 46;
+
 impl Keyword {
-    fn number(self) -> u8
+    /// Its number, from 0.
+    pub(crate) fn number(self) -> u8
         ensures { result ≡ spec.keyword_number (keyword_view self) }
     {
         self as u8

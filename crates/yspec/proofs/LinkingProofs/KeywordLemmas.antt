@@ -11,7 +11,7 @@ use Rattle.yspec.specs.linking.StatementBreaks.{is_prefixed}
 use Rattle.yspec.specs.linking.Table.{rule_of}
 use Rattle.yspec.specs.linking.Parts.{defines_node}
 
-by_number : (k : Keyword) → slice_get keywords (keyword_number k) ≡ Some k
+pub by_number : (k : Keyword) → slice_get keywords (keyword_number k) ≡ Some k
 by_number module_word = refl
 by_number yang_version_word = refl
 by_number namespace_word = refl

@@ -1,0 +1,24 @@
+-- How many statements of each keyword there are in a row, and which may stand there.
+use Rattle.std.specs.Prelude.{◌≡◌, ℕ, ◌&&◌, not, Bool, List, Option, Some, None, if◌then◌else◌, slice_get, unwrap_or}
+use Rattle.yspec.specs.Forest.{Forest}
+use Rattle.yspec.specs.text.Statement.{Statement}
+use Rattle.yspec.specs.schema.Breaks.{is_wrong_count}
+use Rattle.yspec.specs.linking.Keyword.{Keyword, keyword_number}
+use Rattle.yspec.specs.linking.Table.{Allowed}
+use Rattle.yspec.specs.linking.StatementBreaks.{is_missing_version, is_allowed, occurrences}
+
+-- the count of a keyword among counts by number
+abbrev pub count_at : List ℕ → Keyword → ℕ
+count_at counts k = unwrap_or (slice_get counts (keyword_number k)) 0
+
+abbrev pub AreOf : List ℕ → Forest Statement → Type 0
+AreOf counts statements = (k : Keyword) → count_at counts k ≡ occurrences k statements
+
+-- whether there are too many or too few of a substatement by some counts
+abbrev pub is_miscounted_by : List ℕ → Allowed → Bool
+is_miscounted_by counts a = let n = count_at counts a.keyword in is_wrong_count a.count n && not (is_missing_version a.keyword n)
+
+-- the keyword, where it may stand there
+abbrev pub allowed_word : List Allowed → Option Keyword → Option Keyword
+allowed_word allowed None = None
+allowed_word allowed (Some k) = if is_allowed k allowed then Some k else None
