@@ -21,3 +21,6 @@ pub mod WrittenRowLemmas
 pub mod WrittenVisitLemmas
 pub mod ReadBackLemmas
 pub mod WrittenShapeLemmas
+pub mod TextEndLemmas
+pub mod ExactLemmas
+pub mod WrittenExactLemmas
