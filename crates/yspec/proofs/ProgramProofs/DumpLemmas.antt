@@ -1,0 +1,117 @@
+-- What is dumped of a document is validated as the document.
+use Rattle.std.proofs.Common.{◌≡◌, ℕ, ◌≤◌, List, [], ◌∷◌, ◌++◌, length, take, drop, Option, Some, None, Result, Ok, Bool, false, true, refl, sym, ap, ◌∙◌, subst}
+use Rattle.std.specs.Str.{is_utf8}
+use Rattle.std.proofs.lemmas.Str.{IsUtf8-from_is_utf8}
+use Rattle.yspec.specs.Forest.{size}
+use Rattle.yspec.specs.text.Text.{Text}
+use Rattle.yspec.specs.schema.Schema.{Schema}
+use Rattle.yspec.specs.document.Document.{Tree, document_limit}
+use Rattle.yspec.specs.document.Reading.{Refusal, document_of}
+use Rattle.yspec.specs.document.Writing.{IsDocument}
+use Rattle.yspec.specs.program.Script.{after_lines, lines_of, refused_lines}
+use Rattle.yspec.specs.program.Output.{Outcome, dump, edit, edited, edition, first_file, files_of, other_files, outcome, performed, validate, validation, with_document, with_files, with_schema, with_tree}
+use Rattle.yspec.proofs.DocumentProofs.ReadWholeLemmas.{read_whole}
+use Rattle.yspec.proofs.DocumentProofs.RightNodeLemmas.{read_within}
+use Rattle.yspec.proofs.DocumentProofs.WrittenExactLemmas.{ended_read}
+use Rattle.yspec.proofs.EditProofs.FittingEditLemmas.{edit_whole}
+use Rattle.yspec.proofs.EditProofs.LimitLemmas.{edit_within}
+use Rattle.yspec.proofs.LinkingProofs.LinkedNameLemmas.{linked_names}
+use Rattle.yspec.proofs.LinkingProofs.LinkedLemmas.{linked_numbered, linked_bare, linked_within}
+use Rattle.yspec.proofs.ProgramProofs.ScriptLemmas.{lines_keep}
+use Rattle.yspec.proofs.ProgramProofs.RunLemmas.{IsReport, AreRead, are_read, BothRead, both_read, IsCompiled, is_compiled, IsFound, is_found}
+
+-- what comes of a document under a schema, and of the files behind it
+abbrev Next : Type 0
+Next = Schema → Tree → List (List ℕ) → Outcome
+
+module _ (document script : Text) (names : List Text) (answers : List (Option (List ℕ))) where
+  -- the outcome of an edit, whatever is made of its document
+  abbrev made : Next → Outcome
+  made next = with_files (names ++ document ∷ script ∷ []) answers (λ contents. with_document document names contents next)
+
+  -- its files could be read, its modules compile, and its document is read
+  record HasRun : Type 0 where
+    read : AreRead names (document ∷ script ∷ []) answers
+    code : IsCompiled names read.contents
+    bytes : List ℕ
+    lines : List ℕ
+    tree : Tree
+    found : document_of code.schema bytes ≡ Ok tree
+    is : (next : Next) → made next ≡ next code.schema tree (lines ∷ [])
+
+  -- what follows the schema
+  abbrev on_tree : Text → Next → Schema → List (List ℕ) → Outcome
+  on_tree name next schema files = with_tree schema name (document_of schema (first_file files)) (λ tree. next schema tree (other_files files))
+
+  has_run : (next : Next) → IsReport (made next) → HasRun
+  has_run next shown =
+      let with_all = λ (next : Next) (contents : List (List ℕ)). with_document document names contents next in
+      let read = are_read names (document ∷ script ∷ []) answers (with_all next) shown in
+      let behind = subst IsReport (read.here (with_all next)) shown in
+      let both = both_read document script (drop (length names) answers) (λ rest. with_all next (read.contents ++ rest)) behind in
+      let files = both.bytes ∷ both.others ∷ [] in
+      let under = subst IsReport (both.is (λ rest. with_all next (read.contents ++ rest))) behind in
+      let code = is_compiled names read.contents files (on_tree document next) read.count under in
+      let last = subst IsReport (code.is files (on_tree document next)) under in
+      let found = is_found code.schema document (document_of code.schema both.bytes) (λ tree. next code.schema tree (both.others ∷ [])) last in
+      record {
+        read = read;
+        code = code;
+        bytes = both.bytes;
+        lines = both.others;
+        tree = found.tree;
+        found = found.is;
+        is = λ next.
+            read.here (with_all next) ∙ (both.is (λ rest. with_all next (read.contents ++ rest))
+            ∙ (code.is files (on_tree document next)
+            ∙ ap (λ (o : Result Tree Refusal). with_tree code.schema document o (λ tree. next code.schema tree (both.others ∷ []))) found.is));
+      }
+
+  -- another document under the same modules is validated so
+  validated : (run : HasRun) (name : Text) (bytes : List ℕ) (tree : Tree) → document_of run.code.schema bytes ≡ Ok tree
+      → outcome (validate name names) (take (length names) answers ++ Some bytes ∷ []) ≡ edited false run.code.schema tree []
+  unfolding outcome
+  validated run name bytes tree found =
+      let next : Next = λ schema tree files. edited false schema tree [] in
+      run.read.again (name ∷ []) (Some bytes ∷ []) (λ contents. with_document name names contents next)
+      ∙ (run.code.is (bytes ∷ []) (on_tree name next)
+      ∙ ap (λ (o : Result Tree Refusal). with_tree run.code.schema name o (λ tree. edited false run.code.schema tree [])) found)
+
+  -- the document after the lines of the script
+  abbrev left_by : HasRun → Tree
+  left_by run = after_lines run.code.schema run.tree (lines_of run.lines)
+
+  run_is : (is_dump : Bool) (run : HasRun) → outcome (edit is_dump document script names) answers ≡ edited is_dump run.code.schema run.tree (lines_of run.lines)
+  unfolding outcome
+  run_is is_dump run = run.is (λ schema tree files. edited is_dump schema tree (lines_of (first_file files)))
+
+  run_of : (is_dump : Bool) → IsReport (outcome (edit is_dump document script names) answers) → HasRun
+  unfolding outcome
+  run_of is_dump shown = has_run (λ schema tree files. edited is_dump schema tree (lines_of (first_file files))) shown
+
+  -- what is dumped of it reads as it
+  dump_read : (run : HasRun) → is_utf8 (dump run.code.schema (left_by run)) ≡ true
+      → document_of run.code.schema (dump run.code.schema (left_by run)) ≡ Ok (left_by run)
+  dump_read run utf8 =
+      let s = run.code.schema in
+      let t = left_by run in
+      let numbered = linked_numbered run.code.top s run.code.compiles in
+      let differ = linked_names run.code.top s run.code.compiles in
+      let lines = lines_of run.lines in
+      let whole = lines_keep (IsDocument s) s (λ t e so. edit_whole s t e numbered differ so) lines run.tree (read_whole s run.bytes run.tree numbered differ run.found) in
+      let within = lines_keep (λ t. size t ≤ document_limit) s (λ t e so. edit_within s t e so) lines run.tree (read_within s run.bytes run.tree differ run.found) in
+      ended_read s t numbered differ (linked_bare run.code.top s run.code.compiles) (linked_within run.code.top s run.code.compiles) whole within
+      (IsUtf8-from_is_utf8 (dump s t) utf8)
+
+  pub dump_validated : (name : Text) → let shown = outcome (edit false document script names) answers in
+      let dumped = (outcome (edit true document script names) answers).output in
+      IsReport shown → is_utf8 dumped ≡ true
+      → (outcome (validate name names) (take (length names) answers ++ Some dumped ∷ [])).output ≡ shown.output
+  dump_validated name shown utf8 =
+      let run = run_of false shown in
+      let s = run.code.schema in
+      let dumped = ap (λ (o : Outcome). o.output) (run_is true run) in
+      let again = λ (bytes : List ℕ). (outcome (validate name names) (take (length names) answers ++ Some bytes ∷ [])).output in
+      ap again dumped
+      ∙ (ap (λ (o : Outcome). o.output) (validated run name (dump s (left_by run)) (left_by run) (dump_read run (subst (λ bytes. is_utf8 bytes ≡ true) dumped utf8)))
+      ∙ sym (ap (λ (o : Outcome). o.output) (run_is false run)))
