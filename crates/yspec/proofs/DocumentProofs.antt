@@ -24,3 +24,5 @@ pub mod WrittenShapeLemmas
 pub mod TextEndLemmas
 pub mod ExactLemmas
 pub mod WrittenExactLemmas
+pub mod JsonTextLemmas
+pub mod JsonValueLemmas
