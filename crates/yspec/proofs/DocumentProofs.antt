@@ -26,3 +26,4 @@ pub mod ExactLemmas
 pub mod WrittenExactLemmas
 pub mod JsonTextLemmas
 pub mod JsonValueLemmas
+pub mod ReadTextLemmas
