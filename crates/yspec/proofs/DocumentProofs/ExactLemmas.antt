@@ -1,21 +1,30 @@
--- Values whose numbers are whole ones of 64 bits, and whose members stand in order, are read back from their compact text.
-use Rattle.std.proofs.Common.{◌≡◌, ℕ, suc, ◌^◌, ◌<◌, ◌≤◌, ℤ, negsuc, Bool, true, false, List, [], ◌∷◌, ◌++◌, max, Option, Some, None, Ordering, Less, Equal, Greater, nat_cmp, option_map, option_and_then, refl, sym, ap, ap₂, ◌∙◌, subst, arith, append-nil}
+-- Values whose numbers are whole ones of 64 bits, whose texts are UTF-8 and whose members stand in order are read back from
+-- their compact text.
+use Rattle.std.proofs.Common.{◌≡◌, ℕ, suc, ◌^◌, ◌<◌, ◌≤◌, ℤ, negsuc, Bool, true, false, List, [], ◌∷◌, ◌++◌, max, Option, Some, None, Ordering, Less, Equal, Greater, nat_cmp, option_map, option_and_then, IsUtf8, decimal, refl, sym, ap, ap₂, ◌∙◌, subst, arith, append-nil}
 use Rattle.std.proofs.lemmas.Cmp.{nat_list_cmp_total}
+use Rattle.std.proofs.lemmas.Fmt.{decimal_is_IsNumeral}
+use Rattle.std.proofs.lemmas.Str.{IsUtf8-append, IsUtf8-nil, IsUtf8-encode, encode_ascii}
+use Rattle.std.specs.Char.{digit_value}
+use Rattle.std.specs.Str.Parse.{AllDigits}
+use lib.Utf8.{low_scalar}
 use Rattle.std.specs.Cmp.Lexicographic.{slice_cmp}
 use Rattle.std.specs.Ordering.{match_ordering, ordering_reverse}
 use Rattle.json.specs.Lex.{tokens}
-use Rattle.json.specs.Print.{IsNumber}
+use Rattle.json.specs.Print.{IsNumber, quoted}
 use Rattle.json.specs.Json as json
 use Rattle.json.specs.Tree as tree
 use Rattle.json.specs.Tree.{json_tokens, HasNumbers, ItemsHaveNumbers, MembersHaveNumbers}
 use Rattle.json.proofs.Printed.Decimals.{IsNumber-decimal, IsNumber-signed_decimal}
+use Rattle.json.proofs.Printed.Utf8.{IsUtf8-are_ascii, IsUtf8-quoted}
 use Rattle.json.proofs.Printed.Trees.{value-json_tokens, ArePrintable-json_tokens}
 use Rattle.serde_json.specs.Data.{Num, unsigned, negative, float, Data, null, boolean, number, string, array, object, Items, no_items, item, Members, no_members, member, put, depth, items_depth, members_depth}
 use Rattle.serde_json.specs.Read.{number_of, of_json, of_items, of_members, read, max_depth}
-use Rattle.serde_json.specs.Written.{number_text, outline, items_outline, members_outline, compact_text}
+use Rattle.serde_json.specs.Written.{number_text, outline, items_outline, members_outline, comma_if, compact_text, items_text, members_text}
 use Rattle.serde_json.proofs.Numbers.{number_of-decimal, number_of-negative}
 use Rattle.serde_json.proofs.Texts.{print-outline}
 use Rattle.yspec.specs.text.Text.{Text}
+use Rattle.yspec.specs.document.Reading.{json_of}
+use Rattle.yspec.proofs.DocumentProofs.JsonLemmas.{json_found}
 use Rattle.yspec.proofs.DocumentProofs.TextEndLemmas.{tokens_ended}
 
 -- ---- what is asked of values
@@ -35,7 +44,7 @@ abbrev mutual
   IsExact null = Unit {0}
   IsExact (boolean b) = Unit {0}
   IsExact (number n) = IsWhole n
-  IsExact (string s) = Unit {0}
+  IsExact (string s) = IsUtf8 s
   IsExact (array ds) = ItemsAreExact ds
   IsExact (object ms) = AreExact ms
 
@@ -45,7 +54,7 @@ abbrev mutual
 
   pub AreExact : Members → Type 0
   AreExact no_members = Unit {0}
-  AreExact (member name d ms) = IsExact d × IsBefore name ms × AreExact ms
+  AreExact (member name d ms) = IsUtf8 name × IsExact d × IsBefore name ms × AreExact ms
 
 -- ---- a member that is put in
 
@@ -73,18 +82,18 @@ put_before first name d no_members is before = (is, tt)
 put_before first name d (member other e ms) is before =
     put_before_at (slice_cmp nat_cmp name other) first name other d e ms is before (put_before first name d ms is before.1)
 
-put_exact_at : (o : Ordering) (name other : Text) (d e : Data) (ms : Members) → slice_cmp nat_cmp name other ≡ o → IsExact d
+put_exact_at : (o : Ordering) (name other : Text) (d e : Data) (ms : Members) → slice_cmp nat_cmp name other ≡ o → IsUtf8 name → IsExact d
     → AreExact (member other e ms) → AreExact (put name d ms)
     → AreExact (match_ordering o (member name d (member other e ms)) (member other d ms) (member other e (put name d ms)))
-put_exact_at Less name other d e ms is this these later =
-    let behind = turned name other Less Greater is refl in (this, (behind, before_later name other ms behind these.1), these)
-put_exact_at Equal name other d e ms is this these later = (this, these.1, these.2)
-put_exact_at Greater name other d e ms is this these later = (these.0, put_before other name d ms is these.1, later)
+put_exact_at Less name other d e ms is utf8 this these later =
+    let behind = turned name other Less Greater is refl in (utf8, this, (behind, before_later name other ms behind these.2), these)
+put_exact_at Equal name other d e ms is utf8 this these later = (these.0, this, these.2, these.3)
+put_exact_at Greater name other d e ms is utf8 this these later = (these.0, these.1, put_before other name d ms is these.2, later)
 
-pub put_exact : (name : Text) (d : Data) (ms : Members) → IsExact d → AreExact ms → AreExact (put name d ms)
-put_exact name d no_members this these = (this, tt, tt)
-put_exact name d (member other e ms) this these =
-    put_exact_at (slice_cmp nat_cmp name other) name other d e ms refl this these (put_exact name d ms this these.2)
+pub put_exact : (name : Text) (d : Data) (ms : Members) → IsUtf8 name → IsExact d → AreExact ms → AreExact (put name d ms)
+put_exact name d no_members utf8 this these = (utf8, this, tt, tt)
+put_exact name d (member other e ms) utf8 this these =
+    put_exact_at (slice_cmp nat_cmp name other) name other d e ms refl utf8 this these (put_exact name d ms utf8 this these.3)
 
 -- ---- members that are put in one after another
 
@@ -158,7 +167,7 @@ mutual
 
   members_spelled : (ms : Members) → AreExact ms → MembersHaveNumbers (members_outline ms)
   members_spelled no_members exact = tt
-  members_spelled (member name d ms) exact = (spelled d exact.0, members_spelled ms exact.2)
+  members_spelled (member name d ms) exact = (spelled d exact.1, members_spelled ms exact.3)
 
 -- ---- values
 
@@ -180,9 +189,9 @@ mutual
   members_back : (ms found : Members) → AreExact ms → AllBefore found ms → of_members (members_outline ms) found ≡ Some (joined found ms)
   members_back no_members found exact before = ap Some (sym (joined_none found))
   members_back (member name d ms) found exact before =
-      ap (option_and_then (λ e. of_members (members_outline ms) (put name e found))) (value_back d exact.0)
+      ap (option_and_then (λ e. of_members (members_outline ms) (put name e found))) (value_back d exact.1)
       ∙ (ap (of_members (members_outline ms)) (put_behind found name d before.0)
-      ∙ (members_back ms (joined found (member name d no_members)) exact.2 (all_more found name d ms before.1 exact.1)
+      ∙ (members_back ms (joined found (member name d no_members)) exact.3 (all_more found name d ms before.1 exact.2)
       ∙ ap Some (joined_more found name d ms)))
 
 mutual
@@ -204,8 +213,52 @@ mutual
 
 -- ---- texts
 
-pub exact_read : (d : Data) → IsExact d → depth d ≤ max_depth → read (compact_text d ++ 10 ∷ []) ≡ Some d
-exact_read d exact shallow =
+digits_text : (ds : List ℕ) → AllDigits 10 ds → IsUtf8 ds
+digits_text [] digits = IsUtf8-nil
+digits_text (d ∷ ds) digits = IsUtf8-append (d ∷ []) ds (one_text d (small d digits.0)) (digits_text ds digits.1)
+  where
+    one_text : (c : ℕ) → c < 128 → IsUtf8 (c ∷ [])
+    one_text c small = subst IsUtf8 (encode_ascii c small) (IsUtf8-encode c (low_scalar c (omega (arith, small))))
+
+    small : (c : ℕ) → digit_value c < 10 → c < 128
+    small c digit = grind arith
+
+number_utf8 : (n : Num) → IsWhole n → IsUtf8 (number_text n)
+number_utf8 (unsigned n) whole = digits_text (decimal n) (decimal_is_IsNumeral n whole).0.1
+number_utf8 (negative z) whole =
+    subst (λ y. IsUtf8 (number_text (negative y))) (sym whole.1)
+    (IsUtf8-append (45 ∷ []) (decimal (suc whole.0)) (IsUtf8-are_ascii (45 ∷ []) refl)
+    (digits_text (decimal (suc whole.0)) (decimal_is_IsNumeral (suc whole.0) (let few = whole.2 in omega (arith, few))).0.1))
+number_utf8 (float x) whole = absurd whole
+
+comma_utf8 : (later : Bool) → IsUtf8 (comma_if later)
+comma_utf8 true = IsUtf8-are_ascii (44 ∷ []) refl
+comma_utf8 false = IsUtf8-nil
+
+mutual
+  text_utf8 : (d : Data) → IsExact d → IsUtf8 (compact_text d)
+  text_utf8 null exact = IsUtf8-are_ascii _ refl
+  text_utf8 (boolean true) exact = IsUtf8-are_ascii _ refl
+  text_utf8 (boolean false) exact = IsUtf8-are_ascii _ refl
+  text_utf8 (number n) exact = number_utf8 n exact
+  text_utf8 (string s) exact = IsUtf8-quoted s exact
+  text_utf8 (array ds) exact = IsUtf8-append (91 ∷ []) (items_text false ds) (IsUtf8-are_ascii _ refl) (items_utf8 false ds exact)
+  text_utf8 (object ms) exact = IsUtf8-append (123 ∷ []) (members_text false ms) (IsUtf8-are_ascii _ refl) (members_utf8 false ms exact)
+
+  items_utf8 : (later : Bool) (ds : Items) → ItemsAreExact ds → IsUtf8 (items_text later ds)
+  items_utf8 later no_items exact = IsUtf8-are_ascii _ refl
+  items_utf8 later (item d ds) exact =
+      IsUtf8-append (comma_if later) _ (comma_utf8 later) (IsUtf8-append (compact_text d) (items_text true ds) (text_utf8 d exact.0) (items_utf8 true ds exact.1))
+
+  members_utf8 : (later : Bool) (ms : Members) → AreExact ms → IsUtf8 (members_text later ms)
+  members_utf8 later no_members exact = IsUtf8-are_ascii _ refl
+  members_utf8 later (member name d ms) exact =
+      IsUtf8-append (comma_if later) _ (comma_utf8 later) (IsUtf8-append (quoted name) _ (IsUtf8-quoted name exact.0)
+      (IsUtf8-append (58 ∷ []) (compact_text d ++ members_text true ms) (IsUtf8-are_ascii _ refl)
+      (IsUtf8-append (compact_text d) (members_text true ms) (text_utf8 d exact.1) (members_utf8 true ms exact.3))))
+
+value_read : (d : Data) → IsExact d → depth d ≤ max_depth → read (compact_text d ++ 10 ∷ []) ≡ Some d
+value_read d exact shallow =
     let j = outline d in
     let deep = same_depth d in
     let spelt : tokens (compact_text d ++ 10 ∷ []) ≡ json_tokens j ++ [] =
@@ -213,3 +266,7 @@ exact_read d exact shallow =
     ap (λ ts. option_and_then of_json (option_and_then (λ p. json.if_last p.0 p.1) (json.value max_depth ts))) spelt
     ∙ (ap (λ o. option_and_then of_json (option_and_then (λ p. json.if_last p.0 p.1) o)) (value-json_tokens j max_depth [] (omega (arith, deep, shallow)))
     ∙ value_back d exact)
+
+pub exact_read : (d : Data) → IsExact d → depth d ≤ max_depth → json_of (compact_text d ++ 10 ∷ []) ≡ Some d
+exact_read d exact shallow =
+    json_found (compact_text d ++ 10 ∷ []) d (IsUtf8-append (compact_text d) (10 ∷ []) (text_utf8 d exact) (IsUtf8-are_ascii _ refl)) (value_read d exact shallow)

@@ -54,9 +54,9 @@ abbrev pub NamesAreTexts : Schema → Type 0
 NamesAreTexts schema = ((i : ℕ) → IsUtf8 (module_name schema i)) × NodesAreTexts schema.nodes
 
 -- a node is written with such a name
-pub written_text : (schema : Schema) (parent : Option ℕ) (n : SchemaNode) → ((i : ℕ) → IsUtf8 (module_name schema i)) → IsUtf8 n.name
+pub name_text : (schema : Schema) (parent : Option ℕ) (n : SchemaNode) → ((i : ℕ) → IsUtf8 (module_name schema i)) → IsUtf8 n.name
     → IsUtf8 (written_name schema parent n)
-written_text schema parent n modules name = by (is_module n.module_number parent)
+name_text schema parent n modules name = by (is_module n.module_number parent)
   where
     by : (b : Bool) → IsUtf8 (cond b n.name (module_name schema n.module_number ++ codes ":" ++ n.name))
     by true = name

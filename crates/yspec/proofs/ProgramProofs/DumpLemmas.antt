@@ -1,22 +1,23 @@
 -- What is dumped of a document is validated as the document.
 use Rattle.std.proofs.Common.{◌≡◌, ℕ, ◌≤◌, List, [], ◌∷◌, ◌++◌, length, take, drop, Option, Some, None, Result, Ok, Bool, false, true, refl, sym, ap, ◌∙◌, subst}
-use Rattle.std.specs.Str.{is_utf8}
-use Rattle.std.proofs.lemmas.Str.{IsUtf8-from_is_utf8}
 use Rattle.yspec.specs.Forest.{size}
 use Rattle.yspec.specs.text.Text.{Text}
 use Rattle.yspec.specs.schema.Schema.{Schema}
 use Rattle.yspec.specs.document.Document.{Tree, document_limit}
 use Rattle.yspec.specs.document.Reading.{Refusal, document_of}
+use Rattle.yspec.specs.document.Fitting.{FitsBy}
 use Rattle.yspec.specs.document.Writing.{IsDocument}
 use Rattle.yspec.specs.program.Script.{after_lines, lines_of, refused_lines}
 use Rattle.yspec.specs.program.Output.{Outcome, dump, edit, edited, edition, first_file, files_of, other_files, outcome, performed, validate, validation, with_document, with_files, with_schema, with_tree}
+use Rattle.yspec.proofs.DocumentProofs.ReadTextLemmas.{HoldsText, read_holds}
 use Rattle.yspec.proofs.DocumentProofs.ReadWholeLemmas.{read_whole}
 use Rattle.yspec.proofs.DocumentProofs.RightNodeLemmas.{read_within}
 use Rattle.yspec.proofs.DocumentProofs.WrittenExactLemmas.{ended_read}
-use Rattle.yspec.proofs.EditProofs.FittingEditLemmas.{edit_whole}
+use Rattle.yspec.proofs.EditProofs.FittingEditLemmas.{edit_holds, edit_whole}
 use Rattle.yspec.proofs.EditProofs.LimitLemmas.{edit_within}
 use Rattle.yspec.proofs.LinkingProofs.LinkedNameLemmas.{linked_names}
 use Rattle.yspec.proofs.LinkingProofs.LinkedLemmas.{linked_numbered, linked_bare, linked_within}
+use Rattle.yspec.proofs.LinkingProofs.LinkedTextLemmas.{linked_texts}
 use Rattle.yspec.proofs.ProgramProofs.ScriptLemmas.{lines_keep}
 use Rattle.yspec.proofs.ProgramProofs.RunLemmas.{IsReport, AreRead, are_read, BothRead, both_read, IsCompiled, is_compiled, IsFound, is_found}
 
@@ -90,28 +91,27 @@ module _ (document script : Text) (names : List Text) (answers : List (Option (L
   run_of is_dump shown = has_run (λ schema tree files. edited is_dump schema tree (lines_of (first_file files))) shown
 
   -- what is dumped of it reads as it
-  dump_read : (run : HasRun) → is_utf8 (dump run.code.schema (left_by run)) ≡ true
-      → document_of run.code.schema (dump run.code.schema (left_by run)) ≡ Ok (left_by run)
-  dump_read run utf8 =
+  dump_read : (run : HasRun) → document_of run.code.schema (dump run.code.schema (left_by run)) ≡ Ok (left_by run)
+  dump_read run =
       let s = run.code.schema in
       let t = left_by run in
       let numbered = linked_numbered run.code.top s run.code.compiles in
       let differ = linked_names run.code.top s run.code.compiles in
       let lines = lines_of run.lines in
       let whole = lines_keep (IsDocument s) s (λ t e so. edit_whole s t e numbered differ so) lines run.tree (read_whole s run.bytes run.tree numbered differ run.found) in
+      let holds = lines_keep (FitsBy HoldsText s.nodes 0) s (λ t e so. edit_holds s t e numbered so) lines run.tree (read_holds s run.bytes run.tree numbered run.found) in
       let within = lines_keep (λ t. size t ≤ document_limit) s (λ t e so. edit_within s t e so) lines run.tree (read_within s run.bytes run.tree differ run.found) in
-      ended_read s t numbered differ (linked_bare run.code.top s run.code.compiles) (linked_within run.code.top s run.code.compiles) whole within
-      (IsUtf8-from_is_utf8 (dump s t) utf8)
+      ended_read s t numbered differ (linked_bare run.code.top s run.code.compiles) (linked_within run.code.top s run.code.compiles)
+      (linked_texts run.code.top s run.code.compiles) whole holds within
 
   pub dump_validated : (name : Text) → let shown = outcome (edit false document script names) answers in
       let dumped = (outcome (edit true document script names) answers).output in
-      IsReport shown → is_utf8 dumped ≡ true
-      → (outcome (validate name names) (take (length names) answers ++ Some dumped ∷ [])).output ≡ shown.output
-  dump_validated name shown utf8 =
+      IsReport shown → (outcome (validate name names) (take (length names) answers ++ Some dumped ∷ [])).output ≡ shown.output
+  dump_validated name shown =
       let run = run_of false shown in
       let s = run.code.schema in
       let dumped = ap (λ (o : Outcome). o.output) (run_is true run) in
       let again = λ (bytes : List ℕ). (outcome (validate name names) (take (length names) answers ++ Some bytes ∷ [])).output in
       ap again dumped
-      ∙ (ap (λ (o : Outcome). o.output) (validated run name (dump s (left_by run)) (left_by run) (dump_read run (subst (λ bytes. is_utf8 bytes ≡ true) dumped utf8)))
+      ∙ (ap (λ (o : Outcome). o.output) (validated run name (dump s (left_by run)) (left_by run) (dump_read run))
       ∙ sym (ap (λ (o : Outcome). o.output) (run_is false run)))

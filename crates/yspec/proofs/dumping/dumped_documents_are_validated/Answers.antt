@@ -2,4 +2,4 @@ use Rattle.yspec.proofs.ProgramProofs.DumpLemmas.{dump_validated}
 use Rattle.yspec.proofs.dumping.dumped_documents_are_validated.Goals as goal
 
 pub returns : goal.returns
-returns c = λ document script dumped modules answers shown utf8. dump_validated document script modules answers dumped shown utf8
+returns c = λ document script dumped modules answers shown. dump_validated document script modules answers dumped shown
