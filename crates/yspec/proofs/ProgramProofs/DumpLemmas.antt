@@ -106,12 +106,11 @@ module _ (document script : Text) (names : List Text) (answers : List (Option (L
 
   pub dump_validated : (name : Text) → let shown = outcome (edit false document script names) answers in
       let dumped = (outcome (edit true document script names) answers).output in
-      IsReport shown → (outcome (validate name names) (take (length names) answers ++ Some dumped ∷ [])).output ≡ shown.output
+      let again = outcome (validate name names) (take (length names) answers ++ Some dumped ∷ []) in
+      IsReport shown → (again.output ≡ shown.output) × (again.errors ≡ [])
   dump_validated name shown =
       let run = run_of false shown in
       let s = run.code.schema in
-      let dumped = ap (λ (o : Outcome). o.output) (run_is true run) in
-      let again = λ (bytes : List ℕ). (outcome (validate name names) (take (length names) answers ++ Some bytes ∷ [])).output in
-      ap again dumped
-      ∙ (ap (λ (o : Outcome). o.output) (validated run name (dump s (left_by run)) (left_by run) (dump_read run))
-      ∙ sym (ap (λ (o : Outcome). o.output) (run_is false run)))
+      let again = λ (bytes : List ℕ). outcome (validate name names) (take (length names) answers ++ Some bytes ∷ []) in
+      let is = ap again (ap (λ (o : Outcome). o.output) (run_is true run)) ∙ validated run name (dump s (left_by run)) (left_by run) (dump_read run) in
+      (ap (λ (o : Outcome). o.output) is ∙ sym (ap (λ (o : Outcome). o.output) (run_is false run)), ap (λ (o : Outcome). o.errors) is)
