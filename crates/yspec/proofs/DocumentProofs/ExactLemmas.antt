@@ -25,6 +25,7 @@ use Rattle.serde_json.proofs.Texts.{print-outline}
 use Rattle.yspec.specs.text.Text.{Text}
 use Rattle.yspec.specs.document.Reading.{json_of}
 use Rattle.yspec.proofs.DocumentProofs.JsonLemmas.{json_found}
+use Rattle.yspec.proofs.BasicLemmas.{ascii_text}
 use Rattle.yspec.proofs.DocumentProofs.TextEndLemmas.{tokens_ended}
 
 -- ---- what is asked of values
@@ -215,11 +216,8 @@ mutual
 
 digits_text : (ds : List ℕ) → AllDigits 10 ds → IsUtf8 ds
 digits_text [] digits = IsUtf8-nil
-digits_text (d ∷ ds) digits = IsUtf8-append (d ∷ []) ds (one_text d (small d digits.0)) (digits_text ds digits.1)
+digits_text (d ∷ ds) digits = IsUtf8-append (d ∷ []) ds (ascii_text d (small d digits.0)) (digits_text ds digits.1)
   where
-    one_text : (c : ℕ) → c < 128 → IsUtf8 (c ∷ [])
-    one_text c small = subst IsUtf8 (encode_ascii c small) (IsUtf8-encode c (low_scalar c (omega (arith, small))))
-
     small : (c : ℕ) → digit_value c < 10 → c < 128
     small c digit = grind arith
 

@@ -5,12 +5,10 @@ use Rattle.std.proofs.lemmas.List.{drop_at}
 use Rattle.std.proofs.lemmas.Str.{IsUtf8-append, IsUtf8-nil, IsUtf8-encode, IsUtf8-drop, IsCharBoundary-after_ascii, encode_ascii, inside_one}
 use Rattle.std.specs.Char.{digit_value, is_digit, encode_utf8}
 use lib.Utf8.{scalar, scalars, encode, encodes, low_scalar}
+use Rattle.yspec.proofs.BasicLemmas.{ascii_text, of_either}
 use Rattle.json.specs.Text.{content, plain, after_backslash, after_u, after_high, prepend, code_unit, short_escape, is_high_surrogate, is_low_surrogate, surrogate_pair}
 
 -- ---- bytes
-
-ascii_text : (x : ℕ) → x < 128 → IsUtf8 (x ∷ [])
-ascii_text x small = subst IsUtf8 (encode_ascii x small) (IsUtf8-encode x (low_scalar x (omega arith)))
 
 -- what stands behind a byte of ASCII
 pub behind_ascii : (front : List ℕ) (x : ℕ) (xs : List ℕ) → x < 128 → IsUtf8 (front ++ x ∷ xs) → IsUtf8 xs
@@ -36,11 +34,6 @@ prepended : (bytes : List ℕ) (o : Option (List ℕ)) → IsUtf8 bytes → IsTe
 prepended bytes None first rest = tt
 prepended bytes (Some s) first rest = IsUtf8-append bytes s first rest
 
--- what holds of either arm
-either : {A : Type 0} (P : A → Type 0) (b : Bool) (x y : A) → (b ≡ true → P x) → (b ≡ false → P y) → P (cond b x y)
-either P true x y first second = first refl
-either P false x y first second = second refl
-
 -- one byte that an escape of one byte stands for
 abbrev Short : ℕ → Option ℕ → Type 0
 Short x None = Unit {0}
@@ -49,12 +42,12 @@ Short x (Some c) = (x < 128) × (c < 128)
 short : (x : ℕ) → Short x (short_escape x)
 unfolding short_escape
 short x =
-    either (Short x) ((x == 34) || (x == 92) || (x == 47)) (Some x) _ (λ e. let small = one_of e in (small, small))
-    (λ _. either (Short x) (x == 98) (Some 8) _ (λ e. (omega (arith, eqb-true x 98 e), omega arith))
-    (λ _. either (Short x) (x == 102) (Some 12) _ (λ e. (omega (arith, eqb-true x 102 e), omega arith))
-    (λ _. either (Short x) (x == 110) (Some 10) _ (λ e. (omega (arith, eqb-true x 110 e), omega arith))
-    (λ _. either (Short x) (x == 114) (Some 13) _ (λ e. (omega (arith, eqb-true x 114 e), omega arith))
-    (λ _. either (Short x) (x == 116) (Some 9) None (λ e. (omega (arith, eqb-true x 116 e), omega arith)) (λ _. tt))))))
+    of_either (Short x) ((x == 34) || (x == 92) || (x == 47)) (Some x) _ (λ e. let small = one_of e in (small, small))
+    (λ _. of_either (Short x) (x == 98) (Some 8) _ (λ e. (omega (arith, eqb-true x 98 e), omega arith))
+    (λ _. of_either (Short x) (x == 102) (Some 12) _ (λ e. (omega (arith, eqb-true x 102 e), omega arith))
+    (λ _. of_either (Short x) (x == 110) (Some 10) _ (λ e. (omega (arith, eqb-true x 110 e), omega arith))
+    (λ _. of_either (Short x) (x == 114) (Some 13) _ (λ e. (omega (arith, eqb-true x 114 e), omega arith))
+    (λ _. of_either (Short x) (x == 116) (Some 9) None (λ e. (omega (arith, eqb-true x 116 e), omega arith)) (λ _. tt))))))
   where
     either_of : ((x == 34) ≡ true) ⊎ ((x == 92) ≡ true) → x < 128
     either_of (inl e) = omega (arith, eqb-true x 34 e)
@@ -84,7 +77,7 @@ Spelt a b c d (Some u) = Unit16 a b c d u
 
 spelt : (a b c d : ℕ) → Spelt a b c d (code_unit a b c d)
 unfolding code_unit
-spelt a b c d = either (Spelt a b c d) (is_digit a 16 && is_digit b 16 && is_digit c 16 && is_digit d 16) (Some _) None
+spelt a b c d = of_either (Spelt a b c d) (is_digit a 16 && is_digit b 16 && is_digit c 16 && is_digit d 16) (Some _) None
     (λ e.
     let three = and_parts (is_digit a 16 && is_digit b 16 && is_digit c 16) (is_digit d 16) e in
     let two = and_parts (is_digit a 16 && is_digit b 16) (is_digit c 16) three.0 in
@@ -118,12 +111,12 @@ module _ (n : ℕ) (again : (xs : List ℕ) → length xs ≤ n → IsUtf8 xs �
   second_half h (s ∷ t ∷ a ∷ b ∷ []) high few utf8 = tt
   second_half h (s ∷ t ∷ a ∷ b ∷ c ∷ []) high few utf8 = tt
   second_half h (s ∷ t ∷ a ∷ b ∷ c ∷ d ∷ xs) high few utf8 =
-      either IsTextIf ((s == 92) && (t == 117)) _ None (λ _. by (code_unit a b c d) (spelt a b c d)) (λ _. tt)
+      of_either IsTextIf ((s == 92) && (t == 117)) _ None (λ _. by (code_unit a b c d) (spelt a b c d)) (λ _. tt)
     where
       by : (o : Option ℕ) → Spelt a b c d o
           → IsTextIf (option_and_then (λ l. cond (is_low_surrogate l) (prepend (encode_utf8 (surrogate_pair h l)) (content plain xs)) None) o)
       by None is = tt
-      by (Some l) is = either IsTextIf (is_low_surrogate l) _ None
+      by (Some l) is = of_either IsTextIf (is_low_surrogate l) _ None
           (λ low. prepended (encode (surrogate_pair h l)) (content plain xs) (IsUtf8-encode (surrogate_pair h l) (paired h l high low))
           (again xs (omega (arith, few)) (behind_ascii (s ∷ t ∷ a ∷ b ∷ c ∷ []) d xs is.fourth utf8)))
           (λ _. tt)
@@ -141,16 +134,16 @@ module _ (n : ℕ) (again : (xs : List ℕ) → length xs ≤ n → IsUtf8 xs �
       by None is = tt
       by (Some u) is =
           let rest = behind_ascii (a ∷ b ∷ c ∷ []) d xs is.fourth utf8 in
-          either IsTextIf (is_high_surrogate u) (content (after_high u) xs) _
+          of_either IsTextIf (is_high_surrogate u) (content (after_high u) xs) _
           (λ high. second_half u xs high (omega (arith, few)) rest)
-          (λ other. either IsTextIf (is_low_surrogate u) None _ (λ _. tt)
+          (λ other. of_either IsTextIf (is_low_surrogate u) None _ (λ _. tt)
           (λ lower. prepended (encode u) (content plain xs) (IsUtf8-encode u (lone u is.small other lower)) (again xs (omega (arith, few)) rest)))
 
   behind_backslash : (xs : List ℕ) → length xs ≤ n → IsUtf8 xs → IsTextIf (content after_backslash xs)
   unfolding content
   behind_backslash [] few utf8 = tt
   behind_backslash (x ∷ xs) few utf8 =
-      either IsTextIf (x == 117) (content after_u xs) _
+      of_either IsTextIf (x == 117) (content after_u xs) _
       (λ e. behind_u xs (omega (arith, few)) (behind_ascii [] x xs (omega (arith, eqb-true x 117 e)) utf8))
       (λ _. by (short_escape x) (short x))
     where
@@ -162,9 +155,9 @@ module _ (n : ℕ) (again : (xs : List ℕ) → length xs ≤ n → IsUtf8 xs �
   unfolding content
   ascii_first x xs small few utf8 =
       let rest = behind_ascii [] x xs small utf8 in
-      either IsTextIf (x == 34) (Some []) _ (λ _. IsUtf8-nil)
-      (λ _. either IsTextIf (x == 92) (content after_backslash xs) _ (λ _. behind_backslash xs few rest)
-      (λ _. either IsTextIf (nat_lt x 32) None _ (λ _. tt) (λ _. prepended (x ∷ []) (content plain xs) (ascii_text x small) (again xs few rest))))
+      of_either IsTextIf (x == 34) (Some []) _ (λ _. IsUtf8-nil)
+      (λ _. of_either IsTextIf (x == 92) (content after_backslash xs) _ (λ _. behind_backslash xs few rest)
+      (λ _. of_either IsTextIf (nat_lt x 32) None _ (λ _. tt) (λ _. prepended (x ∷ []) (content plain xs) (ascii_text x small) (again xs few rest))))
 
 -- ---- characters of several bytes
 
@@ -187,9 +180,9 @@ high_passed (b ∷ bs) r high =
 some_bytes : (c : ℕ) → 0 < length (encode c)
 unfolding encode
 some_bytes c =
-    either (λ (bs : List ℕ). 0 < length bs) (nat_lt c 128) _ _ (λ _. omega arith)
-    (λ _. either (λ (bs : List ℕ). 0 < length bs) (nat_lt c 2048) _ _ (λ _. omega arith)
-    (λ _. either (λ (bs : List ℕ). 0 < length bs) (nat_lt c 65536) _ _ (λ _. omega arith) (λ _. omega arith)))
+    of_either (λ (bs : List ℕ). 0 < length bs) (nat_lt c 128) _ _ (λ _. omega arith)
+    (λ _. of_either (λ (bs : List ℕ). 0 < length bs) (nat_lt c 2048) _ _ (λ _. omega arith)
+    (λ _. of_either (λ (bs : List ℕ). 0 < length bs) (nat_lt c 65536) _ _ (λ _. omega arith) (λ _. omega arith)))
 
 high_bytes : (c : ℕ) → 128 ≤ c → (k : ℕ) → k < length (encode c) → 128 ≤ get_or (encode c) k 0
 high_bytes c large k few = by (nat_lt (get_or (encode c) k 0) 128) refl

@@ -16,6 +16,7 @@ use Rattle.serde_json.specs.Data as values
 use Rattle.serde_json.specs.Data.{Data}
 use Rattle.serde_json.specs.Read.{number_of, of_json, of_items, of_members, read, max_depth}
 use Rattle.yspec.specs.document.Reading.{json_of}
+use Rattle.yspec.proofs.BasicLemmas.{of_either}
 use Rattle.yspec.proofs.DocumentProofs.JsonTextLemmas.{IsTextIf, behind_ascii, content_text}
 
 -- ---- tokens
@@ -51,26 +52,24 @@ has_texts front [] utf8 = tt
 has_texts front (x ∷ xs) utf8 =
     (λ small. behind_ascii front x xs small utf8, has_texts (front ++ x ∷ []) xs (subst IsUtf8 (sym (append_assoc front (x ∷ []) xs)) utf8))
 
-either : {A : Type 0} (P : A → Type 0) (b : Bool) (x y : A) → P x → P y → P (cond b x y)
-either P true x y first second = first
-either P false x y first second = second
-
 operator_text : (x : ℕ) → LexemeIsText (operator_lexeme x)
 operator_text x =
     let fifth = cond (x == 44) comma colon in
     let fourth = cond (x == 93) (token Token.end_array) fifth in
     let third = cond (x == 91) (token Token.begin_array) fourth in
     let second = cond (x == 125) (token Token.end_object) third in
-    either LexemeIsText (x == 123) (token Token.begin_object) second tt (either LexemeIsText (x == 125) (token Token.end_object) third tt
-    (either LexemeIsText (x == 91) (token Token.begin_array) fourth tt (either LexemeIsText (x == 93) (token Token.end_array) fifth tt
-    (either LexemeIsText (x == 44) comma colon tt tt))))
+    of_either LexemeIsText (x == 123) (token Token.begin_object) second (λ _. tt)
+    (λ _. of_either LexemeIsText (x == 125) (token Token.end_object) third (λ _. tt)
+    (λ _. of_either LexemeIsText (x == 91) (token Token.begin_array) fourth (λ _. tt)
+    (λ _. of_either LexemeIsText (x == 93) (token Token.end_array) fifth (λ _. tt)
+    (λ _. of_either LexemeIsText (x == 44) comma colon (λ _. tt) (λ _. tt)))))
 
 number_text : (t : List ℕ) (o : Option (List ℕ)) → IsText (number_before t o)
 number_text t None = tt
-number_text t (Some rest) = either IsText (ends_word rest) (Token.number (take (length t - length rest) t)) Token.bad tt tt
+number_text t (Some rest) = of_either IsText (ends_word rest) (Token.number (take (length t - length rest) t)) Token.bad (λ _. tt) (λ _. tt)
 
 literal_text : (name t : List ℕ) (u : Token) → IsText u → IsText (literal name u t)
-literal_text name t u is = either IsText (starts_with nat_eq t name && ends_word (drop (length name) t)) u Token.bad is tt
+literal_text name t u is = of_either IsText (starts_with nat_eq t name && ends_word (drop (length name) t)) u Token.bad (λ _. is) (λ _. tt)
 
 word_text : (t : List ℕ) → IsText (word t)
 unfolding word
@@ -78,9 +77,10 @@ word_text t =
     let number = number_before t (after_number t) in
     let or_null = cond (head t == 110) (literal ascii.null_text Token.null t) number in
     let or_false = cond (head t == 102) (literal ascii.false_text (Token.boolean false) t) or_null in
-    either IsText (head t == 116) (literal ascii.true_text (Token.boolean true) t) or_false (literal_text ascii.true_text t (Token.boolean true) tt)
-    (either IsText (head t == 102) (literal ascii.false_text (Token.boolean false) t) or_null (literal_text ascii.false_text t (Token.boolean false) tt)
-    (either IsText (head t == 110) (literal ascii.null_text Token.null t) number (literal_text ascii.null_text t Token.null tt) (number_text t (after_number t))))
+    of_either IsText (head t == 116) (literal ascii.true_text (Token.boolean true) t) or_false (λ _. literal_text ascii.true_text t (Token.boolean true) tt)
+    (λ _. of_either IsText (head t == 102) (literal ascii.false_text (Token.boolean false) t) or_null (λ _. literal_text ascii.false_text t (Token.boolean false) tt)
+    (λ _. of_either IsText (head t == 110) (literal ascii.null_text Token.null t) number (λ _. literal_text ascii.null_text t Token.null tt)
+    (λ _. number_text t (after_number t))))
 
 string_text : (o : Option (List ℕ)) → IsTextIf o → IsText (string_token o)
 string_text None is = tt

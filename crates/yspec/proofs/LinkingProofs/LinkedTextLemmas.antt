@@ -15,6 +15,7 @@ use Rattle.yspec.specs.linking.Parts.{Part, parts_of_modules}
 use Rattle.yspec.specs.linking.Planned.{Plan, Around, at_top, around_below, planned}
 use Rattle.yspec.specs.linking.SchemaNodes.{schema_node}
 use Rattle.yspec.specs.linking.Compiling.{schema_modules, schema_of, compiled}
+use Rattle.yspec.proofs.BasicLemmas.{ascii_text}
 use Rattle.yspec.proofs.LinkingProofs.LegalLemmas.{AreModules, are_modules}
 use Rattle.yspec.proofs.LinkingProofs.RightPartLemmas.{AreRight}
 use Rattle.yspec.proofs.LinkingProofs.LinkedLemmas.{plan_in, BreaksNothing, compiles, right_plan}
@@ -27,21 +28,18 @@ byte_small c e = grind arith
 first_small : (c : ℕ) → begins_identifier c ≡ true → c < 128
 first_small c e = grind arith
 
-one_text : (c : ℕ) → c < 128 → IsUtf8 (c ∷ [])
-one_text c small = subst IsUtf8 (encode_ascii c small) (IsUtf8-encode c (low_scalar c (omega (arith, small))))
-
 all_text : (cs : Text) → list_all continues_identifier cs ≡ true → IsUtf8 cs
 all_text [] e = IsUtf8-nil
 all_text (c ∷ cs) e =
     let parts = and_parts (continues_identifier c) (list_all continues_identifier cs) e in
-    IsUtf8-append (c ∷ []) cs (one_text c (byte_small c parts.0)) (all_text cs parts.1)
+    IsUtf8-append (c ∷ []) cs (ascii_text c (byte_small c parts.0)) (all_text cs parts.1)
 
 identifier_text : (t : Text) → is_identifier t ≡ true → IsUtf8 t
 identifier_text [] e = absurd cc
 identifier_text (c ∷ cs) e =
     let parts = and_parts (begins_identifier c) (list_all continues_identifier cs && nat_lt (length cs) 64) e in
     let rest = and_parts (list_all continues_identifier cs) (nat_lt (length cs) 64) parts.1 in
-    IsUtf8-append (c ∷ []) cs (one_text c (first_small c parts.0)) (all_text cs rest.0)
+    IsUtf8-append (c ∷ []) cs (ascii_text c (first_small c parts.0)) (all_text cs rest.0)
 
 -- ---- schemas
 
@@ -62,7 +60,7 @@ name_text schema parent n modules name = by (is_module n.module_number parent)
     by true = name
     by false =
         IsUtf8-append (module_name schema n.module_number ++ codes ":") n.name
-        (IsUtf8-append (module_name schema n.module_number) (codes ":") (modules n.module_number) (one_text 58 (omega arith))) name
+        (IsUtf8-append (module_name schema n.module_number) (codes ":") (modules n.module_number) (ascii_text 58 (omega arith))) name
 
 nodes_texts : (count : ℕ) (plan : Plan) (next : ℕ) (around : Around) (f : Forest Part) → AreRight count f
     → NodesAreTexts (relabelled (schema_node plan) (planned next around f))

@@ -30,43 +30,55 @@ module _ (document script : Text) (names : List Text) (answers : List (Option (L
   abbrev made : Next → Outcome
   made next = with_files (names ++ document ∷ script ∷ []) answers (λ contents. with_document document names contents next)
 
-  -- its files could be read, its modules compile, and its document is read
-  record HasRun : Type 0 where
+  -- its files could be read
+  record FilesRead : Type 0 where
     read : AreRead names (document ∷ script ∷ []) answers
-    code : IsCompiled names read.contents
     bytes : List ℕ
     lines : List ℕ
-    tree : Tree
-    found : document_of code.schema bytes ≡ Ok tree
-    is : (next : Next) → made next ≡ next code.schema tree (lines ∷ [])
+    is : (next : Next) → made next ≡ with_document document names (read.contents ++ bytes ∷ lines ∷ []) next
+
+  files_read : (next : Next) → IsReport (made next) → FilesRead
+  files_read next shown =
+      let read = are_read names (document ∷ script ∷ []) answers (λ contents. with_document document names contents next) shown in
+      let behind = λ (next : Next) (rest : List (List ℕ)). with_document document names (read.contents ++ rest) next in
+      let both = both_read document script (drop (length names) answers) (behind next)
+      (subst IsReport (read.here (λ contents. with_document document names contents next)) shown) in
+      record {
+        read = read;
+        bytes = both.bytes;
+        lines = both.others;
+        is = λ next. read.here (λ contents. with_document document names contents next) ∙ both.is (behind next);
+      }
 
   -- what follows the schema
   abbrev on_tree : Text → Next → Schema → List (List ℕ) → Outcome
   on_tree name next schema files = with_tree schema name (document_of schema (first_file files)) (λ tree. next schema tree (other_files files))
 
+  -- its modules compile, and its document is read
+  record HasRun : Type 0 where
+    files : FilesRead
+    code : IsCompiled names files.read.contents
+    tree : Tree
+    found : document_of code.schema files.bytes ≡ Ok tree
+
+  with_found : (s : Schema) (name : Text) (bytes : List ℕ) (tree : Tree) (next : Tree → Outcome) → document_of s bytes ≡ Ok tree
+      → with_tree s name (document_of s bytes) next ≡ next tree
+  with_found s name bytes tree next found = ap (λ (o : Result Tree Refusal). with_tree s name o next) found
+
   has_run : (next : Next) → IsReport (made next) → HasRun
   has_run next shown =
-      let with_all = λ (next : Next) (contents : List (List ℕ)). with_document document names contents next in
-      let read = are_read names (document ∷ script ∷ []) answers (with_all next) shown in
-      let behind = subst IsReport (read.here (with_all next)) shown in
-      let both = both_read document script (drop (length names) answers) (λ rest. with_all next (read.contents ++ rest)) behind in
-      let files = both.bytes ∷ both.others ∷ [] in
-      let under = subst IsReport (both.is (λ rest. with_all next (read.contents ++ rest))) behind in
-      let code = is_compiled names read.contents files (on_tree document next) read.count under in
-      let last = subst IsReport (code.is files (on_tree document next)) under in
-      let found = is_found code.schema document (document_of code.schema both.bytes) (λ tree. next code.schema tree (both.others ∷ [])) last in
-      record {
-        read = read;
-        code = code;
-        bytes = both.bytes;
-        lines = both.others;
-        tree = found.tree;
-        found = found.is;
-        is = λ next.
-            read.here (with_all next) ∙ (both.is (λ rest. with_all next (read.contents ++ rest))
-            ∙ (code.is files (on_tree document next)
-            ∙ ap (λ (o : Result Tree Refusal). with_tree code.schema document o (λ tree. next code.schema tree (both.others ∷ []))) found.is));
-      }
+      let files = files_read next shown in
+      let rest = files.bytes ∷ files.lines ∷ [] in
+      let under = subst IsReport (files.is next) shown in
+      let code = is_compiled names files.read.contents rest (on_tree document next) files.read.count under in
+      let found = is_found code.schema document (document_of code.schema files.bytes) (λ tree. next code.schema tree (files.lines ∷ []))
+      (subst IsReport (code.is rest (on_tree document next)) under) in
+      record { files = files; code = code; tree = found.tree; found = found.is }
+
+  made_is : (run : HasRun) (next : Next) → made next ≡ next run.code.schema run.tree (run.files.lines ∷ [])
+  made_is run next =
+      run.files.is next ∙ (run.code.is (run.files.bytes ∷ run.files.lines ∷ []) (on_tree document next)
+      ∙ with_found run.code.schema document run.files.bytes run.tree (λ tree. next run.code.schema tree (run.files.lines ∷ [])) run.found)
 
   -- another document under the same modules is validated so
   validated : (run : HasRun) (name : Text) (bytes : List ℕ) (tree : Tree) → document_of run.code.schema bytes ≡ Ok tree
@@ -74,17 +86,17 @@ module _ (document script : Text) (names : List Text) (answers : List (Option (L
   unfolding outcome
   validated run name bytes tree found =
       let next : Next = λ schema tree files. edited false schema tree [] in
-      run.read.again (name ∷ []) (Some bytes ∷ []) (λ contents. with_document name names contents next)
+      run.files.read.again (name ∷ []) (Some bytes ∷ []) (λ contents. with_document name names contents next)
       ∙ (run.code.is (bytes ∷ []) (on_tree name next)
-      ∙ ap (λ (o : Result Tree Refusal). with_tree run.code.schema name o (λ tree. edited false run.code.schema tree [])) found)
+      ∙ with_found run.code.schema name bytes tree (λ tree. edited false run.code.schema tree []) found)
 
   -- the document after the lines of the script
   abbrev left_by : HasRun → Tree
-  left_by run = after_lines run.code.schema run.tree (lines_of run.lines)
+  left_by run = after_lines run.code.schema run.tree (lines_of run.files.lines)
 
-  run_is : (is_dump : Bool) (run : HasRun) → outcome (edit is_dump document script names) answers ≡ edited is_dump run.code.schema run.tree (lines_of run.lines)
+  run_is : (is_dump : Bool) (run : HasRun) → outcome (edit is_dump document script names) answers ≡ edited is_dump run.code.schema run.tree (lines_of run.files.lines)
   unfolding outcome
-  run_is is_dump run = run.is (λ schema tree files. edited is_dump schema tree (lines_of (first_file files)))
+  run_is is_dump run = made_is run (λ schema tree files. edited is_dump schema tree (lines_of (first_file files)))
 
   run_of : (is_dump : Bool) → IsReport (outcome (edit is_dump document script names) answers) → HasRun
   unfolding outcome
@@ -97,10 +109,10 @@ module _ (document script : Text) (names : List Text) (answers : List (Option (L
       let t = left_by run in
       let numbered = linked_numbered run.code.top s run.code.compiles in
       let differ = linked_names run.code.top s run.code.compiles in
-      let lines = lines_of run.lines in
-      let whole = lines_keep (IsDocument s) s (λ t e so. edit_whole s t e numbered differ so) lines run.tree (read_whole s run.bytes run.tree numbered differ run.found) in
-      let holds = lines_keep (FitsBy HoldsText s.nodes 0) s (λ t e so. edit_holds s t e numbered so) lines run.tree (read_holds s run.bytes run.tree numbered run.found) in
-      let within = lines_keep (λ t. size t ≤ document_limit) s (λ t e so. edit_within s t e so) lines run.tree (read_within s run.bytes run.tree differ run.found) in
+      let lines = lines_of run.files.lines in
+      let whole = lines_keep (IsDocument s) s (λ t e so. edit_whole s t e numbered differ so) lines run.tree (read_whole s run.files.bytes run.tree numbered differ run.found) in
+      let holds = lines_keep (FitsBy HoldsText s.nodes 0) s (λ t e so. edit_holds s t e numbered so) lines run.tree (read_holds s run.files.bytes run.tree numbered run.found) in
+      let within = lines_keep (λ t. size t ≤ document_limit) s (λ t e so. edit_within s t e so) lines run.tree (read_within s run.files.bytes run.tree differ run.found) in
       ended_read s t numbered differ (linked_bare run.code.top s run.code.compiles) (linked_within run.code.top s run.code.compiles)
       (linked_texts run.code.top s run.code.compiles) whole holds within
 
