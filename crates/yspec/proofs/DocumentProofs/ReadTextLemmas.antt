@@ -1,5 +1,5 @@
 -- The texts of what is read are UTF-8.
-use Rattle.std.proofs.Common.{◌≡◌, ℕ, Bool, true, false, cond, ℤ, pos, List, Option, Some, None, Ok, Ordering, Less, Equal, Greater, nat_cmp, IsUtf8, refl, subst}
+use Rattle.std.proofs.Common.{◌≡◌, ℕ, Bool, true, false, cond, ℤ, pos, List, Option, Some, None, Ok, Ordering, Less, Equal, Greater, nat_cmp, IsUtf8, subst}
 use Rattle.std.specs.Cmp.Lexicographic.{slice_cmp}
 use Rattle.std.specs.Ordering.{match_ordering}
 use Rattle.serde_json.specs.Data.{Num, unsigned, negative, float, Data, null, boolean, number, string, array, object, Items, no_items, item, Members, no_members, member}
@@ -7,7 +7,7 @@ use Rattle.serde_json.specs.Find.{get_member}
 use Rattle.yspec.specs.Forest.{Forest, end, node}
 use Rattle.yspec.specs.types.Ranges.{lies_in}
 use Rattle.yspec.specs.types.Types.{Raw, text, int, bool, empty}
-use Rattle.yspec.specs.schema.Schema.{Schema, SchemaNode, Kind, is_many, has_value, data_row, written_name}
+use Rattle.yspec.specs.schema.Schema.{Schema, SchemaNode, is_many, has_value, data_row, written_name}
 use Rattle.yspec.specs.document.Document.{Tree}
 use Rattle.yspec.specs.document.Reading.{whole_numbers, raw_number, raw_array, raw_of, raw_in, members_of, items_of, stored_rows, document_of}
 use Rattle.yspec.specs.document.Fitting.{IsNumbered, FitsBy}

@@ -1,15 +1,15 @@
 -- What is written of a document is read back, with a line feed behind it.
-use Rattle.std.proofs.Common.{◌≡◌, ℕ, ◌+◌, ◌≤◌, ◌++◌, ◌∷◌, [], ℤ, pos, negsuc, Bool, true, false, cond, eqb, Option, Some, None, Ok, refl, ap, ap₂, ◌∙◌, arith}
+use Rattle.std.proofs.Common.{◌≡◌, ℕ, ◌≤◌, ◌++◌, ◌∷◌, [], ℤ, pos, negsuc, Bool, true, false, cond, eqb, Option, Some, None, Ok, refl, arith}
 use Rattle.std.proofs.lemmas.Bool.{and_parts, leb-true}
 use Rattle.std.specs.Str.{IsUtf8}
-use Rattle.serde_json.specs.Data.{Data, null, number, array, object, Items, Members, no_members, put, depth}
+use Rattle.serde_json.specs.Data.{Data, null, number, array, object, Items, Members, no_members}
 use Rattle.serde_json.specs.Find.{of_integer}
 use Rattle.yspec.specs.Forest.{Forest, end, node, levels, size}
 use Rattle.yspec.specs.text.Text.{Text}
 use Rattle.yspec.specs.types.Ranges.{lies_in}
 use Rattle.yspec.specs.types.Types.{Raw, text, int, bool, empty}
 use Rattle.yspec.specs.schema.Breaks.{level_limit}
-use Rattle.yspec.specs.schema.Schema.{Schema, SchemaNode, Kind, is_data, is_many, has_value, module_name, written_name}
+use Rattle.yspec.specs.schema.Schema.{Schema, SchemaNode, is_data, is_many, has_value, module_name, written_name}
 use Rattle.yspec.specs.document.Document.{Tree, instances, document_limit}
 use Rattle.yspec.specs.document.Reading.{whole_numbers, document_of}
 use Rattle.yspec.specs.document.Fitting.{IsNumbered, LeafsAreBare, next_after, FitsBy}

@@ -1,13 +1,12 @@
 -- The names of linked schemas are UTF-8.
-use Rattle.std.proofs.Common.{◌≡◌, ℕ, zero, suc, ◌+◌, ◌<◌, Bool, true, false, cond, ◌&&◌, ◌==◌, nat_lt, ◌++◌, List, [], ◌∷◌, length, codes, Option, Some, None, Ok, IsUtf8, refl, arith, subst, eqb-true}
+use Rattle.std.proofs.Common.{◌≡◌, ℕ, zero, suc, ◌+◌, ◌<◌, Bool, true, false, cond, ◌&&◌, nat_lt, ◌++◌, [], ◌∷◌, length, codes, Option, Ok, IsUtf8, arith, subst}
 use Rattle.std.proofs.lemmas.Bool.{and_parts}
-use Rattle.std.proofs.lemmas.Str.{IsUtf8-append, IsUtf8-nil, IsUtf8-encode, encode_ascii}
+use Rattle.std.proofs.lemmas.Str.{IsUtf8-append, IsUtf8-nil}
 use Rattle.std.specs.Prelude.{slice_get}
 use Rattle.std.specs.List.{list_all}
 use Rattle.std.specs.Option.{option_map_or}
-use lib.Utf8.{low_scalar}
 use Rattle.yspec.specs.Forest.{Forest, end, node, size, relabelled}
-use Rattle.yspec.specs.text.Text.{Text, continues_identifier, begins_identifier, is_digit, is_identifier}
+use Rattle.yspec.specs.text.Text.{Text, continues_identifier, begins_identifier, is_identifier}
 use Rattle.yspec.specs.text.Statement.{Statement}
 use Rattle.yspec.specs.schema.Schema.{Schema, SchemaNode, is_module, module_name, written_name}
 use Rattle.yspec.specs.linking.Source.{Source, sources_of, argument_in}

@@ -1,5 +1,5 @@
 -- What is dumped of a document is validated as the document.
-use Rattle.std.proofs.Common.{◌≡◌, ℕ, ◌≤◌, List, [], ◌∷◌, ◌++◌, length, take, drop, Option, Some, None, Result, Ok, Bool, false, true, refl, sym, ap, ◌∙◌, subst}
+use Rattle.std.proofs.Common.{◌≡◌, ℕ, ◌≤◌, List, [], ◌∷◌, ◌++◌, length, take, drop, Option, Some, Result, Ok, Bool, false, true, sym, ap, ◌∙◌, subst}
 use Rattle.yspec.specs.Forest.{size}
 use Rattle.yspec.specs.text.Text.{Text}
 use Rattle.yspec.specs.schema.Schema.{Schema}
@@ -7,8 +7,8 @@ use Rattle.yspec.specs.document.Document.{Tree, document_limit}
 use Rattle.yspec.specs.document.Reading.{Refusal, document_of}
 use Rattle.yspec.specs.document.Fitting.{FitsBy}
 use Rattle.yspec.specs.document.Writing.{IsDocument}
-use Rattle.yspec.specs.program.Script.{after_lines, lines_of, refused_lines}
-use Rattle.yspec.specs.program.Output.{Outcome, dump, edit, edited, edition, first_file, files_of, other_files, outcome, performed, validate, validation, with_document, with_files, with_schema, with_tree}
+use Rattle.yspec.specs.program.Script.{after_lines, lines_of}
+use Rattle.yspec.specs.program.Output.{Outcome, dump, edit, edited, first_file, other_files, outcome, validate, with_document, with_files, with_tree}
 use Rattle.yspec.proofs.DocumentProofs.ReadTextLemmas.{HoldsText, read_holds}
 use Rattle.yspec.proofs.DocumentProofs.ReadWholeLemmas.{read_whole}
 use Rattle.yspec.proofs.DocumentProofs.RightNodeLemmas.{read_within}
@@ -19,7 +19,7 @@ use Rattle.yspec.proofs.LinkingProofs.LinkedNameLemmas.{linked_names}
 use Rattle.yspec.proofs.LinkingProofs.LinkedLemmas.{linked_numbered, linked_bare, linked_within}
 use Rattle.yspec.proofs.LinkingProofs.LinkedTextLemmas.{linked_texts}
 use Rattle.yspec.proofs.ProgramProofs.ScriptLemmas.{lines_keep}
-use Rattle.yspec.proofs.ProgramProofs.RunLemmas.{IsReport, AreRead, are_read, BothRead, both_read, IsCompiled, is_compiled, IsFound, is_found}
+use Rattle.yspec.proofs.ProgramProofs.RunLemmas.{IsReport, AreRead, are_read, both_read, IsCompiled, is_compiled, is_found}
 
 -- what comes of a document under a schema, and of the files behind it
 abbrev Next : Type 0
