@@ -295,8 +295,34 @@ line 3: E3
 line 5: E5
 --
 0 faults
+==
+{"ex-net:net":{"host":[{"name":"a","auto":[null]}]}}
+create /ex-net:net/host[1]/name "b"
+remove /ex-net:net/host[1]--
+1
+line 1: E8
+--
+V6 operation-failed too-few-elements /ex-net:net/host -
+1 faults
+==
+{}
+create /ex-net:net/host {"name":"z","auto":[null]}--
+1
+line 1: E4
+--
+V6 operation-failed too-few-elements /ex-net:net/host -
+1 faults
 "#;
     assert_eq!(rt; first_wrong(rt.alloc(), EDIT, NETWORK, rows), None);
+    let rows = r#"{"ex-net:net":{"host":[{"name":"a","auto":[null]}]}}
+create /ex-net:net/host[1]/name "b"
+remove /ex-net:net/host[1]--
+1
+line 1: E8
+--
+{"ex-net:net":{}}
+"#;
+    assert_eq!(rt; first_wrong(rt.alloc(), DUMP, NETWORK, rows), None);
     let rows = "{\"k:want\":3}
 create /k:boost 1--
 1

@@ -1,6 +1,8 @@
 -- Of tests, results, texts and forests, whatever they stand for.
-use Rattle.std.proofs.Common.{◌≡◌, ◌≢◌, Bool, true, false, ◌||◌, Option, Some, None, Result, Ok, Err, refl, sym, ◌∙◌}
+use Rattle.std.proofs.Common.{◌≡◌, ◌≢◌, ℕ, ◌<◌, Bool, true, false, cond, ◌||◌, [], ◌∷◌, Option, Some, None, Result, Ok, Err, IsUtf8, refl, sym, ◌∙◌, subst, arith}
 use Rattle.std.proofs.lemmas.Slice.Eq.{bytes_eq-Decides}
+use Rattle.std.proofs.lemmas.Str.{IsUtf8-encode, encode_ascii}
+use lib.Utf8.{low_scalar}
 use Rattle.yspec.specs.Forest.{first_of}
 use Rattle.yspec.specs.Results.{◌>>=◌}
 use Rattle.yspec.specs.text.Text.{Text, is_text}
@@ -18,7 +20,15 @@ pub first_of_none : {X : Type 0} (o : Option X) → first_of o None ≡ o
 first_of_none (Some x) = refl
 first_of_none None = refl
 
+-- what holds of both arms
+pub of_either : {A : Type 0} (P : A → Type 0) (b : Bool) (x y : A) → (b ≡ true → P x) → (b ≡ false → P y) → P (cond b x y)
+of_either P true x y first second = first refl
+of_either P false x y first second = second refl
+
 -- ---- texts
+
+pub ascii_text : (x : ℕ) → x < 128 → IsUtf8 (x ∷ [])
+ascii_text x small = subst IsUtf8 (encode_ascii x small) (IsUtf8-encode x (low_scalar x (omega (arith, small))))
 
 pub same_text : (a : Text) → is_text a a ≡ true
 same_text a = (bytes_eq-Decides a a).1 refl

@@ -21,3 +21,9 @@ pub mod WrittenRowLemmas
 pub mod WrittenVisitLemmas
 pub mod ReadBackLemmas
 pub mod WrittenShapeLemmas
+pub mod TextEndLemmas
+pub mod ExactLemmas
+pub mod WrittenExactLemmas
+pub mod JsonTextLemmas
+pub mod JsonValueLemmas
+pub mod ReadTextLemmas

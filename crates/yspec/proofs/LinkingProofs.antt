@@ -6,3 +6,4 @@ pub mod RightPartLemmas
 pub mod LinkedLemmas
 pub mod LinkedNameLemmas
 pub mod LinkedSchemaLemmas
+pub mod LinkedTextLemmas

@@ -8,6 +8,7 @@ pub mod checking;
 pub mod commands;
 pub mod compiling;
 pub mod documents;
+pub mod dumping;
 pub mod editing;
 pub mod examples;
 pub mod linking;

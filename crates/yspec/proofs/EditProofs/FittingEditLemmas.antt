@@ -23,6 +23,8 @@ use Rattle.yspec.proofs.DocumentProofs.HeldNodeLemmas.{schema_has_all}
 use Rattle.yspec.proofs.DocumentProofs.VisitLemmas.{EachDiffers, BelowDiffers, each_differs}
 use Rattle.yspec.proofs.DocumentProofs.FittingReadLemmas.{row_fits, ever_held}
 use Rattle.yspec.proofs.DocumentProofs.ReadWholeLemmas.{instance_held, right_rows}
+use Rattle.yspec.proofs.DocumentProofs.JsonValueLemmas.{AreTexts, json_of_texts}
+use Rattle.yspec.proofs.DocumentProofs.ReadTextLemmas.{HoldsText, members_texts, rows_hold, value_held}
 use Rattle.yspec.proofs.EditProofs.AnswerLemmas.{If, if_then, if_cond, IsOf, meant_of, edits_keep}
 use Rattle.yspec.proofs.EditProofs.BoundLemmas.{InRow, first, later, Stands, stands_below, is_child, is_at, BoundIn, path_bound}
 
@@ -197,12 +199,14 @@ module _ (Held : SchemaNode → Option Raw → Type 0) where
 
 -- ---- edits
 
--- `Held` says which values a node may have; `Extra` is what is asked of a row of the schema, besides that it stands in it
-module _ (s : Schema) (Held : SchemaNode → Option Raw → Type 0) (Extra : Forest SchemaNode → Type 0) where
+-- `Held` says which values a node may have; `Extra` is what is asked of a row of the schema, besides that it stands in it;
+-- `Given` is what holds of the JSON value of any text
+module _ (s : Schema) (Held : SchemaNode → Option Raw → Type 0) (Extra : Forest SchemaNode → Type 0) (Given : Data → Type 0) where
   -- what is asked of a row is so of the rows below it, and a value with no refusal may be held and fits
   record IsSound : Type 0 where
+    given : (text : Text) (d : Data) → json_of text ≡ Some d → Given d
     extra_below : (f : Forest SchemaNode) (n : SchemaNode) (g : Forest SchemaNode) → InRow n g (data_row f) → Extra f → Extra g
-    holds : (f : Forest SchemaNode) (n : SchemaNode) (g : Forest SchemaNode) (d : Data) → InRow n g (data_row f) → Stands s g → Extra f
+    holds : (f : Forest SchemaNode) (n : SchemaNode) (g : Forest SchemaNode) (d : Data) → InRow n g (data_row f) → Stands s g → Extra f → Given d
         → first_wrong (instance_visits s n g [] d) ≡ None
         → Held n (raw_in n.kind d) × FitsBy Held g 0 (stored_rows s (Some n.module_number) g (members_of d))
 
@@ -256,19 +260,19 @@ module _ (s : Schema) (Held : SchemaNode → Option Raw → Type 0) (Extra : For
 
   branch_fits : (f : Forest SchemaNode) (n : SchemaNode) (g : Forest SchemaNode) (text : Text) → IsSound → Stands s f → Extra f → InRow n g (data_row f)
       → If (BranchFits n g) (branch_of s n.number text)
-  branch_fits f n g text sound stands extra there = by (json_of text)
+  branch_fits f n g text sound stands extra there = by (json_of text) refl
     where
-      judged : (d : Data) (o : Option Refusal) → first_wrong (instance_visits s n g [] d) ≡ o → If (BranchFits n g) (made n g d o)
-      judged d None right = let held = sound.holds f n g d there (stands_below s f n g stands there) extra right in (refl, held.0, held.1)
-      judged d (Some r) right = tt
+      judged : (d : Data) (o : Option Refusal) → Given d → first_wrong (instance_visits s n g [] d) ≡ o → If (BranchFits n g) (made n g d o)
+      judged d None given right = let held = sound.holds f n g d there (stands_below s f n g stands there) extra given right in (refl, held.0, held.1)
+      judged d (Some r) given right = tt
 
-      by : (o : Option Data) → If (BranchFits n g) (option_map_or (branch_at s n.number) o (refused 9))
-      by None = tt
-      by (Some d) =
+      by : (o : Option Data) → json_of text ≡ o → If (BranchFits n g) (option_map_or (branch_at s n.number) o (refused 9))
+      by None is = tt
+      by (Some d) is =
           let at = is_at s f n g stands there in
           subst (λ (o : Option SchemaNode). If {E = EditRefusal} (BranchFits n g) (option_map_or (λ m. fitting_branch s m d) o (refused 2))) (sym at.0)
           (subst (λ (h : Forest SchemaNode). If (BranchFits n g) (made n h d (first_wrong (instance_visits s n h [] d)))) (sym at.1)
-          (judged d (first_wrong (instance_visits s n g [] d)) refl))
+          (judged d (first_wrong (instance_visits s n g [] d)) (sound.given text d is) refl))
 
   -- ---- what they do
 
@@ -326,10 +330,11 @@ module _ (s : Schema) (Held : SchemaNode → Option Raw → Type 0) (Extra : For
 
 -- ---- the laws
 
-shape_sound : (s : Schema) → IsSound s (λ n value. Unit {0}) (λ f. Unit {0})
+shape_sound : (s : Schema) → IsSound s (λ n value. Unit {0}) (λ f. Unit {0}) (λ d. Unit {0})
 shape_sound s = record {
+  given = λ text d is. tt;
   extra_below = λ f n g there extra. tt;
-  holds = λ f n g d there stands extra right. (
+  holds = λ f n g d there stands extra given right. (
     tt,
     row_fits s (λ n value. Unit {0}) (λ parent children ms. Unit {0}) (λ parent children ms right. ever_held s parent (data_row children) ms)
         (Some n.module_number) g stands.0.0 (members_of d) stands.0.1 tt,
@@ -338,23 +343,36 @@ shape_sound s = record {
 
 -- whatever leafs hold
 pub edit_fits : (s : Schema) (tree : Tree) (e : Edit) → IsNumbered 0 s.nodes → Fits s tree → If (Fits s) (applied s tree e)
-edit_fits s tree e numbered fits = applied_fits s (λ n value. Unit {0}) (λ f. Unit {0}) tree (shape_sound s) e numbered tt fits
+edit_fits s tree e numbered fits = applied_fits s (λ n value. Unit {0}) (λ f. Unit {0}) (λ d. Unit {0}) tree (shape_sound s) e numbered tt fits
 
 differs_there : (s : Schema) (n : SchemaNode) (g f : Forest SchemaNode) → EachDiffers s f → InRow n g f → BelowDiffers s n g
 differs_there s n g f differ first = differ.0
 differs_there s n g f differ (later {after = others} there) = differs_there s n g others differ.1 there
 
-value_sound : (s : Schema) → IsSound s HasForm (AllDiffer s)
+value_sound : (s : Schema) → IsSound s HasForm (AllDiffer s) (λ d. Unit {0})
 value_sound s = record {
+  given = λ text d is. tt;
   extra_below = λ f n g there extra. (differs_there s n g (data_row f) (each_differs s f extra) there).1;
-  holds = λ f n g d there stands extra right.
+  holds = λ f n g d there stands extra given right.
       let held = instance_held s n g [] d (differs_there s n g (data_row f) (each_differs s f extra) there) right in
       (held.0, right_rows s (Some n.module_number) g stands.0.0 (members_of d) stands.0.1 held.1);
 }
 
 -- in values too, where no two siblings are written with one name
 pub edit_whole : (s : Schema) (tree : Tree) (e : Edit) → IsNumbered 0 s.nodes → NamesDiffer s → IsDocument s tree → If (IsDocument s) (applied s tree e)
-edit_whole s tree e numbered differ whole = applied_fits s HasForm (AllDiffer s) tree (value_sound s) e numbered differ.1 whole
+edit_whole s tree e numbered differ whole = applied_fits s HasForm (AllDiffer s) (λ d. Unit {0}) tree (value_sound s) e numbered differ.1 whole
+
+text_sound : (s : Schema) → IsSound s HoldsText (λ f. Unit {0}) AreTexts
+text_sound s = record {
+  given = json_of_texts;
+  extra_below = λ f n g there extra. tt;
+  holds = λ f n g d there stands extra given right.
+      (value_held n d given, rows_hold s (Some n.module_number) g stands.0.0 (members_of d) stands.0.1 (members_texts d given));
+}
+
+-- its texts stay UTF-8
+pub edit_holds : (s : Schema) (tree : Tree) (e : Edit) → IsNumbered 0 s.nodes → FitsBy HoldsText s.nodes 0 tree → If (FitsBy HoldsText s.nodes 0) (applied s tree e)
+edit_holds s tree e numbered fits = applied_fits s HoldsText (λ f. Unit {0}) AreTexts tree (text_sound s) e numbered tt fits
 
 pub edits_fit : (s : Schema) (tree : Tree) (edits : List Edit) → IsNumbered 0 s.nodes → Fits s tree → Fits s (after s tree edits)
 edits_fit s tree edits numbered fits = edits_keep (Fits s) s tree edits (λ t e so. edit_fits s t e numbered so) fits

@@ -1,0 +1,3 @@
+pub mod ScriptLemmas
+pub mod RunLemmas
+pub mod DumpLemmas
