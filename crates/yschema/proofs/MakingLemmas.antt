@@ -46,8 +46,8 @@ nothing_made (t ∷ ts) = nothing_made ts
 abbrev pub absent_as : Bool → Bool → List Val → Absence
 absent_as is_its_key must values = if is_its_key then key else (if must then mandatory else absent_by (first_value values))
 
-abbrev pub leaf_type_by : YangType → Option ℕ → LeafType
-leaf_type_by type target = record { type = type; target = target }
+abbrev pub leaf_type_by : Text → YangType → Option ℕ → LeafType
+leaf_type_by name type target = record { name = name; type = type; target = target }
 
 -- ---- kinds
 

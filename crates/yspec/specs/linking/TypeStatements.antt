@@ -49,9 +49,12 @@ built_in_name leafref = codes "leafref"
 abbrev pub named_so : BuiltIn → Text × BuiltIn
 named_so type = (built_in_name type, type)
 
+abbrev pub all_built_in : List BuiltIn
+all_built_in = integer int8 ∷ integer int16 ∷ integer int32 ∷ integer int64 ∷ integer uint8 ∷ integer uint16 ∷ integer uint32
+    ∷ integer uint64 ∷ decimal64 ∷ string ∷ boolean ∷ empty ∷ enumeration ∷ bits ∷ union ∷ leafref ∷ []
+
 abbrev pub built_in_types : List (Text × BuiltIn)
-built_in_types = map named_so (integer int8 ∷ integer int16 ∷ integer int32 ∷ integer int64 ∷ integer uint8 ∷ integer uint16
-    ∷ integer uint32 ∷ integer uint64 ∷ decimal64 ∷ string ∷ boolean ∷ empty ∷ enumeration ∷ bits ∷ union ∷ leafref ∷ [])
+built_in_types = map named_so all_built_in
 
 unfoldable pub built_in_named : Text → Option BuiltIn
 built_in_named name = option_map (λ entry. entry.1) (find (λ entry. is_text name entry.0) built_in_types)

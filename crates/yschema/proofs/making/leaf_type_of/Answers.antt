@@ -12,4 +12,4 @@ returns c =
     let p = node_view c.args.node in
     let type = c.value_type.ensures plan p c.requires.of_plan c.requires.stands in
     let target = c.target.ensures plan p c.requires.of_plan c.requires.stands in
-    ap₂ leaf_type_by (c.in_ok-value_type.ensures ∙ ap (λ t. unwrap_or t string_type) type) (c.id_of.ensures ∙ target)
+    ap₂ (λ t n. leaf_type_by n t.0 t.1) (ap₂ (λ x y. (x, y)) (c.in_ok-value_type.ensures ∙ ap (λ t. unwrap_or t string_type) type) (c.id_of.ensures ∙ target)
