@@ -43,7 +43,7 @@ impl Schema {
     ghost use Rattle.yspec.specs.schema.Schema.{node_at, children_of, child_named, child_written, way_to};
     ghost use Rattle.yspec.specs.schema.References.{references_to};
     ghost use Rattle.yschema.specs.Layout.{node_view, number_of, numbers_of};
-    ghost use Rattle.yschema.specs.Lookup.{module_passed, some_or_none, way_to_parent};
+    ghost use Rattle.yschema.specs.Lookup.{alone, module_passed, way_above};
     ghost use Rattle.yschema.specs.View.{view, row_view, forest_of, module_view};
 
     pub(crate) fn new(
@@ -87,10 +87,13 @@ impl Schema {
 
     /// The node above a node; none above a top node, nor of a number that no node has.
     pub fn parent(&self, id: SchemaId) -> Option<SchemaId>
-        ensures way { way_to (view self.now) id.0 ≡ way_to_parent (view self.now) result ++ some_or_none (node_at (view self.now) id.0) }
+        ensures way { way_to (view self.now) id.0 ≡ way_above (view self.now) (number_of result) ++ alone (node_at (view self.now) id.0) }
         ensures above { IfSome result (λ p. p.0 < id.0) }
     {
-        self.rows.get(id.number())?.parent
+        match self.rows.get(id.number()) {
+            Some(row) => row.parent,
+            None => None,
+        }
     }
 
     /// The top nodes, in order of definition.

@@ -4,7 +4,7 @@ use Rattle.std.specs.List.{flat_map}
 use Rattle.std.specs.Option.{option_map_or}
 use Rattle.yspec.specs.Forest.{Forest, end, node}
 use Rattle.yspec.specs.text.Text.{Text, is_text}
-use Rattle.yspec.specs.schema.Schema.{Schema, SchemaNode, Kind, container, leaf, leaf_list, list, choice, case, LeafType, Absence, allowed, default_used, mandatory, key, Status, current, deprecated, obsolete, has_value, type_in, node_at, module_name, module_prefix, data_way_to}
+use Rattle.yspec.specs.schema.Schema.{Schema, SchemaNode, Kind, container, leaf, leaf_list, list, choice, case, LeafType, Absence, allowed, default_used, mandatory, key, Status, current, deprecated, obsolete, is_data, has_value, type_in, keys_in, node_at, module_name, module_prefix, data_way_to}
 
 -- A diagram is that of one module, by its place in the set; in what follows that is `shown`.
 
@@ -16,38 +16,37 @@ prefixed_name schema shown n = if n.module_number == shown then n.name
     else module_prefix schema n.module_number ++ (codes ":" ++ n.name)
 
 -- choices and cases stand in parentheses
-abbrev pub name_by : Kind → Text → Text
-name_by (choice default_case is_mandatory) name = codes "(" ++ (name ++ codes ")")
-name_by case name = codes "(" ++ (name ++ codes ")")
-name_by _ name = name
+abbrev pub name_text : Schema → ℕ → SchemaNode → Text
+name_text schema shown n = if is_data n.kind then prefixed_name schema shown n
+    else codes "(" ++ (prefixed_name schema shown n ++ codes ")")
 
--- ---- options: `?` for what need not be there, `!` for presence, `*` for what may come more than once, and the keys
+-- ---- options: `?` for what need not be there, `!` for presence, `*` for what may come more than once; and the keys
 
-abbrev pub absence_option : Absence → Text
-absence_option allowed = codes "?"
-absence_option (default_used v) = codes "?"
-absence_option mandatory = []
-absence_option key = []
+abbrev pub absence_mark : Absence → Text
+absence_mark allowed = codes "?"
+absence_mark (default_used v) = codes "?"
+absence_mark mandatory = []
+absence_mark key = []
+
+abbrev pub option_mark : Kind → Text
+option_mark (container presence) = if presence then codes "!" else []
+option_mark (leaf type absence) = absence_mark absence
+option_mark (leaf_list type defaults amount) = codes "*"
+option_mark (list tuples amount) = codes "*"
+option_mark (choice default_case is_mandatory) = if is_mandatory then [] else codes "?"
+option_mark case = []
 
 abbrev pub key_name : Schema → ℕ → Text
 key_name schema number = option_map_or (λ n. n.name) (node_at schema number) []
 
-abbrev pub keys_option : Schema → List ℕ → Text
-keys_option schema [] = []
-keys_option schema (first ∷ others) = codes " [" ++ (key_name schema first
+abbrev pub key_names : Schema → List ℕ → Text
+key_names schema [] = []
+key_names schema (first ∷ others) = codes " [" ++ (key_name schema first
     ++ (flat_map (λ other. codes " " ++ key_name schema other) others ++ codes "]"))
-
-abbrev pub options : Schema → Kind → Text
-options schema (container presence) = if presence then codes "!" else []
-options schema (leaf type absence) = absence_option absence
-options schema (leaf_list type defaults amount) = codes "*"
-options schema (list tuples amount) = codes "*" ++ keys_option schema tuples.keys
-options schema (choice default_case is_mandatory) = if is_mandatory then [] else codes "?"
-options schema case = []
 
 -- the name of a node with its options
 abbrev pub label : Schema → ℕ → SchemaNode → Text
-label schema shown n = name_by n.kind (prefixed_name schema shown n) ++ options schema n.kind
+label schema shown n = name_text schema shown n ++ (option_mark n.kind ++ key_names schema (keys_in n.kind))
 
 -- ---- marks: the status, `--` and the flags; a case has no flags
 
@@ -96,7 +95,7 @@ spaces n = replicate n 32
 -- a type stands three columns behind the widest label of its row
 abbrev pub type_column : Schema → ℕ → ℕ → SchemaNode → Text
 type_column schema shown width n = option_map_or
-    (λ type. spaces (width - length (label schema shown n)) ++ (codes "   " ++ type_text schema shown type)) (type_in n.kind) []
+    (λ type. spaces (width - label_width schema shown n) ++ (codes "   " ++ type_text schema shown type)) (type_in n.kind) []
 
 -- ---- lines
 
