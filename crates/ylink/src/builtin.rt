@@ -1,7 +1,7 @@
 //! The names of the built-in types (RFC 7950, 4.2.4).
 
 ghost use Rattle.std.specs.Prelude.{◌≡◌, option_map};
-ghost use Rattle.yspec.specs.linking.TypeStatements.{built_in_named};
+ghost use Rattle.yspec.specs.linking.TypeStatements.{built_in_name, built_in_named};
 ghost use Rattle.ylink.specs.TypeView.{built_in_view};
 
 /// A built-in type that is compiled.
@@ -50,5 +50,29 @@ impl BuiltIn {
             "leafref" => BuiltIn::Leafref,
             _ => return None,
         })
+    }
+
+    /// Its name.
+    pub fn name(self) -> &'static str
+        ensures { result.now ≡ built_in_name (built_in_view self) }
+    {
+        match self {
+            BuiltIn::Int8 => "int8",
+            BuiltIn::Int16 => "int16",
+            BuiltIn::Int32 => "int32",
+            BuiltIn::Int64 => "int64",
+            BuiltIn::Uint8 => "uint8",
+            BuiltIn::Uint16 => "uint16",
+            BuiltIn::Uint32 => "uint32",
+            BuiltIn::Uint64 => "uint64",
+            BuiltIn::Decimal64 => "decimal64",
+            BuiltIn::String => "string",
+            BuiltIn::Boolean => "boolean",
+            BuiltIn::Empty => "empty",
+            BuiltIn::Enumeration => "enumeration",
+            BuiltIn::Bits => "bits",
+            BuiltIn::Union => "union",
+            BuiltIn::Leafref => "leafref",
+        }
     }
 }

@@ -5,6 +5,7 @@ pub mod QueryLemmas
 pub mod ReferenceLemmas
 pub mod RowLemmas
 pub mod ToldLemmas
+pub mod WayLemmas
 pub mod ChildLemmas
 pub mod FindLemmas
 pub mod CallerLemmas

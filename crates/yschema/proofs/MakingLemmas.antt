@@ -1,6 +1,6 @@
 -- Schema nodes made from planned ones, and how they lie in rows.
 use Rattle.std.proofs.Common.{◌≡◌, ◌≢◌, ℕ, suc, Bool, ◌+◌, ◌<◌, ◌≤◌, List, [], ◌∷◌, ◌++◌, length, drop, get_or, map, Option, Some, None, refl, sym, ap, ap₂, ◌∙◌, subst, length-append, arith, append_assoc}
-use Rattle.std.specs.Prelude.{option_map, option_and_then, slice_get, if◌then◌else◌}
+use Rattle.std.specs.Prelude.{codes, option_map, option_and_then, slice_get, unwrap_or, if◌then◌else◌}
 use Rattle.std.specs.List.{filter_map}
 use Rattle.std.proofs.lemmas.Option.{slice_get-get_or}
 use Rattle.std.proofs.lemmas.List.{map-append, at_drop_more, at_drop_all, append-nil}
@@ -10,9 +10,14 @@ use Rattle.yspec.specs.types.Types.{YangType, Val}
 use Rattle.yspec.specs.types.Values.{value_of_text}
 use Rattle.yspec.specs.schema.Schema.{SchemaNode, LeafType, LeafPath, Tuples, Status, Kind, case, Absence, key, mandatory}
 use Rattle.yspec.specs.linking.Planned as spec
-use Rattle.yspec.specs.linking.SchemaNodes.{schema_node, schema_nodes, kind_by, absent_by, first_value}
+use Rattle.yspec.specs.linking.SchemaNodes.{schema_node, schema_nodes, kind_by, absent_by, first_value, type_named}
+use Rattle.yspec.specs.linking.TypeStatements.{string, built_in_name, built_in_named}
+use Rattle.yspec.proofs.LinkingProofs.BuiltInLemmas.{name_or_text}
 use Rattle.yspec.proofs.LinkingProofs.LinkedLemmas.{relabelled-size}
 use Rattle.ylink.specs.KeywordView.{keyword_view}
+use Rattle.ylink.specs.TypeView.{built_in_view}
+use Rattle.ylink.specs.declared.builtin.BuiltIn.{BuiltIn}
+use Rattle.ylink.specs.declared.builtin.BuiltIn.TheVariants as types
 use Rattle.ylink.specs.declared.keyword.Keyword.{Keyword}
 use Rattle.ylink.specs.declared.keyword.Keyword.TheVariants as words
 use Rattle.ypreorder.specs.Layout as preorder
@@ -46,8 +51,20 @@ nothing_made (t ∷ ts) = nothing_made ts
 abbrev pub absent_as : Bool → Bool → List Val → Absence
 absent_as is_its_key must values = if is_its_key then key else (if must then mandatory else absent_by (first_value values))
 
-abbrev pub leaf_type_by : YangType → Option ℕ → LeafType
-leaf_type_by type target = record { type = type; target = target }
+abbrev pub leaf_type_by : Text → YangType → Option ℕ → LeafType
+leaf_type_by name type target = record { name = name; type = type; target = target }
+
+-- the name of the built-in type that a text names, or that of texts
+pub name_made : (t : Text) (found : Option BuiltIn) (name : BuiltIn) (stated : Option Text) → option_map built_in_view found ≡ built_in_named t
+    → name ≡ unwrap_or found types.String → Some t ≡ stated
+    → built_in_name (built_in_view name) ≡ unwrap_or (option_and_then type_named stated) (codes "string")
+name_made t found name stated named is said =
+    ap (λ b. built_in_name (built_in_view b)) is ∙ (ap built_in_name (seen_or_text found) ∙ (name_or_text t (option_map built_in_view found) named
+    ∙ ap (λ o. unwrap_or (option_and_then type_named o) (codes "string")) said))
+  where
+    seen_or_text : (o : Option BuiltIn) → built_in_view (unwrap_or o types.String) ≡ unwrap_or (option_map built_in_view o) string
+    seen_or_text None = refl
+    seen_or_text (Some b) = refl
 
 -- ---- kinds
 

@@ -2,6 +2,8 @@
 use Rattle.std.specs.Prelude.{ℕ, zero, suc, ◌+◌, Bool, true, ◌&&◌, nat_le, length, take, drop, map, List, [], ◌∷◌, ◌++◌, Option, Some, None, option_map, option_and_then, slice_get, if◌then◌else◌, string_bytes, ◌≡◌}
 use Rattle.yspec.specs.Forest.{Forest, end, node, size}
 use Rattle.yspec.specs.schema.Schema as spec
+use Rattle.yspec.specs.linking.TypeStatements.{built_in_name}
+use Rattle.ylink.specs.TypeView.{built_in_view}
 use Rattle.yschema.specs.declared.node.SchemaId.{SchemaId}
 use Rattle.yschema.specs.declared.node.SchemaNode.{SchemaNode}
 use Rattle.yschema.specs.declared.node.Kind.{Kind}
@@ -24,7 +26,8 @@ abbrev pub numbers_of : List SchemaId → List ℕ
 numbers_of = map (λ id. id.0)
 
 abbrev pub leaf_type_view : LeafType → spec.LeafType
-leaf_type_view t = record { type = t.value_type; target = number_of t.target }
+leaf_type_view t =
+    record { name = built_in_name (built_in_view t.name); type = t.value_type; target = number_of t.target }
 
 abbrev pub absence_view : Absence → spec.Absence
 absence_view absences.Allowed = spec.allowed

@@ -35,6 +35,16 @@ written_hash schema p = hash_of p.parent (written_name schema (module_at schema 
 abbrev pub FindsWritten : Index → spec.Schema → List Place → Type 0
 FindsWritten x schema ps = (hashes_in x.written ≡ map (written_hash schema) ps) × (x.above.items ≡ map (λ p. p.parent) ps)
 
+-- the way to a node, where there is one
+abbrev pub way_above : spec.Schema → Option ℕ → List spec.SchemaNode
+way_above schema None = []
+way_above schema (Some number) = spec.way_to schema number
+
+-- a node alone, where there is one
+abbrev pub alone : Option spec.SchemaNode → List spec.SchemaNode
+alone None = []
+alone (Some n) = n ∷ []
+
 -- the module of a choice or a case, which documents pass through; none of other nodes
 abbrev pub module_passed : spec.Schema → Option ℕ → Option ℕ
 module_passed schema None = None

@@ -19,4 +19,4 @@ pub use fault::CompileFault;
 pub use limits::{LEVEL_LIMIT, NODE_LIMIT};
 pub use node::{Absence, Amount, Kind, LeafType, SchemaId, SchemaNode, Status, Tuples};
 pub use schema::{Schema, SchemaModule};
-pub use ylink::CompileCode;
+pub use ylink::{BuiltIn, CompileCode};

@@ -4,6 +4,8 @@ ghost use Rattle.std.specs.Prelude.{◌≡◌, Some, None, map, option_map, slic
 ghost use Rattle.yspec.specs.types.Types.{string_type};
 ghost use Rattle.yspec.specs.linking.Planned.{nodes_of};
 ghost use Rattle.yspec.specs.linking.SchemaNodes as spec;
+ghost use Rattle.yspec.specs.linking.TypeStatements.{built_in_name};
+ghost use Rattle.ylink.specs.TypeView.{built_in_view};
 ghost use Rattle.ylink.specs.WordView as word;
 ghost use Rattle.yplan.specs.FactsView as facts;
 ghost use Rattle.yplan.specs.NodesView as plans;
@@ -17,7 +19,7 @@ use crate::children::Row;
 use crate::index::id_of;
 use crate::node::{Absence, Amount, Kind, LeafType, SchemaId, SchemaNode, Status, Tuples};
 use std::alloc::{AllocError, Global};
-use ylink::Keyword;
+use ylink::{BuiltIn, Keyword};
 use yplan::{Plan, PlanNode, Planned};
 use yresolve::{Resolved, default_values, tuples_of};
 use ytype::{Val, YType};
@@ -152,6 +154,16 @@ fn type_or_text(alloc: Global, value_type: Option<&YType>) -> Result<YType, Allo
     value_type.clone()
 }
 
+/// The name of the type that a leaf or leaf-list states; that of texts where it states none.
+fn type_name_of(planned: &Planned<'_, '_>) -> BuiltIn
+    ensures { (number : _) → built_in_name (built_in_view result) ≡ spec.type_name (planned_view number planned.now) }
+{
+    match planned.stated(Keyword::Type) {
+        Some(text) => BuiltIn::named(text).unwrap_or(BuiltIn::String),
+        None => BuiltIn::String,
+    }
+}
+
 /// The type of a leaf or of items, and to which node it refers.
 fn leaf_type_of<'a, 't>(
     alloc: Global,
@@ -165,6 +177,7 @@ fn leaf_type_of<'a, 't>(
 {
     let value_type = type_or_text(alloc, resolved.value_type(node.number))?;
     Ok(LeafType {
+        name: type_name_of(&node.planned),
         value_type,
         target: id_of(resolved.target(node.number)),
     })

@@ -2,6 +2,7 @@
 
 ghost use Rattle.std.specs.Prelude.{◌≡◌, ◌<◌, ◌^◌};
 
+use ylink::BuiltIn;
 use ytype::{Val, YType};
 
 /// A schema node, named by its number in preorder over all nodes of the schema, modules as given.
@@ -33,9 +34,11 @@ pub enum Status {
     Obsolete,
 }
 
-/// The type of a leaf or of items; of a leafref that of its target, which stands beside it (RFC 7950, 9.9).
+/// The type of a leaf or of items, and its name in the `type` statement; of a leafref it is that of its target, which
+/// stands beside it (RFC 7950, 9.9).
 #[derive(Debug, Drop)]
 pub struct LeafType {
+    pub name: BuiltIn,
     pub value_type: YType,
     pub target: Option<SchemaId>,
 }

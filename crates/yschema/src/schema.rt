@@ -37,13 +37,13 @@ pub struct Schema {
 }
 
 impl Schema {
-    ghost use Rattle.std.specs.Prelude.{◌≡◌, option_map, slice_get, IfOk};
+    ghost use Rattle.std.specs.Prelude.{◌≡◌, ◌<◌, ◌++◌, option_map, slice_get, IfOk, IfSome};
     ghost use Rattle.yspec.specs.Forest.{size};
     ghost use Rattle.yspec.specs.schema.Schema as spec;
-    ghost use Rattle.yspec.specs.schema.Schema.{node_at, children_of, child_named, child_written};
+    ghost use Rattle.yspec.specs.schema.Schema.{node_at, children_of, child_named, child_written, way_to};
     ghost use Rattle.yspec.specs.schema.References.{references_to};
     ghost use Rattle.yschema.specs.Layout.{node_view, number_of, numbers_of};
-    ghost use Rattle.yschema.specs.Lookup.{module_passed};
+    ghost use Rattle.yschema.specs.Lookup.{alone, module_passed, way_above};
     ghost use Rattle.yschema.specs.View.{view, row_view, forest_of, module_view};
 
     pub(crate) fn new(
@@ -81,6 +81,17 @@ impl Schema {
     {
         match self.rows.get(id.number()) {
             Some(row) => Some(&row.node),
+            None => None,
+        }
+    }
+
+    /// The node above a node; none above a top node, nor of a number that no node has.
+    pub fn parent(&self, id: SchemaId) -> Option<SchemaId>
+        ensures way { way_to (view self.now) id.0 ≡ way_above (view self.now) (number_of result) ++ alone (node_at (view self.now) id.0) }
+        ensures above { IfSome result (λ p. p.0 < id.0) }
+    {
+        match self.rows.get(id.number()) {
+            Some(row) => row.parent,
             None => None,
         }
     }

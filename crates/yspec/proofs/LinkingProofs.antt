@@ -1,5 +1,6 @@
 pub mod ApartLemmas
 pub mod BreakLemmas
+pub mod BuiltInLemmas
 pub mod KeywordLemmas
 pub mod LegalLemmas
 pub mod RightPartLemmas

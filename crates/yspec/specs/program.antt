@@ -3,3 +3,4 @@ pub mod Script
 pub mod Output
 pub mod Examples
 pub mod SchemaExamples
+pub mod DiagramExamples

@@ -2,3 +2,4 @@
 pub mod References
 pub mod Schema
 pub mod Breaks
+pub mod Diagram

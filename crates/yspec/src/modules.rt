@@ -21,12 +21,12 @@ pub fn schemas_of_texts()
 pub fn nodes_of_lines()
     ensures implied_case { nodes_in (compiled_lines (codes "  choice c { leaf a { type string; } }\n"))
         ≡ Some (node (node_of 0 (codes "c") (choice None false)) (node (node_of 1 (codes "a") case)
-        (node (node_of 2 (codes "a") (leaf (of_base string_base) allowed)) end end) end) end) }
+        (node (node_of 2 (codes "a") (leaf (of_base (codes "string") string_base) allowed)) end end) end) end) }
     ensures hexadecimal { nodes_in (compiled_lines (codes "  leaf a { type uint8; default 0x1F; }\n"))
-        ≡ Some (node (node_of 0 (codes "a") (leaf (of_base (integer_base uint8)) (default_used (number_value_of 31)))) end end) }
+        ≡ Some (node (node_of 0 (codes "a") (leaf (of_base (codes "uint8") (integer_base uint8)) (default_used (number_value_of 31)))) end end) }
     ensures state_list { nodes_in (compiled_lines (codes "  list l { config false; leaf a { type string; } }\n"))
         ≡ Some (node (state_node 0 (codes "l") (list (record { keys = []; uniques = [] }) any_amount))
-        (node (state_node 1 (codes "a") (leaf (of_base string_base) allowed)) end end) end) }
+        (node (state_node 1 (codes "a") (leaf (of_base (codes "string") string_base) allowed)) end end) end) }
     ensures nothing { compiled_texts [] ≡ Ok (record { modules = []; nodes = end }) }
 {}
 

@@ -1,5 +1,5 @@
 -- The types that `type` statements mean, and where one breaks a rule of its own (RFC 7950, 7.4 and 9).
-use Rattle.std.specs.Prelude.{ℕ, ℤ, pos, ◌++◌, Bool, true, false, List, [], ◌∷◌, codes, Option, Some, None, find, option_map, option_and_then, unwrap_or, if◌then◌else◌}
+use Rattle.std.specs.Prelude.{ℕ, ℤ, pos, ◌++◌, Bool, true, false, List, [], ◌∷◌, map, codes, Option, Some, None, find, option_map, option_and_then, unwrap_or, if◌then◌else◌}
 use Rattle.std.specs.List.{list_all}
 use Rattle.std.specs.Option.{option_map_or}
 use Rattle.yspec.specs.Forest.{Forest, end, node, row}
@@ -27,13 +27,34 @@ pub data BuiltIn : Type 0 where
   union : BuiltIn
   leafref : BuiltIn
 
+-- the name of one
+abbrev pub built_in_name : BuiltIn → Text
+built_in_name (integer int8) = codes "int8"
+built_in_name (integer int16) = codes "int16"
+built_in_name (integer int32) = codes "int32"
+built_in_name (integer int64) = codes "int64"
+built_in_name (integer uint8) = codes "uint8"
+built_in_name (integer uint16) = codes "uint16"
+built_in_name (integer uint32) = codes "uint32"
+built_in_name (integer uint64) = codes "uint64"
+built_in_name decimal64 = codes "decimal64"
+built_in_name string = codes "string"
+built_in_name boolean = codes "boolean"
+built_in_name empty = codes "empty"
+built_in_name enumeration = codes "enumeration"
+built_in_name bits = codes "bits"
+built_in_name union = codes "union"
+built_in_name leafref = codes "leafref"
+
+abbrev pub named_so : BuiltIn → Text × BuiltIn
+named_so type = (built_in_name type, type)
+
+abbrev pub all_built_in : List BuiltIn
+all_built_in = integer int8 ∷ integer int16 ∷ integer int32 ∷ integer int64 ∷ integer uint8 ∷ integer uint16 ∷ integer uint32
+    ∷ integer uint64 ∷ decimal64 ∷ string ∷ boolean ∷ empty ∷ enumeration ∷ bits ∷ union ∷ leafref ∷ []
+
 abbrev pub built_in_types : List (Text × BuiltIn)
-built_in_types = (codes "int8", integer int8) ∷ (codes "int16", integer int16) ∷ (codes "int32", integer int32)
-    ∷ (codes "int64", integer int64) ∷ (codes "uint8", integer uint8) ∷ (codes "uint16", integer uint16)
-    ∷ (codes "uint32", integer uint32) ∷ (codes "uint64", integer uint64) ∷ (codes "decimal64", decimal64)
-    ∷ (codes "string", string) ∷ (codes "boolean", boolean) ∷ (codes "empty", empty)
-    ∷ (codes "enumeration", enumeration) ∷ (codes "bits", bits) ∷ (codes "union", union)
-    ∷ (codes "leafref", leafref) ∷ []
+built_in_types = map named_so all_built_in
 
 unfoldable pub built_in_named : Text → Option BuiltIn
 built_in_named name = option_map (λ entry. entry.1) (find (λ entry. is_text name entry.0) built_in_types)

@@ -27,12 +27,12 @@ abbrev pub state_node : ℕ → Text → Kind → SchemaNode
 state_node number name kind =
     record { number = number; module_number = 0; name = name; config = false; status = current; kind = kind }
 
-abbrev pub of_base : Base → LeafType
-of_base base = own_type (plain base)
+abbrev pub of_base : Text → Base → LeafType
+of_base name base = own_type name (plain base)
 
 -- a leafref that requires an instance
 abbrev pub referring : Shape → ℕ → LeafType
-referring shape target = record { type = record { shape = shape; requires_instance = Some true }; target = Some target }
+referring shape target = record { name = codes "leafref"; type = record { shape = shape; requires_instance = Some true }; target = Some target }
 
 abbrev pub any_amount : Amount
 any_amount = record { least = 0; most = None }
@@ -58,14 +58,14 @@ abbrev pub number_value_of : ℕ → Val
 number_value_of n = value None (number_value (pos n))
 
 abbrev pub host_children : Forest SchemaNode
-host_children = node (node_of 2 (codes "name") (leaf (own_type (unrestricted name_shape)) key)) end
-    (node (node_of 3 (codes "addr") (leaf (of_base string_base) allowed)) end
-    (node (node_of 4 (codes "port") (leaf (own_type (unrestricted port_shape)) (default_used (number_value_of 80)))) end
+host_children = node (node_of 2 (codes "name") (leaf (own_type (codes "string") (unrestricted name_shape)) key)) end
+    (node (node_of 3 (codes "addr") (leaf (of_base (codes "string") string_base) allowed)) end
+    (node (node_of 4 (codes "port") (leaf (own_type (codes "uint16") (unrestricted port_shape)) (default_used (number_value_of 80)))) end
     (node (node_of 5 (codes "uplink") (leaf (referring name_shape 2) allowed)) end
     (node (node_of 6 (codes "use-port") (leaf (referring port_shape 4) allowed)) end
     (node (node_of 7 (codes "mode") (choice None true))
-    (node (node_of 8 (codes "auto") case) (node (node_of 9 (codes "auto") (leaf (of_base empty_base) allowed)) end end)
-    (node (node_of 10 (codes "fixed") case) (node (node_of 11 (codes "speed") (leaf (of_base (integer_base uint32)) allowed)) end end)
+    (node (node_of 8 (codes "auto") case) (node (node_of 9 (codes "auto") (leaf (of_base (codes "empty") empty_base) allowed)) end end)
+    (node (node_of 10 (codes "fixed") case) (node (node_of 11 (codes "speed") (leaf (of_base (codes "uint32") (integer_base uint32)) allowed)) end end)
     end)) end)))))
 
 abbrev pub net_schema : Schema
@@ -78,8 +78,8 @@ net_schema = one_module (codes "ex-net") (codes "n") (node (node_of 0 (codes "ne
 abbrev pub k_schema : Schema
 k_schema = one_module (codes "k") (codes "k")
     (node (node_of 0 (codes "how") (choice (Some 1) false))
-    (node (node_of 1 (codes "slow") case) (node (node_of 2 (codes "rate") (leaf (of_base (integer_base uint8)) (default_used (number_value_of 3)))) end end)
-    (node (node_of 3 (codes "fast") case) (node (node_of 4 (codes "boost") (leaf (of_base (integer_base uint8)) allowed)) end end)
+    (node (node_of 1 (codes "slow") case) (node (node_of 2 (codes "rate") (leaf (of_base (codes "uint8") (integer_base uint8)) (default_used (number_value_of 3)))) end end)
+    (node (node_of 3 (codes "fast") case) (node (node_of 4 (codes "boost") (leaf (of_base (codes "uint8") (integer_base uint8)) allowed)) end end)
     end))
     (node (node_of 5 (codes "want") (leaf (referring (single (record { base = integer_base uint8; limits = [] })) 2) allowed)) end
     end))
@@ -88,31 +88,31 @@ k_schema = one_module (codes "k") (codes "k")
 
 abbrev pub v_schema : Schema
 v_schema = one_module (codes "v") (codes "v") (node (node_of 0 (codes "e") (list (record { keys = 1 ∷ []; uniques = ((2 ∷ 3 ∷ []) ∷ []) ∷ [] }) any_amount))
-    (node (node_of 1 (codes "id") (leaf (of_base (integer_base uint8)) key)) end
-    (node (node_of 2 (codes "in") (container false)) (node (node_of 3 (codes "x") (leaf (of_base string_base) allowed)) end end)
-    (node (node_of 4 (codes "m") (leaf_list (of_base (integer_base uint8)) [] any_amount)) end
+    (node (node_of 1 (codes "id") (leaf (of_base (codes "uint8") (integer_base uint8)) key)) end
+    (node (node_of 2 (codes "in") (container false)) (node (node_of 3 (codes "x") (leaf (of_base (codes "string") string_base) allowed)) end end)
+    (node (node_of 4 (codes "m") (leaf_list (of_base (codes "uint8") (integer_base uint8)) [] any_amount)) end
     end))) end)
 
 -- ---- equality in a union
 
 abbrev pub y_schema : Schema
-y_schema = one_module (codes "y") (codes "y") (node (node_of 0 (codes "z") (leaf_list (own_type (unrestricted
+y_schema = one_module (codes "y") (codes "y") (node (node_of 0 (codes "z") (leaf_list (own_type (codes "union") (unrestricted
     (union (record { base = integer_base uint8; limits = [] } ∷ record { base = string_base; limits = [] } ∷ [])))) [] any_amount)) end end)
 
 -- ---- a container with presence and items, and a state list without keys
 
 abbrev pub w_schema : Schema
 w_schema = one_module (codes "w") (codes "w")
-    (node (node_of 0 (codes "c") (container true)) (node (node_of 1 (codes "tag") (leaf_list (of_base string_base) [] any_amount)) end
-    (node (state_node 2 (codes "up") (leaf (of_base boolean_base) allowed)) end end))
+    (node (node_of 0 (codes "c") (container true)) (node (node_of 1 (codes "tag") (leaf_list (of_base (codes "string") string_base) [] any_amount)) end
+    (node (state_node 2 (codes "up") (leaf (of_base (codes "boolean") boolean_base) allowed)) end end))
     (node (state_node 3 (codes "log") (list (record { keys = []; uniques = [] }) any_amount))
-    (node (state_node 4 (codes "at") (leaf (of_base (integer_base uint64)) mandatory)) end end)
+    (node (state_node 4 (codes "at") (leaf (of_base (codes "uint64") (integer_base uint64)) mandatory)) end end)
     end))
 
 -- ---- a number with a fraction
 
 abbrev pub t_schema : Schema
-t_schema = one_module (codes "t") (codes "t") (node (node_of 0 (codes "d") (leaf (of_base (decimal_base 18)) allowed)) end end)
+t_schema = one_module (codes "t") (codes "t") (node (node_of 0 (codes "d") (leaf (of_base (codes "decimal64") (decimal_base 18)) allowed)) end end)
 
 -- ---- nodes of three modules, one below the other
 
@@ -124,7 +124,7 @@ m_schema = record {
   modules = named_module (codes "a") ∷ named_module (codes "b") ∷ named_module (codes "m") ∷ [];
   nodes = node (record (node_of 0 (codes "c") (container false)) { module_number = 2 })
       (node (record (node_of 1 (codes "x") (container false)) { module_number = 1 })
-      (node (node_of 2 (codes "y") (leaf (of_base string_base) allowed)) end end) end) end;
+      (node (node_of 2 (codes "y") (leaf (of_base (codes "string") string_base) allowed)) end end) end) end;
 }
 
 -- ---- what is shown

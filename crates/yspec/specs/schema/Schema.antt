@@ -1,5 +1,5 @@
 -- The schema tree of a set of modules (RFC 7950, 4.2.2 and 7).
-use Rattle.std.specs.Prelude.{ℕ, ◌==◌, Bool, true, false, List, [], codes, Option, Some, None, option_map, unwrap_or, if◌then◌else◌, find, slice_get, ◌&&◌, ◌++◌}
+use Rattle.std.specs.Prelude.{ℕ, ◌==◌, Bool, true, false, List, [], ◌∷◌, codes, filter, Option, Some, None, option_map, unwrap_or, if◌then◌else◌, find, slice_get, ◌&&◌, ◌++◌}
 use Rattle.std.specs.Option.{option_map_or}
 use Rattle.yspec.specs.Forest.{Forest, end, node, row, join, find_label, find_below}
 use Rattle.yspec.specs.text.Text.{Text, is_text}
@@ -8,14 +8,16 @@ use Rattle.yspec.specs.types.Types.{YangType, Val}
 
 -- ---- what only one kind of node has
 
--- the type of a leaf or of items; of a leafref the type is that of its target, whose number stands beside it
+-- the type of a leaf or of items, and its name as the `type` statement has it; of a leafref the type is that of its
+-- target, whose number stands beside it
 pub record LeafType : Type 0 where
+  pub name : Text
   pub type : YangType
   pub target : Option ℕ
 
 -- the type of a leaf that refers to no other
-abbrev pub own_type : YangType → LeafType
-own_type type = record { type = type; target = None }
+abbrev pub own_type : Text → YangType → LeafType
+own_type name type = record { name = name; type = type; target = None }
 
 -- what it means that a leaf isn't stored: nothing; its default is in use; it is mandatory; it is a key of its list
 pub data Absence : Type 0 where
@@ -125,6 +127,9 @@ children_of schema number = row_below schema.nodes number
 abbrev pub module_name : Schema → ℕ → Text
 module_name schema number = option_map_or (λ m. m.name) (slice_get schema.modules number) []
 
+abbrev pub module_prefix : Schema → ℕ → Text
+module_prefix schema number = option_map_or (λ m. m.prefix) (slice_get schema.modules number) []
+
 -- the name of a child as it is written below a node of a module, or at the top: with its module's name in front
 -- where that isn't the same (RFC 7951, 4)
 abbrev pub qualified_name : Schema → SchemaNode → Text
@@ -146,6 +151,19 @@ abbrev pub data_row : Forest SchemaNode → Forest SchemaNode
 data_row end = end
 data_row (node n below after) =
     if is_data n.kind then node n below (data_row after) else join (data_row below) (data_row after)
+
+-- the way to each node of a row in preorder: the nodes above it, from the top down, and itself
+abbrev pub ways : List SchemaNode → Forest SchemaNode → List (List SchemaNode)
+ways above end = []
+ways above (node n below after) =
+    (above ++ n ∷ []) ∷ (ways (above ++ n ∷ []) below ++ ways above after)
+
+-- the way to the node of a number, and that of the data nodes alone (RFC 7950, 9.9.2)
+abbrev pub way_to : Schema → ℕ → List SchemaNode
+way_to schema number = unwrap_or (slice_get (ways [] schema.nodes) number) []
+
+abbrev pub data_way_to : Schema → ℕ → List SchemaNode
+data_way_to schema number = filter (λ n. is_data n.kind) (way_to schema number)
 
 -- the node of a number in a row, with what stands below it
 abbrev pub child_in : Forest SchemaNode → ℕ → Option (SchemaNode × Forest SchemaNode)
