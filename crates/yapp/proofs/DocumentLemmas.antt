@@ -23,7 +23,7 @@ use Rattle.ycheck.specs.declared.fault.Fault.{Fault}
 use Rattle.yschema.specs.View as schema_view
 use Rattle.yschema.specs.declared.schema.Schema.{Schema}
 use Rattle.yschema.proofs.CallerLemmas.{names_differ, numbered}
-use Rattle.yapp.specs.Asked.{IsScript, Line, decision_text, edits_of, kinds_of, refused_texts, told_from}
+use Rattle.yapp.specs.Asked.{IsScript, Line, refused_texts, told_from}
 use Rattle.yapp.specs.Edited.{IsEdited, IsRun, IsSound, refused_of, schema_of, tree_of}
 use Rattle.yapp.specs.Failing.{LeadsTo}
 use Rattle.yapp.specs.declared.document.Document.{Document}

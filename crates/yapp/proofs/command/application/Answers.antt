@@ -1,8 +1,7 @@
-use Rattle.std.proofs.Common.{codes, true, ap, ◌∙◌}
+use Rattle.std.proofs.Common.{true, ap, ◌∙◌}
 use Rattle.std.proofs.lemmas.Result.{IfOk-weaker}
-use Rattle.clap.specs.Words.{app_of, new_app}
 use Rattle.clap.specs.Simple.{app_of_fields, on_top}
-use Rattle.yapp.specs.Application.{IsCommand, compile_app, edit_app, validate_app, with_commands}
+use Rattle.yapp.specs.Application.{compile_app, edit_app, validate_app}
 use Rattle.yapp.proofs.CommandLemmas.{with_command}
 use Rattle.yapp.proofs.command.application.Goals as goal
 

@@ -1,7 +1,5 @@
-use Rattle.std.proofs.Common.{codes, ap, ◌∙◌}
+use Rattle.std.proofs.Common.{codes}
 use Rattle.std.proofs.lemmas.Result.{IfOk-weaker}
-use Rattle.clap.specs.Words.{new_app}
-use Rattle.clap.specs.Simple.{app_of_fields}
 use Rattle.yapp.specs.Application.{wanted_all}
 use Rattle.yapp.proofs.CommandLemmas.{told_command, with_argument}
 use Rattle.yapp.proofs.command.compile_command.Goals as goal

@@ -1,4 +1,4 @@
-use Rattle.std.proofs.Common.{List, ℕ, ap, map, subst, sym, ◌∙◌}
+use Rattle.std.proofs.Common.{List, ℕ, ap, subst, sym, ◌∙◌}
 use Rattle.yspec.specs.document.Reading.{document_of}
 use Rattle.yspec.specs.program.Output.{first_file, other_files, with_tree}
 use Rattle.yschema.specs.View as schema_view

@@ -1,4 +1,3 @@
-use Rattle.std.proofs.Common.{sym}
 use Rattle.yspec.proofs.DocumentProofs.SortingLemmas.{in_order}
 use Rattle.yapp.specs.Edited.{schema_of, tree_of}
 use Rattle.yapp.proofs.DocumentLemmas.{report_is}

@@ -1,4 +1,4 @@
-use Rattle.std.proofs.Common.{ℕ, ◌++◌, codes, decimal, ap, sym}
+use Rattle.std.proofs.Common.{ℕ, ◌++◌, codes, decimal, ap}
 use Rattle.std.proofs.lemmas.List.{length-map}
 use Rattle.ycheck.specs.View.{view}
 use Rattle.youtput.proofs.WritingLemmas.{left_all, left_after, left_failed, left_last, left_same}
