@@ -1,13 +1,13 @@
 -- What is written of a row, node by node.
-use Rattle.std.proofs.Common.{◌≡◌, ℕ, suc, ◌+◌, ◌≤◌, Bool, true, false, cond, List, ◌∷◌, ◌++◌, max, Option, Some, None, refl, sym, ap, ap₂, ◌∙◌, arith, append_assoc}
+use Rattle.std.proofs.Common.{◌≡◌, ℕ, suc, ◌+◌, ◌≤◌, Bool, true, false, cond, List, [], ◌∷◌, ◌++◌, codes, Option, Some, None, refl, sym, ap, ap₂, ◌∙◌, arith, append_assoc}
 use Rattle.std.specs.Prelude.{◌==◌}
 use Rattle.std.specs.List.{flat_map}
 use Rattle.std.proofs.lemmas.List.{append-nil}
 use Rattle.std.proofs.lemmas.List.Concat.{flat_map-append}
 use Rattle.yspec.specs.Forest.{Forest, end, node, size}
 use Rattle.yspec.specs.text.Text.{Text}
-use Rattle.yspec.specs.schema.Schema.{Schema, SchemaNode}
-use Rattle.yspec.specs.schema.Diagram.{indented, line_text, row_lines, row_width, owned_by}
+use Rattle.yspec.specs.schema.Schema.{Schema, SchemaNode, module_name}
+use Rattle.yspec.specs.schema.Diagram.{indented, line_text, row_lines, row_width, owned_by, diagram, part_text, module_part}
 use Rattle.yschema.specs.View.{label_of, below_of}
 use Rattle.yschema.specs.declared.children.Child.{Child}
 use Rattle.ydiagram.specs.View.{column, shows, shown_in, line_written, rest_written, row_written, node_written, held_written}
@@ -23,14 +23,13 @@ own_shown owner end = refl
 own_shown owner (node n below after) =
     ap (λ rest. cond (n.module_number == owner) (node n below rest) rest) (own_shown owner after)
 
+pub shows_same : (owner : Option ℕ) (n m : SchemaNode) → n.module_number ≡ m.module_number → shows owner n ≡ shows owner m
+shows_same None n m same = refl
+shows_same (Some owner) n m same = ap (λ k. k == owner) same
+
 pub shown_first : (owner : Option ℕ) (f : Forest SchemaNode) (n : SchemaNode) (below after : Forest SchemaNode)
     → f ≡ node n below after → shows owner n ≡ true → shown_in owner f ≡ node n below (shown_in owner after)
 shown_first owner f n below after is shown =
-    ap (shown_in owner) is ∙ ap (λ b. cond b (node n below (shown_in owner after)) (shown_in owner after)) shown
-
-pub shown_later : (owner : Option ℕ) (f : Forest SchemaNode) (n : SchemaNode) (below after : Forest SchemaNode)
-    → f ≡ node n below after → shows owner n ≡ false → shown_in owner f ≡ shown_in owner after
-shown_later owner f n below after is shown =
     ap (shown_in owner) is ∙ ap (λ b. cond b (node n below (shown_in owner after)) (shown_in owner after)) shown
 
 -- ---- a node and those behind it
@@ -54,6 +53,22 @@ node_and_rest s shown indentation width n below after =
     ap (λ t. line ++ t) (flat_map-append (line_text s shown) inner others)
     ∙ (sym (append_assoc line (flat_map (line_text s shown) inner) (flat_map (line_text s shown) others))
     ∙ ap (λ i. (line ++ row_written s shown i below) ++ rest_written s shown indentation width after) (indented-is indentation after))
+
+-- a node and what stands below it, from what is known of them
+pub node_parts : (s : Schema) (shown : ℕ) (indentation : Text) (width : ℕ) (n seen : SchemaNode) (below f : Forest SchemaNode) (is_followed : Bool)
+    → seen ≡ n → f ≡ below
+    → node_written s shown indentation width n below is_followed
+    ≡ line_written s shown indentation width seen ++ row_written s shown (indentation ++ column is_followed) (shown_in None f)
+node_parts s shown indentation width n seen below f is_followed seen_is f_is =
+    sym (ap₂ (λ m g. line_written s shown indentation width m ++ row_written s shown (indentation ++ column is_followed) g) seen_is (all_shown f ∙ f_is))
+
+pub fewer_shown : (owner : Option ℕ) (f : Forest SchemaNode) → size (shown_in owner f) ≤ size f
+fewer_shown owner end = omega arith
+fewer_shown owner (node n below after) = by (shows owner n) (fewer_shown owner after)
+  where
+    by : (b : Bool) → size (shown_in owner after) ≤ size after → size (cond b (node n below (shown_in owner after)) (shown_in owner after)) ≤ suc (size below + size after)
+    by true h = omega (arith, h)
+    by false h = omega (arith, h)
 
 -- ---- the node that is held back until it is known whether others follow
 
@@ -79,3 +94,18 @@ pub held_and_none : (s : Schema) (shown : ℕ) (indentation : Text) (width : ℕ
 held_and_none s shown indentation width None = refl
 held_and_none s shown indentation width (Some c) =
     node_and_rest s shown indentation width (label_of c) (below_of c) end ∙ append-nil (node_written s shown indentation width (label_of c) (below_of c) false)
+
+pub held_more : (o : Option Child) (f : Forest SchemaNode) → size f ≤ size (with_held o f)
+held_more None f = omega arith
+held_more (Some c) f = omega arith
+
+-- ---- a whole diagram
+
+pub diagram_parts : (s : Schema) (shown : ℕ) (name : Text) (f : Forest SchemaNode) → name ≡ module_name s shown → f ≡ s.nodes
+    → diagram s shown ≡ (codes "module: " ++ (name ++ (codes "\n" ++ []))) ++ row_written s shown (codes "  ") (shown_in (Some shown) f)
+diagram_parts s shown name f name_is f_is =
+    let lines = row_written s shown (codes "  ") (owned_by shown s.nodes) in
+    append-nil (part_text s shown (module_part s shown))
+    ∙ (ap (λ t. codes "module: " ++ t) (sym (append_assoc (module_name s shown) (codes "\n") lines))
+    ∙ sym (ap₂ (λ n g. (codes "module: " ++ (n ++ (codes "\n" ++ []))) ++ row_written s shown (codes "  ") g) name_is
+    (own_shown shown f ∙ ap (owned_by shown) f_is)))

@@ -1,6 +1,7 @@
 //! The lines of a diagram.
 
 ghost use Rattle.std.specs.Prelude.{◌≡◌};
+ghost use Rattle.yspec.specs.schema.Schema.{module_name};
 ghost use Rattle.yspec.specs.schema.Diagram as spec;
 ghost use Rattle.youtput.specs.Writing.{Writes, side};
 ghost use Rattle.yschema.specs.View.{label_of, below_of, node_view, row_view, view};
@@ -124,13 +125,19 @@ fn write_node<W: Sink>(
     write_row(schema, shown, &inner, None, child.children(), sink)
 }
 
+/// The name of the module at a place of the set, or no text.
+fn module_name(schema: &Schema, shown: usize) -> &str
+    ensures { result.now ≡ module_name (view schema.now) shown }
+{
+    schema.module_name(shown).unwrap_or("")
+}
+
 /// Writes the diagram of the module at a place of the set (RFC 8340). It takes no memory.
 pub fn write<W: Sink>(schema: &Schema, module: usize, sink: &mut W) -> Result<(), DiagramFault>
     ensures { Writes (side W.taken W.failures sink.old) (side W.taken W.failures sink.new)
         (spec.diagram (view schema.now) «module») result }
 {
-    let name = schema.module_name(module).unwrap_or("");
-    put(sink, &["module: ", name, "\n"])?;
+    put(sink, &["module: ", module_name(schema, module), "\n"])?;
     write_row(
         schema,
         module,
