@@ -1,11 +1,11 @@
 -- What is written of rows and nodes, with the indentation as code holds it.
-use Rattle.std.specs.Prelude.{ℕ, ◌==◌, ◌++◌, Bool, true, List, [], codes, Option, Some, None, if◌then◌else◌}
+use Rattle.std.specs.Prelude.{ℕ, ◌==◌, ◌++◌, Bool, true, [], codes, Option, Some, None, if◌then◌else◌}
 use Rattle.std.specs.List.{flat_map}
 use Rattle.std.specs.Option.{option_map_or}
 use Rattle.yspec.specs.Forest.{Forest, end, node}
 use Rattle.yspec.specs.text.Text.{Text}
 use Rattle.yspec.specs.schema.Schema.{Schema, SchemaNode, is_data, node_at}
-use Rattle.yspec.specs.schema.Diagram.{Line, prefixed_name, line_text, row_width, row_lines}
+use Rattle.yspec.specs.schema.Diagram.{prefixed_name, line_text, row_width, row_lines}
 use Rattle.yschema.specs.View.{label_of, below_of}
 use Rattle.yschema.specs.declared.children.Child.{Child}
 use Rattle.ydiagram.specs.declared.indentation.Indentation.{Indentation, Top, Below'}

@@ -57,8 +57,14 @@ fn option_mark(kind: &Kind) -> &'static str
         Kind::Container { presence: false } => "",
         Kind::Leaf { absence, .. } => absence_mark(absence),
         Kind::LeafList { .. } | Kind::List { .. } => "*",
-        Kind::Choice { mandatory: true, .. } => "",
-        Kind::Choice { mandatory: false, .. } => "?",
+        Kind::Choice {
+            mandatory: true,
+            ..
+        } => "",
+        Kind::Choice {
+            mandatory: false,
+            ..
+        } => "?",
         Kind::Case => "",
     }
 }
@@ -92,11 +98,7 @@ fn key_name(schema: &Schema, id: SchemaId) -> &str
 }
 
 /// Writes the names of keys.
-fn write_keys<W: Sink>(
-    schema: &Schema,
-    keys: &[SchemaId],
-    sink: &mut W,
-) -> Result<(), DiagramFault>
+fn write_keys<W: Sink>(schema: &Schema, keys: &[SchemaId], sink: &mut W) -> Result<(), DiagramFault>
     ensures { Writes (side W.taken W.failures sink.old) (side W.taken W.failures sink.new)
         (spec.key_names (view schema.now) (numbers_of keys.now)) result }
 {

@@ -24,13 +24,7 @@ fn flags(kind: &Kind, config: bool) -> &'static str
 {
     match kind {
         Kind::Case => ":",
-        _ => {
-            if config {
-                "rw "
-            } else {
-                "ro "
-            }
-        }
+        _ => { if config { "rw " } else { "ro " } }
     }
 }
 

@@ -1,6 +1,5 @@
-use Rattle.std.proofs.Common.{drop, codes, ◌++◌}
-use Rattle.std.specs.List.{flat_map}
-use Rattle.yspec.specs.schema.Diagram.{key_name, key_names}
+use Rattle.std.proofs.Common.{drop}
+use Rattle.yspec.specs.schema.Diagram.{key_names}
 use Rattle.youtput.specs.Writing.{side}
 use Rattle.youtput.proofs.WritingLemmas.{Left}
 use Rattle.yschema.specs.Layout.{numbers_of}

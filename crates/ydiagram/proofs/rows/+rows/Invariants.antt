@@ -1,4 +1,4 @@
-use Rattle.std.proofs.Common.{◌≡◌, ◌+◌, ◌*◌, ◌≤◌}
+use Rattle.std.proofs.Common.{◌+◌, ◌*◌, ◌≤◌}
 use Rattle.yspec.specs.Forest.{end, size}
 use Rattle.youtput.specs.Writing.{side}
 use Rattle.youtput.proofs.WritingLemmas.{Left}
