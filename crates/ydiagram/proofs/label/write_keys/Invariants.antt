@@ -1,0 +1,12 @@
+use Rattle.std.proofs.Common.{drop}
+use Rattle.yspec.specs.schema.Diagram.{key_names}
+use Rattle.youtput.specs.Writing.{side}
+use Rattle.youtput.proofs.WritingLemmas.{Left}
+use Rattle.yschema.specs.Layout.{numbers_of}
+use Rattle.yschema.specs.View.{view}
+use Rattle.ydiagram.proofs.LabelLemmas.{others_left}
+use Rattle.ydiagram.proofs.label.write_keys.Given as goal
+
+abbrev pub invariant-loop-other : goal.invariant-loop-other
+invariant-loop-other g l = Left (side g.W.Sink.taken g.W.Sink.failures l.fn.sink) (side g.W.Sink.taken g.W.Sink.failures l.sink)
+    (key_names (view l.schema) (numbers_of l.keys)) (others_left (view l.schema) (drop l.other-index l.others))
