@@ -130,6 +130,53 @@ fn counts(rt: HostRuntime) {
     assert!(rt; is_counted == Ok(true));
 }
 
+/// Whether a diagram shows so: the row is the words, the status, what is said on the error side, and the output.
+fn is_drawn(alloc: Global, module: &str, row: &str) -> Option<bool> {
+    let (words, rest) = row.split_once('\n')?;
+    let (status, rest) = rest.split_once('\n')?;
+    let (errors, output) = rest.split_once("--\n")?;
+    let files = [file("net.yang", module), file("p.yang", MODULE)];
+    let shown = shown_of(alloc, words, &files).ok()?;
+    is_shown(&shown, status, errors, output)
+}
+
+#[test]
+fn diagrams(rt: HostRuntime) {
+    let rows = "yanglive tree ex-net net.yang
+0
+--
+module: ex-net
+  +--rw net
+     +--rw host* [name]
+        +--rw name        string
+        +--rw addr?       string
+        +--rw port?       uint16
+        +--rw uplink?     -> /net/host/name
+        +--rw use-port?   -> /net/host/port
+        +--rw (mode)
+           +--:(auto)
+           |  +--rw auto?   empty
+           +--:(fixed)
+              +--rw speed?   uint32
+==
+yanglive tree zz net.yang
+2
+zz: no such module
+--
+==
+yanglive tree p net.yang p.yang
+0
+--
+module: p
+  +--rw c
+     +--rw id      uint8
+     +--rw note?   string
+";
+    for row in rows.split("==\n") {
+        assert!(rt; is_drawn(rt.alloc(), NETWORK, row) == Some(true), "{row}");
+    }
+}
+
 /// Whether an edit shows so under a module: the row is the document, the script, the status, what is said on the error
 /// side, and the output.
 fn is_edited(alloc: Global, words: &str, module: &str, row: &str) -> Option<bool> {

@@ -24,6 +24,10 @@ flag name = record (new_rule name) { long = Some name; action = Some SetTrue }
 abbrev pub compile_app : App
 compile_app = with_rule (new_app (codes "compile")) (wanted_all (codes "MODULE"))
 
+-- `tree NAME MODULE..`
+abbrev pub tree_app : App
+tree_app = with_rule (with_rule (new_app (codes "tree")) (wanted (codes "NAME"))) (wanted_all (codes "MODULE"))
+
 -- `validate DATA MODULE..`
 abbrev pub validate_app : App
 validate_app = with_rule (with_rule (new_app (codes "validate")) (wanted (codes "DATA"))) (wanted_all (codes "MODULE"))
@@ -38,8 +42,8 @@ abbrev pub with_commands : Shape → Shape
 with_commands s = record s { disable_help_subcommand = true; subcommand_required = true }
 
 abbrev pub yanglive : App
-yanglive = with_subcommand (with_subcommand (with_subcommand (on_top with_commands (new_app (codes "yanglive")))
-    compile_app.top) validate_app.top) edit_app.top
+yanglive = with_subcommand (with_subcommand (with_subcommand (with_subcommand (on_top with_commands (new_app (codes "yanglive")))
+    compile_app.top) tree_app.top) validate_app.top) edit_app.top
 
 -- ---- what is built of these
 

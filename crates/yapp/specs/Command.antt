@@ -2,7 +2,7 @@
 use Rattle.std.specs.Prelude.{◌≡◌, Bool, true, false, List, [], ◌∷◌, map, codes, Option, Some, None, unwrap_or, Result, Ok, Err, if◌then◌else◌}
 use Rattle.std.specs.Str.{bytes_eq}
 use Rattle.yspec.specs.program.Output as spec
-use Rattle.yspec.specs.program.Output.{compile, validate, edit}
+use Rattle.yspec.specs.program.Output.{compile, draw, validate, edit}
 use Rattle.clap.specs.Words.{Kinds, Row, Text, all_of, fault_of, first_of, subcommand_of}
 use Rattle.clap.specs.declared.error.kind.ErrorKind.{ErrorKind}
 use Rattle.clap.specs.declared.error.kind.ErrorKind.TheVariants.{DisplayHelp, OutOfMemory}
@@ -28,6 +28,9 @@ modules_of rows = unwrap_or (all_of (codes "MODULE") rows) []
 abbrev pub compilation_of : List Row → spec.Request
 compilation_of rows = compile (modules_of rows)
 
+abbrev pub drawing_of : List Row → spec.Request
+drawing_of rows = draw (value_of (codes "NAME") rows) (modules_of rows)
+
 abbrev pub validation_of : List Row → spec.Request
 validation_of rows = validate (value_of (codes "DATA") rows) (modules_of rows)
 
@@ -38,7 +41,8 @@ edition_of rows = edit (bytes_eq (value_of (codes "dump") rows) (codes "true")) 
 -- what the command of a name asks for
 abbrev pub asked_of : Text → List Row → spec.Request
 asked_of name rows = if bytes_eq name (codes "compile") then compilation_of rows
-    else (if bytes_eq name (codes "validate") then validation_of rows else edition_of rows)
+    else (if bytes_eq name (codes "tree") then drawing_of rows
+    else (if bytes_eq name (codes "validate") then validation_of rows else edition_of rows))
 
 -- what a subcommand and its arguments ask for; taken words name one
 abbrev pub asked_by : Option (Text × List Row) → spec.Request
@@ -53,6 +57,7 @@ request_of words = asked_by (subcommand_of yanglive words)
 
 abbrev pub view : Request → spec.Request
 view (requests.Compile modules) = compile (map (λ name. name.now) modules.items)
+view (requests.Tree name modules) = draw name.now (map (λ name. name.now) modules.items)
 view (requests.Validate document modules) = validate document.now (map (λ name. name.now) modules.items)
 view (requests.Edit is_dump document script modules) =
     edit is_dump document.now script.now (map (λ name. name.now) modules.items)

@@ -7,6 +7,7 @@ use Rattle.yschema.specs.View as schema_view
 use Rattle.ytree.specs.Told as document
 use Rattle.ytree.specs.View.{place_view}
 use Rattle.ycheck.specs.View.{views}
+use Rattle.yspec.specs.schema.Diagram.{diagram}
 use Rattle.yspec.specs.program.Output.{Outcome, failed, found, refusal_line, report, unread}
 use Rattle.yspec.specs.text.Text.{Text}
 use Rattle.yapp.specs.Asked.{refused_texts}
@@ -29,6 +30,7 @@ outcome_of (failures.Text name code line) = failed 2 (refusal_in name.now line (
 outcome_of (failures.Compile name code line) = failed 2 (refusal_in name.now line (codes ": C") (code_number code))
 outcome_of (failures.Document name schema code place) = failed 2 (refusal_line (schema_view.view schema) name.now
     (record { code = document.code_number code; place = place_view place.items }))
+outcome_of (failures.NoModule name) = failed 2 (name.now ++ codes ": no such module")
 outcome_of failures.Memory = without_memory
 
 -- a document's text in a line, or its faults and how many there are
@@ -38,6 +40,7 @@ document_text r = option_map_or (λ text. string_bytes text ++ codes "\n") r.tex
 
 abbrev pub reported : Report → Outcome
 reported (reports.Nodes count) = found 0 (decimal count ++ codes " nodes\n")
+reported (reports.Diagram schema shown) = found 0 (diagram (schema_view.view schema) shown)
 reported (reports.Document r) = record {
   output = document_text r;
   errors = refused_texts r.refused.items;
@@ -55,6 +58,7 @@ FailsWith (failures.Unread name) o = o ≡ outcome_of (failures.Unread name)
 FailsWith (failures.Text name code line) o = o ≡ outcome_of (failures.Text name code line)
 FailsWith (failures.Compile name code line) o = o ≡ outcome_of (failures.Compile name code line)
 FailsWith (failures.Document name schema code place) o = o ≡ outcome_of (failures.Document name schema code place)
+FailsWith (failures.NoModule name) o = o ≡ outcome_of (failures.NoModule name)
 FailsWith failures.Memory o = Unit {0}
 
 -- what was returned goes on to the outcome so, or is the failure that it is

@@ -1,7 +1,9 @@
 //! From a request to what was found.
 
-ghost use Rattle.std.specs.Prelude.{◌≡◌, map};
-ghost use Rattle.yspec.specs.program.Output.{compilation, edition, performed, validation};
+ghost use Rattle.std.specs.Prelude.{◌≡◌, map, position};
+ghost use Rattle.yspec.specs.text.Text.{is_text};
+ghost use Rattle.yspec.specs.program.Output.{compilation, drawing, drawn, edition, performed, validation};
+ghost use Rattle.yschema.specs.View as schema_view;
 ghost use Rattle.yapp.specs.Command.{view};
 ghost use Rattle.yapp.specs.Failing.{LeadsTo, reported};
 ghost use Rattle.yapp.specs.Files.{IsOutcome, came_to, store};
@@ -14,6 +16,7 @@ use crate::files::Files;
 use crate::modules::compile_contents;
 use crate::report::Report;
 use std::alloc::Global;
+use yschema::Schema;
 
 /// How many nodes modules define, by the contents of their files.
 fn count_nodes<'a>(
@@ -25,6 +28,32 @@ fn count_nodes<'a>(
 {
     match compile_contents(alloc, modules, contents) {
         Ok(compiled) => Ok(Report::Nodes(compiled.value.nodes())),
+        Err(failure) => Err(failure),
+    }
+}
+
+/// The diagram of the module of a name.
+fn diagram_of<'a>(schema: Schema, name: &'a str) -> Result<Report, Failure<'a>>
+    ensures { let s = schema_view.view schema.entry in
+        LeadsTo (drawn s name.entry.now (position (λ m. is_text m.name name.entry.now) s.modules)) reported result }
+{
+    match schema.module(name) {
+        Some(module) => Ok(Report::Diagram { schema, module }),
+        None => Err(Failure::NoModule { name }),
+    }
+}
+
+/// The diagram of the module of a name, by the contents of the files of modules.
+fn draw<'a>(
+    alloc: Global,
+    name: &'a str,
+    modules: &[&'a str],
+    contents: &[Vec<u8>],
+) -> Result<Report, Failure<'a>>
+    ensures { LeadsTo (drawing name.entry.now (map (λ n. n.now) modules.now) (map (λ c. c.items) contents.now)) reported result }
+{
+    match compile_contents(alloc, modules, contents) {
+        Ok(compiled) => diagram_of(compiled.value, name),
         Err(failure) => Err(failure),
     }
 }
@@ -70,6 +99,7 @@ fn perform<'a>(
 {
     match request {
         Request::Compile { modules } => count_nodes(alloc, modules, contents),
+        Request::Tree { name, modules } => draw(alloc, *name, modules, contents),
         Request::Validate { document, modules } => validate(alloc, *document, modules, contents),
         Request::Edit {
             is_dump,

@@ -2,8 +2,8 @@
 
 ghost use Rattle.std.specs.Prelude.{◌≡◌, codes, map, string_bytes, IfOk};
 ghost use Rattle.clap.specs.Words.{app_of, found_of, kind_of, rows_of, subcommand_rows_of};
-ghost use Rattle.yapp.specs.Application.{IsArgument, IsCommand, compile_app, edit_app, flag, validate_app, wanted, wanted_all, yanglive};
-ghost use Rattle.yapp.specs.Command.{Explains, Understands, asked_by, asked_of, compilation_of, edition_of, modules_of, validation_of, view};
+ghost use Rattle.yapp.specs.Application.{IsArgument, IsCommand, compile_app, edit_app, flag, tree_app, validate_app, wanted, wanted_all, yanglive};
+ghost use Rattle.yapp.specs.Command.{Explains, Understands, asked_by, asked_of, compilation_of, drawing_of, edition_of, modules_of, validation_of, view};
 ghost use Rattle.yapp.specs.declared.command.NoRequest.TheVariants.{Memory};
 
 use clap::error::ErrorKind;
@@ -16,6 +16,11 @@ use thiserror::Error;
 pub enum Request<'a> {
     /// How many nodes modules define.
     Compile {
+        modules: Vec<&'a str>,
+    },
+    /// The tree diagram of the module of a name.
+    Tree {
+        name: &'a str,
         modules: Vec<&'a str>,
     },
     /// The faults of a document under modules.
@@ -63,6 +68,17 @@ Exit status:
   4  A file, a stream or memory failed
 
 Example: yanglive compile net.yang types.yang";
+
+/// What `tree` says at the end of its help.
+const TREE_HELP: &str = "Prints the tree diagram (RFC 8340) of the module NAME, one of the modules.
+
+Exit status:
+  0  The diagram is printed
+  2  A module is refused, or none has that name
+  3  The command line is refused
+  4  A file, a stream or memory failed
+
+Example: yanglive tree net net.yang types.yang";
 
 /// What `validate` says at the end of its help.
 const VALIDATE_HELP: &str =
@@ -124,6 +140,26 @@ fn compile_command<'a>(alloc: Global) -> Result<Command<'a>, AllocError>
         .arg(modules_argument(alloc))
 }
 
+/// The name of a module.
+fn name_argument<'a>(alloc: Global) -> Arg<'a>
+    ensures { IsArgument (wanted (codes "NAME")) result }
+{
+    Arg::new(alloc, "NAME")
+        .help("The name of the module to draw")
+        .required(true)
+}
+
+/// `tree NAME MODULE..`
+fn tree_command<'a>(alloc: Global) -> Result<Command<'a>, AllocError>
+    ensures { IfOk result (IsCommand tree_app) }
+{
+    Command::new(alloc, "tree")
+        .about("Prints the tree diagram of a module")
+        .after_help(TREE_HELP)
+        .arg(name_argument(alloc))?
+        .arg(modules_argument(alloc))
+}
+
 /// `validate DATA MODULE..`
 fn validate_command<'a>(alloc: Global) -> Result<Command<'a>, AllocError>
     ensures { IfOk result (IsCommand validate_app) }
@@ -172,10 +208,11 @@ fn application<'a>(alloc: Global) -> Result<Command<'a>, AllocError>
     ensures { IfOk result (λ c. app_of c ≡ yanglive) }
 {
     Command::new(alloc, "yanglive")
-        .about("Compiles YANG 1.1 modules, and checks and edits JSON documents under them")
+        .about("Compiles and draws YANG 1.1 modules, and checks and edits JSON documents under them")
         .disable_help_subcommand(true)
         .subcommand_required(true)
         .subcommand(compile_command(alloc)?)?
+        .subcommand(tree_command(alloc)?)?
         .subcommand(validate_command(alloc)?)?
         .subcommand(edit_command(alloc)?)
 }
@@ -193,6 +230,15 @@ fn compilation_in<'a>(alloc: Global, found: &ArgMatches<'a>) -> Result<Request<'
 {
     let modules = modules_in(alloc, found)?;
     Ok(Request::Compile { modules })
+}
+
+/// What the arguments of `tree` ask for.
+fn drawing_in<'a>(alloc: Global, found: &ArgMatches<'a>) -> Result<Request<'a>, AllocError>
+    ensures { IfOk result (λ r. view r ≡ drawing_of (rows_of (found_of found.now))) }
+{
+    let name = found.get_str("NAME").unwrap_or("");
+    let modules = modules_in(alloc, found)?;
+    Ok(Request::Tree { name, modules })
 }
 
 /// What the arguments of `validate` ask for.
@@ -230,6 +276,7 @@ fn asked_in<'a>(
 {
     match name {
         "compile" => compilation_in(alloc, found),
+        "tree" => drawing_in(alloc, found),
         "validate" => validation_in(alloc, found),
         _ => edition_in(alloc, found),
     }

@@ -41,7 +41,9 @@ pub fn names_of<'a>(alloc: Global, request: &Request<'a>) -> Result<Vec<&'a str>
     ensures { IfOk result (λ names. map (λ n. n.now) names.items ≡ files_of (view request.now)) }
 {
     match request {
-        Request::Compile { modules } => Vec::from_slice(alloc, modules),
+        Request::Compile { modules } | Request::Tree { modules, .. } => {
+            Vec::from_slice(alloc, modules)
+        }
         Request::Validate { document, modules } => names_with(alloc, modules, &[*document]),
         Request::Edit {
             document,

@@ -50,6 +50,11 @@ pub enum Failure<'a> {
         code: DocCode,
         place: Vec<Step>,
     },
+    /// No module has the name of the one that is to be drawn.
+    #[error("{name}: no such module")]
+    NoModule {
+        name: &'a str,
+    },
     #[error("memory")]
     Memory,
 }
@@ -93,7 +98,10 @@ impl<'a> Failure<'a> {
     {
         match self {
             Failure::Unread { .. } | Failure::Memory => FAILED,
-            Failure::Text { .. } | Failure::Compile { .. } | Failure::Document { .. } => REFUSED,
+            Failure::Text { .. }
+            | Failure::Compile { .. }
+            | Failure::Document { .. }
+            | Failure::NoModule { .. } => REFUSED,
         }
     }
 
@@ -116,6 +124,7 @@ impl<'a> Failure<'a> {
                 code,
                 place,
             } => write_document_refusal(*name, schema, code.number(), place, sink),
+            Failure::NoModule { name } => write_texts(sink, &[*name, ": no such module", "\n"]),
             Failure::Memory => write_texts(sink, &["memory\n"]),
         }
     }

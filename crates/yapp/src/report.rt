@@ -3,6 +3,7 @@
 ghost use Rattle.std.specs.Prelude.{◌≡◌, ◌++◌, codes, decimal};
 ghost use Rattle.std.specs.List.{flat_map};
 ghost use Rattle.yspec.specs.document.Faults.{line_of};
+ghost use Rattle.yspec.specs.schema.Diagram.{diagram};
 ghost use Rattle.yspec.specs.program.Output.{report};
 ghost use Rattle.youtput.specs.Writing.{Writes, side};
 ghost use Rattle.yschema.specs.View as schema_view;
@@ -24,6 +25,11 @@ use yschema::Schema;
 pub enum Report {
     /// How many nodes modules define.
     Nodes(usize),
+    /// The diagram of a module, which is given by its place in the set.
+    Diagram {
+        schema: Schema,
+        module: usize,
+    },
     Document(DocumentReport),
 }
 
@@ -43,7 +49,7 @@ impl Report {
         ensures { result ≡ (reported self.now).status }
     {
         match self {
-            Report::Nodes(_) => GOOD,
+            Report::Nodes(_) | Report::Diagram { .. } => GOOD,
             Report::Document(report) => report.status(),
         }
     }
@@ -55,6 +61,7 @@ impl Report {
     {
         match self {
             Report::Nodes(count) => write_count(*count, " nodes\n", output),
+            Report::Diagram { schema, module } => write_diagram(schema, *module, output),
             Report::Document(report) => {
                 write_refused(&report.refused, errors)?;
                 report.write_document(output)
@@ -84,6 +91,17 @@ impl DocumentReport {
             Some(text) => write_texts(sink, &[text.as_str(), "\n"]),
             None => write_faults(&self.schema, &self.faults, sink),
         }
+    }
+}
+
+/// Writes the diagram of a module.
+fn write_diagram<S: Sink>(schema: &Schema, module: usize, sink: &mut S) -> Result<(), SinkFault>
+    ensures { Writes (side S.taken S.failures sink.old) (side S.taken S.failures sink.new)
+        (diagram (schema_view.view schema.now) «module») result }
+{
+    match ydiagram::write(schema, module, sink) {
+        Ok(()) => Ok(()),
+        Err(_) => Err(SinkFault),
     }
 }
 

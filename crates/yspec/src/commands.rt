@@ -5,13 +5,24 @@ ghost use Rattle.yspec.specs.linking.CompilingSamples.{net_module, k_module};
 ghost use Rattle.yspec.specs.program.Output.{failed, found};
 ghost use Rattle.yspec.specs.program.Script.{lines_of};
 ghost use Rattle.yspec.specs.program.SchemaExamples.{hosts, one_host};
-ghost use Rattle.yspec.specs.program.Examples.{counted, dumped, faulty, module_p, scripted, shown, without_faults};
+ghost use Rattle.yspec.specs.program.Examples.{counted, drawn_as, dumped, faulty, module_p, scripted, shown, without_faults};
 
 /// How many nodes modules define.
 pub fn counts()
     ensures network { counted net_module ≡ found 0 (codes "12 nodes\n") }
     ensures container { counted module_p ≡ found 0 (codes "3 nodes\n") }
     ensures refused { counted (codes "module a { prefix \"x") ≡ failed 2 (codes "m.yang:1: L3") }
+{}
+
+/// The diagram of a module by its name, and names that no module has.
+pub fn drawn_modules()
+    ensures network { drawn_as (codes "ex-net") net_module ≡ found 0 (codes "module: ex-net\n  +--rw net\n     +--rw host* [name]\n        +--rw name        string\n"
+        ++ (codes "        +--rw addr?       string\n        +--rw port?       uint16\n        +--rw uplink?     -> /net/host/name\n"
+        ++ (codes "        +--rw use-port?   -> /net/host/port\n        +--rw (mode)\n           +--:(auto)\n"
+        ++ codes "           |  +--rw auto?   empty\n           +--:(fixed)\n              +--rw speed?   uint32\n"))) }
+    ensures missing { drawn_as (codes "zz") net_module ≡ failed 2 (codes "zz: no such module") }
+    ensures prefix { drawn_as (codes "ex") net_module ≡ failed 2 (codes "ex: no such module") }
+    ensures refused { drawn_as (codes "a") (codes "module a { prefix \"x") ≡ failed 2 (codes "m.yang:1: L3") }
 {}
 
 /// Lines of scripts. A carriage return goes with its line feed alone.

@@ -7,7 +7,7 @@ use Rattle.yspec.specs.schema.Schema.{Schema}
 use Rattle.yspec.specs.linking.Compiling.{schema_of}
 use Rattle.yspec.specs.document.Reading.{document_of}
 use Rattle.yspec.specs.document.Writing.{written_text}
-use Rattle.yspec.specs.program.Output.{Outcome, compile, edit, validate, outcome, found}
+use Rattle.yspec.specs.program.Output.{Outcome, compile, draw, edit, validate, outcome, found}
 use Rattle.yspec.specs.document.Document.{Tree, step_to}
 use Rattle.yspec.specs.edit.EditText.{Edit, edit_of}
 use Rattle.yspec.specs.edit.Editing.{Decision, after, decisions}
@@ -67,6 +67,10 @@ rewritten module_bytes document =
 -- what `compile m.yang` prints of a module's text
 abbrev pub counted : Text → Outcome
 counted module_bytes = outcome (compile (codes "m.yang" ∷ [])) (Some module_bytes ∷ [])
+
+-- what `tree NAME m.yang` prints of a module's text
+abbrev pub drawn_as : Text → Text → Outcome
+drawn_as name module_bytes = outcome (draw name (codes "m.yang" ∷ [])) (Some module_bytes ∷ [])
 
 -- what `edit d.json s.txt m.yang` prints of a module's text, a document's and a script's
 abbrev pub scripted : Text → Text → Text → Outcome

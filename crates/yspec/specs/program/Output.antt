@@ -1,11 +1,12 @@
 -- What a run of the program prints, as a function of the files that it asks for and of what they contain.
-use Rattle.std.specs.Prelude.{ℕ, ◌++◌, ◌&&◌, Bool, false, List, [], ◌∷◌, length, codes, decimal, Option, Some, None, Result, Ok, Err, if◌then◌else◌, ◌==◌, slice_get, unwrap_or}
+use Rattle.std.specs.Prelude.{ℕ, ◌++◌, ◌&&◌, Bool, false, List, [], ◌∷◌, length, codes, decimal, Option, Some, None, Result, Ok, Err, if◌then◌else◌, ◌==◌, position, slice_get, unwrap_or}
 use Rattle.std.specs.List.{flat_map}
 use Rattle.yspec.specs.Forest.{Forest, end, join, size}
-use Rattle.yspec.specs.text.Text.{Text}
+use Rattle.yspec.specs.text.Text.{Text, is_text}
 use Rattle.yspec.specs.text.Statement.{Statement, Slip, module_of}
 use Rattle.yspec.specs.schema.Breaks.{Break}
 use Rattle.yspec.specs.schema.Schema.{Schema}
+use Rattle.yspec.specs.schema.Diagram.{diagram}
 use Rattle.yspec.specs.linking.Compiling.{compiled}
 use Rattle.yspec.specs.document.Document.{Tree}
 use Rattle.yspec.specs.document.Reading.{Refusal, document_of}
@@ -19,6 +20,8 @@ use Rattle.yspec.specs.program.Script.{after_lines, lines_of, refused_lines}
 pub data Request : Type 0 where
   -- how many schema nodes modules define
   compile : List Text → Request
+  -- the tree diagram of the module of a name
+  draw : Text → List Text → Request
   -- the faults of a document under modules
   validate : Text → List Text → Request
   -- the same after the edits of a script; or, where it is to be dumped, the document then
@@ -41,6 +44,7 @@ failed status errors = record { output = []; errors = errors ++ codes "\n"; stat
 -- the words for files in the order in which they are read: modules, the document, the script
 abbrev pub files_of : Request → List Text
 files_of (compile modules) = modules
+files_of (draw name modules) = modules
 files_of (validate document modules) = modules ++ document ∷ []
 files_of (edit is_dump document script modules) = modules ++ document ∷ script ∷ []
 
@@ -115,6 +119,11 @@ with_document document names contents next = with_schema names contents (λ sche
 abbrev pub counted : Schema → Outcome
 counted schema = found 0 (decimal (size schema.nodes) ++ codes " nodes\n")
 
+-- the diagram of the module of a name, by its place in the set if there is one
+abbrev pub drawn : Schema → Text → Option ℕ → Outcome
+drawn schema name None = failed 2 (name ++ codes ": no such module")
+drawn schema name (Some shown) = found 0 (diagram schema shown)
+
 -- a line for each fault, and then how many there are
 abbrev pub report : Schema → List Fault → List ℕ
 report schema faults = flat_map (line_of schema) faults ++ (decimal (length faults) ++ codes " faults\n")
@@ -140,6 +149,10 @@ edited is_dump schema tree lines = left is_dump schema (after_lines schema tree 
 abbrev pub compilation : List Text → List (List ℕ) → Outcome
 compilation names contents = with_schema names contents (λ schema files. counted schema)
 
+abbrev pub drawing : Text → List Text → List (List ℕ) → Outcome
+drawing name names contents = with_schema names contents (λ schema files.
+    drawn schema name (position (λ m. is_text m.name name) schema.modules))
+
 -- as an edit by a script without lines
 abbrev pub validation : Text → List Text → List (List ℕ) → Outcome
 validation document names contents = with_document document names contents (λ schema tree files. edited false schema tree [])
@@ -150,6 +163,7 @@ edition is_dump document names contents = with_document document names contents 
 
 abbrev pub performed : Request → List (List ℕ) → Outcome
 performed (compile names) contents = compilation names contents
+performed (draw name names) contents = drawing name names contents
 performed (validate document names) contents = validation document names contents
 performed (edit is_dump document script names) contents = edition is_dump document names contents
 

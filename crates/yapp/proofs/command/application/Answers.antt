@@ -1,7 +1,7 @@
 use Rattle.std.proofs.Common.{true, ap, ◌∙◌}
 use Rattle.std.proofs.lemmas.Result.{IfOk-weaker}
 use Rattle.clap.specs.Simple.{app_of_fields, on_top}
-use Rattle.yapp.specs.Application.{compile_app, edit_app, validate_app}
+use Rattle.yapp.specs.Application.{compile_app, edit_app, tree_app, validate_app}
 use Rattle.yapp.proofs.CommandLemmas.{with_command}
 use Rattle.yapp.proofs.command.application.Goals as goal
 
@@ -13,5 +13,6 @@ returns c =
     let none = ap (λ f. f.has_globals) c.subcommand_required.ensures ∙ (ap (λ f. f.has_globals) c.disable_help_subcommand.ensures
     ∙ (ap (λ f. f.has_globals) c.about.ensures ∙ c.new.ensures.local)) in
     let compiles = with_command _ compile_app _ _ _ (wants_is, none) c.in_ok-compile_command.ensures c.in_ok-subcommand.ensures in
-    let validates = with_command _ validate_app _ _ _ compiles c.in_ok-validate_command.ensures c.in_ok-subcommand-2.ensures in
-    IfOk-weaker c.subcommand-3.result _ _ (λ r added. (with_command _ edit_app _ _ r validates c.in_ok-edit_command.ensures added).0) c.subcommand-3.ensures
+    let draws = with_command _ tree_app _ _ _ compiles c.in_ok-tree_command.ensures c.in_ok-subcommand-2.ensures in
+    let validates = with_command _ validate_app _ _ _ draws c.in_ok-validate_command.ensures c.in_ok-subcommand-3.ensures in
+    IfOk-weaker c.subcommand-4.result _ _ (λ r added. (with_command _ edit_app _ _ r validates c.in_ok-edit_command.ensures added).0) c.subcommand-4.ensures

@@ -1,0 +1,17 @@
+use Rattle.std.proofs.Common.{sym, subst}
+use Rattle.std.specs.Prelude.{position}
+use Rattle.yspec.specs.text.Text.{is_text}
+use Rattle.yspec.specs.program.Output.{drawn}
+use Rattle.yapp.specs.Failing.{LeadsTo, reported}
+use Rattle.yapp.proofs.answering.draw.Goals as goal
+
+pub returns-in-Ok : goal.returns-in-Ok
+returns-in-Ok c =
+    let name = c.args.name.now in
+    subst (λ o. LeadsTo o reported c.diagram_of.result)
+    (sym (c.in-Ok.ensures (λ schema files. drawn schema name (position (λ m. is_text m.name name) schema.modules)))) c.diagram_of.ensures
+
+pub returns-in-Err : goal.returns-in-Err
+returns-in-Err c =
+    let name = c.args.name.now in
+    c.in-Err.ensures (λ schema files. drawn schema name (position (λ m. is_text m.name name) schema.modules))
