@@ -1,0 +1,5 @@
+//! Tests of tree diagrams.
+#![tactic(auto)]
+
+#[cfg(test)]
+mod diagrams;
