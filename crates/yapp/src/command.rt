@@ -208,7 +208,9 @@ fn application<'a>(alloc: Global) -> Result<Command<'a>, AllocError>
     ensures { IfOk result (λ c. app_of c ≡ yanglive) }
 {
     Command::new(alloc, "yanglive")
-        .about("Compiles and draws YANG 1.1 modules, and checks and edits JSON documents under them")
+        .about(
+            "Compiles and draws YANG 1.1 modules, and checks and edits JSON documents under them",
+        )
         .disable_help_subcommand(true)
         .subcommand_required(true)
         .subcommand(compile_command(alloc)?)?

@@ -26,10 +26,7 @@ pub enum Report {
     /// How many nodes modules define.
     Nodes(usize),
     /// The diagram of a module, which is given by its place in the set.
-    Diagram {
-        schema: Schema,
-        module: usize,
-    },
+    Diagram { schema: Schema, module: usize },
     Document(DocumentReport),
 }
 

@@ -82,14 +82,13 @@ module _ (all : List (List SchemaNode)) where
       let first = drop_first all (inner ++ (behind ++ rest)) k here parted in
       let second = drop_part all inner (behind ++ rest) (k + 1) (size below) first (length-ways here below) in
       let own : way_in all (Some l.number) ≡ here = ap (λ n. unwrap_or (slice_get all n) []) numbered.0 ∙ ap (λ o. unwrap_or o []) got in
-      let sized : k + 1 + length (places (Some l.number) below) ≡ k + 1 + size below = ap (λ n. k + 1 + n) (length-places (Some l.number) below) in
-      (
+      let sized : k + 1 + length (places (Some l.number) below) ≡ k + 1 + size below = ap (λ n. k + 1 + n) (length-places (Some l.number) below) in (
         got ∙ ap (λ w. Some (w ++ l ∷ [])) (sym stands),
         before,
         ways_joined (k + 1) (places (Some l.number) below) (places parent after)
-        (ways_of below (k + 1) (Some l.number) here (behind ++ rest) numbered.1 own (omega (arith, numbered.0)) first)
-        (subst (λ n. WaysFrom all n (places parent after)) (sym sized)
-        (ways_of after (k + 1 + size below) parent above rest numbered.2 stands (above_later k (k + 1 + size below) parent (omega arith) before) second)),
+            (ways_of below (k + 1) (Some l.number) here (behind ++ rest) numbered.1 own (omega (arith, numbered.0)) first)
+            (subst (λ n. WaysFrom all n (places parent after)) (sym sized)
+            (ways_of after (k + 1 + size below) parent above rest numbered.2 stands (above_later k (k + 1 + size below) parent (omega arith) before) second)),
       )
 
   way_at : (k i : ℕ) (ps : List Place) (p : Place) → WaysFrom all k ps → slice_get ps i ≡ Some p
@@ -142,10 +141,9 @@ way_of_row modules rows id r laid_out there =
     ∙ (laid_at 0 id rows ∙ (ap (λ m. option_map (place_of m) (slice_get rows id)) start ∙ ap (option_map (place_of id)) there)) in
     let found = way_of_place f id (place_of id r) (numbered_laid f None 0 rows laid_out) placed in
     let here : node_at (schema_view modules rows) id ≡ Some (node_view id r.node) =
-    label_at rows id (laid_out_fits rows laid_out) ∙ ap (option_map (λ x. node_view id x.node)) there in
-    (
+    label_at rows id (laid_out_fits rows laid_out) ∙ ap (option_map (λ x. node_view id x.node)) there in (
       ap (λ o. unwrap_or o []) found.0 ∙ (way_in-is modules rows (number_of r.parent) (node_view id r.node)
-      ∙ ap (λ o. way_above (schema_view modules rows) (number_of r.parent) ++ alone o) (sym here)),
+          ∙ ap (λ o. way_above (schema_view modules rows) (number_of r.parent) ++ alone o) (sym here)),
       above_id id r.parent found.1,
     )
   where
@@ -159,8 +157,7 @@ pub no_way : (modules : List SchemaModule) (rows : List Row) (id : ℕ) → IsLa
 no_way modules rows id laid_out there =
     let f = forest_of 0 rows in
     let count : length (ways [] f) ≡ length rows = length-ways [] f ∙ (sym (length-places None f) ∙ (ap length (sym laid_out) ∙ length-laid 0 rows)) in
-    let here : node_at (schema_view modules rows) id ≡ None = label_at rows id (laid_out_fits rows laid_out) ∙ ap (option_map (λ x. node_view id x.node)) there in
-    (
+    let here : node_at (schema_view modules rows) id ≡ None = label_at rows id (laid_out_fits rows laid_out) ∙ ap (option_map (λ x. node_view id x.node)) there in (
       ap (λ o. unwrap_or o []) (slice_get_past (ways [] f) id (omega (arith, count, past_end rows id there))) ∙ ap alone (sym here),
       tt,
     )

@@ -12,7 +12,7 @@ returns-in-Some c =
     let there : slice_get rows c.args.id.0 ≡ Some c.in-Some.row.now = ap₂ slice_get (sym c.deref.ensures.value) (sym c.number.ensures.value)
     ∙ slice_get_read c.deref.result.now (length c.deref.result.now) c.number.result c.in-Some.row.now refl found.3.0 found.1 in
     let is = way_of_row schema.modules.items rows c.args.id.0 c.in-Some.row.now schema.laid_out there in
-    record { way = is.0; above = is.1; }
+    record { way = is.0; above = is.1 }
 
 pub returns-in-None : goal.returns-in-None
 returns-in-None c =
@@ -21,4 +21,4 @@ returns-in-None c =
     let there : slice_get rows c.args.id.0 ≡ None = ap₂ slice_get (sym c.deref.ensures.value) (sym c.number.ensures.value)
     ∙ slice_get_past c.deref.result.now c.number.result c.in-None.ensures.lookup.3 in
     let is = no_way schema.modules.items rows c.args.id.0 schema.laid_out there in
-    record { way = is.0; above = is.1; }
+    record { way = is.0; above = is.1 }
