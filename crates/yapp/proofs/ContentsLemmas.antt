@@ -194,6 +194,7 @@ came_of_answer before after request answers (Err (failures.Unread name)) read sa
 came_of_answer before after request answers (Err (failures.Text name code line)) read same is = inl (answers, read, sym is)
 came_of_answer before after request answers (Err (failures.Compile name code line)) read same is = inl (answers, read, sym is)
 came_of_answer before after request answers (Err (failures.Document name schema code place)) read same is = inl (answers, read, sym is)
+came_of_answer before after request answers (Err (failures.NoModule name)) read same is = inl (answers, read, sym is)
 came_of_answer before after request answers (Err failures.Memory) read same is = inr (same, refl)
 
 -- a request after its files were read

@@ -47,6 +47,7 @@ no_output (failures.Unread name) = refl
 no_output (failures.Text name code line) = refl
 no_output (failures.Compile name code line) = refl
 no_output (failures.Document name schema code place) = refl
+no_output (failures.NoModule name) = refl
 no_output failures.Memory = refl
 
 pub on_failure : (output errors errors_after : Side) (failure : Failure) (result : ℕ)

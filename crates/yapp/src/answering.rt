@@ -34,7 +34,7 @@ fn count_nodes<'a>(
 
 /// The diagram of the module of a name.
 fn diagram_of<'a>(schema: Schema, name: &'a str) -> Result<Report, Failure<'a>>
-    ensures { let s = schema_view.view schema.entry in
+    ensures { let s = schema_view.view schema in
         LeadsTo (drawn s name.entry.now (position (λ m. is_text m.name name.entry.now) s.modules)) reported result }
 {
     match schema.module(name) {
