@@ -10,7 +10,7 @@ ghost use Rattle.yschema.specs.Lookup.{FindsNamed, FindsWritten, first_below, is
 use crate::children::Row;
 use crate::node::{SchemaId, SchemaNode};
 use crate::schema::SchemaModule;
-use crate::written::{is_written, written_name};
+use crate::written::{is_written, qualified_name};
 use std::alloc::{AllocError, Global};
 use yindex::{Buckets, hash_of};
 
@@ -104,7 +104,10 @@ fn written_hash(
     ensures { let schema = schema_view modules.now rows.now in
         (number : _) → IfOk result (λ hash. hash ≡ hash_of above (written_name schema (module_at schema above) (node_view number row.now.node))) }
 {
-    let written = written_name(alloc, modules, module_above(rows, above), &row.node)?;
+    if module_above(rows, above) == Some(row.node.module) {
+        return Ok(hash_of(above, row.node.name.as_str()));
+    }
+    let written = qualified_name(alloc, modules, &row.node)?;
     Ok(hash_of(above, written.as_str()))
 }
 

@@ -47,7 +47,8 @@ pub(crate) fn other_name(
     }
 }
 
-fn qualified_name(
+/// The name of a node's module, a colon and its name.
+pub(crate) fn qualified_name(
     alloc: Global,
     modules: &[SchemaModule],
     node: &SchemaNode,
