@@ -5,24 +5,11 @@ use Rattle.std.proofs.lemmas.Bool.Decides.{nat_tests}
 use Rattle.std.proofs.lemmas.Slice.Eq.{bytes_eq-Decides}
 use Rattle.yspec.specs.text.Text.{Text, is_text}
 use Rattle.yspec.specs.linking.Keyword.{Keyword, keyword_text, keyword_named, keywords}
+use Rattle.ylink.proofs.LengthLemmas.{found_of_length}
 use Rattle.ylink.specs.Lengths.{named_among, is_four, is_six, is_nine, is_short, is_middle, is_long}
 
-find_kept : (p q : Keyword → Bool) → ((k : Keyword) → p k ≡ true → q k ≡ true) → (ks : List Keyword) → find p ks ≡ find p (filter q ks)
-find_kept p q h [] = refl
-find_kept p q h (k ∷ ks) = step (p k) (q k) refl refl (find_kept p q h ks)
-  where
-    step : (a b : Bool) → p k ≡ a → q k ≡ b → find p ks ≡ find p (filter q ks) → find p (k ∷ ks) ≡ find p (filter q (k ∷ ks))
-    step true true ea eb e = rw (ea, eb, ea) refl
-    step true false ea eb e = let clash : true ≡ false = sym (h k ea) ∙ eb in absurd cc
-    step false true ea eb e = rw (ea, eb, ea) e
-    step false false ea eb e = rw (ea, eb) e
-
-same_length : (test : ℕ → Bool) (t s : Text) → test (length t) ≡ true → is_text t s ≡ true → test (length s) ≡ true
-same_length test t s h e = ap (λ (x : Text). test (length x)) (sym ((bytes_eq-Decides t s).0 e)) ∙ h
-
 pub found_among : (test : ℕ → Bool) (t : Text) → test (length t) ≡ true → named_among test t ≡ keyword_named t
-found_among test t h =
-    sym (find_kept (λ k. is_text t (keyword_text k)) (λ k. test (length (keyword_text k))) (λ k e. same_length test t (keyword_text k) h e) keywords)
+found_among test t h = found_of_length keyword_text keywords test t h
 
 -- ---- lengths
 

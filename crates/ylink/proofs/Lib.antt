@@ -5,6 +5,7 @@ pub mod NumberLemmas
 pub mod SpanLemmas
 pub mod WordLemmas
 pub mod GrammarLemmas
+pub mod LengthLemmas
 pub mod KeywordLemmas
 pub mod PrefixLemmas
 pub mod BreakLemmas

@@ -17,10 +17,10 @@ ghost use Rattle.ylink.specs.PrefixView.{IsOf};
 ghost use Rattle.ylink.specs.SourceView.{source_view};
 
 use crate::builtin::BuiltIn;
-use crate::fault::{Broken, CompileCode, least_when};
+use crate::fault::{Broken, CompileCode, least};
 use crate::grammar::broken;
 use crate::keyword::Keyword;
-use crate::name::{Name, key_names, leafref_path, name_of, unique_paths};
+use crate::name::{Name, colon_place, key_names, leafref_path, name_of, unique_paths};
 use crate::row::argument_with;
 use crate::source::Source;
 use crate::sources::Sources;
@@ -144,6 +144,20 @@ fn has_unknown_among(prefixes: &Prefixes<'_>, home: usize, names: Option<Vec<Nam
     }
 }
 
+// Whether the name of a type has a prefix that names nothing. One without a colon has none.
+fn is_unknown_type(prefixes: &Prefixes<'_>, home: usize, text: &str) -> bool
+    ensures { (modules : Forest sources.Source) → IsOf prefixes.now modules
+        → result ≡ list_any (spec.is_unknown_prefix modules home) (spec.names_given type_word text.now) }
+{
+    if colon_place(text.as_bytes()).is_none() {
+        return false;
+    }
+    match name_of(text) {
+        Some(name) => prefixes.is_unknown(home, &name),
+        None => false,
+    }
+}
+
 // Whether a name in an argument has a prefix that names nothing.
 fn has_unknown_prefix(
     alloc: Global,
@@ -156,10 +170,7 @@ fn has_unknown_prefix(
         → b ≡ list_any (spec.is_unknown_prefix modules home) (spec.names_given (keyword_view keyword) text.now)) }
 {
     Ok(match keyword {
-        Keyword::Type => match name_of(text) {
-            Some(name) => prefixes.is_unknown(home, &name),
-            None => false,
-        },
+        Keyword::Type => is_unknown_type(prefixes, home, text),
         Keyword::Key => has_unknown_among(prefixes, home, key_names(alloc, text)?),
         Keyword::Path => has_unknown_among(prefixes, home, leafref_path(alloc, text)?),
         Keyword::Unique => match unique_paths(alloc, text)? {
@@ -181,11 +192,10 @@ fn judge_prefixes(
 {
     let (home, keyword) = (source.home, source.keyword);
     let unknown = has_unknown_prefix(alloc, prefixes, home, keyword, source.argument())?;
-    Ok(least_when(
-        unknown,
-        so_far,
-        broken(CompileCode::C6, home, source.statement),
-    ))
+    if !unknown {
+        return Ok(so_far);
+    }
+    Ok(least(so_far, broken(CompileCode::C6, home, source.statement)))
 }
 
 /// The least of the prefixes that name nothing, by module and line.
@@ -200,19 +210,21 @@ pub fn prefix_fault(alloc: Global, sources: &Sources<'_>) -> Result<Option<Broke
     Ok(told)
 }
 
-// Whether an argument names a type that isn't found.
-fn is_not_found(keyword: Keyword, name: &str) -> bool
-    ensures { result ≡ (same_keyword type_word (keyword_view keyword) && not (is_some (built_in_named name.now))) }
+// Whether a statement names a type that isn't found.
+fn is_not_found(source: &Source<'_>) -> bool
+    ensures { (number : ℕ) → result ≡ spec.is_not_found (source_view number source.now) }
 {
-    Keyword::Type.is(keyword) && BuiltIn::named(name).is_none()
+    Keyword::Type.is(source.keyword) && BuiltIn::named(source.argument()).is_none()
 }
 
 fn judge_type_name(source: &Source<'_>, so_far: Option<Broken>) -> Option<Broken>
     ensures { (number : ℕ) → seen result ≡ least_from (seen so_far) (spec.type_name_break (source_view number source.now)) }
 {
-    let missing = is_not_found(source.keyword, source.argument());
-    least_when(
-        missing,
+    let missing = is_not_found(source);
+    if !missing {
+        return so_far;
+    }
+    least(
         so_far,
         broken(CompileCode::C8, source.home, source.statement),
     )

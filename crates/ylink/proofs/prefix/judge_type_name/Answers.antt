@@ -1,18 +1,19 @@
-use Rattle.std.proofs.Common.{◌≡◌, ap, ◌∙◌, ◌∷◌, [], not}
-use Rattle.std.specs.Prelude.{◌&&◌, is_some}
-use Rattle.yspec.specs.linking.Keyword.{same_keyword, type_word}
-use Rattle.yspec.specs.linking.TypeStatements.{built_in_named}
-use Rattle.yspec.specs.schema.Breaks.{least_from, when}
-use Rattle.yspec.specs.linking.Prefixes.{is_not_found}
+use Rattle.std.proofs.Common.{sym, ap, ◌∙◌, ◌∷◌, []}
+use Rattle.yspec.specs.schema.Breaks.{broken, least_from, when}
 use Rattle.ylink.specs.BreakView.{seen, break_view}
 use Rattle.ylink.specs.SourceView.{source_view}
 use Rattle.ylink.proofs.prefix.judge_type_name.Goals as goal
 
+pub returns-then-not-missing : goal.returns-then-not-missing
+returns-then-not-missing c number =
+    let s = source_view number c.args.source.now in
+    ap (λ b. least_from (seen c.args.so_far) (when b (broken 8 s.home s.statement.line)))
+    (sym c.if-not-missing.true ∙ c.is_not_found-missing.ensures number)
+
 pub returns : goal.returns
 returns c number =
     let s = source_view number c.args.source.now in
-    let missing : c.is_not_found-missing.result ≡ is_not_found s = c.is_not_found-missing.ensures
-    ∙ ap (λ t. same_keyword type_word s.keyword && not (is_some (built_in_named t))) (c.argument.ensures number) in
-    c.least_when.ensures
-    ∙ (ap (λ b. least_from (seen c.args.so_far) (when b (break_view c.broken.result ∷ []))) missing
-    ∙ ap (λ b. least_from (seen c.args.so_far) (when (is_not_found s) (break_view b ∷ []))) c.broken.ensures)
+    c.least.ensures
+    ∙ (ap (λ b. least_from (seen c.args.so_far) (break_view b ∷ [])) c.broken.ensures
+    ∙ ap (λ b. least_from (seen c.args.so_far) (when b (broken 8 s.home s.statement.line)))
+    (sym c.if-not-missing.false ∙ c.is_not_found-missing.ensures number))
