@@ -97,7 +97,7 @@ fn excluding(limits: &[Limit], number: i128) -> Option<&Limit>
 
 /// A built-in type with restrictions, which stand from the built-in type outwards.
 #[derive(Debug, Drop)]
-pub(crate) struct LimitedType {
+struct LimitedType {
     base: Base,
     inner: Vec<Limit>,
     outermost: Limit,
@@ -146,7 +146,7 @@ impl LimitedType {
 }
 
 #[derive(Debug, Drop)]
-pub(crate) enum Form {
+enum Form {
     Plain(Base),
     Limited(Rc<LimitedType>),
 }

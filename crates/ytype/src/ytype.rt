@@ -205,7 +205,7 @@ impl YType {
     pub fn union(alloc: Global, types: &[YType]) -> Result<YType, NarrowFault>
         ensures { Gives same narrow_refusal result (Ok (union_type types.now)) }
     {
-        let mut members = Vec::new(alloc);
+        let mut members = Vec::with_capacity(alloc, types.len())?;
         'types: for member in types {
             member.shape.add_to(&mut members)?;
         }
