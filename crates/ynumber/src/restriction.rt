@@ -118,7 +118,7 @@ fn parts_in(
     requires { digits ≤ 18 }
     ensures { Gives (λ parts. parts.items) narrow_refusal result (ok_or (parts_in ends.now digits spans.now) tt) }
 {
-    let mut parts = Vec::new(alloc);
+    let mut parts = Vec::with_capacity(alloc, spans.len())?;
     'spans: for span in spans {
         match part_in(ends, digits, span) {
             None => return Err(NarrowFault::Refused),
@@ -194,14 +194,13 @@ fn ends_of(parts: &[Part]) -> Part
 /// The set that a restriction leaves of another.
 pub fn restricted(
     alloc: Global,
-    outer: &Range,
+    outer: &[Part],
     digits: u32,
     spans: &[Span],
 ) -> Result<Range, NarrowFault>
     requires { digits ≤ 18 }
     ensures { Gives same narrow_refusal result (ok_or (restricted outer.now digits spans.now) tt) }
 {
-    let outer = outer.parts();
     match parts_in(alloc, &ends_of(outer), digits, spans) {
         Err(fault) => Err(fault),
         Ok(parts) if !parts.is_empty() && is_ascending(&parts) && lies_within(&parts, outer) => Ok(

@@ -19,6 +19,8 @@ use crate::raw::Raw;
 use crate::val::Content;
 use std::alloc::{AllocError, Global};
 use std::marker::Model;
+use std::rc::Rc;
+use std::slice;
 use ynumber::{NarrowFault, Part, Range, Restriction, Span, restricted};
 
 fn copy_of(text: &Option<String>) -> Result<Option<String>, AllocError>
@@ -69,10 +71,10 @@ impl Limit {
         copy_of(&self.app_tag)
     }
 
-    fn range(&self) -> Result<Range, AllocError>
-        ensures { IfOk result (λ range. range ≡ self.now.parts) }
+    fn parts(&self) -> &[Part]
+        ensures { result.now ≡ self.now.parts }
     {
-        self.range.clone()
+        self.range.parts()
     }
 
     fn holds(&self, number: i128) -> bool
@@ -93,11 +95,66 @@ fn excluding(limits: &[Limit], number: i128) -> Option<&Limit>
     None
 }
 
-/// A type that is no union: its restrictions stand from the built-in type outwards.
+/// A built-in type with restrictions, which stand from the built-in type outwards.
+#[derive(Debug, Drop)]
+struct LimitedType {
+    base: Base,
+    inner: Vec<Limit>,
+    outermost: Limit,
+}
+
+impl Model for LimitedType {
+    ghost use Rattle.std.specs.Prelude.{◌++◌, ◌∷◌, []};
+    ghost use Rattle.yspec.specs.types.Types as types;
+
+    ghost Value = { types.SimpleType };
+
+    ghost use Rattle.ytype.specs.View.{base_of};
+
+    ghost view = { λ l. record { base = base_of l.base; limits = l.inner.items ++ l.outermost ∷ [] } };
+}
+
+impl LimitedType {
+    fn base(&self) -> &Base
+        ensures { base_of result.now ≡ self.now.base }
+    {
+        &self.base
+    }
+
+    fn excluding(&self, number: i128) -> Option<&Limit>
+        ensures { now_of result ≡ excluding self.now.limits number }
+    {
+        match excluding(&self.inner, number) {
+            Some(limit) => Some(limit),
+            None => excluding(slice::from_ref(&self.outermost), number),
+        }
+    }
+
+    fn left(&self) -> &[Part]
+        ensures { (numbers : _) → result.now ≡ left_by numbers self.now.limits }
+    {
+        self.outermost.parts()
+    }
+
+    fn limits(&self) -> Result<Vec<Limit>, AllocError>
+        ensures { IfOk result (λ limits. limits.items ≡ self.now.limits) }
+    {
+        let mut limits = self.inner.clone()?;
+        limits.push(self.outermost.clone()?)?;
+        Ok(limits)
+    }
+}
+
+#[derive(Debug, Drop)]
+enum Form {
+    Plain(Base),
+    Limited(Rc<LimitedType>),
+}
+
+/// A type that is no union. Copies share its restrictions.
 #[derive(Debug, Drop)]
 pub(crate) struct SimpleType {
-    base: Base,
-    limits: Vec<Limit>,
+    form: Form,
 }
 
 impl Model for SimpleType {
@@ -105,9 +162,9 @@ impl Model for SimpleType {
 
     ghost Value = { types.SimpleType };
 
-    ghost use Rattle.ytype.specs.View.{base_of};
+    ghost use Rattle.ytype.specs.Forms.{simple_of};
 
-    ghost view = { λ s. record { base = base_of s.base; limits = s.limits.items } };
+    ghost view = { λ s. simple_of s.form };
 }
 
 impl Clone for SimpleType {
@@ -118,36 +175,50 @@ impl Clone for SimpleType {
     fn clone(&self) -> Result<SimpleType, AllocError>
         ensures { IfOk result (λ copy. copy ≡ self.now) }
     {
-        Ok(SimpleType {
-            base: self.base.clone()?,
-            limits: self.limits.clone()?,
-        })
-    }
-}
-
-fn within(
-    alloc: Global,
-    limits: &[Limit],
-    found: Option<Found<'_>>,
-) -> Result<Option<Content>, AllocError>
-    ensures { IfOk result (λ content. contents content ≡ option_and_then (limited limits.now) (founds found.entry)) }
-{
-    match found {
-        None => Ok(None),
-        Some(found) => match excluding(limits, found.measure()) {
-            Some(_) => Ok(None),
-            None => Ok(Some(found.into_content(alloc)?)),
-        },
+        let form = match &self.form {
+            Form::Plain(base) => Form::Plain(base.clone()?),
+            Form::Limited(limited) => Form::Limited(limited.clone()?),
+        };
+        Ok(SimpleType { form })
     }
 }
 
 impl SimpleType {
-    pub(crate) fn new(alloc: Global, base: Base) -> SimpleType
+    pub(crate) fn plain(base: Base) -> SimpleType
         ensures { result ≡ record { base = base_of base; limits = [] } }
     {
         SimpleType {
-            base,
-            limits: Vec::new(alloc),
+            form: Form::Plain(base),
+        }
+    }
+
+    fn base(&self) -> &Base
+        ensures { base_of result.now ≡ self.now.base }
+    {
+        match &self.form {
+            Form::Plain(base) => base,
+            Form::Limited(limited) => limited.base(),
+        }
+    }
+
+    fn excluding(&self, number: i128) -> Option<&Limit>
+        ensures { now_of result ≡ excluding self.now.limits number }
+    {
+        match &self.form {
+            Form::Plain(_) => None,
+            Form::Limited(limited) => limited.excluding(number),
+        }
+    }
+
+    fn within(&self, alloc: Global, found: Option<Found<'_>>) -> Result<Option<Content>, AllocError>
+        ensures { IfOk result (λ content. contents content ≡ option_and_then (limited self.now.limits) (founds found.entry)) }
+    {
+        match found {
+            None => Ok(None),
+            Some(found) => match self.excluding(found.measure()) {
+                Some(_) => Ok(None),
+                None => Ok(Some(found.into_content(alloc)?)),
+            },
         }
     }
 
@@ -155,30 +226,30 @@ impl SimpleType {
     pub(crate) fn taken(&self, alloc: Global, raw: &Raw) -> Result<Option<Content>, AllocError>
         ensures { IfOk result (λ content. contents content ≡ simple_taken self.now (raw_of raw.now)) }
     {
-        within(alloc, &self.limits, self.base.taken(alloc, raw)?)
+        self.within(alloc, self.base().taken(alloc, raw)?)
     }
 
     /// The value of a text of a module.
     pub(crate) fn read(&self, alloc: Global, text: &str) -> Result<Option<Content>, AllocError>
         ensures { IfOk result (λ content. contents content ≡ simple_read self.now text.now) }
     {
-        within(alloc, &self.limits, self.base.read(alloc, text)?)
+        self.within(alloc, self.base().read(alloc, text)?)
     }
 
     /// The canonical text of what it took.
     pub(crate) fn text_of(&self, alloc: Global, content: &Content) -> Result<String, AllocError>
         ensures { IfOk result (λ text. string_bytes text ≡ content_text self.now.base (content_of content.now)) }
     {
-        content_text(alloc, &self.base, content)
+        content_text(alloc, self.base(), content)
     }
 
     /// The error-app-tag of the first restriction that excludes what a document has.
     pub(crate) fn app_tag(&self, alloc: Global, raw: &Raw) -> Result<Option<String>, AllocError>
         ensures { IfOk result (λ tag. text_of tag ≡ simple_app_tag self.now (raw_of raw.now)) }
     {
-        match self.base.taken(alloc, raw)? {
+        match self.base().taken(alloc, raw)? {
             None => Ok(None),
-            Some(found) => match excluding(&self.limits, found.measure()) {
+            Some(found) => match self.excluding(found.measure()) {
                 None => Ok(None),
                 Some(limit) => limit.app_tag(),
             },
@@ -186,24 +257,12 @@ impl SimpleType {
     }
 }
 
-fn left_by(alloc: Global, numbers: Part, limits: &[Limit]) -> Result<Range, AllocError>
-    ensures { IfOk result (λ left. left ≡ left_by numbers limits.now) }
-{
-    let mut parts = Vec::new(alloc);
-    parts.push(numbers)?;
-    let mut left = Range::new(parts);
-    'limits: for limit in limits {
-        left = limit.range()?;
-    }
-    Ok(left)
-}
-
 impl SimpleType {
     fn range_bounds(&self) -> Option<(Part, u32)>
         ensures bounds { result ≡ range_base self.now.base }
         ensures digits { IfSome result (λ b. b.1 ≤ 18) }
     {
-        match &self.base {
+        match self.base() {
             Base::Integer(integer) => Some((integer.numbers(), 0)),
             Base::Decimal(digits) => Some((Integer::Int64.numbers(), digits.digits())),
             _ => None,
@@ -214,9 +273,28 @@ impl SimpleType {
         ensures bounds { result ≡ length_base self.now.base }
         ensures digits { IfSome result (λ b. b.1 ≤ 18) }
     {
-        match &self.base {
+        match self.base() {
             Base::Text => Some((Part::new(0, 0xFFFF_FFFF_FFFF_FFFF), 0)),
             _ => None,
+        }
+    }
+
+    fn limits(&self, alloc: Global) -> Result<Vec<Limit>, AllocError>
+        ensures { IfOk result (λ limits. limits.items ≡ self.now.limits) }
+    {
+        match &self.form {
+            Form::Plain(_) => Ok(Vec::new(alloc)),
+            Form::Limited(limited) => limited.limits(),
+        }
+    }
+
+    // The numbers that its restrictions leave of those of its built-in type.
+    fn left<'a>(&'a self, numbers: &'a Part) -> &'a [Part]
+        ensures { result.now ≡ left_by numbers.now self.now.limits }
+    {
+        match &self.form {
+            Form::Plain(_) => slice::from_ref(numbers),
+            Form::Limited(limited) => limited.left(),
         }
     }
 
@@ -230,22 +308,28 @@ impl SimpleType {
         requires { bounds.1 ≤ 18 }
         ensures { Gives same narrow_refusal result (ok_or (limited_by self.now spans.now (text_of app_tag.now) bounds) tt) }
     {
-        let outer = left_by(alloc, bounds.0, &self.limits)?;
-        match restricted(alloc, &outer, bounds.1, spans) {
+        match restricted(alloc, self.left(&bounds.0), bounds.1, spans) {
             Err(fault) => Err(fault),
-            Ok(range) => Ok(self.with_limit(range, app_tag)?),
+            Ok(range) => Ok(self.with_limit(alloc, range, app_tag)?),
         }
     }
 
-    fn with_limit(&self, range: Range, app_tag: &Option<String>) -> Result<SimpleType, AllocError>
+    fn with_limit(
+        &self,
+        alloc: Global,
+        range: Range,
+        app_tag: &Option<String>,
+    ) -> Result<SimpleType, AllocError>
         ensures { IfOk result (λ type. type ≡ with_limit self.now (text_of app_tag.now) range) }
     {
         let app_tag = copy_of(app_tag)?;
-        let mut limits = self.limits.clone()?;
-        limits.push(Limit { range, app_tag })?;
+        let limited = LimitedType {
+            base: self.base().clone()?,
+            inner: self.limits(alloc)?,
+            outermost: Limit { range, app_tag },
+        };
         Ok(SimpleType {
-            base: self.base.clone()?,
-            limits,
+            form: Form::Limited(Rc::new(alloc, limited)?),
         })
     }
 

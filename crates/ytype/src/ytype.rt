@@ -26,7 +26,7 @@ use ynumber::{FractionDigits, Naming, NarrowFault, Restriction, bit_names, enum_
 #[derive(Debug, Drop)]
 enum Shape {
     Single(SimpleType),
-    Union(Vec<SimpleType>),
+    Union(Rc<Vec<SimpleType>>),
 }
 
 impl Clone for Shape {
@@ -76,105 +76,105 @@ impl Clone for YType {
     }
 }
 
-fn plain(alloc: Global, base: Base) -> YType
+fn plain(base: Base) -> YType
     ensures { result ≡ plain (base_of base) }
 {
     YType {
-        shape: Shape::Single(SimpleType::new(alloc, base)),
+        shape: Shape::Single(SimpleType::plain(base)),
         requires_instance: None,
     }
 }
 
-fn integer(alloc: Global, integer: Integer) -> Result<YType, NarrowFault>
+fn integer(integer: Integer) -> Result<YType, NarrowFault>
     ensures { result ≡ Ok (integer_type (integer_of integer)) }
 {
-    Ok(plain(alloc, Base::Integer(integer)))
+    Ok(plain(Base::Integer(integer)))
 }
 
 /// The built-in types (RFC 7950, 9.2 to 9.12).
 impl YType {
     /// Numbers of 8 bits with a sign.
-    pub fn int8(alloc: Global) -> Result<YType, NarrowFault>
+    pub fn int8(_alloc: Global) -> Result<YType, NarrowFault>
         ensures { result ≡ Ok (integer_type int8) }
     {
-        integer(alloc, Integer::Int8)
+        integer(Integer::Int8)
     }
 
     /// Numbers of 16 bits with a sign.
-    pub fn int16(alloc: Global) -> Result<YType, NarrowFault>
+    pub fn int16(_alloc: Global) -> Result<YType, NarrowFault>
         ensures { result ≡ Ok (integer_type int16) }
     {
-        integer(alloc, Integer::Int16)
+        integer(Integer::Int16)
     }
 
     /// Numbers of 32 bits with a sign.
-    pub fn int32(alloc: Global) -> Result<YType, NarrowFault>
+    pub fn int32(_alloc: Global) -> Result<YType, NarrowFault>
         ensures { result ≡ Ok (integer_type int32) }
     {
-        integer(alloc, Integer::Int32)
+        integer(Integer::Int32)
     }
 
     /// Numbers of 64 bits with a sign.
-    pub fn int64(alloc: Global) -> Result<YType, NarrowFault>
+    pub fn int64(_alloc: Global) -> Result<YType, NarrowFault>
         ensures { result ≡ Ok (integer_type int64) }
     {
-        integer(alloc, Integer::Int64)
+        integer(Integer::Int64)
     }
 
     /// Numbers of 8 bits without a sign.
-    pub fn uint8(alloc: Global) -> Result<YType, NarrowFault>
+    pub fn uint8(_alloc: Global) -> Result<YType, NarrowFault>
         ensures { result ≡ Ok uint8_type }
     {
-        integer(alloc, Integer::Uint8)
+        integer(Integer::Uint8)
     }
 
     /// Numbers of 16 bits without a sign.
-    pub fn uint16(alloc: Global) -> Result<YType, NarrowFault>
+    pub fn uint16(_alloc: Global) -> Result<YType, NarrowFault>
         ensures { result ≡ Ok (integer_type uint16) }
     {
-        integer(alloc, Integer::Uint16)
+        integer(Integer::Uint16)
     }
 
     /// Numbers of 32 bits without a sign.
-    pub fn uint32(alloc: Global) -> Result<YType, NarrowFault>
+    pub fn uint32(_alloc: Global) -> Result<YType, NarrowFault>
         ensures { result ≡ Ok (integer_type uint32) }
     {
-        integer(alloc, Integer::Uint32)
+        integer(Integer::Uint32)
     }
 
     /// Numbers of 64 bits without a sign.
-    pub fn uint64(alloc: Global) -> Result<YType, NarrowFault>
+    pub fn uint64(_alloc: Global) -> Result<YType, NarrowFault>
         ensures { result ≡ Ok (integer_type uint64) }
     {
-        integer(alloc, Integer::Uint64)
+        integer(Integer::Uint64)
     }
 
     /// Numbers with so many digits after the point, of 64 bits in units of the last one (9.3).
-    pub fn decimal64(alloc: Global, digits: FractionDigits) -> Result<YType, NarrowFault>
+    pub fn decimal64(_alloc: Global, digits: FractionDigits) -> Result<YType, NarrowFault>
         ensures { result ≡ Ok (plain (decimal_base digits)) }
     {
-        Ok(plain(alloc, Base::Decimal(digits)))
+        Ok(plain(Base::Decimal(digits)))
     }
 
     /// Texts (9.4).
-    pub fn string(alloc: Global) -> Result<YType, NarrowFault>
+    pub fn string(_alloc: Global) -> Result<YType, NarrowFault>
         ensures { result ≡ Ok string_type }
     {
-        Ok(plain(alloc, Base::Text))
+        Ok(plain(Base::Text))
     }
 
     /// True and false (9.5).
-    pub fn boolean(alloc: Global) -> Result<YType, NarrowFault>
+    pub fn boolean(_alloc: Global) -> Result<YType, NarrowFault>
         ensures { result ≡ Ok (plain boolean_base) }
     {
-        Ok(plain(alloc, Base::Boolean))
+        Ok(plain(Base::Boolean))
     }
 
     /// The one value of a leaf that says by its presence alone (9.11).
-    pub fn empty(alloc: Global) -> Result<YType, NarrowFault>
+    pub fn empty(_alloc: Global) -> Result<YType, NarrowFault>
         ensures { result ≡ Ok (plain empty_base) }
     {
-        Ok(plain(alloc, Base::Empty))
+        Ok(plain(Base::Empty))
     }
 
     /// The names of enums in their order (9.6). Refused where a name or a number comes twice, a name is empty or has
@@ -185,7 +185,7 @@ impl YType {
     {
         match enum_names(alloc, namings) {
             Err(fault) => Err(fault),
-            Ok(names) => Ok(plain(alloc, Base::Enumeration(Rc::new(alloc, names)?))),
+            Ok(names) => Ok(plain(Base::Enumeration(Rc::new(alloc, names)?))),
         }
     }
 
@@ -197,7 +197,7 @@ impl YType {
     {
         match bit_names(alloc, namings) {
             Err(fault) => Err(fault),
-            Ok(names) => Ok(plain(alloc, Base::Bits(Rc::new(alloc, names)?))),
+            Ok(names) => Ok(plain(Base::Bits(Rc::new(alloc, names)?))),
         }
     }
 
@@ -205,12 +205,12 @@ impl YType {
     pub fn union(alloc: Global, types: &[YType]) -> Result<YType, NarrowFault>
         ensures { Gives same narrow_refusal result (Ok (union_type types.now)) }
     {
-        let mut members = Vec::new(alloc);
+        let mut members = Vec::with_capacity(alloc, types.len())?;
         'types: for member in types {
             member.shape.add_to(&mut members)?;
         }
         Ok(YType {
-            shape: Shape::Union(members),
+            shape: Shape::Union(Rc::new(alloc, members)?),
             requires_instance: None,
         })
     }
@@ -233,7 +233,7 @@ impl Shape {
         match self {
             Shape::Single(simple) => members.push(simple.clone()?)?,
             Shape::Union(others) => {
-                'others: for other in others {
+                'others: for other in others.iter() {
                     members.push(other.clone()?)?;
                 }
             }
