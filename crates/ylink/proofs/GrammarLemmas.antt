@@ -1,28 +1,32 @@
 -- What is broken at statements, by their keywords.
 use Rattle.std.proofs.Common.{◌≡◌, ℕ, ◌+◌, ◌<◌, ◌≤◌, Bool, true, false, cond, List, [], ◌∷◌, ◌++◌, length, get_or, drop, Option, Some, None, arith, refl, sym, ap, ap₂, subst, ◌∙◌}
-use Rattle.std.specs.Prelude.{◌||◌, slice_set}
+use Rattle.std.specs.Prelude.{◌||◌, ◌&&◌, not, count_by, slice_set}
 use Rattle.std.specs.Prelude.{Result, Ok, Err, IfOk}
 use Rattle.std.specs.Option.{option_map_or}
-use Rattle.std.proofs.lemmas.Bool.{eq-eqb}
+use Rattle.std.proofs.Math.Bool.{and-false, and-true}
+use Rattle.std.proofs.lemmas.Bool.{eq-eqb, and_parts}
+use Rattle.std.proofs.lemmas.Slice.Eq.{bytes_eq-Decides}
 use Rattle.std.proofs.lemmas.Bool.Decides.{Decides-eqb}
 use Rattle.std.proofs.lemmas.Option.{slice_get_within, unwrap_or-slice_get}
 use Rattle.std.specs.List.{list_any}
 use Rattle.std.proofs.lemmas.List.Sums.{sum_by-cons}
 use Rattle.std.proofs.lemmas.List.{at_drop_more, get_or-set_same, get_or-set_other}
-use Rattle.yspec.specs.Forest.{Forest, node, row}
+use Rattle.yspec.specs.Forest.{Forest, end, node, row}
+use Rattle.yspec.specs.text.Text.{Text, is_text}
 use Rattle.yspec.specs.text.Statement.{Statement}
-use Rattle.yspec.specs.linking.StatementBreaks.{has_keyword, is_miscounted, occurrences}
+use Rattle.yspec.specs.linking.StatementBreaks.{has_keyword, is_miscounted, is_missing_version, occurrences}
 use Rattle.yspec.specs.linking.Keyword.{Keyword, same_keyword, keyword_named, keyword_number, keywords, extension_word, module_word}
-use Rattle.yspec.proofs.LinkingProofs.KeywordLemmas.{by_number}
+use Rattle.yspec.proofs.LinkingProofs.KeywordLemmas.{by_number, prefixed_is_none}
 use Rattle.yspec.specs.linking.Table.{Allowed, Rule, rule_of}
-use Rattle.yspec.specs.schema.Breaks.{Break, broken, least_from}
-use Rattle.yspec.specs.linking.StatementBreaks.{is_prefixed, is_allowed, own_breaks, breaks_at, named_breaks, known_breaks, substatements_of, row_breaks, top_breaks, breaks_from}
+use Rattle.yspec.specs.schema.Breaks.{Break, Count, exactly_one, at_most_one, any_number, is_wrong_count, least_from}
+use Rattle.yspec.specs.linking.StatementBreaks.{is_prefixed, is_allowed, own_breaks, breaks_at, substatements_of, row_breaks, top_breaks, breaks_from}
 use Rattle.yspec.proofs.SchemaProofs.LeastLemmas.{least_of_both}
 use Rattle.ytext.specs.View.{view, row_view, modules_view}
 use Rattle.ytext.specs.declared.statement.Stmt.{Stmt}
 use Rattle.ytext.specs.declared.statement.Module.{Module}
 use Rattle.ytext.proofs.ViewLemmas.{row_view_at}
-use Rattle.ylink.specs.Counts.{AreOf, allowed_word, count_at, is_miscounted_by}
+use Rattle.ylink.specs.Counts.{AreOf, allowed_word, are_apart, count_at, has_word, is_miscounted_by, lacks, needs}
+use Rattle.ylink.proofs.KeywordLemmas.{text_of_named}
 
 -- what a fallible call answers, where that is another way to say it
 pub if_ok_then : {A E : Type 0} (P Q : A → Type 0) (r : Result A E) → ((x : A) → P x → Q x) → IfOk r P → IfOk r Q
@@ -95,24 +99,64 @@ pub all_miscounted : (counts : List ℕ) (f : Forest Statement) → AreOf counts
 all_miscounted counts f are [] = refl
 all_miscounted counts f are (a ∷ others) = ap₂ (λ x y. x || y) (miscounted_by counts f are a) (all_miscounted counts f are others)
 
--- ---- a statement where it stands
+-- ---- a row in which no keyword comes twice
 
-pub breaks_prefixed : (m : ℕ) (allowed : List Allowed) (s : Statement) (below : Forest Statement) (inner : List Break) → is_prefixed s.keyword ≡ true
-    → [] ≡ breaks_at m allowed s below inner
-breaks_prefixed m allowed s below inner e = rw e refl
-
-refused_word : (m : ℕ) (allowed : List Allowed) (o : Option Keyword) (s : Statement) (below : Forest Statement) (inner : List Break) → None ≡ allowed_word allowed o
-    → broken 1 m s.line ≡ named_breaks m allowed o s below inner
-refused_word m allowed None s below inner e = refl
-refused_word m allowed (Some k) s below inner e = go (is_allowed k allowed) refl
+-- what the one test passes, the other does
+any_less : {A : Type 0} (p q : A → Bool) → ((x : A) → p x ≡ true → q x ≡ true) → (xs : List A) → list_any q xs ≡ false → list_any p xs ≡ false
+any_less p q less [] none = refl
+any_less p q less (x ∷ xs) none = by (p x) (q x) refl refl none (any_less p q less xs)
   where
-    go : (b : Bool) → is_allowed k allowed ≡ b → broken 1 m s.line ≡ known_breaks m allowed k s below inner
-    go true is = let clash : None ≡ Some k = rw is at e in absurd cc
-    go false is = rw is refl
+    by : (a b : Bool) → p x ≡ a → q x ≡ b → (b || list_any q xs) ≡ false → (list_any q xs ≡ false → list_any p xs ≡ false) → (p x || list_any p xs) ≡ false
+    by a true ea eb none rest = absurd cc
+    by true false ea eb none rest = let clash : true ≡ false = sym (less x ea) ∙ eb in absurd cc
+    by false false ea eb none rest = rw ea (rest none)
 
-pub breaks_refused : (m : ℕ) (allowed : List Allowed) (s : Statement) (below : Forest Statement) (inner : List Break) → is_prefixed s.keyword ≡ false
-    → None ≡ allowed_word allowed (keyword_named s.keyword) → broken 1 m s.line ≡ breaks_at m allowed s below inner
-breaks_refused m allowed s below inner e none = rw e (refused_word m allowed (keyword_named s.keyword) s below inner none)
+not_again : (k : Keyword) (s : Statement) (ss : List Statement) → has_keyword k s ≡ true → has_word s.keyword ss ≡ false → list_any (has_keyword k) ss ≡ false
+not_again k s ss has none =
+    any_less (has_keyword k) (λ x. is_text s.keyword x.keyword)
+    (λ x e. (bytes_eq-Decides s.keyword x.keyword).1 (text_of_named k s.keyword has ∙ sym (text_of_named k x.keyword e))) ss none
+
+not_false : (b : Bool) → not b ≡ true → b ≡ false
+not_false true e = absurd cc
+not_false false e = refl
+
+once : (k : Keyword) (ss : List Statement) → are_apart ss ≡ true → count_by (has_keyword k) ss ≡ cond (list_any (has_keyword k) ss) 1 0
+once k [] apart = refl
+once k (s ∷ ss) apart =
+    let parts = and_parts (not (has_word s.keyword ss)) (are_apart ss) apart in
+    sum_by-cons (λ x. cond (has_keyword k x) 1 0) s ss ∙ by (has_keyword k s) refl (not_false (has_word s.keyword ss) parts.0) (once k ss parts.1)
+  where
+    by : (b : Bool) → has_keyword k s ≡ b → has_word s.keyword ss ≡ false → count_by (has_keyword k) ss ≡ cond (list_any (has_keyword k) ss) 1 0
+        → cond b 1 0 + count_by (has_keyword k) ss ≡ cond (b || list_any (has_keyword k) ss) 1 0
+    by true is none e = ap (λ n. 1 + n) (e ∙ ap (λ b. cond b 1 0) (not_again k s ss is none))
+    by false is none e = omega (arith, e)
+
+-- of what comes once at most, there may only be too few
+miscounted_once : (f : Forest Statement) (a : Allowed) → occurrences a.keyword f ≡ cond (list_any (has_keyword a.keyword) (row f)) 1 0
+    → is_miscounted f a ≡ (is_miscounted end a && lacks f a.keyword)
+miscounted_once f a e = by (list_any (has_keyword a.keyword) (row f)) (occurrences a.keyword f) e a.count
+  where
+    miscounted : Count → ℕ → Bool
+    miscounted c n = is_wrong_count c n && not (is_missing_version a.keyword n)
+
+    by : (b : Bool) (n : ℕ) → n ≡ cond b 1 0 → (c : Count) → miscounted c n ≡ (miscounted c 0 && not b)
+    by true n e c = ap (miscounted c) e ∙ never c
+      where
+        never : (c : Count) → miscounted c 1 ≡ (miscounted c 0 && false)
+        never exactly_one = sym (and-false (miscounted exactly_one 0))
+        never at_most_one = refl
+        never any_number = refl
+    by false n e c = ap (miscounted c) e ∙ sym (and-true (miscounted c 0))
+
+pub only_missing : (f : Forest Statement) → are_apart (row f) ≡ true → (allowed : List Allowed) → list_any (lacks f) (needs allowed) ≡ list_any (is_miscounted f) allowed
+only_missing f apart [] = refl
+only_missing f apart (a ∷ others) = by (is_miscounted end a) refl ∙ ap₂ (λ x y. x || y) (sym (miscounted_once f a (once a.keyword (row f) apart))) (only_missing f apart others)
+  where
+    by : (b : Bool) → is_miscounted end a ≡ b → list_any (lacks f) (needs (a ∷ others)) ≡ ((is_miscounted end a && lacks f a.keyword) || list_any (lacks f) (needs others))
+    by true is = rw is refl
+    by false is = rw is refl
+
+-- ---- a statement where it stands
 
 pub known_word : (allowed : List Allowed) (o : Option Keyword) (k : Keyword) → Some k ≡ allowed_word allowed o → (o ≡ Some k) × (is_allowed k allowed ≡ true)
 known_word allowed None k e = absurd cc
@@ -122,10 +166,13 @@ known_word allowed (Some j) k e = go (is_allowed j allowed) refl
     go true is = let same : Some k ≡ Some j = rw is at e in (sym same, subst (λ (o : Option Keyword). option_map_or (λ i. is_allowed i allowed) o false ≡ true) (sym same) is)
     go false is = let clash : Some k ≡ None = rw is at e in absurd cc
 
-pub breaks_extension : (m : ℕ) (allowed : List Allowed) (s : Statement) (below : Forest Statement) (inner : List Break) (k : Keyword) → is_prefixed s.keyword ≡ false
-    → Some k ≡ allowed_word allowed (keyword_named s.keyword) → same_keyword k extension_word ≡ true → [] ≡ breaks_at m allowed s below inner
-breaks_extension m allowed s below inner k e some same =
-    let known = known_word allowed (keyword_named s.keyword) k some in rw (e, known.0, known.1, same) refl
+-- no keyword has a prefix
+pub not_prefixed : (allowed : List Allowed) (t : Text) (k : Keyword) → Some k ≡ allowed_word allowed (keyword_named t) → is_prefixed t ≡ false
+not_prefixed allowed t k some = by (is_prefixed t) refl
+  where
+    by : (b : Bool) → is_prefixed t ≡ b → b ≡ false
+    by true is = let clash : Some k ≡ None = sym (known_word allowed (keyword_named t) k some).0 ∙ prefixed_is_none t is in absurd cc
+    by false is = refl
 
 pub breaks_known : (m : ℕ) (allowed : List Allowed) (s : Statement) (below : Forest Statement) (k : Keyword) → is_prefixed s.keyword ≡ false
     → Some k ≡ allowed_word allowed (keyword_named s.keyword) → same_keyword k extension_word ≡ false

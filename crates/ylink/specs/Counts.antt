@@ -1,11 +1,13 @@
 -- How many statements of each keyword there are in a row, and which may stand there.
-use Rattle.std.specs.Prelude.{◌≡◌, ℕ, ◌&&◌, not, Bool, List, Option, Some, None, if◌then◌else◌, slice_get, unwrap_or}
-use Rattle.yspec.specs.Forest.{Forest}
+use Rattle.std.specs.Prelude.{◌≡◌, ℕ, ◌&&◌, not, Bool, true, List, [], ◌∷◌, map, filter, Option, Some, None, if◌then◌else◌, slice_get, unwrap_or}
+use Rattle.std.specs.List.{list_any}
+use Rattle.yspec.specs.Forest.{Forest, end, row}
+use Rattle.yspec.specs.text.Text.{Text, is_text}
 use Rattle.yspec.specs.text.Statement.{Statement}
 use Rattle.yspec.specs.schema.Breaks.{is_wrong_count}
 use Rattle.yspec.specs.linking.Keyword.{Keyword, keyword_number}
 use Rattle.yspec.specs.linking.Table.{Allowed}
-use Rattle.yspec.specs.linking.StatementBreaks.{is_missing_version, is_allowed, occurrences}
+use Rattle.yspec.specs.linking.StatementBreaks.{has_keyword, is_miscounted, is_missing_version, is_allowed, occurrences}
 
 -- the count of a keyword among counts by number
 abbrev pub count_at : List ℕ → Keyword → ℕ
@@ -17,6 +19,25 @@ AreOf counts statements = (k : Keyword) → count_at counts k ≡ occurrences k 
 -- whether there are too many or too few of a substatement by some counts
 abbrev pub is_miscounted_by : List ℕ → Allowed → Bool
 is_miscounted_by counts a = let n = count_at counts a.keyword in is_wrong_count a.count n && not (is_missing_version a.keyword n)
+
+-- ---- few statements
+
+abbrev pub has_word : Text → List Statement → Bool
+has_word word = list_any (λ s. is_text word s.keyword)
+
+-- no two have the same keyword
+abbrev pub are_apart : List Statement → Bool
+are_apart [] = true
+are_apart (s ∷ ss) = not (has_word s.keyword ss) && are_apart ss
+
+abbrev pub lacks : Forest Statement → Keyword → Bool
+lacks statements k = not (list_any (has_keyword k) (row statements))
+
+-- the keywords that may not be missing: those that an empty row misses
+abbrev pub needs : List Allowed → List Keyword
+needs allowed = map (λ a. a.keyword) (filter (is_miscounted end) allowed)
+
+-- ---- which may stand there
 
 -- the keyword, where it may stand there
 abbrev pub allowed_word : List Allowed → Option Keyword → Option Keyword

@@ -1,6 +1,6 @@
 //! The rules of the table that statements break (RFC 7950, 7 and 14).
 
-ghost use Rattle.std.specs.Prelude.{◌≡◌, ◌&&◌, ◌++◌, ◌∷◌, [], false, true, not, None, IfOk, is_some, option_map, position};
+ghost use Rattle.std.specs.Prelude.{◌≡◌, ◌&&◌, ◌++◌, ◌∷◌, [], false, true, not, map, None, IfOk, is_some, option_map, position};
 ghost use Rattle.std.specs.List.{list_any};
 ghost use Rattle.std.specs.Option.{option_map_or};
 ghost use Rattle.yspec.specs.Forest.{row};
@@ -13,16 +13,19 @@ ghost use Rattle.ytext.specs.View.{view, row_view, modules_view};
 ghost use Rattle.ylink.specs.KeywordView.{keyword_view};
 ghost use Rattle.ylink.specs.FormView.{form_view};
 ghost use Rattle.ylink.specs.TableView.{count_view, allowed_view, allowed_views, rule_view};
-ghost use Rattle.ylink.specs.Counts.{AreOf, allowed_word, count_at, is_miscounted_by};
+ghost use Rattle.ylink.specs.Counts.{AreOf, allowed_word, are_apart, count_at, has_word, is_miscounted_by, lacks};
 ghost use Rattle.ylink.specs.BreakView.{break_view, seen};
 
 use crate::fault::{Broken, CompileCode, least, least_when};
 use crate::form::{Form, fits};
 use crate::keyword::{KEYWORDS, Keyword};
 use crate::name::colon_place;
-use crate::table::{Allowed, Count, Rule, rule_of};
+use crate::table::{Allowed, Count, Rule, needs_of, rule_of};
 use std::alloc::{AllocError, Global};
 use ytext::{Module, Stmt};
+
+// Up to how many substatements are compared with one another, and not counted.
+const FEW: usize = 8;
 
 pub(crate) fn broken(code: CompileCode, module: usize, statement: &Stmt) -> Broken
     ensures { result ≡ record { code = code; «module» = «module»; line = (view statement.now).0.line } }
@@ -100,6 +103,65 @@ fn has_wrong_counts(allowed: &[Allowed], counts: &[usize]) -> bool
     false
 }
 
+// Whether one of some statements has this word as its keyword.
+fn has_word(word: &str, statements: &[Stmt]) -> bool
+    ensures { result ≡ has_word word.now (row (row_view statements.now)) }
+{
+    for statement in statements {
+        if word == statement.keyword() {
+            return true;
+        }
+    }
+    false
+}
+
+// Whether no two statements have the same keyword.
+fn are_apart(statements: &[Stmt]) -> bool
+    ensures { result ≡ are_apart (row (row_view statements.now)) }
+{
+    for (place, statement) in statements.iter().enumerate() {
+        if has_word(statement.keyword(), &statements[place + 1..]) {
+            return false;
+        }
+    }
+    true
+}
+
+fn lacks(keyword: Keyword, statements: &[Stmt]) -> bool
+    ensures { result ≡ lacks (row_view statements.now) (keyword_view keyword) }
+{
+    for statement in statements {
+        if has_keyword(statement, keyword) {
+            return false;
+        }
+    }
+    true
+}
+
+fn lacks_any(keywords: &[Keyword], statements: &[Stmt]) -> bool
+    ensures { result ≡ list_any (lacks (row_view statements.now)) (map keyword_view keywords.now) }
+{
+    for keyword in keywords {
+        if lacks(*keyword, statements) {
+            return true;
+        }
+    }
+    false
+}
+
+// Whether there are too many or too few of a substatement.
+fn is_miscounted(keyword: Keyword, statement: &Stmt) -> bool
+    ensures { result ≡ list_any (spec.is_miscounted (view statement.now).1) (table.rule_of (keyword_view keyword)).substatements }
+{
+    let statements = statement.substatements();
+    if statements.len() <= FEW && are_apart(statements) {
+        return lacks_any(needs_of(keyword), statements);
+    }
+    let rule = rule_of(keyword);
+    let counts = counts_of(statements);
+    has_wrong_counts(rule.substatements, &counts)
+}
+
 fn is_allowed(keyword: Keyword, allowed: &[Allowed]) -> bool
     ensures { result ≡ spec.is_allowed (keyword_view keyword) (allowed_views allowed.now) }
 {
@@ -154,28 +216,6 @@ fn has_fitting_argument(alloc: Global, form: Form, statement: &Stmt) -> Result<b
     }
 }
 
-fn judge_argument(
-    alloc: Global,
-    module: usize,
-    form: Form,
-    statement: &Stmt,
-    so_far: Option<Broken>,
-) -> Result<Option<Broken>, AllocError>
-    ensures { IfOk result (λ told. seen told ≡ least_from (seen so_far)
-        (spec.argument_breaks «module» (form_view form) (view statement.now).0)) }
-{
-    let fits = has_fitting_argument(alloc, form, statement)?;
-    Ok(least_when(!fits, so_far, broken(CompileCode::C3, module, statement)))
-}
-
-// Whether there are too many or too few of a substatement.
-fn is_miscounted(allowed: &[Allowed], statement: &Stmt) -> bool
-    ensures { result ≡ list_any (spec.is_miscounted (view statement.now).1) (allowed_views allowed.now) }
-{
-    let counts = counts_of(statement.substatements());
-    has_wrong_counts(allowed, &counts)
-}
-
 // The rules that a statement breaks, apart from those that its substatements break.
 #[tactic(auto, using(yspec::proofs::SchemaProofs::LeastLemmas::least_of_both))]
 fn judge_alone(
@@ -189,16 +229,24 @@ fn judge_alone(
         (spec.own_breaks «module» (keyword_view keyword) (view statement.now).0 (view statement.now).1)) }
 {
     let rule = rule_of(keyword);
-    let told = judge_argument(alloc, module, rule.form, statement, so_far)?;
+    let unfitting = !has_fitting_argument(alloc, rule.form, statement)?;
     let outside = is_type_outside(keyword, statement);
-    let told = least_when(outside, told, broken(CompileCode::C1, module, statement));
     let unversioned = is_unversioned(keyword, statement);
+    let miscounted = is_miscounted(keyword, statement);
+    if !(unfitting || outside || unversioned || miscounted) {
+        return Ok(so_far);
+    }
+    let told = least_when(
+        unfitting,
+        so_far,
+        broken(CompileCode::C3, module, statement),
+    );
+    let told = least_when(outside, told, broken(CompileCode::C1, module, statement));
     let told = least_when(
         unversioned,
         told,
         broken(CompileCode::C4, module, statement),
     );
-    let miscounted = is_miscounted(rule.substatements, statement);
     Ok(least_when(miscounted, told, broken(CompileCode::C2, module, statement)))
 }
 
@@ -226,10 +274,8 @@ fn judge(
     ensures { let s = view statement.now in IfOk result (λ told. seen told ≡ least_from (seen so_far)
         (spec.breaks_at «module» (allowed_views allowed.now) s.0 s.1 (spec.row_breaks «module» (spec.substatements_of s.0.keyword) s.1))) }
 {
-    if is_prefixed(statement) {
-        return Ok(so_far);
-    }
     match allowed_keyword(allowed, statement) {
+        None if is_prefixed(statement) => Ok(so_far),
         None => Ok(least(so_far, broken(CompileCode::C1, module, statement))),
         Some(keyword) => {
             if keyword.is(Keyword::Extension) {

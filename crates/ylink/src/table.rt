@@ -1,7 +1,8 @@
 //! The table of statements (RFC 7950, 7 and 14).
 
-ghost use Rattle.std.specs.Prelude.{◌≡◌};
+ghost use Rattle.std.specs.Prelude.{◌≡◌, map};
 ghost use Rattle.yspec.specs.linking.Table as spec;
+ghost use Rattle.ylink.specs.Counts.{needs};
 ghost use Rattle.ylink.specs.KeywordView.{keyword_view};
 ghost use Rattle.ylink.specs.TableView.{rule_view};
 
@@ -647,5 +648,17 @@ pub(crate) fn rule_of(keyword: Keyword) -> Rule
     Rule {
         form,
         substatements,
+    }
+}
+
+/// The keywords that a statement must have below it, once each; not `yang-version`, whose want is told by its own code.
+pub(crate) fn needs_of(keyword: Keyword) -> &'static [Keyword]
+    ensures { map keyword_view result.now ≡ needs (spec.rule_of (keyword_view keyword)).substatements }
+{
+    match keyword {
+        Keyword::Module => &[Keyword::Namespace, Keyword::Prefix],
+        Keyword::Import => &[Keyword::Prefix],
+        Keyword::Typedef | Keyword::Leaf | Keyword::LeafList => &[Keyword::Type],
+        _ => &[],
     }
 }

@@ -3,7 +3,7 @@ use Rattle.ytext.specs.View.{view, row_view}
 use Rattle.ylink.specs.KeywordView.{keyword_view}
 use Rattle.ylink.specs.TableView.{allowed_views, rule_view}
 use Rattle.ylink.specs.BreakView.{seen}
-use Rattle.ylink.proofs.GrammarLemmas.{if_ok_then, judged_known, judged_row}
+use Rattle.ylink.proofs.GrammarLemmas.{if_ok_then, judged_known, judged_row, not_prefixed}
 use Rattle.ylink.proofs.grammar.+judge.Goals as goal
 
 pub judge-returns-in_ok-told-in-Some : goal.judge-returns-in_ok-told-in-Some
@@ -12,7 +12,7 @@ judge-returns-in_ok-told-in-Some t c =
     if_ok_then _ _ c.judge_row.result
     (λ told e. judged_known c.args.«module» (allowed_views c.args.allowed.now) (view s).0 (view s).1 (row_view c.substatements.result.now)
     (keyword_view c.in-Some.keyword) (rule_view c.rule_of-rule.result) (seen c.args.so_far) (seen c.in_ok-told-in-Some.told) (seen told)
-    (sym c.if-is_prefixed.ensures) c.in-Some.ensures (sym c.if-is.ensures) c.in_ok-told-in-Some.ensures c.substatements.ensures.below
+    (not_prefixed (allowed_views c.args.allowed.now) (view s).0.keyword (keyword_view c.in-Some.keyword) c.in-Some.ensures) c.in-Some.ensures (sym c.if-is.ensures) c.in_ok-told-in-Some.ensures c.substatements.ensures.below
     c.rule_of-rule.ensures e)
     c.judge_row.ensures
 
