@@ -1,17 +1,19 @@
 -- Prefixes of modules one after another, and unknown ones among names.
-use Rattle.std.proofs.Common.{◌≡◌, ℕ, zero, suc, ◌+◌, ◌<◌, ◌≤◌, Bool, true, false, List, [], ◌∷◌, ◌++◌, length, get_or, drop, map, Option, Some, None, refl, sym, ap, ◌∙◌}
-use Rattle.std.specs.Prelude.{◌||◌, unwrap_or}
+use Rattle.std.proofs.Common.{◌≡◌, ℕ, zero, suc, ◌+◌, ◌<◌, ◌≤◌, Bool, true, false, cond, List, [], ◌∷◌, ◌++◌, length, get_or, drop, map, Option, Some, None, is_some, option_map, refl, sym, ap, subst, ◌∙◌}
+use Rattle.std.specs.Prelude.{◌||◌, find, unwrap_or}
 use Rattle.std.specs.Borrow.{Bor}
 use Rattle.std.specs.List.{list_any, flat_map}
 use Rattle.std.proofs.lemmas.List.{at_drop_more, at_drop_all, append_assoc, append-nil}
 use Rattle.std.proofs.lemmas.List.Folds.{list_any-append}
 use Rattle.yspec.specs.Forest.{Forest, end, node}
-use Rattle.yspec.specs.text.Text.{Text}
-use Rattle.yspec.specs.linking.Keyword.{prefix_word}
-use Rattle.std.specs.Option.{option_map_or}
-use Rattle.yspec.specs.linking.Arguments.{Name, name_of, key_of, unique_of, leafref_path_of}
-use Rattle.yspec.specs.linking.Prefixes.{own_prefix, names_given}
+use Rattle.yspec.specs.text.Text.{Text, is_text}
+use Rattle.yspec.specs.types.Types.{int8, int16, int32, int64, uint8, uint16, uint32, uint64}
+use Rattle.yspec.specs.linking.Keyword.{prefix_word, type_word}
+use Rattle.std.proofs.lemmas.Slice.Eq.{bytes_eq-Decides}
+use Rattle.yspec.specs.linking.Arguments.{Name, unique_of}
+use Rattle.yspec.specs.linking.Prefixes.{is_unknown_prefix, own_prefix, names_given}
 use Rattle.yspec.specs.linking.Source.{Source, argument_with}
+use Rattle.yspec.specs.linking.TypeStatements.{BuiltIn, integer, decimal64, string, boolean, empty, enumeration, bits, union, leafref, all_built_in, built_in_name, built_in_named, named_so}
 use Rattle.ylink.specs.declared.keyword.Keyword.{Keyword}
 use Rattle.ylink.specs.declared.keyword.Keyword.TheVariants as words
 use Rattle.ylink.specs.KeywordView.{keyword_view}
@@ -72,31 +74,53 @@ next_prefix texts more t s below after before whole first pushed is so_far =
 
 -- ---- the names in an argument
 
-or_false : (b : Bool) → (b || false) ≡ b
-or_false true = refl
-or_false false = refl
-
 module _ (p : Name → Bool) (k : Keyword) (t : Text) where
-  pub of_type : (n : Name) → k ≡ words.Type → Some n ≡ name_of t → p n ≡ list_any p (names_given (keyword_view k) t)
-  of_type n e some =
-      sym (ap (λ w. list_any p (names_given (keyword_view w) t)) e
-      ∙ (ap (λ o. list_any p (option_map_or (λ x. x ∷ []) o [])) (sym some) ∙ or_false (p n)))
-
-  pub of_no_type : k ≡ words.Type → None ≡ name_of t → false ≡ list_any p (names_given (keyword_view k) t)
-  of_no_type e none =
-      sym (ap (λ w. list_any p (names_given (keyword_view w) t)) e ∙ ap (λ o. list_any p (option_map_or (λ x. x ∷ []) o [])) (sym none))
-
-  pub of_key : (o : Option (List Name)) → k ≡ words.Key → o ≡ key_of t → list_any p (unwrap_or o []) ≡ list_any p (names_given (keyword_view k) t)
-  of_key o e is = ap (λ x. list_any p (unwrap_or x [])) is ∙ sym (ap (λ w. list_any p (names_given (keyword_view w) t)) e)
-
-  pub of_path : (o : Option (List Name)) → k ≡ words.Path → o ≡ leafref_path_of t → list_any p (unwrap_or o []) ≡ list_any p (names_given (keyword_view k) t)
-  of_path o e is = ap (λ x. list_any p (unwrap_or x [])) is ∙ sym (ap (λ w. list_any p (names_given (keyword_view w) t)) e)
-
   pub of_unique : (paths : List (List Name)) → k ≡ words.Unique → Some paths ≡ unique_of t → list_any (list_any p) paths ≡ list_any p (names_given (keyword_view k) t)
   of_unique paths e is =
       any_of_all p paths ∙ (ap (λ x. list_any p (flat_map (λ path. path) (unwrap_or x []))) is
       ∙ sym (ap (λ w. list_any p (names_given (keyword_view w) t)) e))
 
-  pub of_no_unique : k ≡ words.Unique → None ≡ unique_of t → false ≡ list_any p (names_given (keyword_view k) t)
-  of_no_unique e none =
-      ap (λ x. list_any p (flat_map (λ path. path) (unwrap_or x []))) none ∙ sym (ap (λ w. list_any p (names_given (keyword_view w) t)) e)
+-- ---- the names of built-in types
+
+find_named : (t : Text) (types : List BuiltIn) (b : BuiltIn)
+    → option_map (λ entry. entry.1) (find (λ entry. is_text t entry.0) (map named_so types)) ≡ Some b → is_text t (built_in_name b) ≡ true
+find_named t [] b e = absurd cc
+find_named t (x ∷ types) b e = by (is_text t (built_in_name x)) refl e (find_named t types b)
+  where
+    by : (y : Bool) → is_text t (built_in_name x) ≡ y
+        → option_map (λ entry. entry.1) (cond y (Some (named_so x)) (find (λ entry. is_text t entry.0) (map named_so types))) ≡ Some b
+        → (option_map (λ entry. entry.1) (find (λ entry. is_text t entry.0) (map named_so types)) ≡ Some b → is_text t (built_in_name b) ≡ true)
+        → is_text t (built_in_name b) ≡ true
+    by true is e rest = subst (λ z. is_text t (built_in_name z) ≡ true) (ap (λ o. unwrap_or o x) e) is
+    by false is e rest = rest e
+
+bare : (modules : Forest Source) (home : ℕ) (b : BuiltIn) → false ≡ list_any (is_unknown_prefix modules home) (names_given type_word (built_in_name b))
+bare modules home (integer int8) = refl
+bare modules home (integer int16) = refl
+bare modules home (integer int32) = refl
+bare modules home (integer int64) = refl
+bare modules home (integer uint8) = refl
+bare modules home (integer uint16) = refl
+bare modules home (integer uint32) = refl
+bare modules home (integer uint64) = refl
+bare modules home decimal64 = refl
+bare modules home string = refl
+bare modules home boolean = refl
+bare modules home empty = refl
+bare modules home enumeration = refl
+bare modules home bits = refl
+bare modules home union = refl
+bare modules home leafref = refl
+
+of_found : (modules : Forest Source) (home : ℕ) (t : Text) (found : Option BuiltIn) → built_in_named t ≡ found → is_some found ≡ true
+    → false ≡ list_any (is_unknown_prefix modules home) (names_given type_word t)
+unfolding built_in_named
+of_found modules home t None is some = absurd cc
+of_found modules home t (Some b) is some =
+    bare modules home b
+    ∙ ap (λ x. list_any (is_unknown_prefix modules home) (names_given type_word x))
+    (sym ((bytes_eq-Decides t (built_in_name b)).0 (find_named t all_built_in b is)))
+
+pub no_prefix : (modules : Forest Source) (home : ℕ) (t : Text) → is_some (built_in_named t) ≡ true
+    → false ≡ list_any (is_unknown_prefix modules home) (names_given type_word t)
+no_prefix modules home t some = of_found modules home t (built_in_named t) refl some

@@ -5,6 +5,7 @@ pub mod KeywordView
 pub mod Lengths
 pub mod LinkView
 pub mod NameView
+pub mod NamedType
 pub mod Counts
 pub mod PrefixView
 pub mod SourceView

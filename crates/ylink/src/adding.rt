@@ -57,14 +57,7 @@ pub(crate) fn add_statement<'a>(
     let Some(keyword) = kept_keyword(statement) else {
         return Ok(());
     };
-    let number = table.open(
-        parent,
-        Source {
-            keyword,
-            statement,
-            home,
-        },
-    )?;
+    let number = table.open(parent, Source::new(keyword, statement, home))?;
     add_statements(table, Some(number), home, statement.substatements())?;
     table.close(number);
     Ok(())

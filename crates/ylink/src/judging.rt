@@ -16,7 +16,7 @@ use crate::builtin::BuiltIn;
 use crate::fault::{Broken, CompileCode, least_when};
 use crate::grammar::broken;
 use crate::keyword::Keyword;
-use crate::row::{argument_of, first_with};
+use crate::row::{built_in_of, first_with};
 use crate::source::Source;
 use crate::sources::Sources;
 use crate::types::{are_in_place, path_stated, single_type};
@@ -99,7 +99,7 @@ fn is_wrong(
     ensures { let f = row_by source_view statement.entry.children in
         IfOk result (λ b. b ≡ is_wrong (spec.verdict is_member (label_by source_view statement.entry) f (spec.verdicts true f))) }
 {
-    let Some(type_name) = BuiltIn::named(argument_of(statement)) else {
+    let Some(type_name) = built_in_of(statement) else {
         return Ok(false);
     };
     if !are_in_place(type_name, statement.children()) {

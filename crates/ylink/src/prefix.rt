@@ -12,15 +12,16 @@ ghost use Rattle.yspec.specs.schema.Breaks.{least_from};
 ghost use Rattle.ylink.specs.BreakView.{seen};
 ghost use Rattle.ylink.specs.KeywordView.{keyword_view};
 ghost use Rattle.ylink.specs.LinkView.{view};
+ghost use Rattle.ytext.specs.View as text;
 ghost use Rattle.ylink.specs.NameView.{name_view, names_view};
+ghost use Rattle.ylink.specs.NamedType.{argument_text};
 ghost use Rattle.ylink.specs.PrefixView.{IsOf};
 ghost use Rattle.ylink.specs.SourceView.{source_view};
 
-use crate::builtin::BuiltIn;
 use crate::fault::{Broken, CompileCode, least};
 use crate::grammar::broken;
 use crate::keyword::Keyword;
-use crate::name::{Name, colon_place, key_names, leafref_path, name_of, unique_paths};
+use crate::name::{Name, key_names, leafref_path, name_of, unique_paths};
 use crate::row::argument_with;
 use crate::source::Source;
 use crate::sources::Sources;
@@ -144,36 +145,38 @@ fn has_unknown_among(prefixes: &Prefixes<'_>, home: usize, names: Option<Vec<Nam
     }
 }
 
-// Whether the name of a type has a prefix that names nothing. One without a colon has none.
-fn is_unknown_type(prefixes: &Prefixes<'_>, home: usize, text: &str) -> bool
+// Whether the argument of a statement, as the name of a type, has a prefix that names nothing. A built-in type has none.
+fn is_unknown_type(prefixes: &Prefixes<'_>, source: &Source<'_>) -> bool
     ensures { (modules : Forest sources.Source) → IsOf prefixes.now modules
-        → result ≡ list_any (spec.is_unknown_prefix modules home) (spec.names_given type_word text.now) }
+        → result ≡ list_any (spec.is_unknown_prefix modules source.now.home) (spec.names_given type_word (argument_text (text.view source.now.statement.now).0)) }
 {
-    if colon_place(text.as_bytes()).is_none() {
+    if source.built_in().is_some() {
         return false;
     }
-    match name_of(text) {
-        Some(name) => prefixes.is_unknown(home, &name),
+    match name_of(source.argument()) {
+        Some(name) => prefixes.is_unknown(source.home, &name),
         None => false,
     }
 }
 
-// Whether a name in an argument has a prefix that names nothing.
+// Whether a name in the argument of a statement has a prefix that names nothing.
 fn has_unknown_prefix(
     alloc: Global,
     prefixes: &Prefixes<'_>,
-    home: usize,
-    keyword: Keyword,
-    text: &str,
+    source: &Source<'_>,
 ) -> Result<bool, AllocError>
     ensures { IfOk result (λ b. (modules : Forest sources.Source) → IsOf prefixes.now modules
-        → b ≡ list_any (spec.is_unknown_prefix modules home) (spec.names_given (keyword_view keyword) text.now)) }
+        → b ≡ list_any (spec.is_unknown_prefix modules source.now.home)
+        (spec.names_given (keyword_view source.now.keyword) (argument_text (text.view source.now.statement.now).0))) }
 {
-    Ok(match keyword {
-        Keyword::Type => is_unknown_type(prefixes, home, text),
-        Keyword::Key => has_unknown_among(prefixes, home, key_names(alloc, text)?),
-        Keyword::Path => has_unknown_among(prefixes, home, leafref_path(alloc, text)?),
-        Keyword::Unique => match unique_paths(alloc, text)? {
+    let home = source.home;
+    Ok(match source.keyword {
+        Keyword::Type => is_unknown_type(prefixes, source),
+        Keyword::Key => has_unknown_among(prefixes, home, key_names(alloc, source.argument())?),
+        Keyword::Path => {
+            has_unknown_among(prefixes, home, leafref_path(alloc, source.argument())?)
+        }
+        Keyword::Unique => match unique_paths(alloc, source.argument())? {
             Some(paths) => has_unknown_step(prefixes, home, &paths),
             None => false,
         },
@@ -190,12 +193,14 @@ fn judge_prefixes(
     ensures { IfOk result (λ told. (modules : Forest sources.Source) (number : ℕ) → IsOf prefixes.now modules
         → seen told ≡ least_from (seen so_far) (spec.prefix_break modules (source_view number source.now))) }
 {
-    let (home, keyword) = (source.home, source.keyword);
-    let unknown = has_unknown_prefix(alloc, prefixes, home, keyword, source.argument())?;
+    let unknown = has_unknown_prefix(alloc, prefixes, source)?;
     if !unknown {
         return Ok(so_far);
     }
-    Ok(least(so_far, broken(CompileCode::C6, home, source.statement)))
+    Ok(least(
+        so_far,
+        broken(CompileCode::C6, source.home, source.statement),
+    ))
 }
 
 /// The least of the prefixes that name nothing, by module and line.
@@ -214,7 +219,7 @@ pub fn prefix_fault(alloc: Global, sources: &Sources<'_>) -> Result<Option<Broke
 fn is_not_found(source: &Source<'_>) -> bool
     ensures { (number : ℕ) → result ≡ spec.is_not_found (source_view number source.now) }
 {
-    Keyword::Type.is(source.keyword) && BuiltIn::named(source.argument()).is_none()
+    Keyword::Type.is(source.keyword) && source.built_in().is_none()
 }
 
 fn judge_type_name(source: &Source<'_>, so_far: Option<Broken>) -> Option<Broken>

@@ -25,7 +25,7 @@ use crate::limit::{accepted, measured, ranged};
 use crate::name::{Name, leafref_path};
 use crate::naming::{bits, enumeration};
 use crate::number::fraction_digits;
-use crate::row::{argument_of, argument_with, found_with};
+use crate::row::{argument_with, built_in_of, found_with};
 use crate::source::Source;
 use crate::sources::Sources;
 use std::alloc::{AllocError, Global};
@@ -239,7 +239,7 @@ fn judge_type<'t>(
     ensures { IfOk result (λ verdict. verdict_view verdict ≡ spec.verdict is_member (label_by source_view statement.entry)
         (row_by source_view statement.entry.children) (map verdict_view members.entry.items)) }
 {
-    let Some(type_name) = BuiltIn::named(argument_of(statement)) else {
+    let Some(type_name) = built_in_of(statement) else {
         return Ok(Verdict::Unjudged);
     };
     if !are_in_place(type_name, statement.children()) {

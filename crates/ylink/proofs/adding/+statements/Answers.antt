@@ -28,7 +28,7 @@ add_statement-returns t c =
     let full_is : seen_rows full ≡ seen_rows mid ++ listed (Some n) c.args.home (length (rows_in mid)) (kept s.1) =
     c.in_ok-add_statements.ensures ∙ ap (λ f. seen_rows mid ++ listed (Some n) c.args.home (length (rows_in mid)) (kept f)) c.substatements.ensures.below in
     added old mid full c.close.new.self c.args.parent c.args.home _ n w s.0 (kept s.1)
-    c.in_ok-number.ensures.laid c.in_ok-number.ensures.number full_is c.close.ensures refl
+    c.in_ok-number.ensures.laid c.in_ok-number.ensures.number full_is c.close.ensures (c.new.ensures (length (rows_in old)))
     ∙ ap (λ f. seen_rows old ++ listed c.args.parent c.args.home (length (rows_in old)) f) (sym (kept-some s.0 s.1 w some))
 
 pub add_statements-loop-statement-preserved : goal.add_statements-loop-statement-preserved

@@ -5,6 +5,9 @@ use Rattle.ylink.specs.SourceView.{source_view}
 use Rattle.ylink.specs.TypeView.{built_in_view}
 use Rattle.ylink.proofs.types.single_type.Goals as goal
 
+pub returns-in-Int8 : goal.returns-in-Int8
+returns-in-Int8 c = subst (λ t. IfOk c.ranged.result (λ type. type ≡ single_type (built_in_view t) (row_by source_view c.args.below))) (sym c.in-Int8.is) (c.ranged.ensures _ c.int8.ensures)
+
 pub returns-in-Int16 : goal.returns-in-Int16
 returns-in-Int16 c = subst (λ t. IfOk c.ranged-in-Int16.result (λ type. type ≡ single_type (built_in_view t) (row_by source_view c.args.below))) (sym c.in-Int16.is) (c.ranged-in-Int16.ensures _ c.int16.ensures)
 
