@@ -16,7 +16,7 @@ use Rattle.std.proofs.lemmas.Slice.Eq.{bytes_eq-Decides}
 use Rattle.yspec.specs.text.Text.{Text, is_text}
 use Rattle.yspec.specs.types.Names.{Assigned, next_after, placed, is_like, is_among}
 use Rattle.ynumber.specs.Words.{named}
-use Rattle.ynumber.specs.Tables.{assigned, new_placed, AreWords, IsIndex}
+use Rattle.ynumber.specs.Tables.{assigned, new_placed, AreWords, IsIndex, Finds, AreAlike, HasMore}
 
 -- ---- tests
 
@@ -60,10 +60,11 @@ one_or_other {A} p q (x ∷ xs) = by (p x) (q x) (one_or_other p q xs)
     by false false h = h
 
 -- a name or a number is there where one of the tables has it
-pub taken : {Z : Type 0} (by_name : BTreeMap (String Z) ℤ) (es : List (ℤ × String Z)) (name : Text) (number : ℤ) → IsIndex by_name (assigned es)
-    → (is_some (get_by_text by_name name) || is_some (lookup (is_at (int_cmp number)) es)) ≡ list_any (is_like (named name number)) (assigned es)
-taken by_name es name number index =
-    ap (λ b. b || is_some (lookup (is_at (int_cmp number)) es)) (ap is_some (index.finds name) ∙ is_some_found (λ (a : Assigned). a.number) (λ (a : Assigned). is_text name a.name) (assigned es))
+pub taken : {Z : Type 0} (es : List (ℤ × String Z)) (name : Text) (number : ℤ)
+    → (is_among (map (λ (a : Assigned). a.name) (assigned es)) name || is_some (lookup (is_at (int_cmp number)) es)) ≡ list_any (is_like (named name number)) (assigned es)
+taken es name number =
+    ap (λ b. b || is_some (lookup (is_at (int_cmp number)) es))
+    (sym (named_among name (assigned es)) ∙ is_some_found (λ (a : Assigned). a.number) (λ (a : Assigned). is_text name a.name) (assigned es))
     ∙ ap (λ b. list_any (λ (a : Assigned). is_text name a.name) (assigned es) || b) (is_some_held number es)
     ∙ one_or_other (λ (a : Assigned). is_text name a.name) (λ (a : Assigned). int_eq number a.number) (assigned es)
 
@@ -149,6 +150,17 @@ index_more before after a xs ys index fits new is more = subst (IsIndex after) (
   words = words_placed a xs fits index.words;
 })
 
+pub words_found : {Z : Type 0} (table : Option (BTreeMap (String Z) ℤ)) (xs : List Assigned) → Finds table xs → AreWords xs
+words_found None xs finds = finds
+words_found (Some by_name) xs finds = finds.words
+
+pub table_more : {Z : Type 0} (before after : Option (BTreeMap (String Z) ℤ)) (a : Assigned) (xs ys : List Assigned) → Finds before xs → FitsSigned w64 a.number
+    → list_any (is_like a) xs ≡ false → ys ≡ placed a xs → HasMore before after a.name a.number → Finds after ys
+table_more None None a xs ys finds fits new is more = subst AreWords (sym is) (words_placed a xs fits finds)
+table_more None (Some after) a xs ys finds fits new is more = absurd more
+table_more (Some before) None a xs ys finds fits new is more = absurd more
+table_more (Some before) (Some after) a xs ys finds fits new is more = index_more before after a xs ys finds fits new is more
+
 -- ---- a number's name
 
 pub name_held : {Z : Type 0} (z : ℤ) (es : List (ℤ × String Z)) → option_map string_bytes (lookup (is_at (int_cmp z)) es) ≡ option_map (λ (a : Assigned). a.name) (find (λ (a : Assigned). int_eq a.number z) (assigned es))
@@ -213,3 +225,9 @@ texts_copied t (e ∷ es) (f ∷ fs) same =
 pub index_copied : {Z : Type 0} (m n : BTreeMap (String Z) ℤ) (es fs : List (ℤ × String Z)) → IsIndex m (assigned es) → AllZip (λ p q. (string_bytes q.0 ≡ string_bytes p.0) × (q.1 ≡ p.1)) m.entries n.entries
     → assigned fs ≡ assigned es → IsIndex n (assigned fs)
 index_copied m n es fs index same is = subst (IsIndex n) (sym is) (record { finds = λ t. texts_copied t m.entries n.entries same ∙ index.finds t; words = index.words })
+
+pub table_copied : {Z : Type 0} (m n : Option (BTreeMap (String Z) ℤ)) (es fs : List (ℤ × String Z)) → Finds m (assigned es) → AreAlike m n → assigned fs ≡ assigned es → Finds n (assigned fs)
+table_copied None None es fs finds same is = subst AreWords (sym is) finds
+table_copied None (Some n) es fs finds same is = absurd same
+table_copied (Some m) None es fs finds same is = absurd same
+table_copied (Some m) (Some n) es fs finds same is = index_copied m n es fs finds same is

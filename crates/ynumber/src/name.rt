@@ -70,7 +70,7 @@ fn assign(alloc: Global, numbers: &Part, namings: &[Naming]) -> Result<Names, Na
     requires { FitsWord numbers.now }
     ensures { Gives same narrow_refusal result (ok_or (assigned_from numbers.now [] namings.now) tt) }
 {
-    let mut names = Names::new(alloc);
+    let mut names = Names::new(alloc, namings.len());
     'namings: for naming in namings {
         match with_name(alloc, numbers, names, naming) {
             Err(fault) => return Err(fault),

@@ -7,19 +7,26 @@ ghost use Rattle.yspec.specs.text.Text.{is_text};
 ghost use Rattle.yspec.specs.types.Names.{next_number, is_among, is_like};
 ghost use Rattle.yspec.specs.Results.{Gives};
 ghost use Rattle.ynumber.specs.Words.{narrow_refusal, named, same};
-ghost use Rattle.ynumber.specs.Tables.{assigned, new_placed};
+ghost use Rattle.ynumber.specs.Tables.{assigned, new_placed, number_named, AreAlike, HasMore};
 
 use crate::fault::NarrowFault;
 use std::alloc::{AllocError, Global};
 use std::collections::BTreeMap;
 use std::marker::Model;
 
-/// The names of an enumeration or of bits in the order of their numbers. Each is found by its name and by its number.
+// The numbers of names.
+type Table = BTreeMap<String, i64>;
+
+/// The names of an enumeration or of bits in the order of their numbers. Each is found by its number, and by its name:
+/// a few names are looked at one by one, and many are found by a table.
 #[derive(Debug, Drop)]
 pub struct Names {
     by_number: BTreeMap<i64, String>,
-    by_name: BTreeMap<String, i64>,
+    by_name: Option<Table>,
 }
+
+// So many names are found without a table.
+const FEW: usize = 8;
 
 impl Model for Names {
     ghost use Rattle.std.specs.Prelude.{List};
@@ -27,11 +34,20 @@ impl Model for Names {
 
     ghost Value = { List names.Assigned };
 
-    ghost use Rattle.ynumber.specs.Tables.{assigned, IsIndex};
+    ghost use Rattle.ynumber.specs.Tables.{assigned, Finds};
 
     ghost view = { λ n. assigned n.by_number.entries };
 
-    ghost invariant = { λ n. IsIndex n.by_name (assigned n.by_number.entries) };
+    ghost invariant = { λ n. Finds n.by_name (assigned n.by_number.entries) };
+}
+
+fn copy_of(table: &Option<Table>) -> Result<Option<Table>, AllocError>
+    ensures { IfOk result (λ copy. AreAlike table.now copy) }
+{
+    match table {
+        None => Ok(None),
+        Some(table) => Ok(Some(table.clone()?)),
+    }
 }
 
 impl Clone for Names {
@@ -44,7 +60,7 @@ impl Clone for Names {
     {
         Ok(Names {
             by_number: self.by_number.clone()?,
-            by_name: self.by_name.clone()?,
+            by_name: copy_of(&self.by_name)?,
         })
     }
 }
@@ -55,13 +71,49 @@ fn number_behind(number: i64) -> i128
     i128::from(number) + 1
 }
 
+// A table with one name more, where there is a table.
+fn with_name(
+    alloc: Global,
+    table: Option<Table>,
+    name: &str,
+    number: i64,
+) -> Result<Option<Table>, AllocError>
+    ensures { IfOk result (λ more. HasMore table more name.now number) }
+{
+    match table {
+        None => Ok(None),
+        Some(mut table) => {
+            table.insert(String::from_str(alloc, name)?, number)?;
+            Ok(Some(table))
+        }
+    }
+}
+
+// The number of a name among those by number.
+fn number_among(by_number: &BTreeMap<i64, String>, text: &str) -> Option<i64>
+    ensures { result ≡ number_named text.now (assigned by_number.now.entries) }
+{
+    for (number, name) in by_number {
+        if name.as_str() == text {
+            return Some(*number);
+        }
+    }
+    None
+}
+
 impl Names {
-    pub(crate) fn new(alloc: Global) -> Names
+    /// No names, where so many are to come.
+    pub(crate) fn new(alloc: Global, count: usize) -> Names
         ensures { result ≡ [] }
     {
+        let by_name = if count <= FEW {
+            None
+        } else {
+            Some(BTreeMap::new(alloc))
+        };
         Names {
             by_number: BTreeMap::new(alloc),
-            by_name: BTreeMap::new(alloc),
+            by_name,
         }
     }
 
@@ -69,14 +121,17 @@ impl Names {
     pub fn number_of(&self, text: &str) -> Option<i64>
         ensures { result ≡ option_map (λ a. a.number) (find (λ a. is_text text.now a.name) self.now) }
     {
-        self.by_name.get(text).copied()
+        match &self.by_name {
+            None => number_among(&self.by_number, text),
+            Some(table) => table.get(text).copied(),
+        }
     }
 
     /// Whether there is such a name.
     pub(crate) fn has_name(&self, text: &str) -> bool
         ensures { result ≡ is_among (map (λ a. a.name) self.now) text.now }
     {
-        self.by_name.contains_key(text)
+        self.number_of(text).is_some()
     }
 
     /// The names by their numbers.
@@ -112,7 +167,7 @@ impl Names {
     fn is_taken(&self, name: &str, number: i64) -> bool
         ensures { result ≡ list_any (is_like (named name.now number)) self.now }
     {
-        self.by_name.contains_key(name) || self.by_number.contains_key(&number)
+        self.has_name(name) || self.by_number.contains_key(&number)
     }
 
     /// With one name more. Refused where the name or the number is there.
@@ -124,10 +179,10 @@ impl Names {
         }
         let Names {
             mut by_number,
-            mut by_name,
+            by_name,
         } = self;
         by_number.insert(number, String::from_str(alloc, name)?)?;
-        by_name.insert(String::from_str(alloc, name)?, number)?;
+        let by_name = with_name(alloc, by_name, name, number)?;
         Ok(Names { by_number, by_name })
     }
 }

@@ -9,7 +9,7 @@ use Rattle.std.specs.declared.string.String.{String}
 use Rattle.yspec.specs.text.Text.{Text}
 use Rattle.yspec.specs.types.Names.{Assigned}
 use Rattle.ynumber.specs.Tables.{assigned}
-use Rattle.ynumber.proofs.TableLemmas.{name_held, no_name_held}
+use Rattle.ynumber.proofs.TableLemmas.{name_held, no_name_held, words_found}
 use Rattle.ynumber.proofs.names.Names.name_of.Goals as goal
 
 abbrev name_in : List Assigned → ℤ → Option Text
@@ -20,7 +20,7 @@ looked_up n z es names same is = name_held n es ∙ ap (name_in (assigned es)) s
 
 pub returns-in-Err : goal.returns-in-Err
 returns-in-Err c =
-    ap (option_map (λ (a : Assigned). a.name)) (sym (no_name_held c.args.number (assigned c.self.inside.by_number.entries) c.self.invariant.words
+    ap (option_map (λ (a : Assigned). a.name)) (sym (no_name_held c.args.number (assigned c.self.inside.by_number.entries) (words_found c.self.inside.by_name (assigned c.self.inside.by_number.entries) c.self.invariant)
     (λ word. c.in-Err.ensures (subst (FitsSigned w64) (sym (to_z-of_z w128 c.args.number c.ranges.number)) word)))
     ∙ ap (find (λ (a : Assigned). int_eq a.number c.args.number)) c.self.view_is)
 

@@ -1,10 +1,12 @@
-use Rattle.std.proofs.Common.{List, ap, ◌∙◌}
-use Rattle.std.specs.Prelude.{option_map, find}
-use Rattle.yspec.specs.text.Text.{is_text}
-use Rattle.yspec.specs.types.Names.{Assigned}
+use Rattle.std.proofs.Common.{ap, subst, ◌∙◌}
+use Rattle.ynumber.specs.Tables.{assigned, number_named, IsIndex, Finds}
 use Rattle.ynumber.proofs.names.Names.number_of.Goals as goal
 
-pub returns : goal.returns
-returns c =
-    c.copied.ensures ∙ c.get.ensures.value ∙ c.self.invariant.finds c.args.text.now
-    ∙ ap (λ (names : List Assigned). option_map (λ (a : Assigned). a.number) (find (λ (a : Assigned). is_text c.args.text.now a.name) names)) c.self.view_is
+pub returns-in-None : goal.returns-in-None
+returns-in-None c = c.number_among.ensures ∙ ap (number_named c.args.text.now) c.self.view_is
+
+pub returns-in-Some : goal.returns-in-Some
+returns-in-Some c =
+    let names = assigned c.self.inside.by_number.entries in
+    let index : IsIndex c.in-Some.table names = subst (λ o. Finds o names) c.in-Some.is c.self.invariant in
+    c.copied.ensures ∙ c.get.ensures.value ∙ index.finds c.args.text.now ∙ ap (number_named c.args.text.now) c.self.view_is

@@ -1,5 +1,5 @@
 use Rattle.std.proofs.Common.{◌∙◌}
-use Rattle.ynumber.proofs.TableLemmas.{assigned_copied, index_copied}
+use Rattle.ynumber.proofs.TableLemmas.{assigned_copied, table_copied}
 use Rattle.ynumber.proofs.names.NamesClone.clone.Goals as goal
 
 pub returns : goal.returns
@@ -7,5 +7,5 @@ returns c = assigned_copied c.self.inside.by_number.entries c.in_ok-clone.field-
 
 pub invariant_of-result : goal.invariant_of-result
 invariant_of-result c =
-    index_copied c.self.inside.by_name c.in_ok-clone-2.field-0 c.self.inside.by_number.entries c.in_ok-clone.field-0.entries c.self.invariant c.in_ok-clone-2.ensures.cases
+    table_copied c.self.inside.by_name c.in_ok-copy_of.field-0 c.self.inside.by_number.entries c.in_ok-clone.field-0.entries c.self.invariant c.in_ok-copy_of.ensures
     (assigned_copied c.self.inside.by_number.entries c.in_ok-clone.field-0.entries c.in_ok-clone.ensures.cases)
