@@ -216,6 +216,13 @@ fn has_fitting_argument(alloc: Global, form: Form, statement: &Stmt) -> Result<b
     }
 }
 
+// Tells a broken rule, where it comes before the one told so far.
+fn tell(told: &mut Option<Broken>, found: Broken)
+    ensures { seen told.new ≡ least_from (seen told.old) (break_view found ∷ []) }
+{
+    *told = least(*told, found);
+}
+
 // The rules that a statement breaks, apart from those that its substatements break.
 #[tactic(auto, using(yspec::proofs::SchemaProofs::LeastLemmas::least_of_both))]
 fn judge_alone(
@@ -223,9 +230,9 @@ fn judge_alone(
     module: usize,
     keyword: Keyword,
     statement: &Stmt,
-    so_far: Option<Broken>,
-) -> Result<Option<Broken>, AllocError>
-    ensures { IfOk result (λ told. seen told ≡ least_from (seen so_far)
+    told: &mut Option<Broken>,
+) -> Result<(), AllocError>
+    ensures { IfOk result (λ _. seen told.new ≡ least_from (seen told.old)
         (spec.own_breaks «module» (keyword_view keyword) (view statement.now).0 (view statement.now).1)) }
 {
     let rule = rule_of(keyword);
@@ -234,20 +241,21 @@ fn judge_alone(
     let unversioned = is_unversioned(keyword, statement);
     let miscounted = is_miscounted(keyword, statement);
     if !(unfitting || outside || unversioned || miscounted) {
-        return Ok(so_far);
+        return Ok(());
     }
-    let told = least_when(
-        unfitting,
-        so_far,
-        broken(CompileCode::C3, module, statement),
-    );
-    let told = least_when(outside, told, broken(CompileCode::C1, module, statement));
-    let told = least_when(
+    let least = least_when(unfitting, *told, broken(CompileCode::C3, module, statement));
+    let least = least_when(outside, least, broken(CompileCode::C1, module, statement));
+    let least = least_when(
         unversioned,
-        told,
+        least,
         broken(CompileCode::C4, module, statement),
     );
-    Ok(least_when(miscounted, told, broken(CompileCode::C2, module, statement)))
+    *told = least_when(
+        miscounted,
+        least,
+        broken(CompileCode::C2, module, statement),
+    );
+    Ok(())
 }
 
 // The keyword of a statement, where it may stand there.
@@ -262,26 +270,29 @@ fn allowed_keyword(allowed: &[Allowed], statement: &Stmt) -> Option<Keyword>
     }
 }
 
-// The least rule broken by a statement that stands where these are allowed, and below it.
+// Tells the least rule broken by a statement that stands where these are allowed, and below it.
 #[cycle(judge)]
 fn judge(
     alloc: Global,
     module: usize,
     allowed: &[Allowed],
     statement: &Stmt,
-    so_far: Option<Broken>,
-) -> Result<Option<Broken>, AllocError>
-    ensures { let s = view statement.now in IfOk result (λ told. seen told ≡ least_from (seen so_far)
+    told: &mut Option<Broken>,
+) -> Result<(), AllocError>
+    ensures { let s = view statement.now in IfOk result (λ _. seen told.new ≡ least_from (seen told.old)
         (spec.breaks_at «module» (allowed_views allowed.now) s.0 s.1 (spec.row_breaks «module» (spec.substatements_of s.0.keyword) s.1))) }
 {
     match allowed_keyword(allowed, statement) {
-        None if is_prefixed(statement) => Ok(so_far),
-        None => Ok(least(so_far, broken(CompileCode::C1, module, statement))),
+        None if is_prefixed(statement) => Ok(()),
+        None => {
+            tell(told, broken(CompileCode::C1, module, statement));
+            Ok(())
+        }
         Some(keyword) => {
             if keyword.is(Keyword::Extension) {
-                return Ok(so_far);
+                return Ok(());
             }
-            let told = judge_alone(alloc, module, keyword, statement, so_far)?;
+            judge_alone(alloc, module, keyword, statement, told)?;
             let rule = rule_of(keyword);
             judge_row(
                 alloc,
@@ -294,7 +305,7 @@ fn judge(
     }
 }
 
-// The least rule broken by statements that stand in one block, and below them.
+// Tells the least rule broken by statements that stand in one block, and below them.
 #[cycle(judge)]
 #[tactic(auto, unfolding(yspec::specs::linking::StatementBreaks::row_breaks))]
 fn judge_row(
@@ -302,31 +313,31 @@ fn judge_row(
     module: usize,
     allowed: &[Allowed],
     statements: &[Stmt],
-    so_far: Option<Broken>,
-) -> Result<Option<Broken>, AllocError>
-    ensures { IfOk result (λ told. seen told ≡ least_from (seen so_far)
+    told: &mut Option<Broken>,
+) -> Result<(), AllocError>
+    ensures { IfOk result (λ _. seen told.new ≡ least_from (seen told.old)
         (spec.row_breaks «module» (allowed_views allowed.now) (row_view statements.now))) }
 {
-    let mut told = so_far;
     for statement in statements {
-        told = judge(alloc, module, allowed, statement, told)?;
+        judge(alloc, module, allowed, statement, told)?;
     }
-    Ok(told)
+    Ok(())
 }
 
-// The least rule broken by the top statement of a module, and below it.
+// Tells the least rule broken by the top statement of a module, and below it.
 fn judge_top(
     alloc: Global,
     module: usize,
     statement: &Stmt,
-    so_far: Option<Broken>,
-) -> Result<Option<Broken>, AllocError>
-    ensures { let s = view statement.now in IfOk result (λ told. seen told ≡ least_from (seen so_far) (spec.top_breaks «module» s.0 s.1)) }
+    told: &mut Option<Broken>,
+) -> Result<(), AllocError>
+    ensures { let s = view statement.now in IfOk result (λ _. seen told.new ≡ least_from (seen told.old) (spec.top_breaks «module» s.0 s.1)) }
 {
     if !has_keyword(statement, Keyword::Module) {
-        return Ok(least(so_far, broken(CompileCode::C1, module, statement)));
+        tell(told, broken(CompileCode::C1, module, statement));
+        return Ok(());
     }
-    let told = judge_alone(alloc, module, Keyword::Module, statement, so_far)?;
+    judge_alone(alloc, module, Keyword::Module, statement, told)?;
     let rule = rule_of(Keyword::Module);
     judge_row(
         alloc,
@@ -344,7 +355,7 @@ pub fn statement_fault(alloc: Global, modules: &[Module]) -> Result<Option<Broke
 {
     let mut told = None;
     for (module, text) in modules.iter().enumerate() {
-        told = judge_top(alloc, module, &text.top, told)?;
+        judge_top(alloc, module, &text.top, &mut told)?;
     }
     Ok(told)
 }

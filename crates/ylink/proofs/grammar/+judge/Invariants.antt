@@ -9,4 +9,4 @@ use Rattle.ylink.proofs.grammar.+judge.Given as goal
 abbrev pub invariant-judge_row-loop-statement : goal.invariant-judge_row-loop-statement
 invariant-judge_row-loop-statement l =
     least_from (seen l.told) (row_breaks l.«module» (allowed_views l.allowed) (row_view (drop l.statement-index l.statements)))
-    ≡ least_from (seen l.fn.so_far) (row_breaks l.«module» (allowed_views l.allowed) (row_view l.statements))
+    ≡ least_from (seen l.fn.told) (row_breaks l.«module» (allowed_views l.allowed) (row_view l.statements))

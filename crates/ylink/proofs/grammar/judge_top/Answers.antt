@@ -9,6 +9,6 @@ pub returns : goal.returns
 returns c =
     let s = c.args.statement.now in
     if_ok_then _ _ c.judge_row.result
-    (λ told e. judged_top c.args.«module» (view s).0 (view s).1 (row_view c.substatements.result.now) (rule_view c.rule_of-rule.result) (seen c.args.so_far)
-    (seen c.in_ok-told.told) (seen told) (search rules) c.in_ok-told.ensures c.substatements.ensures.below c.rule_of-rule.ensures e)
+    (λ u e. judged_top c.args.«module» (view s).0 (view s).1 (row_view c.substatements.result.now) (rule_view c.rule_of-rule.result) (seen c.args.told.now)
+    (seen c.judge_alone.new.told) (seen c.judge_row.new.told) (search rules) c.in_ok-judge_alone.ensures c.substatements.ensures.below c.rule_of-rule.ensures e)
     c.judge_row.ensures

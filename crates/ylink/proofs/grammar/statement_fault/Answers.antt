@@ -5,5 +5,5 @@ use Rattle.ylink.proofs.grammar.statement_fault.Goals as goal
 
 pub loop-module-preserved : goal.loop-module-preserved
 loop-module-preserved c =
-    judged_module c.args.modules.now c.loop-module.module c.index-modules-module.result (seen c.loop-module.told) (seen c.in_ok-told.told) _
-    (omega arith) c.index-modules-module.is c.in_ok-told.ensures c.loop-module.invariant
+    judged_module c.args.modules.now c.loop-module.module c.index-modules-module.result (seen c.loop-module.told) (seen c.judge_top.new.told) _
+    (omega arith) c.index-modules-module.is c.in_ok-judge_top.ensures c.loop-module.invariant
