@@ -192,6 +192,16 @@ judged_known m allowed s below row k r so_far told result plain some other alone
     ∙ sym (least_of_both so_far (own_breaks m k s below) (row_breaks m (rule_of k).substatements below))
     ∙ ap (least_from so_far) (sym (breaks_known m allowed s below k plain some other))
 
+-- nothing below it
+pub judged_leaf : (m : ℕ) (allowed : List Allowed) (s : Statement) (below : Forest Statement) (ss : List Stmt) (k : Keyword) (so_far told : Option Break)
+    → is_prefixed s.keyword ≡ false → Some k ≡ allowed_word allowed (keyword_named s.keyword) → same_keyword k extension_word ≡ false
+    → told ≡ least_from so_far (own_breaks m k s below) → row_view ss ≡ below → length ss ≡ 0
+    → told ≡ least_from so_far (breaks_at m allowed s below (row_breaks m (substatements_of s.keyword) below))
+unfolding row_breaks
+judged_leaf m allowed s below [] k so_far told plain some other alone same none =
+    judged_known m allowed s below (row_view []) k (rule_of k) so_far told told plain some other alone same refl refl
+judged_leaf m allowed s below (x ∷ ss) k so_far told plain some other alone same none = absurd (omega (arith, none))
+
 -- one statement of a row, and the others
 pub judged_row : (m : ℕ) (allowed : List Allowed) (ss : List Stmt) (i : ℕ) (s : Stmt) (told result whole : Option Break)
     → i < length ss → s ≡ get_or ss i s

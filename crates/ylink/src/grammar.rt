@@ -293,14 +293,12 @@ fn judge(
                 return Ok(());
             }
             judge_alone(alloc, module, keyword, statement, told)?;
+            let below = statement.substatements();
+            if below.is_empty() {
+                return Ok(());
+            }
             let rule = rule_of(keyword);
-            judge_row(
-                alloc,
-                module,
-                rule.substatements,
-                statement.substatements(),
-                told,
-            )
+            judge_row(alloc, module, rule.substatements, below, told)
         }
     }
 }
