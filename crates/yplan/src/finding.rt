@@ -3,7 +3,9 @@
 ghost use Rattle.std.specs.Prelude.{◌≡◌, IfOk, map};
 ghost use Rattle.yspec.specs.linking.Planned as spec;
 ghost use Rattle.yplan.specs.PlannedView.{planned_view};
+ghost use Rattle.yindex.specs.Hashes.{hash_of};
 ghost use Rattle.yplan.specs.Finding.{above_in, hash_among, is_found, is_looked_for, list_of};
+ghost use Rattle.yplan.specs.declared.finding.Among.TheVariants as among;
 
 use crate::planned::Planned;
 use std::alloc::{AllocError, Global};
@@ -58,18 +60,42 @@ impl Among {
     }
 }
 
-/// The hashes of all nodes by their names below those under which they are looked for.
+/// The hashes of nodes by their names, by number.
+#[derive(Drop)]
+pub(crate) struct Hashes {
+    /// Each name below the node above it.
+    pub children: Vec<u32>,
+    /// Each name below the node whose children share it.
+    pub scopes: Vec<u32>,
+}
+
+/// The hash of a name in its scope, given that below its parent: the same, where they are the same node.
+fn hash_in_scope(planned: &Planned<'_, '_>, name: &str, below_parent: u32) -> u32
+    requires { below_parent ≡ hash_of planned.now.parent name.now }
+    ensures { result ≡ hash_of planned.now.scope name.now }
+{
+    if planned.scope == planned.parent {
+        below_parent
+    } else {
+        hash_of(planned.scope, name)
+    }
+}
+
+/// The hashes of all nodes by their names.
 pub(crate) fn hashes_of(
     alloc: Global,
     table: &Table<Planned<'_, '_>>,
-    among: Among,
-) -> Result<Vec<u32>, AllocError>
-    ensures { IfOk result (λ hashes. hashes.items ≡ map (hash_among among) (list_of table.now)) }
+) -> Result<Hashes, AllocError>
+    ensures children { IfOk result (λ hashes. hashes.children.items ≡ map (hash_among among.Children) (list_of table.now)) }
+    ensures scopes { IfOk result (λ hashes. hashes.scopes.items ≡ map (hash_among among.Scope) (list_of table.now)) }
 {
-    let mut hashes = Vec::with_capacity(alloc, table.len())?;
+    let mut children = Vec::with_capacity(alloc, table.len())?;
+    let mut scopes = Vec::with_capacity(alloc, table.len())?;
     for row in table.rows() {
-        let planned = &row.label;
-        hashes.push(hash_of(among.above(planned), planned.name()))?;
+        let name = row.label.name();
+        let below_parent = hash_of(row.label.parent, name);
+        scopes.push(hash_in_scope(&row.label, name, below_parent))?;
+        children.push(below_parent)?;
     }
-    Ok(hashes)
+    Ok(Hashes { children, scopes })
 }

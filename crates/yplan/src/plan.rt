@@ -60,8 +60,9 @@ impl<'a, 't> Plan<'a, 't> {
     {
         let prefixes = Prefixes::of(alloc, sources)?;
         let table = planned(alloc, sources)?;
-        let children = Buckets::of(alloc, hashes_of(alloc, &table, Among::Children)?)?;
-        let scopes = Buckets::of(alloc, hashes_of(alloc, &table, Among::Scope)?)?;
+        let hashes = hashes_of(alloc, &table)?;
+        let children = Buckets::of(alloc, hashes.children)?;
+        let scopes = Buckets::of(alloc, hashes.scopes)?;
         Ok(Plan {
             sources,
             prefixes,

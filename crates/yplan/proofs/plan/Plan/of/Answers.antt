@@ -16,8 +16,8 @@ pub invariant_of-result : goal.invariant_of-result
 invariant_of-result c = record {
   prefixed = c.in_ok-prefixes.ensures;
   laid_out = (shown planned_view (planned 0 at_top (parts_of_modules (link.view c.args.sources.now))) (rows_in c.in_ok-table.table) c.in_ok-table.ensures).1;
-  by_parent = c.in_ok-children.ensures ∙ c.in_ok-hashes_of.ensures;
-  by_scope = c.in_ok-scopes.ensures ∙ c.in_ok-hashes_of-2.ensures;
+  by_parent = c.in_ok-children.ensures ∙ c.in_ok-hashes.ensures.children;
+  by_scope = c.in_ok-scopes.ensures ∙ c.in_ok-hashes.ensures.scopes;
 }
 
 pub returns : goal.returns
@@ -29,13 +29,13 @@ returns c =
 pub of-requires-2 : goal.of-requires-2
 of-requires-2 c =
     let rows = rows_in c.in_ok-table.table in
-    let count = ap length c.in_ok-hashes_of.ensures ∙ (length-map (list_of c.in_ok-table.table) (hash_among among.Children) ∙ length-labels planned_view 0 rows) in
+    let count = ap length c.in_ok-hashes.ensures.children ∙ (length-map (list_of c.in_ok-table.table) (hash_among among.Children) ∙ length-labels planned_view 0 rows) in
     let bound = c.in_ok-table.table.numbered in
     omega (arith, count, bound)
 
 pub of-requires-3 : goal.of-requires-3
 of-requires-3 c =
     let rows = rows_in c.in_ok-table.table in
-    let count = ap length c.in_ok-hashes_of-2.ensures ∙ (length-map (list_of c.in_ok-table.table) (hash_among among.Scope) ∙ length-labels planned_view 0 rows) in
+    let count = ap length c.in_ok-hashes.ensures.scopes ∙ (length-map (list_of c.in_ok-table.table) (hash_among among.Scope) ∙ length-labels planned_view 0 rows) in
     let bound = c.in_ok-table.table.numbered in
     omega (arith, count, bound)
