@@ -1,19 +1,19 @@
 -- Prefixes of modules one after another, and unknown ones among names.
-use Rattle.std.proofs.Common.{◌≡◌, ℕ, zero, suc, ◌+◌, ◌<◌, ◌≤◌, Bool, true, false, cond, List, [], ◌∷◌, ◌++◌, length, get_or, drop, map, Option, Some, None, is_some, option_map, refl, sym, ap, subst, ◌∙◌}
-use Rattle.std.specs.Prelude.{◌||◌, find, unwrap_or}
+use Rattle.std.proofs.Common.{◌≡◌, ℕ, zero, suc, ◌+◌, ◌<◌, ◌≤◌, Bool, true, false, List, [], ◌∷◌, ◌++◌, length, get_or, drop, map, Option, Some, None, is_some, refl, sym, ap, ◌∙◌}
+use Rattle.std.specs.Prelude.{◌||◌, unwrap_or}
 use Rattle.std.specs.Borrow.{Bor}
 use Rattle.std.specs.List.{list_any, flat_map}
 use Rattle.std.proofs.lemmas.List.{at_drop_more, at_drop_all, append_assoc, append-nil}
 use Rattle.std.proofs.lemmas.List.Folds.{list_any-append}
 use Rattle.yspec.specs.Forest.{Forest, end, node}
-use Rattle.yspec.specs.text.Text.{Text, is_text}
+use Rattle.yspec.specs.text.Text.{Text}
 use Rattle.yspec.specs.types.Types.{int8, int16, int32, int64, uint8, uint16, uint32, uint64}
 use Rattle.yspec.specs.linking.Keyword.{prefix_word, type_word}
-use Rattle.std.proofs.lemmas.Slice.Eq.{bytes_eq-Decides}
 use Rattle.yspec.specs.linking.Arguments.{Name, unique_of}
 use Rattle.yspec.specs.linking.Prefixes.{is_unknown_prefix, own_prefix, names_given}
 use Rattle.yspec.specs.linking.Source.{Source, argument_with}
-use Rattle.yspec.specs.linking.TypeStatements.{BuiltIn, integer, decimal64, string, boolean, empty, enumeration, bits, union, leafref, all_built_in, built_in_name, built_in_named, named_so}
+use Rattle.yspec.specs.linking.TypeStatements.{BuiltIn, integer, decimal64, string, boolean, empty, enumeration, bits, union, leafref, built_in_name, built_in_named}
+use Rattle.yspec.proofs.LinkingProofs.BuiltInLemmas.{name_of_named}
 use Rattle.ylink.specs.declared.keyword.Keyword.{Keyword}
 use Rattle.ylink.specs.declared.keyword.Keyword.TheVariants as words
 use Rattle.ylink.specs.KeywordView.{keyword_view}
@@ -82,18 +82,6 @@ module _ (p : Name → Bool) (k : Keyword) (t : Text) where
 
 -- ---- the names of built-in types
 
-find_named : (t : Text) (types : List BuiltIn) (b : BuiltIn)
-    → option_map (λ entry. entry.1) (find (λ entry. is_text t entry.0) (map named_so types)) ≡ Some b → is_text t (built_in_name b) ≡ true
-find_named t [] b e = absurd cc
-find_named t (x ∷ types) b e = by (is_text t (built_in_name x)) refl e (find_named t types b)
-  where
-    by : (y : Bool) → is_text t (built_in_name x) ≡ y
-        → option_map (λ entry. entry.1) (cond y (Some (named_so x)) (find (λ entry. is_text t entry.0) (map named_so types))) ≡ Some b
-        → (option_map (λ entry. entry.1) (find (λ entry. is_text t entry.0) (map named_so types)) ≡ Some b → is_text t (built_in_name b) ≡ true)
-        → is_text t (built_in_name b) ≡ true
-    by true is e rest = subst (λ z. is_text t (built_in_name z) ≡ true) (ap (λ o. unwrap_or o x) e) is
-    by false is e rest = rest e
-
 bare : (modules : Forest Source) (home : ℕ) (b : BuiltIn) → false ≡ list_any (is_unknown_prefix modules home) (names_given type_word (built_in_name b))
 bare modules home (integer int8) = refl
 bare modules home (integer int16) = refl
@@ -112,15 +100,11 @@ bare modules home bits = refl
 bare modules home union = refl
 bare modules home leafref = refl
 
-of_found : (modules : Forest Source) (home : ℕ) (t : Text) (found : Option BuiltIn) → built_in_named t ≡ found → is_some found ≡ true
-    → false ≡ list_any (is_unknown_prefix modules home) (names_given type_word t)
-unfolding built_in_named
-of_found modules home t None is some = absurd cc
-of_found modules home t (Some b) is some =
-    bare modules home b
-    ∙ ap (λ x. list_any (is_unknown_prefix modules home) (names_given type_word x))
-    (sym ((bytes_eq-Decides t (built_in_name b)).0 (find_named t all_built_in b is)))
-
 pub no_prefix : (modules : Forest Source) (home : ℕ) (t : Text) → is_some (built_in_named t) ≡ true
     → false ≡ list_any (is_unknown_prefix modules home) (names_given type_word t)
-no_prefix modules home t some = of_found modules home t (built_in_named t) refl some
+no_prefix modules home t some = by (built_in_named t) refl some
+  where
+    by : (found : Option BuiltIn) → built_in_named t ≡ found → is_some found ≡ true → false ≡ list_any (is_unknown_prefix modules home) (names_given type_word t)
+    by None is some = absurd cc
+    by (Some b) is some =
+        bare modules home b ∙ ap (λ x. list_any (is_unknown_prefix modules home) (names_given type_word x)) (name_of_named t b is)

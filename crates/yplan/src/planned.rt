@@ -1,6 +1,8 @@
 //! Planned nodes.
 
-use ylink::{Broken, CompileCode, Keyword, Source, argument_of, argument_with};
+use ylink::{
+    Broken, BuiltIn, CompileCode, Keyword, Source, argument_of, argument_with, built_in_with,
+};
 use ypreorder::Node;
 
 /// A schema node that a statement defines, or the case that a single node of a choice stands for (RFC 7950, 7.9.2).
@@ -19,13 +21,16 @@ pub struct Planned<'a, 't> {
 }
 
 impl<'a, 't> Planned<'a, 't> {
-    ghost use Rattle.std.specs.Prelude.{◌≡◌, [], ◌∷◌, false, option_map};
+    ghost use Rattle.std.specs.Prelude.{◌≡◌, [], ◌∷◌, false, option_and_then, option_map};
+    ghost use Rattle.yspec.specs.linking.Keyword.{type_word};
     ghost use Rattle.yspec.specs.linking.NodeBreaks.{broken_at};
     ghost use Rattle.ylink.specs.BreakView.{break_view, code_number};
     ghost use Rattle.yspec.specs.linking.Parts.{defines_node};
     ghost use Rattle.yspec.specs.linking.Planned as spec;
     ghost use Rattle.yspec.specs.linking.Source as sources;
+    ghost use Rattle.yspec.specs.linking.TypeStatements.{built_in_named};
     ghost use Rattle.ylink.specs.KeywordView.{keyword_view};
+    ghost use Rattle.ylink.specs.TypeView.{built_in_view};
     ghost use Rattle.yplan.specs.PlannedView.{part_at, planned_view};
 
     /// The keyword of its statement; that of a case, where one is implied.
@@ -62,6 +67,17 @@ impl<'a, 't> Planned<'a, 't> {
             None
         } else {
             argument_with(keyword, self.source.children())
+        }
+    }
+
+    /// The built-in type that its `type` statement names.
+    pub fn type_name(&self) -> Option<BuiltIn>
+        ensures { (number : _) → option_map built_in_view result ≡ option_and_then built_in_named (spec.stated_in type_word (planned_view number self.now)) }
+    {
+        if self.is_implied {
+            None
+        } else {
+            built_in_with(Keyword::Type, self.source.children())
         }
     }
 

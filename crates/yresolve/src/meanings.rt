@@ -117,8 +117,8 @@ pub(crate) fn meanings_of<'t>(
     ensures meant { IfOk result (λ m. map (option_map meant_view) m.meant.items ≡ map (λ p. type_meant p.part.own) (nodes_of (view plan.now))) }
     ensures targets { let p = view plan.now in IfOk result (λ m. m.targets.items ≡ map (λ q. option_map number_in (spec.target_of p q)) (nodes_of p)) }
 {
-    let mut meant = Vec::new(alloc);
-    let mut targets = Vec::new(alloc);
+    let mut meant = Vec::with_capacity(alloc, plan.nodes())?;
+    let mut targets = Vec::with_capacity(alloc, plan.nodes())?;
     for node in plan.iter() {
         let meaning = meaning_of(alloc, &node.planned)?;
         targets.push(target_of(plan, &node.planned, &meaning))?;

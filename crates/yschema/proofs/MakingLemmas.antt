@@ -54,17 +54,19 @@ absent_as is_its_key must values = if is_its_key then key else (if must then man
 abbrev pub leaf_type_by : Text → YangType → Option ℕ → LeafType
 leaf_type_by name type target = record { name = name; type = type; target = target }
 
--- the name of the built-in type that a text names, or that of texts
-pub name_made : (t : Text) (found : Option BuiltIn) (name : BuiltIn) (stated : Option Text) → option_map built_in_view found ≡ built_in_named t
-    → name ≡ unwrap_or found types.String → Some t ≡ stated
+seen_or_text : (o : Option BuiltIn) → built_in_view (unwrap_or o types.String) ≡ unwrap_or (option_map built_in_view o) string
+seen_or_text None = refl
+seen_or_text (Some b) = refl
+
+-- the name of the built-in type that is stated, or that of texts
+pub name_made : (found : Option BuiltIn) (name : BuiltIn) (stated : Option Text)
+    → option_map built_in_view found ≡ option_and_then built_in_named stated → name ≡ unwrap_or found types.String
     → built_in_name (built_in_view name) ≡ unwrap_or (option_and_then type_named stated) (codes "string")
-name_made t found name stated named is said =
-    ap (λ b. built_in_name (built_in_view b)) is ∙ (ap built_in_name (seen_or_text found) ∙ (name_or_text t (option_map built_in_view found) named
-    ∙ ap (λ o. unwrap_or (option_and_then type_named o) (codes "string")) said))
-  where
-    seen_or_text : (o : Option BuiltIn) → built_in_view (unwrap_or o types.String) ≡ unwrap_or (option_map built_in_view o) string
-    seen_or_text None = refl
-    seen_or_text (Some b) = refl
+name_made found name None named is =
+    ap (λ b. built_in_name (built_in_view b)) is ∙ (ap built_in_name (seen_or_text found) ∙ ap (λ o. built_in_name (unwrap_or o string)) named)
+name_made found name (Some t) named is =
+    ap (λ b. built_in_name (built_in_view b)) is
+    ∙ (ap built_in_name (seen_or_text found) ∙ name_or_text t (option_map built_in_view found) named)
 
 -- ---- kinds
 

@@ -158,10 +158,7 @@ fn type_or_text(alloc: Global, value_type: Option<&YType>) -> Result<YType, Allo
 fn type_name_of(planned: &Planned<'_, '_>) -> BuiltIn
     ensures { (number : _) → built_in_name (built_in_view result) ≡ spec.type_name (planned_view number planned.now) }
 {
-    match planned.stated(Keyword::Type) {
-        Some(text) => BuiltIn::named(text).unwrap_or(BuiltIn::String),
-        None => BuiltIn::String,
-    }
+    planned.type_name().unwrap_or(BuiltIn::String)
 }
 
 /// The type of a leaf or of items, and to which node it refers.
