@@ -1,18 +1,19 @@
 -- What the statements of a list name, and whether a number comes twice.
 use Rattle.std.proofs.Common.{◌≡◌, ℕ, Bool, true, false, not, cond, ◌&&◌, ◌||◌, List, [], ◌∷◌, ◌++◌, map, Option, Some, None, refl, sym, ap, ap₂, ◌∙◌, arith}
-use Rattle.std.specs.Prelude.{◌==◌, option_map, unwrap_or}
+use Rattle.std.specs.Prelude.{◌==◌, option_and_then, option_map, unwrap_or}
 use Rattle.std.specs.List.{cons_option, filter_map, flat_map, list_all, list_any}
 use Rattle.std.specs.Option.{option_map_or}
 use Rattle.std.specs.Ordering.{is_eq, nat_cmp}
 use Rattle.std.specs.BTreeSet.{BTreeSet, Updates, contains}
 use Rattle.std.proofs.lemmas.Bool.Decides.{nat_tests}
-use Rattle.std.proofs.lemmas.List.{map-append}
+use Rattle.std.proofs.lemmas.List.{append_assoc, map-append}
 use Rattle.yspec.specs.linking.Keyword.{key_word, unique_word, leaf_word, container_word}
 use Rattle.yspec.specs.linking.Planned as spec
 use Rattle.yspec.specs.linking.Planned.{Planned, child_called, is_a}
 use Rattle.yspec.specs.linking.SchemaNodes.{key_names, key_numbers, unique_ways, nodes_named}
 use Rattle.yspec.specs.linking.Arguments.{key_of}
 use Rattle.yspec.specs.linking.NodeBreaks.{has_twice, leaf_behind, is_key_leaf, is_wrong_key}
+use Rattle.yspec.specs.linking.Prefixes.{NodeName}
 use Rattle.yspec.specs.linking.Source.{argument_in, all_with}
 use Rattle.yspec.specs.linking.Parts.{part_of}
 use Rattle.ypreorder.specs.View.{row_by, label_by}
@@ -153,3 +154,16 @@ pub right_leafs : (plan : spec.Plan) (p : Planned)
     → list_all (λ name. option_map_or (is_key_leaf p) (child_called plan (Some p.number) name) false) (key_names plan p) ≡ true
     → has_twice (key_numbers plan p) ≡ is_wrong_key plan p
 right_leafs plan p e = sym (ap (λ b. not b || has_twice (key_numbers plan p)) e)
+
+-- ---- one step more of a way down
+
+pub one_more : (plan : spec.Plan) (parent : Option ℕ) (name : NodeName) (names : List NodeName) (p : Planned) (so_far more : List Planned)
+    → Some p ≡ child_called plan parent name → more ≡ so_far ++ p ∷ []
+    → option_map (λ ps. so_far ++ ps) (spec.way plan parent (name ∷ names)) ≡ option_map (λ ps. more ++ ps) (spec.way plan (Some p.number) names)
+one_more plan parent name names p so_far more called added =
+    ap (λ o. option_map (λ ps. so_far ++ ps) (option_and_then (λ q. option_map (λ ps. q ∷ ps) (spec.way plan (Some q.number) names)) o)) (sym called)
+    ∙ (joined (spec.way plan (Some p.number) names) ∙ ap (λ xs. option_map (λ ps. xs ++ ps) (spec.way plan (Some p.number) names)) (sym added))
+  where
+    joined : (o : Option (List Planned)) → option_map (λ ps. so_far ++ ps) (option_map (λ ps. p ∷ ps) o) ≡ option_map (λ ps. (so_far ++ p ∷ []) ++ ps) o
+    joined None = refl
+    joined (Some ps) = ap Some (sym (append_assoc so_far (p ∷ []) ps))
