@@ -243,16 +243,16 @@ fn judge_alone(
     if !(unfitting || outside || unversioned || miscounted) {
         return Ok(());
     }
-    let least = least_when(unfitting, *told, broken(CompileCode::C3, module, statement));
-    let least = least_when(outside, least, broken(CompileCode::C1, module, statement));
-    let least = least_when(
+    let first = least_when(unfitting, *told, broken(CompileCode::C3, module, statement));
+    let first = least_when(outside, first, broken(CompileCode::C1, module, statement));
+    let first = least_when(
         unversioned,
-        least,
+        first,
         broken(CompileCode::C4, module, statement),
     );
     *told = least_when(
         miscounted,
-        least,
+        first,
         broken(CompileCode::C2, module, statement),
     );
     Ok(())
