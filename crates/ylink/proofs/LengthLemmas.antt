@@ -1,11 +1,11 @@
 -- What a text is, is found among the things of its own length alone.
 use Rattle.std.proofs.Common.{◌≡◌, ◌≢◌, ℕ, Bool, true, false, List, [], ◌∷◌, length, refl, sym, ap, ◌∙◌, arith}
-use Rattle.std.specs.Prelude.{filter, find, option_map, ◌==◌}
+use Rattle.std.specs.Prelude.{filter, find, option_map}
 use Rattle.std.proofs.lemmas.Bool.Decides.{nat_tests}
 use Rattle.std.proofs.lemmas.Slice.Eq.{bytes_eq-Decides}
 use Rattle.yspec.specs.text.Text.{Text, is_text}
 use Rattle.yspec.specs.linking.TypeStatements.{built_in_named, built_in_types}
-use Rattle.ylink.specs.Lengths.{type_among, is_four, is_five, is_six, is_another}
+use Rattle.ylink.specs.Lengths.{type_among, is_another}
 
 find_kept : {A : Type 0} (p q : A → Bool) → ((a : A) → p a ≡ true → q a ≡ true) → (xs : List A) → find p xs ≡ find p (filter q xs)
 find_kept p q h [] = refl

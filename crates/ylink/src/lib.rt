@@ -32,9 +32,7 @@ pub use name::{
 };
 pub use number::{count, enum_value, fraction_digits, most};
 pub use prefix::{NodeName, Prefixes, prefix_fault, type_name_fault};
-pub use row::{
-    argument_of, argument_with, built_in_of, built_in_with, first_with, found_with,
-};
+pub use row::{argument_of, argument_with, built_in_of, built_in_with, first_with, found_with};
 pub use source::Source;
 pub use sources::Sources;
 pub use span::spans;

@@ -82,10 +82,7 @@ fn hash_in_scope(planned: &Planned<'_, '_>, name: &str, below_parent: u32) -> u3
 }
 
 /// The hashes of all nodes by their names.
-pub(crate) fn hashes_of(
-    alloc: Global,
-    table: &Table<Planned<'_, '_>>,
-) -> Result<Hashes, AllocError>
+pub(crate) fn hashes_of(alloc: Global, table: &Table<Planned<'_, '_>>) -> Result<Hashes, AllocError>
     ensures children { IfOk result (λ hashes. hashes.children.items ≡ map (hash_among among.Children) (list_of table.now)) }
     ensures scopes { IfOk result (λ hashes. hashes.scopes.items ≡ map (hash_among among.Scope) (list_of table.now)) }
 {

@@ -24,11 +24,11 @@ loop-row-preserved c =
     let more = sym (labels_more planned_view rows i row within is) in
     record {
       by_parent = c.in_ok-push-2.ensures.items
-      ∙ (ap₂ (λ xs h. xs ++ h ∷ []) c.loop-row.invariant.by_parent below_parent
-      ∙ (sym (map-append (hash_among among.Children) done (p ∷ [])) ∙ ap (map (hash_among among.Children)) more));
+          ∙ (ap₂ (λ xs h. xs ++ h ∷ []) c.loop-row.invariant.by_parent below_parent
+          ∙ (sym (map-append (hash_among among.Children) done (p ∷ [])) ∙ ap (map (hash_among among.Children)) more));
       by_scope = c.in_ok-push.ensures.items
-      ∙ (ap₂ (λ xs h. xs ++ h ∷ []) c.loop-row.invariant.by_scope in_scope
-      ∙ (sym (map-append (hash_among among.Scope) done (p ∷ [])) ∙ ap (map (hash_among among.Scope)) more));
+          ∙ (ap₂ (λ xs h. xs ++ h ∷ []) c.loop-row.invariant.by_scope in_scope
+          ∙ (sym (map-append (hash_among among.Scope) done (p ∷ [])) ∙ ap (map (hash_among among.Scope)) more));
     }
 
 pub returns-clause-children : goal.returns-clause-children

@@ -12,5 +12,5 @@ pub returns-else-self : goal.returns-else-self
 returns-else-self c = λ number.
     c.built_in_with.ensures
     ∙ ap (option_and_then built_in_named)
-      (ap (λ row. argument_with type_word (row_by source_view row)) c.children.ensures
-      ∙ stated_is c.args.self.now type_word number c.if-self.false refl)
+    (ap (λ row. argument_with type_word (row_by source_view row)) c.children.ensures
+    ∙ stated_is c.args.self.now type_word number c.if-self.false refl)
