@@ -251,3 +251,36 @@ found_now passes before after number first passed =
 pub found_later : (passes : ℕ → Bool) (before after : List ℕ) (number : ℕ) → before ≡ number ∷ after → passes number ≡ false → find passes before ≡ find passes after
 found_later passes before after number first refused =
     ap (find passes) first ∙ ap (λ b. cond b (Some number) (find passes after)) refused
+
+-- ---- numbers of a bucket ascend
+
+-- what is found there isn't less than the number from which it is looked for
+no_less : (passes : ℕ → Bool) (count bucket number : ℕ) (hashes : List ℕ) (x : ℕ) → find passes (all_in count bucket number hashes) ≡ Some x → number ≤ x
+no_less passes count bucket number [] x e = absurd cc
+no_less passes count bucket number (h ∷ hs) x e = by (h % count == bucket) (no_less passes count bucket (number + 1) hs x) e
+  where
+    rest : List ℕ
+    rest = all_in count bucket (number + 1) hs
+
+    here : (p : Bool) → (find passes rest ≡ Some x → number + 1 ≤ x) → cond p (Some number) (find passes rest) ≡ Some x → number ≤ x
+    here true behind f = let same = some_is number x f in omega (arith, same)
+    here false behind f = let more = behind f in omega (arith, more)
+
+    by : (t : Bool) → (find passes rest ≡ Some x → number + 1 ≤ x) → find passes (cond t (number ∷ rest) rest) ≡ Some x → number ≤ x
+    by true behind f = here (passes number) behind f
+    by false behind f = let more = behind f in omega (arith, more)
+
+-- nor than the first of them
+pub first_least : (passes : ℕ → Bool) (count bucket number : ℕ) (hashes : List ℕ) (first : ℕ) (more : List ℕ) (x : ℕ)
+    → all_in count bucket number hashes ≡ first ∷ more → find passes (first ∷ more) ≡ Some x → first ≤ x
+first_least passes count bucket number [] first more x e f = absurd cc
+first_least passes count bucket number (h ∷ hs) first more x e f =
+    by (h % count == bucket) refl (no_less passes count bucket number (h ∷ hs) x (ap (find passes) e ∙ f))
+    (λ g. first_least passes count bucket (number + 1) hs first more x g f) e
+  where
+    rest : List ℕ
+    rest = all_in count bucket (number + 1) hs
+
+    by : (t : Bool) → h % count == bucket ≡ t → number ≤ x → (rest ≡ first ∷ more → first ≤ x) → cond t (number ∷ rest) rest ≡ first ∷ more → first ≤ x
+    by true is from behind g = let same : number ≡ first = cc in omega (arith, same, from)
+    by false is from behind g = behind g

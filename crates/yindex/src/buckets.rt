@@ -59,7 +59,7 @@ fn put(numbers: &mut Vec<u32>, place: usize, number: u32)
 }
 
 impl Buckets {
-    ghost use Rattle.std.specs.Prelude.{◌≡◌, ◌<◌, ◌^◌, IfOk, length};
+    ghost use Rattle.std.specs.Prelude.{◌≡◌, ◌<◌, ◌^◌, IfOk, length, slice_get, unwrap_or};
     ghost use Rattle.yindex.specs.Hashes.{candidates};
     ghost use Rattle.yindex.specs.Buckets.{hashes_in, left};
 
@@ -83,6 +83,13 @@ impl Buckets {
             first,
             next,
         })
+    }
+
+    /// The hash of a number; 0 where there is none.
+    pub fn hash_at(&self, number: u32) -> u32
+        ensures { result ≡ unwrap_or (slice_get (hashes_in self.now) number) 0 }
+    {
+        self.hashes.get(number as usize).copied().unwrap_or(0)
     }
 
     /// Those among which each number with a hash stands.

@@ -30,6 +30,10 @@ numbers_from test k (r ∷ rows) q e = by (numbers_from test (k + 1) rows q) (te
     by more true h = let same = ap number_in (some_same (planned_view k r.label) q h) in omega (arith, same)
     by more false h = let behind = more h in omega (arith, behind)
 
+pub none_before : (o : Option ℕ) (n : ℕ) → ((m : ℕ) → o ≡ Some m → n ≤ m) → is_before o n ≡ false
+none_before None n h = refl
+none_before (Some m) n h = let behind = h m refl in grind (arith, nat_tests)
+
 not_before : (o : Option Planned) (n : ℕ) → ((q : Planned) → o ≡ Some q → n ≤ q.number) → is_before (option_map number_in o) n ≡ false
 not_before None n h = refl
 not_before (Some q) n h = let behind = h q refl in grind (arith, nat_tests)

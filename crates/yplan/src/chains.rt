@@ -45,7 +45,7 @@ fn first_chains(alloc: Global, next: &[Option<u32>]) -> Result<Vec<Chain>, Alloc
     ensures count { IfOk result (λ chains. length chains.items ≡ length next.now) }
     ensures each { IfOk result (λ chains. (i : ℕ) → i < length next.now → slice_get chains.items i ≡ Some (first_chain next.now i)) }
 {
-    let mut chains = Vec::new(alloc);
+    let mut chains = Vec::with_capacity(alloc, next.len())?;
     for node in 0..next.len() {
         let end = match reference(next, node) {
             Some(_) => None,

@@ -35,10 +35,11 @@ pub struct Plan<'a, 't> {
 }
 
 impl<'a, 't> Plan<'a, 't> {
-    ghost use Rattle.std.specs.Prelude.{◌≡◌, IfOk, option_map, find, map, length, false};
+    ghost use Rattle.std.specs.Prelude.{◌≡◌, IfOk, Some, option_map, find, map, length, false, slice_get};
     ghost use Rattle.std.specs.Option.{option_map_or};
     ghost use Rattle.yindex.specs.Buckets.{hashes_in};
-    ghost use Rattle.yplan.specs.Finding.{hash_among, is_found, list_of};
+    ghost use Rattle.yplan.specs.Finding.{hash_among, is_before, is_found, list_of};
+    ghost use Rattle.yspec.specs.linking.Source.{argument_in};
     ghost use Rattle.yspec.specs.linking.Compiling.{plan_of};
     ghost use Rattle.yspec.specs.linking.Planned as spec;
     ghost use Rattle.ylink.specs.LinkView as link;
@@ -162,6 +163,24 @@ impl<'a, 't> Plan<'a, 't> {
             }
         }
         None
+    }
+
+    /// Whether a node before that of a number, among those that share their names with it, has its module and name.
+    pub(crate) fn is_repeated(&self, number: u32, planned: &Planned<'_, '_>) -> bool
+        requires { slice_get (list_of self.now.table) number ≡ Some (planned_view number planned.now) }
+        ensures { let p = planned_view number planned.now in
+            result ≡ is_before (option_map number_in (find (is_found among.Scope p.scope p.part.owner (argument_in p.part.source)) (spec.nodes_of (view self.now)))) number }
+    {
+        for candidate in self.scopes.numbers(self.scopes.hash_at(number)) {
+            if candidate >= number {
+                return false;
+            }
+            let (module, name) = (planned.owner(), planned.name());
+            if self.has(candidate, Among::Scope, planned.scope, module, name) {
+                return true;
+            }
+        }
+        false
     }
 
     /// The nodes by their names below those under which they are looked for.

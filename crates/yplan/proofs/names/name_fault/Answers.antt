@@ -1,21 +1,32 @@
 use Rattle.std.proofs.Common.{◌≡◌, ◌+◌, ◌≤◌, suc, take, drop, length, get_or, sym, ap, ap₂, ◌∙◌, arith}
-use Rattle.std.specs.Prelude.{find, option_map}
+use Rattle.std.specs.Prelude.{Some, find, option_map}
+use Rattle.std.proofs.lemmas.Option.{slice_get-get_or}
 use Rattle.std.specs.List.{list_any}
-use Rattle.yspec.specs.linking.Planned.{nodes_of}
 use Rattle.yspec.specs.linking.SchemaNodes.{number_in}
 use Rattle.yspec.specs.schema.Breaks.{least_from, when}
 use Rattle.yspec.specs.linking.NodeBreaks.{broken_at, is_like, doubled}
 use Rattle.ypreorder.specs.Layout.{labels_by}
 use Rattle.ypreorder.specs.View.{rows_in}
-use Rattle.ypreorder.proofs.LabelLemmas.{labels_more}
+use Rattle.ypreorder.proofs.LabelLemmas.{label_at, labels_more}
 use Rattle.ylink.specs.BreakView.{seen}
 use Rattle.yplan.specs.PlannedView.{planned_view}
-use Rattle.yplan.specs.PlanView.{view}
-use Rattle.yplan.specs.Finding.{is_before, is_found}
-use Rattle.yplan.specs.declared.finding.Among.TheVariants as among
+use Rattle.yplan.specs.Finding.{is_before}
 use Rattle.yplan.proofs.PlanLemmas.{nodes_are, labels_from, next_told, drop_past}
 use Rattle.yplan.proofs.NodeLemmas.{earlier}
 use Rattle.yplan.proofs.names.name_fault.Goals as goal
+
+pub is_repeated-is_repeated-requires : goal.is_repeated-is_repeated-requires
+is_repeated-is_repeated-requires c =
+    let rows = rows_in c.args.plan.now.table in
+    let i = c.loop-number.number in
+    let row = c.row-item.result in
+    let same = c.rows-row-items.ensures.rows in
+    let is = c.row-item.is ∙ ap (λ xs. get_or xs i row) same in
+    let within : suc i ≤ length rows = omega (arith, ap length same) in
+    let from_none : 0 + i ≡ i = omega arith in
+    label_at planned_view 0 rows i
+    ∙ (ap (option_map (λ r. planned_view (0 + i) r.label)) (slice_get-get_or rows i row (omega (arith, within)))
+    ∙ (ap (λ r. Some (planned_view (0 + i) r.label)) (sym is) ∙ ap (λ n. Some (planned_view n row.label)) from_none))
 
 pub loop-number-preserved : goal.loop-number-preserved
 loop-number-preserved c =
@@ -28,11 +39,9 @@ loop-number-preserved c =
     let is = c.row-item.is ∙ ap (λ xs. get_or xs i row) same in
     let within : suc i ≤ length rows = omega (arith, ap length same) in
     let more = labels_more planned_view rows i row within is in
-    let repeated : c.is_before-is_repeated.result ≡ list_any (is_like p) before =
-    c.is_before-is_repeated.ensures
-    ∙ (ap (λ o. is_before o i) (c.first-first.ensures
-    ∙ (ap₂ (λ m t. option_map number_in (find (is_found among.Scope p.scope m t) (nodes_of (view c.args.plan.now)))) c.owner.ensures c.name.ensures
-    ∙ ap (λ nodes. option_map number_in (find (is_like p) nodes)) (nodes_are c.args.plan.now)))
+    let repeated : c.is_repeated-is_repeated.result ≡ list_any (is_like p) before =
+    c.is_repeated-is_repeated.ensures
+    ∙ (ap (λ nodes. is_before (option_map number_in (find (is_like p) nodes)) i) (nodes_are c.args.plan.now)
     ∙ earlier (is_like p) 0 i i rows (omega arith)) in
     let told : seen c.least_when-told.result ≡ least_from (seen c.loop-number.told) (when (list_any (is_like p) before) (broken_at 13 p)) =
     c.least_when-told.ensures ∙ ap₂ (λ b breaks. least_from (seen c.loop-number.told) (when b breaks)) repeated (c.broken.ensures i) in
