@@ -248,7 +248,10 @@ impl<'a> Reader<'a> {
             }
         }
         match self.row_end() {
-            Ok(()) => Ok(subs),
+            Ok(()) => {
+                subs.shrink_to_fit();
+                Ok(subs)
+            }
             Err(fault) => Err(fault),
         }
     }

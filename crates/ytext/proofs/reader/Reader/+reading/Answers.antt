@@ -41,10 +41,13 @@ statements-returns-in-Err-clause-rows t c =
     (row_fails level c.in-Word.word.now before.token.line (left before.cursor) ss c.in-Err.fault c.in-Err.ensures.statement)
 
 pub statements-returns-in-Ok-row_end : goal.statements-returns-in-Ok-row_end
-statements-returns-in-Ok-row_end t c = record {
-  ahead = c.loop-self.invariant.ahead;
-  rows = row_ends c.args.level c.loop-self.self c.loop-self.subs.items _ c.loop-self.invariant.rest (c.in-Ok-row_end.ensures c.args.level);
-}
+statements-returns-in-Ok-row_end t c =
+    let read = rows c.args.level (tokens_ahead c.loop-self.self) in
+    let kept = ap (λ (ss : List Stmt). with_front (row_view ss) read) c.shrink_to_fit.ensures.items in
+    record {
+      ahead = c.loop-self.invariant.ahead;
+      rows = row_ends c.args.level c.loop-self.self c.shrink_to_fit.new.self.items _ (kept ∙ c.loop-self.invariant.rest) (c.in-Ok-row_end.ensures c.args.level);
+    }
 
 pub statements-returns-in-Err-row_end-clause-rows : goal.statements-returns-in-Err-row_end-clause-rows
 statements-returns-in-Err-row_end-clause-rows t c =
