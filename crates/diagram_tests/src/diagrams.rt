@@ -3,7 +3,8 @@
 use std::alloc::Global;
 use ydiagram::{DiagramFault, write};
 use youtput::Cut;
-use yschema::{Schema, compile};
+use ymodel::Schema;
+use yschema::compile;
 use ytext::parse;
 
 const NETWORK: &str = "module ex-net {

@@ -4,7 +4,8 @@
 use std::alloc::{AllocError, Global};
 use yinst::read;
 use ylive::Live;
-use yschema::{Schema, compile};
+use ymodel::Schema;
+use yschema::compile;
 use ytext::{Module, TextFault, parse};
 
 /// A module whose container has the name of one of the other module, and the name of its leaf twice.

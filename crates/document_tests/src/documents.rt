@@ -5,7 +5,7 @@ use crate::telling::{have_lines, is_text};
 use std::alloc::Global;
 use ycheck::faults;
 use yinst::{DocFault, Tree, read, write};
-use yschema::Schema;
+use ymodel::Schema;
 
 fn is_text_of(alloc: Global, schema: &Schema, document: &str, text: &str) -> Option<bool> {
     match read(alloc, schema, document.as_bytes()) {

@@ -4,7 +4,7 @@ use crate::building::{MODULE, schema_of};
 use crate::telling::{is_refusal, is_text, number_of};
 use std::alloc::{AllocError, Global};
 use yinst::{Bound, Edit, part};
-use yschema::{Schema, SchemaId};
+use ymodel::{Schema, SchemaId};
 
 // The numbers of the schema nodes that a path means, from the top on.
 fn numbers_text(alloc: Global, bound: &Bound<'_>) -> Result<String, AllocError> {

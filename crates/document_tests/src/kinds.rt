@@ -3,7 +3,7 @@
 use crate::building::{DEFAULT_CASE, ENTRIES, NETWORK, STATE, schema_of};
 use crate::telling::is_text;
 use std::alloc::{AllocError, Global};
-use yschema::{Absence, Amount, Kind, LeafType, Schema, SchemaId, SchemaNode, Tuples};
+use ymodel::{Absence, Amount, Kind, LeafType, Schema, SchemaId, SchemaNode, Tuples};
 
 fn number_text(alloc: Global, word: &str, id: Option<SchemaId>) -> Result<String, AllocError> {
     match id {

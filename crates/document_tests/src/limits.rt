@@ -4,7 +4,7 @@ use crate::building::{STATE, push_times, schema_of};
 use crate::telling::{is_refusal, is_refusal_of_document, number_of};
 use std::alloc::{AllocError, Global};
 use yinst::{Edit, EditFault, Tree, apply, read};
-use yschema::Schema;
+use ymodel::Schema;
 
 // A container with an item, and with so many more of the same value.
 fn document(alloc: Global, more: u32) -> Result<String, AllocError> {

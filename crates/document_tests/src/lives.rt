@@ -7,7 +7,8 @@ use crate::telling::{
 use std::alloc::Global;
 use ycheck::Fault;
 use yinst::{Edit, EditFault, NamedStep, Path, Predicate, write};
-use ylive::{Applied, CheckFault, ListFault, Live, Outcome, Refused, check_edits};
+use yedits::{CheckFault, check_edits};
+use ylive::{Applied, ListFault, Live, Outcome, Refused};
 
 /// A document with one fault.
 pub(crate) const FAULTY: &str = r#"{"p:c":{"id":256,"note":"x"}}"#;

@@ -15,7 +15,7 @@ use crate::telling::is_text;
 use std::alloc::Global;
 use yinst::{Edit, read, write};
 use ylive::{ListFault, Live, Refused, StopCode, Stopped};
-use yschema::Schema;
+use ymodel::Schema;
 
 // `text => faults`: whether a document has both.
 fn is_in(alloc: Global, live: &Live, state: &str) -> Option<bool> {

@@ -3,7 +3,7 @@
 use crate::building::{FIRST, SECOND, schema_of};
 use crate::telling::number_of;
 use std::alloc::Global;
-use yschema::{Absence, Child, Children, Kind, Schema, SchemaId};
+use ymodel::{Absence, Child, Children, Kind, Schema, SchemaId};
 
 // Whether that is the node of a number, or none for `-`.
 fn is_node(found: Option<SchemaId>, wanted: &str) -> Option<bool> {

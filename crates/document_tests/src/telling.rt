@@ -3,7 +3,8 @@
 use std::alloc::{AllocError, Global};
 use ycheck::{Fault, write_line};
 use yinst::{DocFault, EditFault};
-use yschema::{CompileFault, Schema};
+use ymodel::Schema;
+use yschema::CompileFault;
 use ytext::Cut;
 
 pub(crate) fn number_of(digits: &str) -> Option<u32> {

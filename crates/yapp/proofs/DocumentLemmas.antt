@@ -20,9 +20,9 @@ use Rattle.yspec.proofs.EditProofs.FittingEditLemmas.{edits_whole}
 use Rattle.yspec.proofs.EditProofs.LimitLemmas.{edits_within}
 use Rattle.ycheck.specs.View.{view, views}
 use Rattle.ycheck.specs.declared.fault.Fault.{Fault}
-use Rattle.yschema.specs.View as schema_view
-use Rattle.yschema.specs.declared.schema.Schema.{Schema}
-use Rattle.yschema.proofs.CallerLemmas.{names_differ, numbered}
+use Rattle.ymodel.specs.View as schema_view
+use Rattle.ymodel.specs.declared.schema.Schema.{Schema}
+use Rattle.ymodel.proofs.CallerLemmas.{names_differ, numbered}
 use Rattle.yapp.specs.Asked.{IsScript, Line, refused_texts, told_from}
 use Rattle.yapp.specs.Edited.{IsEdited, IsRun, IsSound, refused_of, schema_of, tree_of}
 use Rattle.yapp.specs.Failing.{LeadsTo}

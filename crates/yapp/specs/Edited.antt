@@ -9,7 +9,7 @@ use Rattle.yspec.specs.document.Writing.{IsDocument}
 use Rattle.yspec.specs.edit.EditText.{Edit}
 use Rattle.yspec.specs.edit.Editing.{after, decisions}
 use Rattle.yspec.specs.program.Script.{after_lines, refused_lines}
-use Rattle.yschema.specs.View as schema_view
+use Rattle.ymodel.specs.View as schema_view
 use Rattle.ytree.specs.View.{tree_view}
 use Rattle.yapp.specs.Asked.{Line, refused_texts, told_from}
 use Rattle.yapp.specs.declared.document.Document.{Document}

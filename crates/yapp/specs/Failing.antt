@@ -3,7 +3,7 @@ use Rattle.std.specs.Prelude.{◌≡◌, ℕ, ◌++◌, ◌==◌, ◌&&◌, List
 use Rattle.std.specs.Option.{option_map_or}
 use Rattle.ytext.specs.Told.{number_of}
 use Rattle.yschema.specs.Told.{code_number}
-use Rattle.yschema.specs.View as schema_view
+use Rattle.ymodel.specs.View as schema_view
 use Rattle.ytree.specs.Told as document
 use Rattle.ytree.specs.View.{place_view}
 use Rattle.ycheck.specs.View.{views}

@@ -3,7 +3,7 @@
 ghost use Rattle.std.specs.Prelude.{◌≡◌, map, position};
 ghost use Rattle.yspec.specs.text.Text.{is_text};
 ghost use Rattle.yspec.specs.program.Output.{compilation, drawing, drawn, edition, performed, validation};
-ghost use Rattle.yschema.specs.View as schema_view;
+ghost use Rattle.ymodel.specs.View as schema_view;
 ghost use Rattle.yapp.specs.Command.{view};
 ghost use Rattle.yapp.specs.Failing.{LeadsTo, reported};
 ghost use Rattle.yapp.specs.Files.{IsOutcome, came_to, store};
@@ -16,7 +16,7 @@ use crate::files::Files;
 use crate::modules::compile_contents;
 use crate::report::Report;
 use std::alloc::Global;
-use yschema::Schema;
+use ymodel::Schema;
 
 /// How many nodes modules define, by the contents of their files.
 fn count_nodes<'a>(

@@ -8,7 +8,7 @@ ghost use Rattle.yspec.specs.document.Writing.{written_text};
 ghost use Rattle.yspec.specs.program.Output.{Outcome, dump, edition, first_file, left, validation, with_document, with_tree};
 ghost use Rattle.yspec.specs.program.Script.{after_lines, lines_of, refused_lines};
 ghost use Rattle.yspec.specs.schema.Schema as schema_spec;
-ghost use Rattle.yschema.specs.View as schema_view;
+ghost use Rattle.ymodel.specs.View as schema_view;
 ghost use Rattle.ytree.specs.View.{tree_view};
 ghost use Rattle.ylive.specs.View as live_view;
 ghost use Rattle.yapp.specs.Asked.{edits_in, kinds_in};
@@ -23,7 +23,7 @@ use crate::script::{RefusedLine, Script};
 use std::alloc::{AllocError, Global};
 use ycheck::faults;
 use ylive::Live;
-use yschema::Schema;
+use ymodel::Schema;
 use ytree::{DocFault, Tree, read, write};
 
 /// A document under its schema, with the lines of a script that were refused on the way to it.

@@ -3,7 +3,7 @@
 ghost use Rattle.std.specs.Prelude.{◌≡◌, ◌++◌, codes, decimal};
 ghost use Rattle.yspec.specs.program.Output.{refusal_line};
 ghost use Rattle.youtput.specs.Writing.{Writes, side};
-ghost use Rattle.yschema.specs.View as schema_view;
+ghost use Rattle.ymodel.specs.View as schema_view;
 ghost use Rattle.ytree.specs.View.{place_view};
 ghost use Rattle.yapp.specs.Failing.{FromFile, outcome_of, refusal_in};
 ghost use Rattle.yapp.specs.declared.failure.Failure.TheVariants.{Memory};
@@ -16,7 +16,8 @@ use std::fmt;
 use thiserror::Error;
 use ycheck::write_path;
 use youtput::{Sink, SinkFault, write_texts};
-use yschema::{CompileCode, Schema};
+use yschema::CompileCode;
+use ymodel::Schema;
 use ytext::TextCode;
 use ytree::{DocCode, Step};
 

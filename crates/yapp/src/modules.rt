@@ -8,13 +8,14 @@ ghost use Rattle.yspec.specs.program.Output.{Outcome, with_compiled, with_module
 ghost use Rattle.yspec.specs.schema.Schema as schema_spec;
 ghost use Rattle.yspec.specs.text.Statement.{Statement, module_of};
 ghost use Rattle.ytext.specs.View.{modules_view};
-ghost use Rattle.yschema.specs.View as schema_view;
+ghost use Rattle.ymodel.specs.View as schema_view;
 ghost use Rattle.yapp.specs.Failing.{LeadsTo};
 
 use crate::contents::Taken;
 use crate::failure::Failure;
 use std::alloc::Global;
-use yschema::{CompileFault, Schema, compile};
+use ymodel::Schema;
+use yschema::{CompileFault, compile};
 use ytext::{Module, TextFault, parse};
 
 /// The statements of the modules of some names, in order, up to the first whose text is refused.

@@ -6,7 +6,7 @@ ghost use Rattle.yspec.specs.document.Faults.{line_of};
 ghost use Rattle.yspec.specs.schema.Diagram.{diagram};
 ghost use Rattle.yspec.specs.program.Output.{report};
 ghost use Rattle.youtput.specs.Writing.{Writes, side};
-ghost use Rattle.yschema.specs.View as schema_view;
+ghost use Rattle.ymodel.specs.View as schema_view;
 ghost use Rattle.ycheck.specs.View.{views};
 ghost use Rattle.yapp.specs.Asked.{refused_text, refused_texts};
 ghost use Rattle.yapp.specs.Failing.{reported};
@@ -18,7 +18,7 @@ use crate::status::{FAULTY, GOOD};
 use itoa::Buffer;
 use ycheck::{Fault, write_line};
 use youtput::{Sink, SinkFault, write_texts};
-use yschema::Schema;
+use ymodel::Schema;
 
 /// What a command found.
 #[derive(Drop)]

@@ -11,12 +11,12 @@ use Rattle.yspec.specs.document.Play.{stored_among, stored_cases, or_default, is
 use Rattle.yspec.specs.document.Sorting.{StartsAt, IsSorted, from_number}
 use Rattle.yspec.proofs.DocumentProofs.CursorLemmas.{sorted_left}
 use Rattle.yspec.proofs.DocumentProofs.FittingLemmas.{eqb_other, instances-cons, none_of_others}
-use Rattle.yschema.specs.declared.children.Row.{Row}
-use Rattle.yschema.specs.declared.children.Children.{Children}
-use Rattle.yschema.specs.declared.node.SchemaId.{SchemaId}
-use Rattle.yschema.specs.Layout.{forest_within}
-use Rattle.yschema.specs.View as schema_view
-use Rattle.yschema.proofs.QueryLemmas.{size_of_forest}
+use Rattle.ymodel.specs.declared.children.Row.{Row}
+use Rattle.ymodel.specs.declared.children.Children.{Children}
+use Rattle.ymodel.specs.declared.node.SchemaId.{SchemaId}
+use Rattle.ymodel.specs.Layout.{forest_within}
+use Rattle.ymodel.specs.View as schema_view
+use Rattle.ymodel.proofs.QueryLemmas.{size_of_forest}
 use Rattle.ytree.specs.View.{view, row_view}
 use Rattle.ytree.specs.Walk.{behind, others}
 use Rattle.ytree.specs.declared.tree.Stored as tree

@@ -7,12 +7,12 @@ ghost use Rattle.yspec.specs.document.Document.{instances_in};
 ghost use Rattle.yspec.specs.document.Fitting.{IsNumbered};
 ghost use Rattle.yspec.specs.document.Play.{stored_among, stored_cases, or_default};
 ghost use Rattle.yspec.specs.document.Sorting.{IsSorted};
-ghost use Rattle.yschema.specs.Layout.{number_of};
-ghost use Rattle.yschema.specs.View as schema_view;
+ghost use Rattle.ymodel.specs.Layout.{number_of};
+ghost use Rattle.ymodel.specs.View as schema_view;
 ghost use Rattle.ytree.specs.View as document_view;
 ghost use Rattle.ycheck.specs.Cases.{one_more, chosen_from, how_many, is_chosen, Chooses};
 
-use yschema::{Child, Children, SchemaId};
+use ymodel::{Child, Children, SchemaId};
 use ytree::{Stored, instances_of};
 
 /// How many cases of a choice have a stored data node.

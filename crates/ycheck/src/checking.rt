@@ -11,8 +11,8 @@ ghost use Rattle.yspec.specs.document.Faults.{faults_of, value_faults};
 ghost use Rattle.yspec.specs.document.RowFaults.{wrong_amount, absent_leaf_faults};
 ghost use Rattle.yspec.specs.document.Sorting.{IsSorted};
 ghost use Rattle.ytype.specs.View.{raw_of};
-ghost use Rattle.yschema.specs.Layout.{leaf_type_view, absence_view, amount_view, tuples_view, kind_view};
-ghost use Rattle.yschema.specs.View as schema_view;
+ghost use Rattle.ymodel.specs.Layout.{leaf_type_view, absence_view, amount_view, tuples_view, kind_view};
+ghost use Rattle.ymodel.specs.View as schema_view;
 ghost use Rattle.ytree.specs.View as document_view;
 ghost use Rattle.ytree.specs.Walk.{others};
 ghost use Rattle.ycheck.specs.View.{code_view, info_view, views};
@@ -25,9 +25,7 @@ use crate::fault::{Fault, FaultCode, Info};
 use crate::repeated::{repeated_items, repeated_tuples};
 use crate::targets::Targets;
 use std::alloc::{AllocError, Global};
-use yschema::{
-    Absence, Amount, Child, Children, Kind, LeafType, Schema, SchemaId, SchemaNode, Tuples,
-};
+use ymodel::{Absence, Amount, Child, Children, Kind, LeafType, Schema, SchemaId, SchemaNode, Tuples};
 use ytree::{Step, Stored, Tree, instances_of};
 use ytype::{BadValue, Raw, Val};
 

@@ -8,8 +8,8 @@ ghost use Rattle.yspec.specs.document.Path as path;
 ghost use Rattle.yspec.specs.document.Path.{path_text};
 ghost use Rattle.yspec.specs.schema.Schema as spec;
 ghost use Rattle.youtput.specs.Writing.{Writes, side};
-ghost use Rattle.yschema.specs.View as schema_view;
-ghost use Rattle.yschema.specs.View.{node_view};
+ghost use Rattle.ymodel.specs.View as schema_view;
+ghost use Rattle.ymodel.specs.View.{node_view};
 ghost use Rattle.ytree.specs.View.{place_view, step_view};
 ghost use Rattle.ycheck.specs.View.{code_view, info_view, tag_name, view};
 
@@ -17,7 +17,7 @@ use crate::fault::{ErrorTag, Fault, FaultCode, Info};
 use itoa::Buffer;
 use thiserror::Error;
 use youtput::{Sink, SinkFault, write_all, write_texts};
-use yschema::{Schema, SchemaNode};
+use ymodel::{Schema, SchemaNode};
 use ytree::Step;
 
 /// Why a line wasn't written.

@@ -5,8 +5,8 @@ ghost use Rattle.yspec.specs.Forest.{end, node};
 ghost use Rattle.yspec.specs.schema.Schema as spec;
 ghost use Rattle.yspec.specs.document.Document.{instances_in};
 ghost use Rattle.yspec.specs.document.Sorting.{IsSorted};
-ghost use Rattle.yschema.specs.Layout.{number_of, absence_view};
-ghost use Rattle.yschema.specs.View as schema_view;
+ghost use Rattle.ymodel.specs.Layout.{number_of, absence_view};
+ghost use Rattle.ymodel.specs.View as schema_view;
 ghost use Rattle.ytree.specs.View as document_view;
 ghost use Rattle.ycheck.specs.Cases.{Chooses};
 ghost use Rattle.ycheck.specs.Targets as words;
@@ -15,7 +15,7 @@ use crate::cases::{Chosen, StoredCases, is_stored};
 use crate::values::value_of;
 use std::alloc::{AllocError, Global};
 use std::collections::{BTreeMap, BTreeSet};
-use yschema::{Absence, Child, Children, Kind, Schema, SchemaId};
+use ymodel::{Absence, Child, Children, Kind, Schema, SchemaId};
 use ytree::{Stored, Tree, instances_of};
 use ytype::Val;
 
@@ -29,7 +29,7 @@ pub(crate) struct Targets {
 impl Targets {
     ghost use Rattle.std.specs.Prelude.{◌≡◌, ◌||◌, ◌==◌, IfOk, OnOk};
     ghost use Rattle.yspec.specs.document.Sorting.{IsSorted};
-    ghost use Rattle.yschema.specs.View as schema_view;
+    ghost use Rattle.ymodel.specs.View as schema_view;
     ghost use Rattle.ytree.specs.View as document_view;
     ghost use Rattle.ycheck.specs.Targets.{is_kept, holds, one_value, HasValues, Gathers};
 

@@ -6,12 +6,12 @@ ghost use Rattle.yspec.specs.schema.Schema.{node_at};
 ghost use Rattle.yspec.specs.document.Document.{stored_in, row_in};
 ghost use Rattle.yspec.specs.document.Instances as spec;
 ghost use Rattle.ytype.specs.View.{raw_of};
-ghost use Rattle.yschema.specs.Layout.{numbers_of};
-ghost use Rattle.yschema.specs.View as schema_view;
+ghost use Rattle.ymodel.specs.Layout.{numbers_of};
+ghost use Rattle.ymodel.specs.View as schema_view;
 ghost use Rattle.ytree.specs.View as document_view;
 
 use std::alloc::{AllocError, Global};
-use yschema::{Absence, Kind, Schema, SchemaId};
+use ymodel::{Absence, Kind, Schema, SchemaId};
 use ytree::Stored;
 use ytype::{BadValue, Raw, Val, YType};
 

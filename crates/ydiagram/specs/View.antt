@@ -6,8 +6,8 @@ use Rattle.yspec.specs.Forest.{Forest, end, node}
 use Rattle.yspec.specs.text.Text.{Text}
 use Rattle.yspec.specs.schema.Schema.{Schema, SchemaNode, is_data, node_at}
 use Rattle.yspec.specs.schema.Diagram.{prefixed_name, line_text, row_width, row_lines}
-use Rattle.yschema.specs.View.{label_of, below_of}
-use Rattle.yschema.specs.declared.children.Child.{Child}
+use Rattle.ymodel.specs.View.{label_of, below_of}
+use Rattle.ymodel.specs.declared.children.Child.{Child}
 use Rattle.ydiagram.specs.declared.indentation.Indentation.{Indentation, Top, Below'}
 
 abbrev pub column : Bool → Text

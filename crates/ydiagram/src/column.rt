@@ -4,14 +4,15 @@ ghost use Rattle.std.specs.Prelude.{◌≡◌, option_map};
 ghost use Rattle.yspec.specs.schema.Schema.{type_in};
 ghost use Rattle.yspec.specs.schema.Diagram as spec;
 ghost use Rattle.youtput.specs.Writing.{Writes, side};
-ghost use Rattle.yschema.specs.Layout.{leaf_type_view, number_of};
-ghost use Rattle.yschema.specs.View.{kind_view, node_view, view};
+ghost use Rattle.ymodel.specs.Layout.{leaf_type_view, number_of};
+ghost use Rattle.ymodel.specs.View.{kind_view, node_view, view};
 ghost use Rattle.ydiagram.specs.View.{step_text};
 
 use crate::fault::{DiagramFault, put};
 use crate::label::{label_width, write_prefixed};
 use youtput::Sink;
-use yschema::{BuiltIn, Kind, LeafType, Schema, SchemaId, SchemaNode};
+use ymodel::{Kind, LeafType, Schema, SchemaId, SchemaNode};
+use yword::BuiltIn;
 
 /// Writes so many spaces.
 fn write_spaces<W: Sink>(count: u128, sink: &mut W) -> Result<(), DiagramFault>

@@ -4,12 +4,12 @@ ghost use Rattle.std.specs.Prelude.{◌≡◌, ◌<◌, ◌^◌, length};
 ghost use Rattle.yspec.specs.schema.Schema.{keys_in};
 ghost use Rattle.yspec.specs.schema.Diagram as spec;
 ghost use Rattle.youtput.specs.Writing.{Writes, side};
-ghost use Rattle.yschema.specs.Layout.{absence_view, numbers_of};
-ghost use Rattle.yschema.specs.View.{kind_view, node_view, view};
+ghost use Rattle.ymodel.specs.Layout.{absence_view, numbers_of};
+ghost use Rattle.ymodel.specs.View.{kind_view, node_view, view};
 
 use crate::fault::{DiagramFault, put};
 use youtput::Sink;
-use yschema::{Absence, Kind, Schema, SchemaId, SchemaNode};
+use ymodel::{Absence, Kind, Schema, SchemaId, SchemaNode};
 
 /// Writes the name of a node, behind its module's prefix where that isn't the module that is shown.
 pub(crate) fn write_prefixed<W: Sink>(

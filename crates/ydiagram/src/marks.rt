@@ -3,11 +3,12 @@
 ghost use Rattle.std.specs.Prelude.{◌≡◌};
 ghost use Rattle.yspec.specs.schema.Diagram as spec;
 ghost use Rattle.youtput.specs.Writing.{Writes, side};
-ghost use Rattle.yschema.specs.View.{kind_view, node_view, status_view};
+ghost use Rattle.ymodel.specs.View.{kind_view, node_view, status_view};
 
 use crate::fault::{DiagramFault, put};
 use youtput::Sink;
-use yschema::{Kind, SchemaNode, Status};
+use ymodel::{Kind, SchemaNode};
+use yword::Status;
 
 fn status_mark(status: Status) -> &'static str
     ensures { result.now ≡ spec.status_mark (status_view status) }

@@ -4,7 +4,7 @@ ghost use Rattle.std.specs.Prelude.{◌≡◌};
 ghost use Rattle.yspec.specs.schema.Schema.{module_name};
 ghost use Rattle.yspec.specs.schema.Diagram as spec;
 ghost use Rattle.youtput.specs.Writing.{Writes, side};
-ghost use Rattle.yschema.specs.View.{label_of, below_of, node_view, row_view, view};
+ghost use Rattle.ymodel.specs.View.{label_of, below_of, node_view, row_view, view};
 ghost use Rattle.ydiagram.specs.View.{held_written, indentation_text, line_written, node_written, row_written, shows, shown_in};
 
 use crate::column::write_type_column;
@@ -13,7 +13,7 @@ use crate::indentation::{Indentation, write_indentation};
 use crate::label::{label_width, write_label};
 use crate::marks::write_marks;
 use youtput::Sink;
-use yschema::{Child, Children, Schema, SchemaNode};
+use ymodel::{Child, Children, Schema, SchemaNode};
 
 /// Whether a row shows a node: one that shows the nodes of one module alone, or all.
 fn is_shown(owner: Option<usize>, node: &SchemaNode) -> bool

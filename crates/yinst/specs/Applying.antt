@@ -1,7 +1,7 @@
 -- Refusals of edits as the specification's.
 use Rattle.std.specs.Prelude.{ℕ, List, map, Option, Some, None, option_map}
 use Rattle.yspec.specs.edit.Editing.{EditRefusal}
-use Rattle.yschema.specs.declared.node.SchemaId.{SchemaId}
+use Rattle.ymodel.specs.declared.node.SchemaId.{SchemaId}
 use Rattle.ytree.specs.Told.{code_number}
 use Rattle.ytree.specs.declared.fault.DocCode.{DocCode}
 use Rattle.yinst.specs.declared.edit.EditCode.{EditCode}

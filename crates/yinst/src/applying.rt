@@ -7,7 +7,7 @@ ghost use Rattle.yspec.specs.document.Fitting.{Fits};
 ghost use Rattle.yspec.specs.document.Writing.{IsDocument};
 ghost use Rattle.yspec.specs.edit.Edit.{edit_at};
 ghost use Rattle.yspec.specs.edit.Editing as spec;
-ghost use Rattle.yschema.specs.View as schema_view;
+ghost use Rattle.ymodel.specs.View as schema_view;
 ghost use Rattle.ytree.specs.View.{tree_view, row_view};
 ghost use Rattle.yinst.specs.EditView.{edit_view, path_view};
 ghost use Rattle.yspec.specs.Results.{Gives};
@@ -22,7 +22,7 @@ use crate::edit::{Edit, EditCode, EditFault, Path};
 use crate::locating::{Located, Spot, count_of, instance_meant, locate};
 use crate::rows::{Change, changed, is_over};
 use std::alloc::{AllocError, Global};
-use yschema::{Schema, SchemaId};
+use ymodel::{Schema, SchemaId};
 use ytree::{Stored, Tree};
 
 /// A document has at most so many nodes.

@@ -2,8 +2,8 @@
 
 ghost use Rattle.std.specs.Prelude.{◌≡◌, not, None, [], ◌∷◌};
 ghost use Rattle.yspec.specs.edit.Editing as spec;
-ghost use Rattle.yschema.specs.Layout.{kind_view, numbers_of};
-ghost use Rattle.yschema.specs.View as schema_view;
+ghost use Rattle.ymodel.specs.Layout.{kind_view, numbers_of};
+ghost use Rattle.ymodel.specs.View as schema_view;
 ghost use Rattle.yspec.specs.Results.{Gives};
 ghost use Rattle.yinst.specs.Applying.{told_by};
 ghost use Rattle.yinst.specs.declared.edit.EditFault.TheVariants.{Refused};
@@ -13,7 +13,7 @@ ghost use Rattle.yinst.specs.EditView.{predicate_view, keys_view, steps_view, pa
 
 use crate::edit::{Edit, EditCode, EditFault, Key, NamedStep, Path, Predicate};
 use std::alloc::Global;
-use yschema::{Kind, Schema, SchemaId};
+use ymodel::{Kind, Schema, SchemaId};
 
 /// A step's schema node, and which of its instances is meant.
 #[derive(Clone, Copy, Debug)]
@@ -30,7 +30,7 @@ pub struct Bound<'e> {
 
 impl Edit {
     ghost use Rattle.yspec.specs.edit.Editing as spec;
-    ghost use Rattle.yschema.specs.View as schema_view;
+    ghost use Rattle.ymodel.specs.View as schema_view;
     ghost use Rattle.yspec.specs.Results.{Gives};
     ghost use Rattle.yinst.specs.Applying.{told_by};
     ghost use Rattle.yinst.specs.Binding.{bound_view, is_create, path_in};

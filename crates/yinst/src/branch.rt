@@ -3,7 +3,7 @@
 ghost use Rattle.std.specs.Prelude.{◌≡◌, IfOk};
 ghost use Rattle.serde_json.specs.View as json;
 ghost use Rattle.yspec.specs.edit.Editing as spec;
-ghost use Rattle.yschema.specs.View as schema_view;
+ghost use Rattle.ymodel.specs.View as schema_view;
 ghost use Rattle.yspec.specs.Results.{Gives};
 ghost use Rattle.yinst.specs.Applying.{told_by};
 ghost use Rattle.yinst.specs.Rows.{branch_view};
@@ -12,7 +12,7 @@ use crate::binding::refused;
 use crate::edit::{EditCode, EditFault};
 use serde_json::Value;
 use std::alloc::Global;
-use yschema::{Schema, SchemaId};
+use ymodel::{Schema, SchemaId};
 use ytree::{DocFault, Stored, read_node};
 
 /// The node that a JSON text denotes at a schema node, with what stands below it: E9 of a text that is no JSON, E10 with

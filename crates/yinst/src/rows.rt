@@ -13,7 +13,7 @@ ghost use Rattle.yinst.specs.Rows as rows;
 
 use crate::locating::{Spot, place_of};
 use std::alloc::{AllocError, Global};
-use yschema::SchemaId;
+use ymodel::SchemaId;
 use ytree::Stored;
 
 /// What is done in a row.

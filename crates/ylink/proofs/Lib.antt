@@ -1,12 +1,2 @@
-pub mod CutLemmas
-pub mod ListLemmas
-pub mod SourceLemmas
-pub mod NumberLemmas
-pub mod SpanLemmas
-pub mod WordLemmas
-pub mod GrammarLemmas
-pub mod LengthLemmas
-pub mod KeywordLemmas
 pub mod PrefixLemmas
-pub mod BreakLemmas
 pub mod TypeLemmas

@@ -14,9 +14,9 @@ use Rattle.yspec.specs.linking.Prefixes.{is_unknown_prefix, own_prefix, names_gi
 use Rattle.yspec.specs.linking.Source.{Source, argument_with}
 use Rattle.yspec.specs.linking.TypeStatements.{BuiltIn, integer, decimal64, string, boolean, empty, enumeration, bits, union, leafref, built_in_name, built_in_named}
 use Rattle.yspec.proofs.LinkingProofs.BuiltInLemmas.{name_of_named}
-use Rattle.ylink.specs.declared.keyword.Keyword.{Keyword}
-use Rattle.ylink.specs.declared.keyword.Keyword.TheVariants as words
-use Rattle.ylink.specs.KeywordView.{keyword_view}
+use Rattle.yword.specs.declared.keyword.Keyword.{Keyword}
+use Rattle.yword.specs.declared.keyword.Keyword.TheVariants as words
+use Rattle.yword.specs.KeywordView.{keyword_view}
 use Rattle.ylink.specs.PrefixView.{text_at, texts_view, own_prefixes}
 
 -- ---- one of a list, of which what is left is looked at

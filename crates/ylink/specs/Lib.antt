@@ -1,14 +1,2 @@
-pub mod BreakView
-pub mod Cut
-pub mod FormView
-pub mod KeywordView
-pub mod Lengths
-pub mod LinkView
-pub mod NameView
-pub mod NamedType
-pub mod Counts
 pub mod PrefixView
-pub mod SourceView
-pub mod TableView
 pub mod TypeView
-pub mod WordView

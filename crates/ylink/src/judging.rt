@@ -7,21 +7,17 @@ ghost use Rattle.yspec.specs.linking.Keyword.{type_word};
 ghost use Rattle.yspec.specs.linking.Source as sources;
 ghost use Rattle.yspec.specs.linking.TypeStatements as spec;
 ghost use Rattle.ypreorder.specs.View.{row_by, label_by};
-ghost use Rattle.ylink.specs.BreakView.{seen};
-ghost use Rattle.ylink.specs.LinkView.{view};
-ghost use Rattle.ylink.specs.SourceView.{source_view};
-ghost use Rattle.ylink.specs.TypeView.{built_in_view, is_plain, is_wrong};
+ghost use Rattle.ygrammar.specs.BreakView.{seen};
+ghost use Rattle.ygrammar.specs.LinkView.{view};
+ghost use Rattle.ygrammar.specs.SourceView.{source_view};
+ghost use Rattle.yword.specs.BuiltInView.{built_in_view};
+ghost use Rattle.ylink.specs.TypeView.{is_plain, is_wrong};
 
-use crate::builtin::BuiltIn;
-use crate::fault::{Broken, CompileCode, least_when};
-use crate::grammar::broken;
-use crate::keyword::Keyword;
-use crate::row::{built_in_of, first_with};
-use crate::source::Source;
-use crate::sources::Sources;
 use crate::types::{are_in_place, path_stated, single_type};
 use std::alloc::{AllocError, Global};
+use ygrammar::{Broken, CompileCode, Source, Sources, broken, built_in_of, first_with, least_when};
 use ypreorder::{Node, Nodes};
+use yword::{BuiltIn, Keyword};
 
 // Whether a built-in type is one that needs no substatement.
 fn is_plain(type_name: BuiltIn) -> bool

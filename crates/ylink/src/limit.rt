@@ -11,15 +11,13 @@ ghost use Rattle.yspec.specs.linking.TypeStatements as spec;
 ghost use Rattle.ynumber.specs.View.{restriction_of, text_of};
 ghost use Rattle.ynumber.specs.Words.{narrow_refusal, same};
 ghost use Rattle.ypreorder.specs.View.{row_by, label_by};
-ghost use Rattle.ylink.specs.SourceView.{source_view};
+ghost use Rattle.ygrammar.specs.SourceView.{source_view};
 
-use crate::keyword::Keyword;
-use crate::row::{argument_of, argument_with, found_with};
-use crate::source::Source;
-use crate::span::spans;
 use std::alloc::{AllocError, Global};
+use ygrammar::{Source, argument_of, argument_with, found_with, spans};
 use ypreorder::{Node, Nodes};
 use ytype::{NarrowFault, Restriction, Span, YType};
+use yword::Keyword;
 
 fn app_tag(alloc: Global, below: Nodes<'_, Source<'_>>) -> Result<Option<String>, AllocError>
     ensures { IfOk result (λ tag. text_of tag ≡ sources.argument_with word.error_app_tag_word (row_by source_view below.entry)) }

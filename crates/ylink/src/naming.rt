@@ -7,16 +7,14 @@ ghost use Rattle.yspec.specs.linking.Keyword as word;
 ghost use Rattle.yspec.specs.linking.Source as sources;
 ghost use Rattle.yspec.specs.linking.TypeStatements as spec;
 ghost use Rattle.ypreorder.specs.View.{row_by, label_by};
-ghost use Rattle.ylink.specs.SourceView.{source_view};
+ghost use Rattle.ygrammar.specs.SourceView.{source_view};
 
-use crate::keyword::Keyword;
 use crate::limit::accepted;
-use crate::number::{count, enum_value};
-use crate::row::{argument_of, argument_with};
-use crate::source::Source;
 use std::alloc::{AllocError, Global};
+use ygrammar::{Source, argument_of, argument_with, count, enum_value};
 use ypreorder::{Node, Nodes};
 use ytype::{Naming, YType};
+use yword::Keyword;
 
 fn value_stated(below: Nodes<'_, Source<'_>>) -> Option<i64>
     ensures { result ≡ spec.value_stated (row_by source_view below.entry) }

@@ -9,24 +9,19 @@ ghost use Rattle.yspec.specs.linking.Source as sources;
 ghost use Rattle.yspec.specs.linking.TypeStatements.{built_in_named};
 ghost use Rattle.ypreorder.specs.View.{row_by};
 ghost use Rattle.yspec.specs.schema.Breaks.{least_from};
-ghost use Rattle.ylink.specs.BreakView.{seen};
-ghost use Rattle.ylink.specs.KeywordView.{keyword_view};
-ghost use Rattle.ylink.specs.LinkView.{view};
+ghost use Rattle.ygrammar.specs.BreakView.{seen};
+ghost use Rattle.yword.specs.KeywordView.{keyword_view};
+ghost use Rattle.ygrammar.specs.LinkView.{view};
 ghost use Rattle.ytext.specs.View as text;
-ghost use Rattle.ylink.specs.NameView.{name_view, names_view};
-ghost use Rattle.ylink.specs.NamedType.{argument_text};
+ghost use Rattle.ygrammar.specs.NameView.{name_view, names_view};
+ghost use Rattle.ygrammar.specs.NamedType.{argument_text};
 ghost use Rattle.ylink.specs.PrefixView.{IsOf};
-ghost use Rattle.ylink.specs.SourceView.{source_view};
+ghost use Rattle.ygrammar.specs.SourceView.{source_view};
 
-use crate::fault::{Broken, CompileCode, least};
-use crate::grammar::broken;
-use crate::keyword::Keyword;
-use crate::name::{Name, key_names, leafref_path, name_of, unique_paths};
-use crate::row::argument_with;
-use crate::source::Source;
-use crate::sources::Sources;
 use std::alloc::{AllocError, Global};
+use ygrammar::{Broken, CompileCode, Name, Source, Sources, argument_with, broken, key_names, leafref_path, least, name_of, unique_paths};
 use ypreorder::Node;
+use yword::Keyword;
 
 /// The own prefix of each module, by its place in the set.
 #[derive(Drop)]
@@ -52,8 +47,8 @@ impl<'t> Prefixes<'t> {
     ghost use Rattle.yspec.specs.Forest.{Forest};
     ghost use Rattle.yspec.specs.linking.Source as sources;
     ghost use Rattle.yspec.specs.linking.Prefixes as spec;
-    ghost use Rattle.ylink.specs.LinkView.{view};
-    ghost use Rattle.ylink.specs.NameView.{name_view};
+    ghost use Rattle.ygrammar.specs.LinkView.{view};
+    ghost use Rattle.ygrammar.specs.NameView.{name_view};
     ghost use Rattle.ylink.specs.PrefixView.{IsOf, own_in, node_name_view};
 
     /// The own prefixes of a set's modules.

@@ -10,27 +10,21 @@ ghost use Rattle.yspec.specs.linking.Keyword as word;
 ghost use Rattle.yspec.specs.linking.Source as sources;
 ghost use Rattle.yspec.specs.linking.TypeStatements as spec;
 ghost use Rattle.ypreorder.specs.View.{row_by, label_by};
-ghost use Rattle.ylink.specs.BreakView.{seen};
-ghost use Rattle.ylink.specs.KeywordView.{keyword_view};
-ghost use Rattle.ylink.specs.LinkView.{view};
-ghost use Rattle.ylink.specs.NameView.{names_view};
-ghost use Rattle.ylink.specs.SourceView.{source_view};
-ghost use Rattle.ylink.specs.TypeView.{built_in_view, meant_view, verdict_view};
+ghost use Rattle.ygrammar.specs.BreakView.{seen};
+ghost use Rattle.yword.specs.KeywordView.{keyword_view};
+ghost use Rattle.ygrammar.specs.LinkView.{view};
+ghost use Rattle.ygrammar.specs.NameView.{names_view};
+ghost use Rattle.ygrammar.specs.SourceView.{source_view};
+ghost use Rattle.yword.specs.BuiltInView.{built_in_view};
+ghost use Rattle.ylink.specs.TypeView.{meant_view, verdict_view};
 
-use crate::builtin::BuiltIn;
-use crate::fault::{Broken, CompileCode, least_when};
-use crate::grammar::broken;
-use crate::keyword::Keyword;
 use crate::limit::{accepted, measured, ranged};
-use crate::name::{Name, leafref_path};
 use crate::naming::{bits, enumeration};
-use crate::number::fraction_digits;
-use crate::row::{argument_with, built_in_of, found_with};
-use crate::source::Source;
-use crate::sources::Sources;
 use std::alloc::{AllocError, Global};
+use ygrammar::{Broken, CompileCode, Name, Source, Sources, argument_with, broken, built_in_of, found_with, fraction_digits, leafref_path, least_when};
 use ypreorder::{Node, Nodes};
 use ytype::{FractionDigits, YType};
+use yword::{BuiltIn, Keyword};
 
 /// What a `type` statement means.
 #[derive(Drop)]

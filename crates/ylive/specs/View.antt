@@ -3,7 +3,7 @@ use Rattle.std.specs.Prelude.{List, map, Some, None, is_none}
 use Rattle.yspec.specs.edit.Live as spec
 use Rattle.yspec.specs.edit.EditText as text
 use Rattle.yspec.specs.edit.Editing.{Decision}
-use Rattle.yschema.specs.View as schema_view
+use Rattle.ymodel.specs.View as schema_view
 use Rattle.ytree.specs.View.{tree_view}
 use Rattle.yinst.specs.EditView.{edit_view}
 use Rattle.yinst.specs.Applying.{refusal_view}

@@ -3,7 +3,7 @@
 ghost use Rattle.std.specs.Prelude.{◌≡◌, true, length, IfSome, IfOk};
 ghost use Rattle.std.proofs.Props.{props};
 ghost use Rattle.yspec.specs.document.Faults.{faults_of};
-ghost use Rattle.yschema.specs.View as schema_view;
+ghost use Rattle.ymodel.specs.View as schema_view;
 ghost use Rattle.ytree.specs.View.{tree_view};
 ghost use Rattle.ylive.specs.Kept.{fits};
 
@@ -11,7 +11,7 @@ use crate::outcome::{Applied, ListFault, Refused};
 use std::alloc::{AllocError, Global};
 use ycheck::{Fault, faults};
 use yinst::{Edit, EditFault, Tree, apply};
-use yschema::Schema;
+use ymodel::Schema;
 
 /// A document under a schema, which edits change. It knows how many faults it has, unless it is stale: then memory ran
 /// out at an edit, and until it is rebuilt neither edits nor lists of faults are answered.

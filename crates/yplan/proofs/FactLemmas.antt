@@ -12,7 +12,7 @@ use Rattle.yspec.specs.linking.SchemaNodes.{is_mandatory, least_of, number_in, d
 use Rattle.yspec.specs.linking.NodeBreaks.{must_be, has_mandatory, row_below, is_wrong_case}
 use Rattle.yspec.specs.schema.Schema.{Amount}
 use Rattle.ypreorder.specs.View.{row_by, label_by}
-use Rattle.ylink.specs.SourceView.{source_view}
+use Rattle.ygrammar.specs.SourceView.{source_view}
 use Rattle.yplan.specs.PlannedView.{implied_or, planned_view}
 use Rattle.yplan.specs.declared.planned.Planned as code
 use Rattle.yplan.proofs.PartLemmas.{defines_same}

@@ -13,7 +13,7 @@ use Rattle.yspec.specs.linking.Planned as plan
 use Rattle.yspec.specs.linking.Planned.{Around, around_below, planned_node, planned, is_said, config_of}
 use Rattle.ypreorder.specs.Layout.{Place, places, laid, opened, closed}
 use Rattle.ypreorder.specs.View.{rows_in, row_by, label_by}
-use Rattle.ylink.specs.SourceView.{source_view}
+use Rattle.ygrammar.specs.SourceView.{source_view}
 use Rattle.ypreorder.specs.declared.table.Table.{Table}
 use Rattle.ypreorder.proofs.LayoutLemmas.{length-places, places-join, length-laid, length-seen, grown}
 use Rattle.yplan.specs.declared.planned.Planned.{Planned}

@@ -2,7 +2,7 @@
 use Rattle.yspec.specs.linking.Planned as spec
 use Rattle.ypreorder.specs.Layout.{numbered_by}
 use Rattle.ypreorder.specs.View.{forest_in}
-use Rattle.ylink.specs.LinkView as link
+use Rattle.ygrammar.specs.LinkView as link
 use Rattle.yplan.specs.PlannedView.{planned_view}
 use Rattle.yplan.specs.declared.plan.Plan.{Plan}
 

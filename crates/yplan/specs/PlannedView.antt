@@ -8,7 +8,7 @@ use Rattle.yspec.specs.linking.Planned.{planned}
 use Rattle.ypreorder.specs.Layout.{Place, places, laid, seen}
 use Rattle.ypreorder.specs.View.{rows_in, row_by, label_by}
 use Rattle.ypreorder.specs.declared.table.Table.{Table}
-use Rattle.ylink.specs.SourceView.{source_view}
+use Rattle.ygrammar.specs.SourceView.{source_view}
 use Rattle.yplan.specs.declared.planned.Planned.{Planned}
 use Rattle.yplan.specs.declared.planned.Around.{Around}
 

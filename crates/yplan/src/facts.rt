@@ -4,8 +4,8 @@ ghost use Rattle.std.specs.Prelude.{◌≡◌, map, IfOk};
 ghost use Rattle.yspec.specs.linking.Source.{argument_in, all_with};
 ghost use Rattle.yspec.specs.linking.SchemaNodes as spec;
 ghost use Rattle.yspec.specs.linking.NodeBreaks as breaks;
-ghost use Rattle.ylink.specs.KeywordView.{keyword_view};
-ghost use Rattle.ylink.specs.SourceView.{source_view};
+ghost use Rattle.yword.specs.KeywordView.{keyword_view};
+ghost use Rattle.ygrammar.specs.SourceView.{source_view};
 ghost use Rattle.yplan.specs.PlanView.{view};
 ghost use Rattle.ypreorder.specs.View.{row_by, label_by};
 ghost use Rattle.yplan.specs.PlannedView.{planned_view};
@@ -13,23 +13,17 @@ ghost use Rattle.yplan.specs.PlannedView.{planned_view};
 use crate::plan::Plan;
 use crate::planned::Planned;
 use std::alloc::{AllocError, Global};
-use ylink::{Keyword, Source, Status, argument_of, count, most, status_of};
+use ygrammar::{Source, argument_of, count, most};
+use ymodel::Amount;
 use ypreorder::{Node, Nodes};
-
-/// How many instances there are at least and at most (RFC 7950, 7.7.5 and 7.7.6).
-#[derive(Clone, Copy, Debug, PartialEq, Eq)]
-pub struct Amount {
-    pub least: u32,
-    /// None where it is unbounded.
-    pub most: Option<u32>,
-}
+use yword::{Keyword, Status, status_of};
 
 impl<'a, 't> Planned<'a, 't> {
     ghost use Rattle.std.specs.Prelude.{◌≡◌, is_some};
     ghost use Rattle.yspec.specs.linking.Keyword.{presence_word};
     ghost use Rattle.yspec.specs.linking.Planned.{stated_in};
-    ghost use Rattle.ylink.specs.WordView.{status_view};
-    ghost use Rattle.yplan.specs.FactsView.{amount_view};
+    ghost use Rattle.yword.specs.WordView.{status_view};
+    ghost use Rattle.ymodel.specs.Layout.{amount_view};
     ghost use Rattle.yplan.specs.PlannedView.{planned_view};
 
     /// Whether it says that it is mandatory (RFC 7950, 7.6.5 and 7.9.4).

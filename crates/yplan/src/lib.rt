@@ -2,8 +2,6 @@
 //! one another, and the rules that they break.
 #![tactic(auto)]
 
-pub mod chain_examples;
-mod chains;
 mod facts;
 mod finding;
 mod levels;
@@ -13,8 +11,7 @@ mod plan;
 mod planned;
 mod planning;
 
-pub use chains::{Chain, chains_of};
-pub use facts::{Amount, default_texts, is_wrong_case};
+pub use facts::{default_texts, is_wrong_case};
 pub use names::name_fault;
 pub use nodes::{PlanNode, PlanNodes};
 pub use plan::Plan;

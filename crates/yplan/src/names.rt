@@ -3,11 +3,11 @@
 ghost use Rattle.std.specs.Prelude.{◌≡◌, None, IfOk};
 ghost use Rattle.yspec.specs.schema.Breaks.{least_from};
 ghost use Rattle.yspec.specs.linking.NodeBreaks.{name_breaks};
-ghost use Rattle.ylink.specs.BreakView.{seen};
+ghost use Rattle.ygrammar.specs.BreakView.{seen};
 ghost use Rattle.yplan.specs.PlanView.{view};
 
 use crate::plan::Plan;
-use ylink::{Broken, CompileCode, least_when};
+use ygrammar::{Broken, CompileCode, least_when};
 
 /// The least of the nodes that have the name of an earlier one which shares its names.
 pub fn name_fault(plan: &Plan<'_, '_>) -> Option<Broken>

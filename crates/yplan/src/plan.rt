@@ -6,7 +6,7 @@ ghost use Rattle.ypreorder.specs.Layout.{IsLaidOut};
 ghost use Rattle.ypreorder.specs.View.{rows_in};
 ghost use Rattle.yplan.specs.Finding.{hash_among, list_of};
 ghost use Rattle.yplan.specs.declared.finding.Among.TheVariants as among;
-ghost use Rattle.ylink.specs.LinkView as link;
+ghost use Rattle.ygrammar.specs.LinkView as link;
 ghost use Rattle.ylink.specs.PrefixView.{IsOf};
 
 use crate::finding::{Among, hashes_of};
@@ -15,9 +15,11 @@ use crate::nodes::{PlanNode, PlanNodes};
 use crate::planned::Planned;
 use crate::planning::planned;
 use std::alloc::{AllocError, Global};
+use ygrammar::{Name, Sources};
 use yindex::{Buckets, hash_of};
-use ylink::{Keyword, Name, NodeName, Prefixes, Sources};
+use ylink::{NodeName, Prefixes};
 use ypreorder::{Nodes, Row, Table};
+use yword::Keyword;
 
 /// The schema nodes that a set of modules defines, in order of definition, and how they are found by name.
 #[derive(Drop)]
@@ -42,7 +44,7 @@ impl<'a, 't> Plan<'a, 't> {
     ghost use Rattle.yspec.specs.linking.Source.{argument_in};
     ghost use Rattle.yspec.specs.linking.Compiling.{plan_of};
     ghost use Rattle.yspec.specs.linking.Planned as spec;
-    ghost use Rattle.ylink.specs.LinkView as link;
+    ghost use Rattle.ygrammar.specs.LinkView as link;
     ghost use Rattle.yspec.specs.Forest.{size, levels};
     ghost use Rattle.yspec.specs.linking.NodeBreaks.{is_config_above, row_below};
     ghost use Rattle.yspec.specs.linking.SchemaNodes.{number_in, default_case};
@@ -52,7 +54,7 @@ impl<'a, 't> Plan<'a, 't> {
     ghost use Rattle.yplan.specs.PlanView.{view};
     ghost use Rattle.yplan.specs.NodesView.{left, node_view};
     ghost use Rattle.yspec.specs.linking.Prefixes as names;
-    ghost use Rattle.ylink.specs.NameView.{name_view};
+    ghost use Rattle.ygrammar.specs.NameView.{name_view};
     ghost use Rattle.ylink.specs.PrefixView.{node_name_view};
 
     /// The nodes that the statements of a set of modules define.

@@ -1,9 +1,9 @@
 //! Planned nodes.
 
-use ylink::{
-    Broken, BuiltIn, CompileCode, Keyword, Source, argument_of, argument_with, built_in_with,
-};
+use ygrammar::{Broken, CompileCode, Source, argument_of, argument_with, built_in_with};
 use ypreorder::Node;
+use yword::{BuiltIn, Keyword};
+
 
 /// A schema node that a statement defines, or the case that a single node of a choice stands for (RFC 7950, 7.9.2).
 #[derive(Clone, Copy)]
@@ -24,13 +24,13 @@ impl<'a, 't> Planned<'a, 't> {
     ghost use Rattle.std.specs.Prelude.{◌≡◌, [], ◌∷◌, false, option_and_then, option_map};
     ghost use Rattle.yspec.specs.linking.Keyword.{type_word};
     ghost use Rattle.yspec.specs.linking.NodeBreaks.{broken_at};
-    ghost use Rattle.ylink.specs.BreakView.{break_view, code_number};
+    ghost use Rattle.ygrammar.specs.BreakView.{break_view, code_number};
     ghost use Rattle.yspec.specs.linking.Parts.{defines_node};
     ghost use Rattle.yspec.specs.linking.Planned as spec;
     ghost use Rattle.yspec.specs.linking.Source as sources;
     ghost use Rattle.yspec.specs.linking.TypeStatements.{built_in_named};
-    ghost use Rattle.ylink.specs.KeywordView.{keyword_view};
-    ghost use Rattle.ylink.specs.TypeView.{built_in_view};
+    ghost use Rattle.yword.specs.KeywordView.{keyword_view};
+    ghost use Rattle.yword.specs.BuiltInView.{built_in_view};
     ghost use Rattle.yplan.specs.PlannedView.{part_at, planned_view};
 
     /// The keyword of its statement; that of a case, where one is implied.

@@ -9,15 +9,16 @@ ghost use Rattle.yspec.specs.linking.Parts.{Part, part_of, parts, parts_of_modul
 ghost use Rattle.yspec.specs.linking.Planned as spec;
 ghost use Rattle.yspec.specs.linking.Planned.{is_said};
 ghost use Rattle.ypreorder.specs.View.{rows_in, row_by, label_by};
-ghost use Rattle.ylink.specs.LinkView as link;
-ghost use Rattle.ylink.specs.KeywordView.{keyword_view};
-ghost use Rattle.ylink.specs.SourceView.{source_view};
+ghost use Rattle.ygrammar.specs.LinkView as link;
+ghost use Rattle.yword.specs.KeywordView.{keyword_view};
+ghost use Rattle.ygrammar.specs.SourceView.{source_view};
 ghost use Rattle.yplan.specs.PlannedView.{seen_rows, listed, around_view, shown_keyword};
 
 use crate::planned::{Around, Planned};
 use std::alloc::{AllocError, Global};
-use ylink::{Keyword, Source, Sources, argument_with};
+use ygrammar::{Source, Sources, argument_with};
 use ypreorder::{Node, Nodes, Table};
+use yword::Keyword;
 
 /// The nodes of all modules, in order of definition.
 pub(crate) fn planned<'a, 't>(

@@ -1,3 +1,4 @@
+pub mod ChainPlanLemmas
 pub mod MeaningLemmas
 pub mod CollectLemmas
 pub mod TypeLemmas

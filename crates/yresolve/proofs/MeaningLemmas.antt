@@ -12,7 +12,7 @@ use Rattle.yspec.specs.linking.Planned.{Plan, data_node_at, data_child_called}
 use Rattle.yspec.specs.linking.SchemaNodes.{number_in}
 use Rattle.yspec.specs.linking.TypeStatements.{Verdict, verdict, verdicts, first_meant, type_meant}
 use Rattle.ypreorder.specs.View.{row_by, label_by}
-use Rattle.ylink.specs.SourceView.{source_view}
+use Rattle.ygrammar.specs.SourceView.{source_view}
 use Rattle.yplan.specs.PlannedView.{implied_or, part_at}
 use Rattle.yplan.specs.declared.planned.Planned as code
 use Rattle.yplan.proofs.PartLemmas.{defines_same}

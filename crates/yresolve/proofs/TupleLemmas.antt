@@ -17,7 +17,7 @@ use Rattle.yspec.specs.linking.Prefixes.{NodeName}
 use Rattle.yspec.specs.linking.Source.{argument_in, all_with}
 use Rattle.yspec.specs.linking.Parts.{part_of}
 use Rattle.ypreorder.specs.View.{row_by, label_by}
-use Rattle.ylink.specs.SourceView.{source_view}
+use Rattle.ygrammar.specs.SourceView.{source_view}
 use Rattle.yplan.specs.PlannedView.{implied_or, planned_view}
 use Rattle.yplan.specs.declared.planned.Planned as code
 use Rattle.yplan.specs.NodesView.{node_view}

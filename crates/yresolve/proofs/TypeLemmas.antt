@@ -15,18 +15,18 @@ use Rattle.ypreorder.specs.View.{rows_in, forest_in}
 use Rattle.ypreorder.specs.declared.row.Row.{Row}
 use Rattle.ypreorder.proofs.LabelLemmas.{label_at, length-labels, size-by}
 use Rattle.ypreorder.proofs.RowLemmas.{size_forest}
-use Rattle.yplan.specs.ChainTypes.{own_type, as_meant}
-use Rattle.yplan.specs.Chains.{next_of, end_within, end_of}
-use Rattle.yplan.specs.Chains as chains
+use Rattle.yresolve.specs.ChainTypes.{own_type, as_meant}
+use Rattle.ygraph.specs.Chains.{next_of, end_within, end_of}
+use Rattle.ygraph.specs.Chains as chains
 use Rattle.yplan.specs.PlanView.{view}
 use Rattle.yplan.specs.PlannedView.{planned_view}
 use Rattle.yplan.specs.declared.plan.Plan.{Plan}
 use Rattle.yplan.specs.declared.planned.Planned as code
-use Rattle.yplan.specs.declared.chains.Chain.{Chain}
+use Rattle.ygraph.specs.declared.chains.Chain.{Chain}
 use Rattle.yplan.proofs.PlanLemmas.{nodes_are}
 use Rattle.yplan.proofs.NodeLemmas.{found_stands, find-filter, stands_at}
-use Rattle.yplan.proofs.ChainPlanLemmas.{Stands, circles_same, type_by_end, no_type}
-use Rattle.yplan.proofs.ChainLemmas.{some_same, some_none, end_here, end_there, end_none}
+use Rattle.yresolve.proofs.ChainPlanLemmas.{Stands, circles_same, type_by_end, no_type}
+use Rattle.ygraph.proofs.ChainLemmas.{some_same, some_none, end_here, end_there, end_none}
 use Rattle.yresolve.specs.TypesView.{meant_at, type_told, types_told, stated_in, target_number}
 
 some_is : {X : Type 0} → (x y : X) → Some x ≡ Some y → x ≡ y

@@ -1,3 +1,4 @@
+pub mod ChainTypes
 pub mod TypesView
 pub mod Values
 pub mod TuplesView

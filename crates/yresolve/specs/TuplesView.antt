@@ -1,4 +1,4 @@
--- Keys and uniques as the specification's, and what the statements of a list name.
+-- What the statements of a list name.
 use Rattle.std.specs.Prelude.{ℕ, Bool, true, List, [], ◌∷◌, map, Option, Some, option_map, slice_set, unwrap_or}
 use Rattle.std.specs.List.{flat_map}
 use Rattle.std.specs.Global.{Vec}
@@ -8,13 +8,8 @@ use Rattle.yspec.specs.linking.Arguments.{key_of, unique_of}
 use Rattle.yspec.specs.linking.Source.{Source, argument_in, all_with}
 use Rattle.yspec.specs.linking.Planned.{Planned, Plan, child_called, way}
 use Rattle.yspec.specs.linking.SchemaNodes.{nodes_named}
-use Rattle.yspec.specs.schema.Schema as schema
 use Rattle.yplan.specs.NodesView.{node_view}
 use Rattle.yplan.specs.declared.nodes.PlanNode.{PlanNode}
-use Rattle.yresolve.specs.declared.tuples.Tuples.{Tuples}
-
-abbrev pub tuples_view : Tuples → schema.Tuples
-tuples_view t = record { keys = t.keys.items; uniques = map (λ unique. map (λ path. path.items) unique.items) t.uniques.items }
 
 -- the nodes along a way down, and those of each way of a `unique`
 abbrev pub way_view : Option (Vec PlanNode) → Option (List Planned)

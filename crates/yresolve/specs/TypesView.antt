@@ -7,8 +7,8 @@ use Rattle.yspec.specs.linking.Planned.{Planned, Plan, nodes_of, target_of, type
 use Rattle.yspec.specs.linking.SchemaNodes.{number_in}
 use Rattle.ylink.specs.TypeView.{meant_view}
 use Rattle.ylink.specs.declared.types.Meant.{Meant}
-use Rattle.yplan.specs.declared.chains.Chain.{Chain}
-use Rattle.yplan.specs.ChainTypes.{own_type, as_meant}
+use Rattle.ygraph.specs.declared.chains.Chain.{Chain}
+use Rattle.yresolve.specs.ChainTypes.{own_type, as_meant}
 use Rattle.yresolve.specs.declared.types.Types.{Types}
 
 abbrev pub meants_view : List (Option Meant) → List (Option spec.Meant)

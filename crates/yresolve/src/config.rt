@@ -7,8 +7,9 @@ ghost use Rattle.yspec.specs.linking.NodeBreaks as breaks;
 ghost use Rattle.yplan.specs.PlannedView.{planned_view};
 ghost use Rattle.yplan.specs.PlanView.{view};
 
-use ylink::Keyword;
 use yplan::{Plan, Planned};
+use yword::Keyword;
+
 
 /// Whether it is a list that states no key.
 fn lacks_key(planned: &Planned<'_, '_>) -> bool

@@ -14,9 +14,9 @@ ghost use Rattle.yresolve.specs.Values.{comes_twice, wrong_leaf, wrong_leaf_list
 
 use std::alloc::{AllocError, Global};
 use std::collections::BTreeSet;
-use ylink::Keyword;
 use yplan::{Plan, Planned, default_texts, is_wrong_case};
 use ytype::{BadValue, Val, YType};
+use yword::Keyword;
 
 /// The value that a type takes from a text, where it takes it.
 fn value_of(alloc: Global, value_type: &YType, text: &str) -> Result<Option<Val>, AllocError>

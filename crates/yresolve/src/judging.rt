@@ -4,7 +4,7 @@ ghost use Rattle.std.specs.Prelude.{◌≡◌, None, Some, IfOk, slice_get};
 ghost use Rattle.yspec.specs.schema.Breaks.{least_from};
 ghost use Rattle.yspec.specs.linking.Planned as spec;
 ghost use Rattle.yspec.specs.linking.NodeBreaks as breaks;
-ghost use Rattle.ylink.specs.BreakView.{seen};
+ghost use Rattle.ygrammar.specs.BreakView.{seen};
 ghost use Rattle.yplan.specs.NodesView.{node_view};
 ghost use Rattle.yplan.specs.PlanView.{view};
 ghost use Rattle.yresolve.specs.ResolvedView.{IsOf};
@@ -15,7 +15,7 @@ use crate::references::is_wrong_reference;
 use crate::resolved::Resolved;
 use crate::tuples::has_wrong_tuples;
 use std::alloc::{AllocError, Global};
-use ylink::{Broken, CompileCode, least_when};
+use ygrammar::{Broken, CompileCode, least_when};
 use yplan::{Plan, PlanNode};
 
 /// The lesser of one so far and of the rules that a node breaks.

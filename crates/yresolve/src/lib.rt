@@ -13,5 +13,5 @@ mod types;
 pub use defaults::{are_wrong_defaults, default_values, is_wrong_default};
 pub use judging::node_fault;
 pub use resolved::Resolved;
-pub use tuples::{Tuples, tuples_of};
+pub use tuples::tuples_of;
 pub use types::{Types, types_of};

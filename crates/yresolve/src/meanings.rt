@@ -6,14 +6,15 @@ ghost use Rattle.yspec.specs.linking.Planned.{nodes_of};
 ghost use Rattle.yspec.specs.linking.Prefixes.{node_name};
 ghost use Rattle.yspec.specs.linking.SchemaNodes.{number_in};
 ghost use Rattle.yspec.specs.linking.TypeStatements.{type_meant};
-ghost use Rattle.ylink.specs.NameView.{names_view};
+ghost use Rattle.ygrammar.specs.NameView.{names_view};
 ghost use Rattle.ylink.specs.TypeView.{meant_view};
 ghost use Rattle.yplan.specs.NodesView.{node_view};
 ghost use Rattle.yplan.specs.PlannedView.{planned_view};
 ghost use Rattle.yplan.specs.PlanView.{view};
 
 use std::alloc::{AllocError, Global};
-use ylink::{Meant, Name, type_meant};
+use ygrammar::Name;
+use ylink::{Meant, type_meant};
 use yplan::{Plan, PlanNode, Planned};
 
 /// What the type of each node means, and the node to which it refers, by number.

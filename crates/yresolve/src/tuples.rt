@@ -13,26 +13,20 @@ ghost use Rattle.yspec.specs.linking.SchemaNodes as spec;
 ghost use Rattle.yspec.specs.linking.SchemaNodes.{number_in};
 ghost use Rattle.yspec.specs.linking.Source.{argument_in};
 ghost use Rattle.ypreorder.specs.View.{label_by, row_by};
-ghost use Rattle.ylink.specs.NameView.{names_view};
-ghost use Rattle.ylink.specs.SourceView.{source_view};
+ghost use Rattle.ygrammar.specs.NameView.{names_view};
+ghost use Rattle.ygrammar.specs.SourceView.{source_view};
 ghost use Rattle.yplan.specs.NodesView.{node_view};
 ghost use Rattle.yplan.specs.PlanView.{view};
-ghost use Rattle.yresolve.specs.TuplesView.{tuples_view, children_named, children_by, ways_named, ways_by, marked, way_view, ways_view};
+ghost use Rattle.ymodel.specs.Layout.{numbers_of, tuples_view};
+ghost use Rattle.yresolve.specs.TuplesView.{children_named, children_by, ways_named, ways_by, marked, way_view, ways_view};
 
 use std::alloc::{AllocError, Global};
 use std::collections::BTreeSet;
-use ylink::{Keyword, Name, Source, argument_of, key_names, unique_paths};
+use ygrammar::{Name, Source, argument_of, key_names, unique_paths};
+use ymodel::{SchemaId, Tuples};
 use yplan::{Plan, PlanNode};
 use ypreorder::{Node, Nodes};
-
-/// The leafs whose values tell the entries of a list apart, by number (RFC 7950, 7.8.2 and 7.8.3).
-#[derive(Debug, Drop)]
-pub struct Tuples {
-    /// The leafs of its key.
-    pub keys: Vec<u32>,
-    /// Of each `unique` the leafs, each with the containers that lead to it.
-    pub uniques: Vec<Vec<Vec<u32>>>,
-}
+use yword::Keyword;
 
 /// The nodes along a way down, where all are there.
 type WayDown<'a, 't> = Option<Vec<PlanNode<'a, 't>>>;
@@ -133,7 +127,7 @@ fn key_children<'a, 't>(
 }
 
 /// The numbers of those that are there.
-fn numbers_of<'a, 't>(
+fn numbers_found<'a, 't>(
     alloc: Global,
     nodes: &[Option<PlanNode<'a, 't>>],
 ) -> Result<Vec<u32>, AllocError>
@@ -157,7 +151,7 @@ fn key_numbers<'a, 't>(
     ensures { IfOk result (λ numbers. numbers.items ≡ spec.key_numbers (view plan.now) (node_view list.entry)) }
 {
     let children = key_children(alloc, plan, list)?;
-    numbers_of(alloc, &children)
+    numbers_found(alloc, &children)
 }
 
 /// The nodes along a way down that names give, where all are there.
@@ -241,22 +235,25 @@ fn unique_ways<'a, 't>(
     ways_of_uniques(alloc, plan, list, list.planned.source.children())
 }
 
-/// The nodes along a way, by number; none where it isn't found.
-fn leaf_path<'a, 't>(alloc: Global, way: &WayDown<'a, 't>) -> Result<Vec<u32>, AllocError>
-    ensures { IfOk result (λ path. path.items ≡ spec.leaf_path (way_view way.now)) }
+/// The nodes along a way; none where it isn't found.
+fn leaf_path<'a, 't>(alloc: Global, way: &WayDown<'a, 't>) -> Result<Vec<SchemaId>, AllocError>
+    ensures { IfOk result (λ path. numbers_of path.items ≡ spec.leaf_path (way_view way.now)) }
 {
     let mut path = Vec::new(alloc);
     if let Some(nodes) = way {
         for node in nodes {
-            path.push(node.number)?;
+            path.push(SchemaId::new(node.number))?;
         }
     }
     Ok(path)
 }
 
 /// The same of each way.
-fn leaf_paths<'a, 't>(alloc: Global, ways: &[WayDown<'a, 't>]) -> Result<Vec<Vec<u32>>, AllocError>
-    ensures { IfOk result (λ paths. map (λ path. path.items) paths.items
+fn leaf_paths<'a, 't>(
+    alloc: Global,
+    ways: &[WayDown<'a, 't>],
+) -> Result<Vec<Vec<SchemaId>>, AllocError>
+    ensures { IfOk result (λ paths. map (λ path. numbers_of path.items) paths.items
         ≡ map spec.leaf_path (map way_view ways.now)) }
 {
     let mut paths = Vec::with_capacity(alloc, ways.len())?;
@@ -266,7 +263,18 @@ fn leaf_paths<'a, 't>(alloc: Global, ways: &[WayDown<'a, 't>]) -> Result<Vec<Vec
     Ok(paths)
 }
 
-/// The leafs whose values tell the entries of a list apart.
+/// The nodes of some numbers.
+fn ids_of(alloc: Global, numbers: &[u32]) -> Result<Vec<SchemaId>, AllocError>
+    ensures { IfOk result (λ ids. numbers_of ids.items ≡ numbers.now) }
+{
+    let mut ids = Vec::with_capacity(alloc, numbers.len())?;
+    for number in numbers {
+        ids.push(SchemaId::new(*number))?;
+    }
+    Ok(ids)
+}
+
+/// The leafs whose values tell the entries of a list apart (RFC 7950, 7.8.2 and 7.8.3).
 pub fn tuples_of<'a, 't>(
     alloc: Global,
     plan: &Plan<'a, 't>,
@@ -274,7 +282,8 @@ pub fn tuples_of<'a, 't>(
 ) -> Result<Tuples, AllocError>
     ensures { IfOk result (λ tuples. tuples_view tuples ≡ spec.tuples_of (view plan.now) (node_view list.entry)) }
 {
-    let keys = key_numbers(alloc, plan, list)?;
+    let numbers = key_numbers(alloc, plan, list)?;
+    let keys = ids_of(alloc, &numbers)?;
     let mut uniques = Vec::new(alloc);
     for ways in &unique_ways(alloc, plan, list)? {
         uniques.push(leaf_paths(alloc, ways)?)?;

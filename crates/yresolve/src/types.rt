@@ -4,15 +4,16 @@ ghost use Rattle.std.specs.Prelude.{◌≡◌, Some, map, IfOk, option_map, slic
 ghost use Rattle.yspec.specs.linking.Planned as spec;
 ghost use Rattle.yspec.specs.linking.Planned.{nodes_of, is_on_circle, referring};
 ghost use Rattle.ylink.specs.TypeView.{meant_view};
-ghost use Rattle.yplan.specs.ChainTypes.{own_type, as_meant};
+ghost use Rattle.yresolve.specs.ChainTypes.{own_type, as_meant};
 ghost use Rattle.yplan.specs.PlanView.{view};
 ghost use Rattle.yresolve.specs.TypesView.{AreOf, meants_view, meant_at, own_at, type_told, types_told};
 
 use crate::meanings::meanings_of;
 use std::alloc::{AllocError, Global};
+use ygraph::{Chain, chains_of};
 use ylink::Meant;
 use ynumber::Restriction;
-use yplan::{Chain, Plan, chains_of};
+use yplan::Plan;
 use ytype::YType;
 
 /// What the types of nodes mean and to what they refer, each by the number of its node.

@@ -1,16 +1,4 @@
-pub mod LayoutLemmas
 pub mod ModuleLemmas
 pub mod NameLemmas
-pub mod QueryLemmas
-pub mod ReferenceLemmas
-pub mod RowLemmas
 pub mod ToldLemmas
-pub mod WayLemmas
-pub mod ChildLemmas
-pub mod FindLemmas
-pub mod CallerLemmas
-pub mod PassedLemmas
-pub mod NearestLemmas
-pub mod DataChildLemmas
-pub mod QualifiedLemmas
 pub mod MakingLemmas

@@ -14,12 +14,12 @@ use Rattle.yspec.specs.linking.SchemaNodes.{schema_node, schema_nodes, kind_by, 
 use Rattle.yspec.specs.linking.TypeStatements.{string, built_in_name, built_in_named}
 use Rattle.yspec.proofs.LinkingProofs.BuiltInLemmas.{name_or_text}
 use Rattle.yspec.proofs.LinkingProofs.LinkedLemmas.{relabelled-size}
-use Rattle.ylink.specs.KeywordView.{keyword_view}
-use Rattle.ylink.specs.TypeView.{built_in_view}
-use Rattle.ylink.specs.declared.builtin.BuiltIn.{BuiltIn}
-use Rattle.ylink.specs.declared.builtin.BuiltIn.TheVariants as types
-use Rattle.ylink.specs.declared.keyword.Keyword.{Keyword}
-use Rattle.ylink.specs.declared.keyword.Keyword.TheVariants as words
+use Rattle.yword.specs.KeywordView.{keyword_view}
+use Rattle.yword.specs.BuiltInView.{built_in_view}
+use Rattle.yword.specs.declared.builtin.BuiltIn.{BuiltIn}
+use Rattle.yword.specs.declared.builtin.BuiltIn.TheVariants as types
+use Rattle.yword.specs.declared.keyword.Keyword.{Keyword}
+use Rattle.yword.specs.declared.keyword.Keyword.TheVariants as words
 use Rattle.ypreorder.specs.Layout as preorder
 use Rattle.ypreorder.specs.Layout.{seen, numbered_by, labels_by}
 use Rattle.ypreorder.specs.View.{rows_in, forest_in}
@@ -32,10 +32,10 @@ use Rattle.yplan.specs.PlanView.{view}
 use Rattle.yplan.specs.declared.plan.Plan.{Plan}
 use Rattle.yplan.specs.declared.planned.Planned as code
 use Rattle.yplan.proofs.PlanLemmas.{nodes_are}
-use Rattle.yschema.specs.declared.children.Row.{Row}
-use Rattle.yschema.specs.Layout.{Place, place_of, places, laid}
+use Rattle.ymodel.specs.declared.children.Row.{Row}
+use Rattle.ymodel.specs.Layout.{Place, place_of, places, laid}
 use Rattle.yschema.specs.Made.{place_made, planned_place}
-use Rattle.yschema.proofs.LayoutLemmas.{laid_push}
+use Rattle.ymodel.proofs.LayoutLemmas.{laid_push}
 
 -- ---- defaults
 
@@ -119,9 +119,6 @@ other_kind plan p words.OrderedBy a b c d e = refl
 other_kind plan p words.Status a b c d e = refl
 other_kind plan p words.Key a b c d e = refl
 other_kind plan p words.Unique a b c d e = refl
-
-abbrev pub tuples_by : List ℕ → List (List LeafPath) → Tuples
-tuples_by keys uniques = record { keys = keys; uniques = uniques }
 
 -- a schema node, from what is known of it
 abbrev pub node_by : ℕ → ℕ → Bool → Text → Status → Kind → SchemaNode

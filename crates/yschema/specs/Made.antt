@@ -6,7 +6,7 @@ use Rattle.ypreorder.specs.Layout as preorder
 use Rattle.ypreorder.specs.declared.row.Row as rows
 use Rattle.yplan.specs.PlannedView.{planned_view}
 use Rattle.yplan.specs.declared.planned.Planned as code
-use Rattle.yschema.specs.Layout.{Place}
+use Rattle.ymodel.specs.Layout.{Place}
 
 -- the place of the schema node that a planned one stands for
 abbrev pub place_made : (Planned → SchemaNode) → preorder.Place Planned → Place

@@ -11,32 +11,29 @@ ghost use Rattle.yspec.specs.linking.Compiling.{compiled, IsCompiled};
 ghost use Rattle.yschema.specs.Phases.{statement_part, source_part, plan_part, rule_part};
 ghost use Rattle.yspec.specs.linking.Source.{sources_of};
 ghost use Rattle.ytext.specs.View.{modules_view};
-ghost use Rattle.ylink.specs.LinkView as link;
+ghost use Rattle.ygrammar.specs.LinkView as link;
 ghost use Rattle.yplan.specs.PlanView as plans;
 ghost use Rattle.yresolve.specs.ResolvedView.{IsOf};
-ghost use Rattle.ylink.specs.SourceView.{source_view};
+ghost use Rattle.ygrammar.specs.SourceView.{source_view};
 ghost use Rattle.ypreorder.specs.View.{row_by, label_by};
 ghost use Rattle.yspec.specs.linking.Source as sources;
 ghost use Rattle.yspec.specs.linking.Keyword.{prefix_word};
 ghost use Rattle.yschema.specs.Told.{seen, told_by};
-ghost use Rattle.yschema.specs.View.{view, module_view};
+ghost use Rattle.ymodel.specs.View.{view, module_view};
 
 use crate::fault::CompileFault;
-use crate::index::index_of;
 use crate::limits::{LEVEL_LIMIT, NODE_LIMIT};
 use crate::making::rows_of;
 use crate::names::{broken_at, repeated_module};
-use crate::references::References;
-use crate::schema::{Schema, SchemaModule};
 use std::alloc::{AllocError, Global};
-use ylink::{
-    Broken, CompileCode, Keyword, Source, Sources, argument_of, argument_with, prefix_fault,
-    statement_fault, type_fault, type_name_fault,
-};
+use ygrammar::{Broken, CompileCode, Source, Sources, argument_of, argument_with, statement_fault};
+use ylink::{prefix_fault, type_fault, type_name_fault};
+use ymodel::{Schema, SchemaModule};
 use yplan::{Plan, name_fault};
 use ypreorder::Node;
 use yresolve::{Resolved, node_fault};
 use ytext::Module;
+use yword::Keyword;
 
 /// The schema of a set of modules, or the least broken rule, by module, line and number, of the first phase that has one.
 /// Phases: the table of statements; prefixes and names of modules; names of types; types; the number of nodes; names of
@@ -205,7 +202,5 @@ fn build<'t>(
 {
     let modules = modules_of(alloc, plan.sources())?;
     let rows = rows_of(alloc, plan, resolved)?;
-    let index = index_of(alloc, &modules, &rows)?;
-    let references = References::of(alloc, &rows)?;
-    Ok(Schema::new(modules, rows, index, references))
+    Schema::of(alloc, modules, rows)
 }

@@ -4,7 +4,7 @@ ghost use Rattle.yschema.specs.declared.fault.CompileFault.TheVariants.{Memory, 
 
 use std::alloc::AllocError;
 use thiserror::Error;
-use ylink::{Broken, CompileCode};
+use ygrammar::{Broken, CompileCode};
 
 /// Why a set of modules isn't compiled: the rule, the module by its place in the set, and the line, counted from 1.
 #[derive(Clone, Copy, Debug, PartialEq, Eq, Error)]

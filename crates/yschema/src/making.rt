@@ -5,92 +5,20 @@ ghost use Rattle.yspec.specs.types.Types.{string_type};
 ghost use Rattle.yspec.specs.linking.Planned.{nodes_of};
 ghost use Rattle.yspec.specs.linking.SchemaNodes as spec;
 ghost use Rattle.yspec.specs.linking.TypeStatements.{built_in_name};
-ghost use Rattle.ylink.specs.TypeView.{built_in_view};
-ghost use Rattle.ylink.specs.WordView as word;
-ghost use Rattle.yplan.specs.FactsView as facts;
+ghost use Rattle.yword.specs.BuiltInView.{built_in_view};
 ghost use Rattle.yplan.specs.NodesView as plans;
 ghost use Rattle.yplan.specs.PlannedView.{planned_view};
 ghost use Rattle.yplan.specs.PlanView as plan_view;
 ghost use Rattle.yresolve.specs.ResolvedView.{IsOf};
-ghost use Rattle.yschema.specs.Layout.{absence_view, amount_view, kind_view, laid, leaf_type_view, node_view, numbers_of, place_of, places, status_view, tuples_view};
+ghost use Rattle.ymodel.specs.Layout.{absence_view, kind_view, laid, leaf_type_view, node_view, place_of, places};
 ghost use Rattle.yschema.specs.Made.{place_made, planned_place};
 
-use crate::children::Row;
-use crate::index::id_of;
-use crate::node::{Absence, Amount, Kind, LeafType, SchemaId, SchemaNode, Status, Tuples};
 use std::alloc::{AllocError, Global};
-use ylink::{BuiltIn, Keyword};
+use ymodel::{Absence, Kind, LeafType, Row, SchemaNode, id_of};
 use yplan::{Plan, PlanNode, Planned};
 use yresolve::{Resolved, default_values, tuples_of};
 use ytype::{Val, YType};
-
-fn status_of(status: ylink::Status) -> Status
-    ensures { status_view result ≡ word.status_view status }
-{
-    match status {
-        ylink::Status::Current => Status::Current,
-        ylink::Status::Deprecated => Status::Deprecated,
-        ylink::Status::Obsolete => Status::Obsolete,
-    }
-}
-
-fn amount_of(amount: yplan::Amount) -> Amount
-    ensures { amount_view result ≡ facts.amount_view amount }
-{
-    Amount {
-        least: amount.least,
-        most: amount.most,
-    }
-}
-
-fn ids_of(alloc: Global, numbers: &[u32]) -> Result<Vec<SchemaId>, AllocError>
-    ensures { IfOk result (λ ids. numbers_of ids.items ≡ numbers.now) }
-{
-    let mut ids = Vec::with_capacity(alloc, numbers.len())?;
-    for number in numbers {
-        ids.push(SchemaId::new(*number))?;
-    }
-    Ok(ids)
-}
-
-fn paths_of(alloc: Global, paths: &[Vec<u32>]) -> Result<Vec<Vec<SchemaId>>, AllocError>
-    ensures { IfOk result (λ made. map (λ path. numbers_of path.items) made.items ≡ map (λ path. path.items) paths.now) }
-{
-    let mut made = Vec::with_capacity(alloc, paths.len())?;
-    for path in paths {
-        made.push(ids_of(alloc, path.as_slice())?)?;
-    }
-    Ok(made)
-}
-
-fn uniques_of(
-    alloc: Global,
-    uniques: &[Vec<Vec<u32>>],
-) -> Result<Vec<Vec<Vec<SchemaId>>>, AllocError>
-    ensures { IfOk result (λ made. map (λ unique. map (λ path. numbers_of path.items) unique.items) made.items
-        ≡ map (λ unique. map (λ path. path.items) unique.items) uniques.now) }
-{
-    let mut made = Vec::with_capacity(alloc, uniques.len())?;
-    for unique in uniques {
-        made.push(paths_of(alloc, unique.as_slice())?)?;
-    }
-    Ok(made)
-}
-
-/// The leafs whose values tell the entries of a list apart.
-fn tuples_made<'a, 't>(
-    alloc: Global,
-    plan: &Plan<'a, 't>,
-    list: PlanNode<'a, 't>,
-) -> Result<Tuples, AllocError>
-    ensures { IfOk result (λ tuples. tuples_view tuples ≡ spec.tuples_of (plan_view.view plan.now) (plans.node_view list.entry)) }
-{
-    let tuples = tuples_of(alloc, plan, list)?;
-    Ok(Tuples {
-        keys: ids_of(alloc, tuples.keys.as_slice())?,
-        uniques: uniques_of(alloc, tuples.uniques.as_slice())?,
-    })
-}
+use yword::{BuiltIn, Keyword};
 
 /// The values of the defaults of a leaf or leaf-list, in order.
 fn values_of<'a, 't>(
@@ -204,11 +132,11 @@ fn kind_of<'a, 't>(
         Keyword::LeafList => Ok(Kind::LeafList {
             leaf_type: leaf_type_of(alloc, plan, resolved, node)?,
             defaults: values_of(alloc, plan, resolved, node)?,
-            amount: amount_of(planned.amount()),
+            amount: planned.amount(),
         }),
         Keyword::List => Ok(Kind::List {
-            tuples: tuples_made(alloc, plan, node)?,
-            amount: amount_of(planned.amount()),
+            tuples: tuples_of(alloc, plan, node)?,
+            amount: planned.amount(),
         }),
         Keyword::Choice => Ok(Kind::Choice {
             default_case: id_of(plan.default_case(node.number, planned)),
@@ -234,7 +162,7 @@ fn node_of<'a, 't>(
         module: planned.owner(),
         name: String::from_str(alloc, planned.name())?,
         config: planned.config,
-        status: status_of(planned.status()),
+        status: planned.status(),
         kind: kind_of(alloc, plan, resolved, node)?,
     })
 }

@@ -4,11 +4,11 @@ ghost use Rattle.std.specs.Prelude.{◌≡◌, [], IfOk};
 ghost use Rattle.yspec.specs.schema.Schema.{argument_text};
 ghost use Rattle.yspec.specs.schema.Breaks.{least_from, module_breaks};
 ghost use Rattle.ytext.specs.View.{view, modules_view};
-ghost use Rattle.ylink.specs.BreakView.{break_view, code_number, seen};
+ghost use Rattle.ygrammar.specs.BreakView.{break_view, code_number, seen};
 
 use indexmap::IndexSet;
 use std::alloc::{AllocError, Global};
-use ylink::{Broken, CompileCode, least_when};
+use ygrammar::{Broken, CompileCode, least_when};
 use ytext::{Module, Stmt};
 
 /// The name of a module's statement.

@@ -11,8 +11,8 @@ use Rattle.yspec.specs.types.Types.{Raw}
 use Rattle.yspec.specs.document.Document as spec
 use Rattle.yspec.specs.document.Document.{Tree}
 use Rattle.yspec.specs.document.Reading.{stored_node, raw_in, members_of, items_of, item_row, instance_row, stored_rows}
-use Rattle.yschema.specs.View as schema_view
-use Rattle.yschema.specs.declared.node.SchemaNode as code
+use Rattle.ymodel.specs.View as schema_view
+use Rattle.ymodel.specs.declared.node.SchemaNode as code
 use Rattle.yspec.proofs.ForestLemmas.{join_end, join_assoc}
 use Rattle.ytree.specs.View.{view, row_view}
 use Rattle.ytree.specs.Told.{inner_rows, stored_first}

@@ -6,7 +6,7 @@ ghost use Rattle.ytree.specs.View.{row_view};
 ghost use Rattle.ytree.specs.Walk.{is_not_before, is_other, before_first, from_first, mine, others};
 
 use crate::tree::Stored;
-use yschema::SchemaId;
+use ymodel::SchemaId;
 
 /// The instances of a schema node in what is left of a row, and what is left behind them. Siblings stand in the order of
 /// their schema nodes, so each node of a schema row finds its own at the front.

@@ -7,12 +7,12 @@ ghost use Rattle.yspec.specs.text.Text.{is_text};
 ghost use Rattle.yspec.specs.schema.Schema as spec;
 ghost use Rattle.yspec.specs.schema.Schema.{row_at, data_row};
 ghost use Rattle.yspec.specs.document.Reading.{named};
-ghost use Rattle.yschema.specs.Layout.{number_of};
-ghost use Rattle.yschema.specs.View.{view, node_view, row_view, label_of, below_of};
+ghost use Rattle.ymodel.specs.Layout.{number_of};
+ghost use Rattle.ymodel.specs.View.{view, node_view, row_view, label_of, below_of};
 ghost use Rattle.ytree.specs.View.{Means};
 
 use std::alloc::{AllocError, Global};
-use yschema::{Child, Children, Schema, SchemaId, SchemaNode};
+use ymodel::{Child, Children, Schema, SchemaId, SchemaNode};
 
 /// What the name of a member means.
 #[derive(Clone, Copy)]

@@ -8,7 +8,7 @@ ghost use Rattle.yspec.specs.document.Reading.{stored_node, raw_in, item_row, in
 ghost use Rattle.yspec.specs.document.Fitting.{Fits};
 ghost use Rattle.yspec.specs.document.Writing.{IsDocument};
 ghost use Rattle.ytype.specs.View.{raw_of};
-ghost use Rattle.yschema.specs.View as schema_view;
+ghost use Rattle.ymodel.specs.View as schema_view;
 ghost use Rattle.ytree.specs.View.{view, row_view, tree_view};
 ghost use Rattle.yspec.specs.Results.{Gives};
 ghost use Rattle.ytree.specs.Told.{Judges, denoted_at, refused_at, inner_rows, stored_first, told_by};
@@ -20,7 +20,7 @@ use crate::values::raw_of;
 use crate::visits::{visit_instance, visit_members};
 use serde_json::{Map, Value};
 use std::alloc::{AllocError, Global};
-use yschema::{Child, Children, Schema, SchemaId, SchemaNode};
+use ymodel::{Child, Children, Schema, SchemaId, SchemaNode};
 use ytype::Raw;
 
 /// The most nodes that a document may have.

@@ -1,7 +1,7 @@
 //! What a document stores.
 
 use std::alloc::Global;
-use yschema::SchemaId;
+use ymodel::SchemaId;
 use ytype::Raw;
 
 /// A step down: a schema node, and at a list entry or a leaf-list item its position among those of that node, from 1.

@@ -5,8 +5,8 @@ ghost use Rattle.std.specs.Prelude.{◌≡◌, ◌+◌, ◌++◌, IfSome, OnOk, 
 ghost use Rattle.serde_json.specs.View as json;
 ghost use Rattle.yspec.specs.schema.Schema.{module_at, row_at};
 ghost use Rattle.yspec.specs.document.Reading.{right, named, at_named, leaf_visit, value_visit, member_visits, node_visits, item_visits, instance_visits};
-ghost use Rattle.yschema.specs.Layout.{number_of};
-ghost use Rattle.yschema.specs.View.{view, kind_view};
+ghost use Rattle.ymodel.specs.Layout.{number_of};
+ghost use Rattle.ymodel.specs.View.{view, kind_view};
 ghost use Rattle.ytree.specs.View.{place_view};
 ghost use Rattle.ytree.specs.Told.{visits_at, code_number, Tells, Walks};
 
@@ -16,7 +16,7 @@ use crate::tree::Step;
 use crate::values::refusal_of;
 use serde_json::{Map, Value};
 use std::alloc::Global;
-use yschema::{Schema, SchemaId, SchemaNode};
+use ymodel::{Schema, SchemaId, SchemaNode};
 
 /// Refuses the members of an object below a node, or at the top, whose steps are given. A right node takes of the room,
 /// where there is a limit; what is left of it is answered. The place is as before.

@@ -10,7 +10,7 @@ ghost use Rattle.yspec.specs.document.Reading.{document_of};
 ghost use Rattle.yspec.specs.document.Sorting.{IsSorted};
 ghost use Rattle.yspec.specs.document.Writing.{whole_number, data_of, leaf_data, written_node, written_items, with_instances, written_text, IsDocument};
 ghost use Rattle.ytype.specs.View as held;
-ghost use Rattle.yschema.specs.View as schema_view;
+ghost use Rattle.ymodel.specs.View as schema_view;
 ghost use Rattle.ytree.specs.View.{view, row_view, tree_view};
 ghost use Rattle.ytree.specs.Walk.{walked, members_in};
 
@@ -19,7 +19,7 @@ use crate::names::written_name;
 use crate::tree::{Stored, Tree};
 use serde_json::{Map, Number, Value};
 use std::alloc::{AllocError, Global};
-use yschema::{Child, Children, Schema};
+use ymodel::{Child, Children, Schema};
 use ytype::Raw;
 
 /// The compact JSON text of a document: members in byte order of their names, no line break (RFC 7951). It reads as that

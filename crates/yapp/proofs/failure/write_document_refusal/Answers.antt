@@ -1,6 +1,6 @@
 use Rattle.std.proofs.Common.{codes, decimal}
 use Rattle.yspec.specs.document.Path.{path_text}
-use Rattle.yschema.specs.View.{view}
+use Rattle.ymodel.specs.View.{view}
 use Rattle.ytree.specs.View.{place_view}
 use Rattle.youtput.proofs.WritingLemmas.{left_all, left_after, left_broken, left_failed, left_last, left_same}
 use Rattle.yapp.proofs.RunningLemmas.{refusal_parts}

@@ -2,7 +2,7 @@ use Rattle.std.proofs.Common.{ap}
 use Rattle.std.proofs.lemmas.List.{at_drop_all, at_drop_more}
 use Rattle.std.specs.List.{flat_map}
 use Rattle.yspec.specs.document.Faults.{line_of}
-use Rattle.yschema.specs.View as schema
+use Rattle.ymodel.specs.View as schema
 use Rattle.ycheck.specs.View.{view, views}
 use Rattle.youtput.proofs.WritingLemmas.{left_all, left_same, left_after, left_none, left_broken, wrote_same, broke_same}
 use Rattle.yapp.proofs.report.write_lines.Goals as goal

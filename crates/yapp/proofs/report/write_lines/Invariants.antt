@@ -1,7 +1,7 @@
 use Rattle.std.proofs.Common.{drop}
 use Rattle.std.specs.List.{flat_map}
 use Rattle.yspec.specs.document.Faults.{line_of}
-use Rattle.yschema.specs.View as schema
+use Rattle.ymodel.specs.View as schema
 use Rattle.ycheck.specs.View.{views}
 use Rattle.youtput.specs.Writing.{side}
 use Rattle.youtput.proofs.WritingLemmas.{Left}

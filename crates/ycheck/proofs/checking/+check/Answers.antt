@@ -7,8 +7,8 @@ use Rattle.yspec.specs.document.Fault.{Fault}
 use Rattle.yspec.specs.document.Faults.{under}
 use Rattle.yspec.specs.document.Play.{stored_cases}
 use Rattle.yspec.specs.document.Sorting.{IsSorted}
-use Rattle.yschema.specs.Layout.{number_of}
-use Rattle.yschema.specs.View as schema_view
+use Rattle.ymodel.specs.Layout.{number_of}
+use Rattle.ymodel.specs.View as schema_view
 use Rattle.ytree.specs.View.{view, row_view}
 use Rattle.ytree.specs.Walk.{mine, others}
 use Rattle.ycheck.specs.Cases.{chosen_from, how_many}

@@ -1,6 +1,6 @@
 use Rattle.std.proofs.Common.{ap}
 use Rattle.yspec.specs.document.Path.{path_text}
-use Rattle.yschema.specs.View as schema
+use Rattle.ymodel.specs.View as schema
 use Rattle.ytree.specs.View.{place_view}
 use Rattle.youtput.proofs.WritingLemmas.{left_all, left_same, left_after, left_failed, left_last, wrote_same, broke_same}
 use Rattle.ycheck.proofs.LineLemmas.{line_parts}

@@ -2,7 +2,7 @@ use Rattle.std.proofs.Common.{drop, None}
 use Rattle.yspec.specs.document.Path.{path_from}
 use Rattle.youtput.specs.Writing.{side}
 use Rattle.youtput.proofs.WritingLemmas.{Left}
-use Rattle.yschema.specs.View.{view}
+use Rattle.ymodel.specs.View.{view}
 use Rattle.ytree.specs.View.{place_view}
 use Rattle.ycheck.proofs.lines.write_path.Given as goal
 

@@ -1,4 +1,4 @@
-use Rattle.yschema.specs.View.{view, node_view}
+use Rattle.ymodel.specs.View.{view, node_view}
 use Rattle.ytree.specs.View.{step_view}
 use Rattle.youtput.proofs.WritingLemmas.{writes_after, writes_same, left_failed, left_all}
 use Rattle.ycheck.proofs.LineLemmas.{named_step}

@@ -1,8 +1,8 @@
 use Rattle.std.proofs.Common.{◌≡◌, drop, map, List, Option}
 use Rattle.yspec.specs.document.Instances.{Tuple, tuple_at, own_path}
-use Rattle.yschema.specs.Layout.{numbers_of}
-use Rattle.yschema.specs.declared.node.SchemaId.{SchemaId}
-use Rattle.yschema.specs.View as schema_view
+use Rattle.ymodel.specs.Layout.{numbers_of}
+use Rattle.ymodel.specs.declared.node.SchemaId.{SchemaId}
+use Rattle.ymodel.specs.View as schema_view
 use Rattle.ytree.specs.View as document_view
 use Rattle.ycheck.proofs.ValueLemmas.{with_front}
 use Rattle.ycheck.proofs.repeated.key_of.Given as goal

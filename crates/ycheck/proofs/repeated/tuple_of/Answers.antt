@@ -2,8 +2,8 @@ use Rattle.std.proofs.Common.{◌∙◌, ap, map, sym}
 use Rattle.std.proofs.lemmas.Bool.{ltb-true, ltb-false}
 use Rattle.std.proofs.lemmas.Result.{IfOk-weaker}
 use Rattle.yspec.specs.document.Instances.{tuple_of_paths}
-use Rattle.yschema.specs.Layout.{numbers_of}
-use Rattle.yschema.specs.View as schema_view
+use Rattle.ymodel.specs.Layout.{numbers_of}
+use Rattle.ymodel.specs.View as schema_view
 use Rattle.ytree.specs.View as document_view
 use Rattle.ycheck.proofs.ValueLemmas.{unique_some, unique_none}
 use Rattle.ycheck.proofs.repeated.tuple_of.Goals as goal

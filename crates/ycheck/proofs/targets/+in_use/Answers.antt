@@ -4,8 +4,8 @@ use Rattle.yspec.specs.Forest.{end, node, size}
 use Rattle.yspec.specs.schema.Schema as spec
 use Rattle.yspec.specs.document.Document.{instances_in}
 use Rattle.yspec.specs.document.Play.{stored_cases, or_default}
-use Rattle.yschema.specs.Layout.{number_of, kind_view, leaf_type_view, absence_view, amount_view}
-use Rattle.yschema.specs.View as schema_view
+use Rattle.ymodel.specs.Layout.{number_of, kind_view, leaf_type_view, absence_view, amount_view}
+use Rattle.ymodel.specs.View as schema_view
 use Rattle.ytree.specs.View as document_view
 use Rattle.ycheck.specs.Targets.{times_used, default_value, some_values}
 use Rattle.ycheck.proofs.CaseLemmas.{numbered_row, no_case}

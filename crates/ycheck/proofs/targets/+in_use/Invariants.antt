@@ -2,7 +2,7 @@ use Rattle.std.proofs.Common.{◌≤◌, ◌+◌, ◌*◌, List, ℕ}
 use Rattle.yspec.specs.Forest.{size}
 use Rattle.yspec.specs.document.Document.{instances_in}
 use Rattle.yspec.specs.document.Sorting.{IsSorted}
-use Rattle.yschema.specs.View.{row_view, below_of}
+use Rattle.ymodel.specs.View.{row_view, below_of}
 use Rattle.ytree.specs.View as document_view
 use Rattle.ycheck.specs.Cases.{Chooses}
 use Rattle.ycheck.specs.Targets.{times_used}

@@ -3,7 +3,7 @@ use Rattle.std.proofs.lemmas.Result.{on_ok_weaker}
 use Rattle.yspec.specs.document.Document.{instances_in}
 use Rattle.yspec.specs.document.Sorting.{IsSorted}
 use Rattle.yspec.specs.schema.Schema.{children_of}
-use Rattle.yschema.specs.View as schema_view
+use Rattle.ymodel.specs.View as schema_view
 use Rattle.ytree.specs.View as document_view
 use Rattle.ycheck.specs.Targets.{times_of_row, times_of_node, times_used, own_value}
 use Rattle.ycheck.proofs.CaseLemmas.{no_case, left_at, left_ended}

@@ -1,6 +1,6 @@
 use Rattle.std.proofs.Common.{drop}
 use Rattle.yspec.specs.document.Sorting.{IsSorted}
-use Rattle.yschema.specs.View as schema_view
+use Rattle.ymodel.specs.View as schema_view
 use Rattle.ytree.specs.View.{row_view}
 use Rattle.ycheck.specs.Targets.{times_of_row}
 use Rattle.ycheck.proofs.TargetLemmas.{Still, left_times}

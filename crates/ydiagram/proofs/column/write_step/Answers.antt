@@ -1,5 +1,5 @@
 use Rattle.std.proofs.Common.{sym, ◌∙◌}
-use Rattle.yschema.specs.View.{view, node_view}
+use Rattle.ymodel.specs.View.{view, node_view}
 use Rattle.youtput.proofs.WritingLemmas.{writes_after, writes_same, left_failed, left_all}
 use Rattle.ydiagram.proofs.LabelLemmas.{step_shown}
 use Rattle.ydiagram.proofs.column.write_step.Goals as goal

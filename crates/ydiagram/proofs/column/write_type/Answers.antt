@@ -1,5 +1,5 @@
-use Rattle.yschema.specs.Layout.{leaf_type_view}
-use Rattle.yschema.specs.View.{view}
+use Rattle.ymodel.specs.Layout.{leaf_type_view}
+use Rattle.ymodel.specs.View.{view}
 use Rattle.youtput.proofs.WritingLemmas.{writes_after, writes_same, left_failed, left_all}
 use Rattle.ydiagram.proofs.LabelLemmas.{type_shown}
 use Rattle.ydiagram.proofs.column.write_type.Goals as goal

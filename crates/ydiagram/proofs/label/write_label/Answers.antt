@@ -1,7 +1,7 @@
 use Rattle.std.proofs.Common.{refl}
 use Rattle.yspec.specs.schema.Schema.{keys_in}
-use Rattle.yschema.specs.Layout.{numbers_of}
-use Rattle.yschema.specs.View.{view, node_view, kind_view}
+use Rattle.ymodel.specs.Layout.{numbers_of}
+use Rattle.ymodel.specs.View.{view, node_view, kind_view}
 use Rattle.youtput.proofs.WritingLemmas.{left_all, left_same, left_after, left_failed, left_last}
 use Rattle.ydiagram.proofs.LabelLemmas.{label_parts}
 use Rattle.ydiagram.proofs.label.write_label.Goals as goal

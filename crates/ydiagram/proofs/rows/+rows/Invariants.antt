@@ -2,7 +2,7 @@ use Rattle.std.proofs.Common.{◌+◌, ◌*◌, ◌≤◌}
 use Rattle.yspec.specs.Forest.{end, size}
 use Rattle.youtput.specs.Writing.{side}
 use Rattle.youtput.proofs.WritingLemmas.{Left}
-use Rattle.yschema.specs.View.{row_view, below_of, view}
+use Rattle.ymodel.specs.View.{row_view, below_of, view}
 use Rattle.ydiagram.specs.View.{indentation_text, rest_written, row_written, shown_in}
 use Rattle.ydiagram.proofs.RowLemmas.{with_held}
 use Rattle.ydiagram.proofs.rows.+rows.Given as goal

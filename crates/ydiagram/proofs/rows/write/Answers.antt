@@ -1,5 +1,5 @@
 use Rattle.std.proofs.Common.{refl}
-use Rattle.yschema.specs.View.{view, row_view}
+use Rattle.ymodel.specs.View.{view, row_view}
 use Rattle.youtput.proofs.WritingLemmas.{left_all, left_same, left_failed, left_after, left_last}
 use Rattle.ydiagram.proofs.RowLemmas.{diagram_parts}
 use Rattle.ydiagram.proofs.rows.write.Goals as goal

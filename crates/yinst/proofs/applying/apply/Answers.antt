@@ -2,8 +2,8 @@ use Rattle.yspec.specs.document.Fitting.{Fits}
 use Rattle.yspec.specs.document.Writing.{IsDocument}
 use Rattle.yspec.specs.edit.Editing.{applied}
 use Rattle.yspec.proofs.EditProofs.FittingEditLemmas.{edit_fits, edit_whole}
-use Rattle.yschema.specs.View.{view}
-use Rattle.yschema.proofs.CallerLemmas.{numbered, names_differ}
+use Rattle.ymodel.specs.View.{view}
+use Rattle.ymodel.proofs.CallerLemmas.{numbered, names_differ}
 use Rattle.ytree.specs.View.{tree_view}
 use Rattle.yinst.specs.EditView.{edit_view}
 use Rattle.yinst.proofs.EditLemmas.{if_given}

@@ -1,7 +1,7 @@
 use Rattle.std.proofs.Common.{ap, sym, ◌∙◌}
 use Rattle.std.specs.Prelude.{nat_lt}
 use Rattle.yspec.specs.document.Document.{instances_in}
-use Rattle.yschema.specs.View as schema_view
+use Rattle.ymodel.specs.View as schema_view
 use Rattle.ytree.specs.View.{row_view}
 use Rattle.yinst.proofs.LocatingLemmas.{number_is}
 use Rattle.yinst.proofs.applying.is_stored.Goals as goal

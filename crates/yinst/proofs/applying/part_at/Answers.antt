@@ -1,6 +1,6 @@
 use Rattle.std.proofs.Common.{ap}
 use Rattle.yspec.specs.edit.Editing.{branch_of}
-use Rattle.yschema.specs.View as schema_view
+use Rattle.ymodel.specs.View as schema_view
 use Rattle.yinst.specs.Binding.{node_of}
 use Rattle.yinst.specs.Rows.{branch_view}
 use Rattle.yinst.proofs.EditLemmas.{answers_same}

@@ -1,7 +1,7 @@
 use Rattle.std.proofs.Common.{ap}
 use Rattle.yspec.specs.edit.Edit.{edit_at}
 use Rattle.yspec.specs.edit.Editing.{replaced, within_limit, with_instead}
-use Rattle.yschema.specs.View as schema_view
+use Rattle.ymodel.specs.View as schema_view
 use Rattle.ytree.specs.View.{tree_view}
 use Rattle.yinst.specs.Locating.{spot_view, spots_view, located_view}
 use Rattle.yinst.specs.Rows.{branch_view}

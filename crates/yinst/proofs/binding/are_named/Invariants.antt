@@ -1,6 +1,6 @@
 use Rattle.std.proofs.Common.{◌≡◌, drop}
-use Rattle.yschema.specs.View.{view}
-use Rattle.yschema.specs.Layout.{numbers_of}
+use Rattle.ymodel.specs.View.{view}
+use Rattle.ymodel.specs.Layout.{numbers_of}
 use Rattle.yinst.specs.EditView.{keys_view}
 use Rattle.yinst.specs.Binding.{are_named}
 use Rattle.yinst.proofs.binding.are_named.Given as goal

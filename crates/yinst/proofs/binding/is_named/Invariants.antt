@@ -1,5 +1,5 @@
 use Rattle.std.proofs.Common.{◌≡◌, drop}
-use Rattle.yschema.specs.View.{view}
+use Rattle.ymodel.specs.View.{view}
 use Rattle.yinst.specs.EditView.{keys_view}
 use Rattle.yinst.specs.Binding.{is_named}
 use Rattle.yinst.proofs.binding.is_named.Given as goal

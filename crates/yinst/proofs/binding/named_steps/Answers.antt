@@ -1,7 +1,7 @@
 use Rattle.std.proofs.Common.{None, []}
 use Rattle.yspec.specs.edit.Editing.{bound_steps}
-use Rattle.yschema.specs.View.{view}
-use Rattle.yschema.proofs.CallerLemmas.{numbered}
+use Rattle.ymodel.specs.View.{view}
+use Rattle.ymodel.proofs.CallerLemmas.{numbered}
 use Rattle.yinst.specs.EditView.{steps_view}
 use Rattle.yinst.specs.Binding.{bound_view, bound_on}
 use Rattle.yinst.proofs.EditLemmas.{answers_same}

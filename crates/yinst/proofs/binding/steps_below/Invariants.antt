@@ -1,6 +1,6 @@
 use Rattle.std.proofs.Common.{◌≡◌, drop, [], None}
-use Rattle.yschema.specs.View.{view}
-use Rattle.yschema.specs.Layout.{number_of}
+use Rattle.ymodel.specs.View.{view}
+use Rattle.ymodel.specs.Layout.{number_of}
 use Rattle.yinst.specs.EditView as edits
 use Rattle.yinst.specs.Binding.{bound_on, steps_view}
 use Rattle.yinst.proofs.binding.steps_below.Given as goal

@@ -1,5 +1,5 @@
 use Rattle.serde_json.specs.View as json
-use Rattle.yschema.specs.View as schema_view
+use Rattle.ymodel.specs.View as schema_view
 use Rattle.ytree.specs.View.{view}
 use Rattle.ytree.specs.Told.{code_number}
 use Rattle.yinst.proofs.EditLemmas.{branch_denoted, branch_refused}

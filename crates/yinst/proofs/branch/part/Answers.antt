@@ -1,5 +1,5 @@
 use Rattle.serde_json.specs.View as json
-use Rattle.yschema.specs.View as schema_view
+use Rattle.ymodel.specs.View as schema_view
 use Rattle.yinst.specs.Rows.{branch_view}
 use Rattle.yspec.proofs.DocumentProofs.JsonLemmas.{json_found}
 use Rattle.yinst.proofs.EditLemmas.{answers_same, branch_of_value}

@@ -1,8 +1,8 @@
 use Rattle.std.proofs.Common.{◌≡◌, ◌+◌, ◌≤◌, ◌++◌, drop}
 use Rattle.yspec.specs.schema.Schema.{keys_in}
 use Rattle.yspec.specs.edit.Editing.{the_one, positions_where, fits_keys}
-use Rattle.yschema.specs.Layout.{numbers_of}
-use Rattle.yschema.specs.View.{view}
+use Rattle.ymodel.specs.Layout.{numbers_of}
+use Rattle.ymodel.specs.View.{view}
 use Rattle.ytree.specs.View.{row_view}
 use Rattle.yinst.specs.Applying.{edit_number}
 use Rattle.yinst.specs.Binding.{node_of}

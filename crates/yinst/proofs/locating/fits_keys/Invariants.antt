@@ -1,7 +1,7 @@
 use Rattle.std.proofs.Common.{◌≡◌, drop}
 use Rattle.yspec.specs.edit.Editing.{fits_keys}
-use Rattle.yschema.specs.Layout.{numbers_of}
-use Rattle.yschema.specs.View.{view}
+use Rattle.ymodel.specs.Layout.{numbers_of}
+use Rattle.ymodel.specs.View.{view}
 use Rattle.ytree.specs.View.{row_view}
 use Rattle.yinst.specs.EditView.{keys_view}
 use Rattle.yinst.proofs.locating.fits_keys.Given as goal

@@ -1,5 +1,5 @@
 use Rattle.yspec.specs.edit.Editing as spec
-use Rattle.yschema.specs.View as schema_view
+use Rattle.ymodel.specs.View as schema_view
 use Rattle.ytree.specs.View.{row_view}
 use Rattle.yinst.specs.Applying.{edit_number}
 use Rattle.yinst.specs.Binding.{node_of}

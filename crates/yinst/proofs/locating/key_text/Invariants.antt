@@ -1,6 +1,6 @@
 use Rattle.std.proofs.Common.{◌≡◌, drop}
 use Rattle.yspec.specs.edit.Editing.{key_text}
-use Rattle.yschema.specs.View.{view}
+use Rattle.ymodel.specs.View.{view}
 use Rattle.yinst.specs.EditView.{keys_view}
 use Rattle.yinst.proofs.locating.key_text.Given as goal
 

@@ -1,6 +1,6 @@
 use Rattle.std.proofs.Common.{sym, ap, ◌∙◌}
 use Rattle.yspec.specs.edit.Editing.{target}
-use Rattle.yschema.specs.View as schema_view
+use Rattle.ymodel.specs.View as schema_view
 use Rattle.ytree.specs.View.{row_view}
 use Rattle.yinst.specs.Binding.{steps_view}
 use Rattle.yinst.specs.Locating.{spots_view, located_view, target_on}

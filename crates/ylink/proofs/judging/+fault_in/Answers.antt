@@ -6,9 +6,9 @@ use Rattle.yspec.specs.linking.TypeStatements.{verdict, verdicts, type_breaks_in
 use Rattle.ytext.specs.View as text
 use Rattle.ypreorder.specs.View.{row_by, label_by}
 use Rattle.ypreorder.proofs.RowLemmas.{takes_by, takes_none_by}
-use Rattle.ylink.specs.BreakView.{seen, break_view}
-use Rattle.ylink.specs.KeywordView.{keyword_view}
-use Rattle.ylink.specs.SourceView.{source_view}
+use Rattle.ygrammar.specs.BreakView.{seen, break_view}
+use Rattle.yword.specs.KeywordView.{keyword_view}
+use Rattle.ygrammar.specs.SourceView.{source_view}
 use Rattle.ylink.specs.TypeView.{is_wrong}
 use Rattle.ylink.proofs.TypeLemmas.{no_type, next_type, no_more_types}
 use Rattle.ylink.proofs.judging.+fault_in.Goals as goal

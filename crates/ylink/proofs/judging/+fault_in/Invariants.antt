@@ -3,8 +3,8 @@ use Rattle.yspec.specs.Forest.{size}
 use Rattle.yspec.specs.schema.Breaks.{least_from}
 use Rattle.yspec.specs.linking.TypeStatements.{type_breaks_in}
 use Rattle.ypreorder.specs.View.{row_by, row_view}
-use Rattle.ylink.specs.BreakView.{seen}
-use Rattle.ylink.specs.SourceView.{source_view}
+use Rattle.ygrammar.specs.BreakView.{seen}
+use Rattle.ygrammar.specs.SourceView.{source_view}
 use Rattle.ylink.proofs.judging.+fault_in.Given as goal
 
 -- what stands below a statement is smaller than its row

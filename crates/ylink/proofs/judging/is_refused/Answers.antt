@@ -1,7 +1,7 @@
 use Rattle.std.proofs.Common.{not, sym, ap, ◌∙◌}
 use Rattle.ypreorder.specs.View.{row_by}
-use Rattle.ylink.specs.SourceView.{source_view}
-use Rattle.ylink.specs.TypeView.{built_in_view}
+use Rattle.ygrammar.specs.SourceView.{source_view}
+use Rattle.yword.specs.BuiltInView.{built_in_view}
 use Rattle.ylink.proofs.TypeLemmas.{made_plain}
 use Rattle.ylink.proofs.judging.is_refused.Goals as goal
 

@@ -4,8 +4,9 @@ use Rattle.yspec.specs.linking.Keyword.{type_word}
 use Rattle.yspec.specs.linking.Source.{first_with}
 use Rattle.yspec.specs.linking.TypeStatements as spec
 use Rattle.ypreorder.specs.View.{row_by, label_by}
-use Rattle.ylink.specs.SourceView.{source_view}
-use Rattle.ylink.specs.TypeView.{is_wrong, built_in_view}
+use Rattle.ygrammar.specs.SourceView.{source_view}
+use Rattle.yword.specs.BuiltInView.{built_in_view}
+use Rattle.ylink.specs.TypeView.{is_wrong}
 use Rattle.ylink.proofs.TypeLemmas.{is_some_map, wrong_union}
 use Rattle.ylink.proofs.judging.is_wrong_in_place.Goals as goal
 

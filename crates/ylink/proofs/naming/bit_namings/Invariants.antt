@@ -2,7 +2,7 @@ use Rattle.std.proofs.Common.{◌≡◌, ◌++◌}
 use Rattle.yspec.specs.linking.Keyword.{bit_word}
 use Rattle.yspec.specs.linking.TypeStatements.{namings, position_stated}
 use Rattle.ypreorder.specs.View.{row_by}
-use Rattle.ylink.specs.SourceView.{source_view}
+use Rattle.ygrammar.specs.SourceView.{source_view}
 use Rattle.ylink.proofs.naming.bit_namings.Given as goal
 
 abbrev pub invariant-loop-statement : goal.invariant-loop-statement

@@ -4,8 +4,8 @@ use Rattle.yspec.specs.linking.Source.{argument_in}
 use Rattle.yspec.specs.linking.TypeStatements.{value_stated}
 use Rattle.ypreorder.specs.View.{row_by, label_by}
 use Rattle.ypreorder.proofs.RowLemmas.{takes_by, takes_none_by}
-use Rattle.ylink.specs.KeywordView.{keyword_view}
-use Rattle.ylink.specs.SourceView.{source_view}
+use Rattle.yword.specs.KeywordView.{keyword_view}
+use Rattle.ygrammar.specs.SourceView.{source_view}
 use Rattle.ylink.proofs.TypeLemmas.{next_naming, no_naming, all_namings}
 use Rattle.ylink.proofs.naming.enum_namings.Goals as goal
 

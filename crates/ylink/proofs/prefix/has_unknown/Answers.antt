@@ -1,6 +1,6 @@
 use Rattle.std.proofs.Common.{sym, ◌∙◌, arith}
 use Rattle.yspec.specs.linking.Prefixes.{is_unknown_prefix}
-use Rattle.ylink.specs.NameView.{name_view}
+use Rattle.ygrammar.specs.NameView.{name_view}
 use Rattle.ylink.proofs.PrefixLemmas.{any_here, any_later, any_ended}
 use Rattle.ylink.proofs.prefix.has_unknown.Goals as goal
 

@@ -1,7 +1,7 @@
 use Rattle.std.proofs.Common.{◌≡◌, drop, map}
 use Rattle.std.specs.List.{list_any}
 use Rattle.yspec.specs.linking.Prefixes.{is_unknown_prefix}
-use Rattle.ylink.specs.NameView.{names_view}
+use Rattle.ygrammar.specs.NameView.{names_view}
 use Rattle.ylink.specs.PrefixView.{IsOf}
 use Rattle.ylink.proofs.prefix.has_unknown_step.Given as goal
 

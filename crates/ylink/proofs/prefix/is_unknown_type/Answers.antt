@@ -1,5 +1,5 @@
 use Rattle.std.proofs.Common.{is_some, sym, ap, ◌∙◌}
-use Rattle.ylink.specs.TypeView.{built_in_view}
+use Rattle.yword.specs.BuiltInView.{built_in_view}
 use Rattle.ylink.proofs.PrefixLemmas.{no_prefix}
 use Rattle.ylink.proofs.TypeLemmas.{is_some_map}
 use Rattle.ylink.proofs.prefix.is_unknown_type.Goals as goal

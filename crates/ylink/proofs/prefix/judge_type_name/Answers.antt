@@ -1,7 +1,7 @@
 use Rattle.std.proofs.Common.{sym, ap, ◌∙◌, ◌∷◌, []}
 use Rattle.yspec.specs.schema.Breaks.{broken, least_from, when}
-use Rattle.ylink.specs.BreakView.{seen, break_view}
-use Rattle.ylink.specs.SourceView.{source_view}
+use Rattle.ygrammar.specs.BreakView.{seen, break_view}
+use Rattle.ygrammar.specs.SourceView.{source_view}
 use Rattle.ylink.proofs.prefix.judge_type_name.Goals as goal
 
 pub returns-then-not-missing : goal.returns-then-not-missing

@@ -2,9 +2,9 @@ use Rattle.std.proofs.Common.{◌<◌, ◌≤◌, ap, ◌∙◌, arith, length, 
 use Rattle.yspec.specs.schema.Breaks.{least_from}
 use Rattle.yspec.specs.linking.Prefixes.{prefix_break}
 use Rattle.ypreorder.specs.View.{rows_in}
-use Rattle.ylink.specs.BreakView.{seen}
-use Rattle.ylink.specs.LinkView.{view}
-use Rattle.ylink.proofs.BreakLemmas.{next_row, all_rows, in_preorder}
+use Rattle.ygrammar.specs.BreakView.{seen}
+use Rattle.ygrammar.specs.LinkView.{view}
+use Rattle.ygrammar.proofs.BreakLemmas.{next_row, all_rows, in_preorder}
 use Rattle.ylink.proofs.prefix.prefix_fault.Goals as goal
 
 pub loop-row-preserved : goal.loop-row-preserved

@@ -2,9 +2,9 @@ use Rattle.std.proofs.Common.{◌≡◌, drop, None}
 use Rattle.yspec.specs.schema.Breaks.{least_from}
 use Rattle.yspec.specs.linking.Prefixes.{prefix_break}
 use Rattle.ypreorder.specs.View.{rows_in}
-use Rattle.ylink.specs.BreakView.{seen}
-use Rattle.ylink.specs.LinkView.{view}
-use Rattle.ylink.proofs.BreakLemmas.{broken_from}
+use Rattle.ygrammar.specs.BreakView.{seen}
+use Rattle.ygrammar.specs.LinkView.{view}
+use Rattle.ygrammar.proofs.BreakLemmas.{broken_from}
 use Rattle.ylink.proofs.prefix.prefix_fault.Given as goal
 
 abbrev pub invariant-loop-row : goal.invariant-loop-row

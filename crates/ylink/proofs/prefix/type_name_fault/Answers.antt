@@ -2,8 +2,8 @@ use Rattle.std.proofs.Common.{◌<◌, ◌≤◌, ap, ◌∙◌, arith, length, 
 use Rattle.yspec.specs.schema.Breaks.{least_from}
 use Rattle.yspec.specs.linking.Prefixes.{type_name_break}
 use Rattle.ypreorder.specs.View.{rows_in}
-use Rattle.ylink.specs.BreakView.{seen}
-use Rattle.ylink.proofs.BreakLemmas.{next_row, all_rows, in_preorder}
+use Rattle.ygrammar.specs.BreakView.{seen}
+use Rattle.ygrammar.proofs.BreakLemmas.{next_row, all_rows, in_preorder}
 use Rattle.ylink.proofs.prefix.type_name_fault.Goals as goal
 
 pub loop-row-preserved : goal.loop-row-preserved

@@ -2,8 +2,8 @@ use Rattle.std.proofs.Common.{◌≡◌, drop, None}
 use Rattle.yspec.specs.schema.Breaks.{least_from}
 use Rattle.yspec.specs.linking.Prefixes.{type_name_break}
 use Rattle.ypreorder.specs.View.{rows_in}
-use Rattle.ylink.specs.BreakView.{seen}
-use Rattle.ylink.proofs.BreakLemmas.{broken_from}
+use Rattle.ygrammar.specs.BreakView.{seen}
+use Rattle.ygrammar.proofs.BreakLemmas.{broken_from}
 use Rattle.ylink.proofs.prefix.type_name_fault.Given as goal
 
 abbrev pub invariant-loop-row : goal.invariant-loop-row

@@ -5,8 +5,8 @@ use Rattle.yspec.specs.linking.Keyword.{same_keyword, type_word}
 use Rattle.yspec.specs.linking.TypeStatements.{verdict, verdicts}
 use Rattle.ypreorder.specs.View.{row_by, label_by}
 use Rattle.ypreorder.proofs.RowLemmas.{takes_by, takes_none_by}
-use Rattle.ylink.specs.KeywordView.{keyword_view}
-use Rattle.ylink.specs.SourceView.{source_view}
+use Rattle.yword.specs.KeywordView.{keyword_view}
+use Rattle.ygrammar.specs.SourceView.{source_view}
 use Rattle.ylink.specs.TypeView.{verdict_view}
 use Rattle.ylink.proofs.TypeLemmas.{no_verdict, next_verdict, no_more_verdicts}
 use Rattle.ylink.proofs.types.+member_verdicts.Goals as goal

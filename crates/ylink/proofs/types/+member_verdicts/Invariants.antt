@@ -2,7 +2,7 @@ use Rattle.std.proofs.Common.{◌≡◌, ◌++◌, ◌≤◌, true, map}
 use Rattle.yspec.specs.Forest.{size}
 use Rattle.yspec.specs.linking.TypeStatements.{verdicts}
 use Rattle.ypreorder.specs.View.{row_by, row_view}
-use Rattle.ylink.specs.SourceView.{source_view}
+use Rattle.ygrammar.specs.SourceView.{source_view}
 use Rattle.ylink.specs.TypeView.{verdict_view}
 use Rattle.ylink.proofs.types.+member_verdicts.Given as goal
 

@@ -2,7 +2,7 @@ use Rattle.std.proofs.Common.{true, false, sym, ap, ◌∙◌}
 use Rattle.std.specs.Prelude.{option_map}
 use Rattle.yspec.specs.linking.TypeStatements as spec
 use Rattle.ypreorder.specs.View.{row_by, label_by}
-use Rattle.ylink.specs.SourceView.{source_view, node_view}
+use Rattle.ygrammar.specs.SourceView.{source_view, node_view}
 use Rattle.ylink.proofs.TypeLemmas.{meant_by, meant_found}
 use Rattle.ylink.proofs.types.type_meant.Goals as goal
 

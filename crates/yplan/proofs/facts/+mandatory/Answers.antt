@@ -4,7 +4,7 @@ use Rattle.yspec.specs.linking.Keyword.{leaf_word, leaf_list_word, list_word, ch
 use Rattle.yspec.specs.linking.Planned.{stated_in}
 use Rattle.yspec.specs.linking.NodeBreaks.{has_mandatory, must_be}
 use Rattle.ypreorder.specs.View.{row_by}
-use Rattle.ylink.specs.KeywordView.{keyword_view}
+use Rattle.yword.specs.KeywordView.{keyword_view}
 use Rattle.yplan.specs.PlannedView.{planned_view}
 use Rattle.yplan.proofs.FactLemmas.{must_as}
 use Rattle.yplan.proofs.facts.+mandatory.Goals as goal

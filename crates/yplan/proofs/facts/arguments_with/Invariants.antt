@@ -1,8 +1,8 @@
 use Rattle.std.proofs.Common.{◌≡◌, ◌++◌}
 use Rattle.std.specs.Prelude.{map}
 use Rattle.ypreorder.specs.View.{row_by}
-use Rattle.ylink.specs.KeywordView.{keyword_view}
-use Rattle.ylink.specs.SourceView.{source_view}
+use Rattle.yword.specs.KeywordView.{keyword_view}
+use Rattle.ygrammar.specs.SourceView.{source_view}
 use Rattle.yplan.proofs.FactLemmas.{texts_with}
 use Rattle.yplan.proofs.facts.arguments_with.Given as goal
 

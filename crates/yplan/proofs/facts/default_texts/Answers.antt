@@ -2,7 +2,7 @@ use Rattle.std.proofs.Common.{◌≡◌, IfOk, subst, ap, ◌∙◌}
 use Rattle.std.specs.Prelude.{map}
 use Rattle.yspec.specs.linking.Keyword.{default_word}
 use Rattle.ypreorder.specs.View.{row_by}
-use Rattle.ylink.specs.SourceView.{source_view}
+use Rattle.ygrammar.specs.SourceView.{source_view}
 use Rattle.yplan.proofs.FactLemmas.{texts_with, texts_are}
 use Rattle.yplan.proofs.facts.default_texts.Goals as goal
 

@@ -8,7 +8,7 @@ use Rattle.yspec.specs.linking.NodeBreaks.{broken_at, is_like, doubled}
 use Rattle.ypreorder.specs.Layout.{labels_by}
 use Rattle.ypreorder.specs.View.{rows_in}
 use Rattle.ypreorder.proofs.LabelLemmas.{label_at, labels_more}
-use Rattle.ylink.specs.BreakView.{seen}
+use Rattle.ygrammar.specs.BreakView.{seen}
 use Rattle.yplan.specs.PlannedView.{planned_view}
 use Rattle.yplan.specs.Finding.{is_before}
 use Rattle.yplan.proofs.PlanLemmas.{nodes_are, labels_from, next_told, drop_past}

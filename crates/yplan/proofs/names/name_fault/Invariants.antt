@@ -3,7 +3,7 @@ use Rattle.yspec.specs.schema.Breaks.{least_from}
 use Rattle.yspec.specs.linking.NodeBreaks.{doubled, name_breaks}
 use Rattle.ypreorder.specs.Layout.{labels_by}
 use Rattle.ypreorder.specs.View.{rows_in}
-use Rattle.ylink.specs.BreakView.{seen}
+use Rattle.ygrammar.specs.BreakView.{seen}
 use Rattle.yplan.specs.PlannedView.{planned_view}
 use Rattle.yplan.specs.PlanView.{view}
 use Rattle.yplan.proofs.names.name_fault.Given as goal

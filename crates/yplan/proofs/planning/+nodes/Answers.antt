@@ -6,8 +6,8 @@ use Rattle.yspec.specs.linking.Parts.{defines_node, own_of, part_of, parts, case
 use Rattle.yspec.specs.linking.Planned.{config_of}
 use Rattle.ypreorder.specs.View.{rows_in, row_by, label_by}
 use Rattle.ypreorder.proofs.RowLemmas.{takes_by, takes_none_by}
-use Rattle.ylink.specs.KeywordView.{keyword_view}
-use Rattle.ylink.specs.SourceView.{source_view}
+use Rattle.yword.specs.KeywordView.{keyword_view}
+use Rattle.ygrammar.specs.SourceView.{source_view}
 use Rattle.yplan.specs.PlannedView.{seen_rows, listed, around_view}
 use Rattle.yplan.proofs.PartLemmas.{chosen, added, config_is, no_part, implied_part, own_part, nothing_added, next_statement, all_added}
 use Rattle.yplan.proofs.planning.+nodes.Goals as goal

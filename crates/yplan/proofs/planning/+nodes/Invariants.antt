@@ -2,7 +2,7 @@ use Rattle.std.proofs.Common.{◌≡◌, ◌+◌, ◌*◌, ◌≤◌, ◌++◌, 
 use Rattle.yspec.specs.Forest.{size}
 use Rattle.yspec.specs.linking.Parts.{parts}
 use Rattle.ypreorder.specs.View.{rows_in, row_by, row_view}
-use Rattle.ylink.specs.SourceView.{source_view}
+use Rattle.ygrammar.specs.SourceView.{source_view}
 use Rattle.yplan.specs.PlannedView.{seen_rows, listed, around_view}
 use Rattle.yplan.proofs.PartLemmas.{chosen}
 use Rattle.yplan.proofs.planning.+nodes.Given as goal

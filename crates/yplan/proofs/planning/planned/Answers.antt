@@ -3,7 +3,7 @@ use Rattle.yspec.specs.linking.Parts.{parts, parts_of_modules}
 use Rattle.yspec.specs.linking.Planned.{at_top}
 use Rattle.ypreorder.specs.View.{rows_in, row_by}
 use Rattle.ypreorder.proofs.RowLemmas.{takes_by, takes_none_by}
-use Rattle.ylink.specs.SourceView.{source_view}
+use Rattle.ygrammar.specs.SourceView.{source_view}
 use Rattle.yplan.specs.PlannedView.{seen_rows, listed}
 use Rattle.yplan.proofs.PartLemmas.{then_others, nothing_added}
 use Rattle.yplan.proofs.planning.planned.Goals as goal

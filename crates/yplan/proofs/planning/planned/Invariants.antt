@@ -2,8 +2,8 @@ use Rattle.std.proofs.Common.{◌≡◌, ◌++◌, length}
 use Rattle.yspec.specs.linking.Parts.{parts_of_modules}
 use Rattle.yspec.specs.linking.Planned.{at_top}
 use Rattle.ypreorder.specs.View.{rows_in, row_by}
-use Rattle.ylink.specs.LinkView as link
-use Rattle.ylink.specs.SourceView.{source_view}
+use Rattle.ygrammar.specs.LinkView as link
+use Rattle.ygrammar.specs.SourceView.{source_view}
 use Rattle.yplan.specs.PlannedView.{seen_rows, listed}
 use Rattle.yplan.proofs.planning.planned.Given as goal
 

@@ -1,7 +1,7 @@
 use Rattle.std.proofs.Common.{not, ◌&&◌, is_some, ap, sym, ◌∙◌}
 use Rattle.yspec.specs.linking.Keyword.{same_keyword, list_word, key_word}
 use Rattle.yspec.specs.linking.Planned.{stated_in}
-use Rattle.ylink.specs.KeywordView.{keyword_view}
+use Rattle.yword.specs.KeywordView.{keyword_view}
 use Rattle.yplan.specs.PlannedView.{planned_view}
 use Rattle.yplan.proofs.FactLemmas.{is_some_map}
 use Rattle.yresolve.proofs.ConfigLemmas.{not_not}

@@ -1,6 +1,6 @@
 use Rattle.std.proofs.Common.{sym, ap, ap₂, ◌∙◌}
 use Rattle.std.proofs.lemmas.Result.{IfOk-weaker}
-use Rattle.ylink.specs.KeywordView.{keyword_view}
+use Rattle.yword.specs.KeywordView.{keyword_view}
 use Rattle.yplan.specs.PlannedView.{planned_view}
 use Rattle.yplan.specs.PlanView.{view}
 use Rattle.yresolve.specs.Values.{wrong_leaf, wrong_leaf_list}

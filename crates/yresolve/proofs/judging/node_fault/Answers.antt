@@ -2,7 +2,7 @@ use Rattle.std.proofs.Common.{◌++◌, ◌∷◌, [], None}
 use Rattle.yspec.specs.schema.Breaks.{least_from}
 use Rattle.yspec.specs.linking.NodeBreaks as breaks
 use Rattle.yspec.specs.linking.Planned.{nodes_of}
-use Rattle.ylink.specs.BreakView.{seen}
+use Rattle.ygrammar.specs.BreakView.{seen}
 use Rattle.yplan.specs.NodesView.{left, node_view}
 use Rattle.yplan.specs.PlanView.{view}
 use Rattle.yresolve.proofs.JudgingLemmas.{next_judged, first_stands, one_done}

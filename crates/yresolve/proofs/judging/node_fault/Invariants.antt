@@ -3,7 +3,7 @@ use Rattle.std.specs.List.{flat_map}
 use Rattle.yspec.specs.schema.Breaks.{least_from}
 use Rattle.yspec.specs.linking.NodeBreaks as breaks
 use Rattle.yspec.specs.linking.Planned.{Planned, nodes_of}
-use Rattle.ylink.specs.BreakView.{seen}
+use Rattle.ygrammar.specs.BreakView.{seen}
 use Rattle.yplan.specs.NodesView.{left}
 use Rattle.yplan.specs.PlanView.{view}
 use Rattle.yresolve.proofs.judging.node_fault.Given as goal

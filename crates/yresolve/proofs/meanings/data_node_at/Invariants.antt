@@ -1,7 +1,7 @@
 use Rattle.std.proofs.Common.{◌≡◌, map, option_map, None, drop}
 use Rattle.yspec.specs.linking.Prefixes.{node_name}
 use Rattle.yspec.specs.linking.Planned as spec
-use Rattle.ylink.specs.NameView.{names_view}
+use Rattle.ygrammar.specs.NameView.{names_view}
 use Rattle.yplan.specs.NodesView.{node_view}
 use Rattle.yplan.specs.PlanView.{view}
 use Rattle.yresolve.proofs.MeaningLemmas.{onwards}

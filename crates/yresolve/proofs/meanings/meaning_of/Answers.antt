@@ -1,8 +1,8 @@
 use Rattle.std.proofs.Common.{ap, ◌∙◌}
-use Rattle.ylink.proofs.GrammarLemmas.{if_ok_then}
+use Rattle.ygrammar.proofs.GrammarLemmas.{if_ok_then}
 use Rattle.yspec.specs.linking.TypeStatements.{type_meant}
 use Rattle.ypreorder.specs.View.{row_by}
-use Rattle.ylink.specs.SourceView.{source_view}
+use Rattle.ygrammar.specs.SourceView.{source_view}
 use Rattle.yresolve.proofs.MeaningLemmas.{meant_is, nothing_meant}
 use Rattle.yresolve.proofs.meanings.meaning_of.Goals as goal
 

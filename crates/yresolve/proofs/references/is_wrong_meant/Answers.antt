@@ -1,6 +1,6 @@
 use Rattle.std.proofs.Common.{ap, ◌∙◌, option_map}
 use Rattle.ylink.specs.TypeView.{meant_view}
-use Rattle.ylink.specs.NameView.{names_view}
+use Rattle.ygrammar.specs.NameView.{names_view}
 use Rattle.yplan.specs.NodesView.{node_view}
 use Rattle.yplan.specs.PlanView.{view}
 use Rattle.yresolve.proofs.ReferenceLemmas.{either_way, first_holds, second_tells}

@@ -1,6 +1,6 @@
 use Rattle.std.proofs.Common.{◌≡◌, ◌++◌, map, option_map}
 use Rattle.ypreorder.specs.View.{row_by}
-use Rattle.ylink.specs.SourceView.{source_view}
+use Rattle.ygrammar.specs.SourceView.{source_view}
 use Rattle.yplan.specs.NodesView.{node_view}
 use Rattle.yplan.specs.PlanView.{view}
 use Rattle.yresolve.specs.TuplesView.{children_by}

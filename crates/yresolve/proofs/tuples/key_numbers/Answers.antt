@@ -11,7 +11,7 @@ pub returns : goal.returns
 returns c =
     let plan = view c.args.plan.now in
     let p = node_view c.args.list in
-    subst (λ whole. IfOk c.numbers_of.result (λ numbers. numbers.items ≡ whole))
+    subst (λ whole. IfOk c.numbers_found.result (λ numbers. numbers.items ≡ whole))
     (ap (λ nodes. map number_in (filter_map (option_map node_view) nodes)) c.deref.ensures.value
     ∙ ap (map number_in) (found_among (option_map node_view) (child_called plan (Some p.number)) c.in_ok-children.children.items (key_names plan p) c.in_ok-children.ensures))
-    c.numbers_of.ensures
+    c.numbers_found.ensures

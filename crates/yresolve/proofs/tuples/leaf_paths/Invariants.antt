@@ -1,9 +1,10 @@
 use Rattle.std.proofs.Common.{◌≡◌, ◌++◌, drop, map}
 use Rattle.yspec.specs.linking.SchemaNodes.{leaf_path}
+use Rattle.ymodel.specs.Layout.{numbers_of}
 use Rattle.yresolve.specs.TuplesView.{way_view}
 use Rattle.yresolve.proofs.tuples.leaf_paths.Given as goal
 
 abbrev pub invariant-loop-way : goal.invariant-loop-way
-invariant-loop-way l = map (λ path. path.items) l.paths.items
+invariant-loop-way l = map (λ path. numbers_of path.items) l.paths.items
     ++ map leaf_path (map way_view (drop l.way-index l.ways))
     ≡ map leaf_path (map way_view l.ways)

@@ -1,11 +1,12 @@
 use Rattle.std.proofs.Common.{◌≡◌, ◌++◌, drop, map}
 use Rattle.yspec.specs.linking.SchemaNodes.{leaf_path, unique_ways}
+use Rattle.ymodel.specs.Layout.{numbers_of}
 use Rattle.yplan.specs.NodesView.{node_view}
 use Rattle.yplan.specs.PlanView.{view}
 use Rattle.yresolve.specs.TuplesView.{ways_view}
 use Rattle.yresolve.proofs.tuples.tuples_of.Given as goal
 
 abbrev pub invariant-loop-ways : goal.invariant-loop-ways
-invariant-loop-ways l = map (λ unique. map (λ path. path.items) unique.items) l.uniques.items
+invariant-loop-ways l = map (λ unique. map (λ path. numbers_of path.items) unique.items) l.uniques.items
     ++ map (map leaf_path) (map ways_view (drop l.ways-index l.ways-items))
     ≡ map (map leaf_path) (unique_ways (view l.plan) (node_view l.list))

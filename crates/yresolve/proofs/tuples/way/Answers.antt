@@ -3,8 +3,8 @@ use Rattle.std.specs.Prelude.{option_map}
 use Rattle.std.proofs.lemmas.List.{at_drop_more, map-append}
 use Rattle.yspec.specs.linking.Prefixes.{node_name}
 use Rattle.yspec.specs.linking.Planned as spec
-use Rattle.ylink.specs.NameView.{names_view}
-use Rattle.ylink.specs.declared.name.Name.{Name}
+use Rattle.ygrammar.specs.NameView.{names_view}
+use Rattle.ygrammar.specs.declared.name.Name.{Name}
 use Rattle.yplan.specs.NodesView.{node_view}
 use Rattle.yplan.specs.PlanView.{view}
 use Rattle.yresolve.proofs.TupleLemmas.{one_more}

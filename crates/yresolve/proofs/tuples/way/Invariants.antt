@@ -1,7 +1,7 @@
 use Rattle.std.proofs.Common.{◌≡◌, ◌++◌, Some, drop, map, option_map}
 use Rattle.yspec.specs.linking.Planned as planned
 use Rattle.yspec.specs.linking.Prefixes.{node_name}
-use Rattle.ylink.specs.NameView.{names_view}
+use Rattle.ygrammar.specs.NameView.{names_view}
 use Rattle.yplan.specs.NodesView.{node_view}
 use Rattle.yplan.specs.PlanView.{view}
 use Rattle.yresolve.proofs.tuples.way.Given as goal

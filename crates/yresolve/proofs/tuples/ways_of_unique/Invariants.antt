@@ -2,8 +2,8 @@ use Rattle.std.proofs.Common.{◌≡◌, ◌++◌, Some, drop, map}
 use Rattle.yspec.specs.linking.Planned as planned
 use Rattle.yspec.specs.linking.SchemaNodes.{nodes_named}
 use Rattle.ypreorder.specs.View.{label_by}
-use Rattle.ylink.specs.NameView.{names_view}
-use Rattle.ylink.specs.SourceView.{source_view}
+use Rattle.ygrammar.specs.NameView.{names_view}
+use Rattle.ygrammar.specs.SourceView.{source_view}
 use Rattle.yplan.specs.NodesView.{node_view}
 use Rattle.yplan.specs.PlanView.{view}
 use Rattle.yresolve.specs.TuplesView.{ways_named, way_view}

@@ -1,5 +1,5 @@
 use Rattle.std.proofs.Common.{◌≡◌, ◌++◌, map, drop}
-use Rattle.yplan.specs.declared.chains.Chain.{Chain}
+use Rattle.ygraph.specs.declared.chains.Chain.{Chain}
 use Rattle.yresolve.proofs.types.all_circles.Given as goal
 
 abbrev pub invariant-loop-chain : goal.invariant-loop-chain

@@ -1,5 +1,5 @@
 use Rattle.std.proofs.Common.{map, ap, ap₂, ◌∙◌}
-use Rattle.yplan.specs.declared.chains.Chain.{Chain}
+use Rattle.ygraph.specs.declared.chains.Chain.{Chain}
 use Rattle.yresolve.specs.TypesView.{meants_view, types_told}
 use Rattle.yresolve.proofs.TypeLemmas.{all_typed, all_circled}
 use Rattle.yresolve.proofs.types.types_of.Goals as goal

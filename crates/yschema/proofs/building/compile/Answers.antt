@@ -3,7 +3,7 @@ use Rattle.ytext.specs.View.{modules_view}
 use Rattle.yspec.specs.Results.{Fails}
 use Rattle.yspec.specs.linking.Compiling.{compiled}
 use Rattle.yschema.specs.Told.{seen, told_by, break_view}
-use Rattle.yschema.proofs.CallerLemmas.{names_differ, leafs_are_bare, not_deep}
+use Rattle.ymodel.proofs.CallerLemmas.{names_differ, leafs_are_bare, not_deep}
 use Rattle.yschema.proofs.ToldLemmas.{in_statements, if_ok_any}
 use Rattle.yschema.proofs.building.compile.Goals as goal
 

@@ -2,7 +2,7 @@ use Rattle.std.proofs.Common.{refl, sym, ap, subst, ◌∙◌}
 use Rattle.ytext.specs.View.{modules_view}
 use Rattle.yspec.specs.Results.{Fails}
 use Rattle.yspec.specs.linking.Compiling.{compiled, plan_of}
-use Rattle.ylink.specs.LinkView as link
+use Rattle.ygrammar.specs.LinkView as link
 use Rattle.yschema.specs.Told.{seen, told_by, break_view}
 use Rattle.yschema.proofs.ToldLemmas.{in_sources}
 use Rattle.yschema.proofs.building.compile_sources.Goals as goal

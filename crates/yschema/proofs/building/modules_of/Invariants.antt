@@ -1,9 +1,9 @@
 use Rattle.std.proofs.Common.{◌≡◌, ◌++◌, map}
 use Rattle.yspec.specs.linking.Compiling.{schema_modules}
 use Rattle.ypreorder.specs.View.{row_by}
-use Rattle.ylink.specs.LinkView as link
-use Rattle.ylink.specs.SourceView.{source_view}
-use Rattle.yschema.specs.View.{module_view}
+use Rattle.ygrammar.specs.LinkView as link
+use Rattle.ygrammar.specs.SourceView.{source_view}
+use Rattle.ymodel.specs.View.{module_view}
 use Rattle.yschema.proofs.building.modules_of.Given as goal
 
 abbrev pub invariant-loop-module : goal.invariant-loop-module

@@ -4,8 +4,8 @@ use Rattle.yspec.specs.schema.Breaks.{least_from, module_breaks}
 use Rattle.yspec.specs.linking.Prefixes.{prefix_breaks, type_name_breaks}
 use Rattle.yspec.specs.linking.TypeStatements.{type_breaks}
 use Rattle.ytext.specs.View.{modules_view}
-use Rattle.ylink.specs.LinkView as link
-use Rattle.ylink.proofs.GrammarLemmas.{if_ok_then}
+use Rattle.ygrammar.specs.LinkView as link
+use Rattle.ygrammar.proofs.GrammarLemmas.{if_ok_then}
 use Rattle.yschema.specs.Told.{seen, break_view}
 use Rattle.yschema.proofs.ToldLemmas.{told_here, told_later, told_last}
 use Rattle.yschema.proofs.building.source_fault.Goals as goal

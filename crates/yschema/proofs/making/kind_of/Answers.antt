@@ -1,10 +1,10 @@
 use Rattle.std.proofs.Common.{ap, ap₂, sym, ◌∙◌}
 use Rattle.yspec.specs.schema.Schema.{container, leaf, leaf_list, list, choice}
 use Rattle.yspec.specs.linking.SchemaNodes.{kind_by, leaf_type, default_values}
-use Rattle.ylink.specs.KeywordView.{keyword_view}
+use Rattle.yword.specs.KeywordView.{keyword_view}
 use Rattle.yplan.specs.NodesView.{node_view}
 use Rattle.yplan.specs.PlanView.{view}
-use Rattle.yschema.specs.Layout.{amount_view}
+use Rattle.ymodel.specs.Layout.{amount_view}
 use Rattle.yschema.proofs.MakingLemmas.{other_kind}
 use Rattle.yschema.proofs.making.kind_of.Goals as goal
 
@@ -24,14 +24,14 @@ pub returns-in_ok-values_of-in-LeafList : goal.returns-in_ok-values_of-in-LeafLi
 returns-in_ok-values_of-in-LeafList c =
     let plan = view c.args.plan.now in
     let p = node_view c.args.node in
-    ap₂ (λ t vs. leaf_list t vs (amount_view c.amount_of.result)) c.in_ok-leaf_type_of-in-LeafList.ensures c.in_ok-values_of-in-LeafList.ensures
-    ∙ (ap (leaf_list (leaf_type plan p) (default_values plan p)) (c.amount_of.ensures ∙ c.amount.ensures p.number)
+    ap₂ (λ t vs. leaf_list t vs (amount_view c.amount.result)) c.in_ok-leaf_type_of-in-LeafList.ensures c.in_ok-values_of-in-LeafList.ensures
+    ∙ (ap (leaf_list (leaf_type plan p) (default_values plan p)) (c.amount.ensures p.number)
     ∙ ap (kind_by plan p) (ap keyword_view (sym c.in-LeafList.is) ∙ c.keyword.ensures))
 
-pub returns-in_ok-tuples_made-in-List : goal.returns-in_ok-tuples_made-in-List
-returns-in_ok-tuples_made-in-List c =
+pub returns-in_ok-tuples_of-in-List : goal.returns-in_ok-tuples_of-in-List
+returns-in_ok-tuples_of-in-List c =
     let p = node_view c.args.node in
-    ap₂ list c.in_ok-tuples_made-in-List.ensures (c.amount_of-in-List.ensures ∙ c.amount-in-List.ensures p.number)
+    ap₂ list c.in_ok-tuples_of-in-List.ensures (c.amount-in-List.ensures p.number)
     ∙ ap (kind_by (view c.args.plan.now) p) (ap keyword_view (sym c.in-List.is) ∙ c.keyword.ensures)
 
 pub returns-in-Choice : goal.returns-in-Choice

@@ -4,7 +4,7 @@ use Rattle.yspec.specs.types.Types.{string_type}
 use Rattle.yspec.specs.linking.Planned.{type_of, target_of}
 use Rattle.yspec.specs.linking.SchemaNodes.{number_in}
 use Rattle.yspec.specs.linking.TypeStatements.{built_in_name}
-use Rattle.ylink.specs.TypeView.{built_in_view}
+use Rattle.yword.specs.BuiltInView.{built_in_view}
 use Rattle.yplan.specs.NodesView.{node_view}
 use Rattle.yplan.specs.PlanView.{view}
 use Rattle.yschema.proofs.MakingLemmas.{leaf_type_by}

@@ -2,7 +2,7 @@ use Rattle.std.proofs.Common.{◌≡◌, ◌++◌, drop, length}
 use Rattle.yspec.specs.linking.SchemaNodes.{schema_node}
 use Rattle.ypreorder.specs.View.{rows_in}
 use Rattle.yplan.specs.PlanView.{view}
-use Rattle.yschema.specs.Layout.{laid}
+use Rattle.ymodel.specs.Layout.{laid}
 use Rattle.yschema.proofs.MakingLemmas.{ahead}
 use Rattle.yschema.proofs.making.rows_of.Given as goal
 

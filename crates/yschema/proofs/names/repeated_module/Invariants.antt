@@ -1,7 +1,7 @@
 use Rattle.std.proofs.Common.{◌≡◌, [], drop, map}
 use Rattle.yspec.specs.schema.Breaks.{least_from, module_breaks}
 use Rattle.ytext.specs.View.{modules_view}
-use Rattle.ylink.specs.BreakView.{seen}
+use Rattle.ygrammar.specs.BreakView.{seen}
 use Rattle.yschema.proofs.names.repeated_module.Given as goal
 
 abbrev pub invariant-loop-module : goal.invariant-loop-module

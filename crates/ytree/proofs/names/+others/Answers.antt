@@ -4,7 +4,7 @@ use Rattle.yspec.specs.Forest.{row}
 use Rattle.yspec.specs.text.Text.{is_text}
 use Rattle.yspec.specs.schema.Schema as spec
 use Rattle.yspec.specs.schema.Schema.{is_data, data_row}
-use Rattle.yschema.specs.View.{view, row_view, label_of, below_of}
+use Rattle.ymodel.specs.View.{view, row_view, label_of, below_of}
 use Rattle.ytree.proofs.NameLemmas.{any_within, any_found, any_later, told_if_ok}
 use Rattle.ytree.proofs.RowLemmas.{fewer_after}
 use Rattle.ytree.proofs.names.+others.Goals as goal

@@ -3,7 +3,7 @@ use Rattle.std.specs.List.{list_any}
 use Rattle.yspec.specs.Forest.{row, size}
 use Rattle.yspec.specs.text.Text.{is_text}
 use Rattle.yspec.specs.schema.Schema.{other_name, data_row}
-use Rattle.yschema.specs.View.{view, row_view, below_of}
+use Rattle.ymodel.specs.View.{view, row_view, below_of}
 use Rattle.ytree.proofs.names.+others.Given as goal
 
 -- what stands below a schema node is smaller than its row

@@ -3,7 +3,7 @@ use Rattle.std.specs.List.{list_any}
 use Rattle.yspec.specs.Forest.{row}
 use Rattle.yspec.specs.text.Text.{is_text}
 use Rattle.yspec.specs.schema.Schema.{other_name, data_row}
-use Rattle.yschema.specs.View.{view}
+use Rattle.ymodel.specs.View.{view}
 use Rattle.ytree.proofs.NameLemmas.{told_if_ok}
 use Rattle.ytree.proofs.names.is_other_form.Goals as goal
 

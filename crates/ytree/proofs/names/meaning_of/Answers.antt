@@ -1,9 +1,9 @@
 use Rattle.std.proofs.Common.{ap, sym, ◌∙◌, cond}
 use Rattle.yspec.specs.document.Reading.{other_form, unknown}
-use Rattle.yschema.specs.Layout.{number_of}
-use Rattle.yschema.specs.View.{view}
+use Rattle.ymodel.specs.Layout.{number_of}
+use Rattle.ymodel.specs.View.{view}
 use Rattle.yspec.proofs.DocumentProofs.MeaningLemmas.{means_child, means_none}
-use Rattle.yschema.proofs.CallerLemmas.{numbered}
+use Rattle.ymodel.proofs.CallerLemmas.{numbered}
 use Rattle.ytree.proofs.names.meaning_of.Goals as goal
 
 pub returns-in-Some : goal.returns-in-Some

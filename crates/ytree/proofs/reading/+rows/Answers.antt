@@ -6,7 +6,7 @@ use Rattle.serde_json.proofs.Views.{view_of_ref, view-lookup}
 use Rattle.yspec.specs.schema.Schema as spec
 use Rattle.yspec.specs.schema.Schema.{is_data, is_many, written_name}
 use Rattle.ytype.specs.View.{raw_of}
-use Rattle.yschema.specs.View as schema_view
+use Rattle.ymodel.specs.View as schema_view
 use Rattle.ytree.specs.View.{row_view}
 use Rattle.ytree.specs.Told.{inner_rows}
 use Rattle.ytree.proofs.ValueLemmas.{not_object, not_array}

@@ -2,7 +2,7 @@ use Rattle.std.proofs.Common.{◌≡◌, ◌+◌, ◌*◌, ◌≤◌, drop}
 use Rattle.serde_json.specs.View.{items_view, members_view}
 use Rattle.yspec.specs.Forest.{join, size}
 use Rattle.yspec.specs.document.Reading.{item_row, stored_rows}
-use Rattle.yschema.specs.View as schema_view
+use Rattle.ymodel.specs.View as schema_view
 use Rattle.ytree.specs.View.{row_view}
 use Rattle.ytree.specs.Told.{inner_rows}
 use Rattle.ytree.proofs.reading.+rows.Given as goal

@@ -1,10 +1,10 @@
 use Rattle.std.proofs.Common.{[], refl, rules}
 use Rattle.serde_json.specs.Errors.{IsMemory}
 use Rattle.serde_json.specs.View as json
-use Rattle.yschema.specs.View as schema_view
+use Rattle.ymodel.specs.View as schema_view
 use Rattle.ytree.specs.View.{tree_view}
 use Rattle.yspec.proofs.DocumentProofs.JsonLemmas.{json_found, no_json}
-use Rattle.yschema.proofs.CallerLemmas.{numbered, names_differ}
+use Rattle.ymodel.proofs.CallerLemmas.{numbered, names_differ}
 use Rattle.ytree.proofs.ReadLemmas.{of_json, of_none, fails_by, gives_same, fits_if_read, whole_if_read, within_if_read}
 use Rattle.ytree.proofs.reading.read.Goals as goal
 

@@ -1,6 +1,6 @@
 use Rattle.std.proofs.Common.{Ok, Err, ap}
 use Rattle.serde_json.specs.View as json
-use Rattle.yschema.specs.View as schema_view
+use Rattle.ymodel.specs.View as schema_view
 use Rattle.ytree.specs.View.{place_view}
 use Rattle.ytree.proofs.VisitLemmas.{refused_whole}
 use Rattle.ytree.proofs.reading.read_node.Goals as goal

@@ -3,7 +3,7 @@ use Rattle.serde_json.specs.View as json
 use Rattle.serde_json.proofs.Views.{view-Object}
 use Rattle.yspec.specs.Forest.{join}
 use Rattle.yspec.specs.document.Reading.{stored_rows}
-use Rattle.yschema.specs.View as schema_view
+use Rattle.ymodel.specs.View as schema_view
 use Rattle.ytree.specs.View.{place_view, row_view, tree_view}
 use Rattle.ytree.proofs.ReadLemmas.{tree_right, tree_wrong}
 use Rattle.ytree.proofs.reading.tree_of.Goals as goal

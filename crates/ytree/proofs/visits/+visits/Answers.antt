@@ -6,8 +6,8 @@ use Rattle.serde_json.proofs.Views.{view-Array, view-Object}
 use Rattle.yspec.specs.schema.Schema.{module_at, row_at, node_at, children_of}
 use Rattle.yspec.specs.document.Document.{step_at}
 use Rattle.yspec.specs.document.Reading.{Refusal, Visit, right, wrong, member_visits, item_visits, value_visit}
-use Rattle.yschema.specs.Layout.{number_of}
-use Rattle.yschema.specs.View.{view, node_view}
+use Rattle.ymodel.specs.Layout.{number_of}
+use Rattle.ymodel.specs.View.{view, node_view}
 use Rattle.ytree.specs.View.{place_view, step_view}
 use Rattle.ytree.specs.declared.tree.Step.{Step}
 use Rattle.ytree.specs.Told.{told_within, visits_at}

@@ -2,8 +2,8 @@ use Rattle.std.proofs.Common.{◌≡◌, ◌+◌, ◌++◌, List, drop}
 use Rattle.serde_json.specs.View as json
 use Rattle.yspec.specs.document.Reading.{Visit, member_visits, item_visits}
 use Rattle.yspec.specs.schema.Schema.{module_at, row_at}
-use Rattle.yschema.specs.Layout.{number_of}
-use Rattle.yschema.specs.View.{view}
+use Rattle.ymodel.specs.Layout.{number_of}
+use Rattle.ymodel.specs.View.{view}
 use Rattle.ytree.specs.View.{place_view}
 use Rattle.ytree.specs.Told.{told_within, visits_at}
 use Rattle.ytree.proofs.visits.+visits.Given as goal

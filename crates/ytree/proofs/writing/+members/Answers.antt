@@ -3,7 +3,7 @@ use Rattle.std.proofs.Common.{Some, sym, ap, ◌∙◌, arith}
 use Rattle.serde_json.specs.View as json
 use Rattle.yspec.specs.Forest.{size}
 use Rattle.yspec.specs.schema.Schema.{is_data}
-use Rattle.yschema.specs.View as schema_view
+use Rattle.ymodel.specs.View as schema_view
 use Rattle.ytree.specs.View.{row_view}
 use Rattle.ytree.specs.Walk.{mine, others, walked, members_in}
 use Rattle.ytree.proofs.WriteLemmas.{next_walked, all_walked, data_walked, inside_walked, next_item, all_items}

@@ -2,7 +2,7 @@ use Rattle.std.proofs.Common.{◌≡◌, ◌+◌, ◌*◌, ◌≤◌, Some, drop
 use Rattle.serde_json.specs.View as json
 use Rattle.yspec.specs.Forest.{size}
 use Rattle.yspec.specs.document.Writing.{written_items}
-use Rattle.yschema.specs.View as schema_view
+use Rattle.ymodel.specs.View as schema_view
 use Rattle.ytree.specs.View.{row_view}
 use Rattle.ytree.specs.Walk.{walked, members_in}
 use Rattle.ytree.proofs.WriteLemmas.{followed}

@@ -2,9 +2,9 @@ use Rattle.std.proofs.Common.{string_bytes}
 use Rattle.std.proofs.lemmas.Result.{IfOk-weaker}
 use Rattle.std.proofs.lemmas.Str.{IsUtf8-string_bytes}
 use Rattle.serde_json.specs.View as json
-use Rattle.yschema.specs.View as schema_view
+use Rattle.ymodel.specs.View as schema_view
 use Rattle.ytree.specs.View.{tree_view}
-use Rattle.yschema.proofs.CallerLemmas.{numbered, names_differ, leafs_are_bare, not_deep}
+use Rattle.ymodel.proofs.CallerLemmas.{numbered, names_differ, leafs_are_bare, not_deep}
 use Rattle.ytree.proofs.WriteLemmas.{text_of, text_read}
 use Rattle.ytree.proofs.writing.write.Goals as goal
 

@@ -1,7 +1,7 @@
 use Rattle.std.proofs.Common.{nat_lt, refl, sym, ap, ◌∙◌, true, false}
 use Rattle.yspec.specs.document.Document.{instances_in}
 use Rattle.yspec.specs.document.Play.{stored_among}
-use Rattle.yschema.specs.View.{row_view, label_of, below_of}
+use Rattle.ymodel.specs.View.{row_view, label_of, below_of}
 use Rattle.ytree.specs.View as document_view
 use Rattle.ycheck.proofs.CaseLemmas.{numbered_row, count_case}
 use Rattle.ycheck.proofs.cases.StoredCases.of.Goals as goal

@@ -2,7 +2,7 @@ use Rattle.std.proofs.Common.{◌≡◌}
 use Rattle.yspec.specs.document.Document.{instances_in}
 use Rattle.yspec.specs.document.Play.{stored_cases}
 use Rattle.yspec.specs.document.Sorting.{IsSorted}
-use Rattle.yschema.specs.View.{row_view}
+use Rattle.ymodel.specs.View.{row_view}
 use Rattle.ytree.specs.View as document_view
 use Rattle.ycheck.specs.Cases.{how_many}
 use Rattle.ycheck.proofs.CaseLemmas.{with_more}

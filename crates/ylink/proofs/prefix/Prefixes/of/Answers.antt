@@ -1,8 +1,8 @@
 use Rattle.std.proofs.Common.{rules}
 use Rattle.ypreorder.specs.View.{row_by, label_by}
 use Rattle.ypreorder.proofs.RowLemmas.{takes_by, takes_none_by}
-use Rattle.ylink.specs.LinkView.{view}
-use Rattle.ylink.specs.SourceView.{source_view}
+use Rattle.ygrammar.specs.LinkView.{view}
+use Rattle.ygrammar.specs.SourceView.{source_view}
 use Rattle.ylink.proofs.PrefixLemmas.{next_prefix, all_prefixes}
 use Rattle.ylink.proofs.prefix.Prefixes.of.Goals as goal
 

@@ -1,8 +1,8 @@
 use Rattle.std.proofs.Common.{◌≡◌, ◌++◌}
 use Rattle.ypreorder.specs.View.{row_by}
-use Rattle.ylink.specs.LinkView.{view}
+use Rattle.ygrammar.specs.LinkView.{view}
 use Rattle.ylink.specs.PrefixView.{texts_view, own_prefixes}
-use Rattle.ylink.specs.SourceView.{source_view}
+use Rattle.ygrammar.specs.SourceView.{source_view}
 use Rattle.ylink.proofs.prefix.Prefixes.of.Given as goal
 
 abbrev pub invariant-loop-module : goal.invariant-loop-module

@@ -1,4 +1,4 @@
-use Rattle.yschema.specs.View as schema_view
+use Rattle.ymodel.specs.View as schema_view
 use Rattle.ytree.specs.View.{tree_view}
 use Rattle.ylive.specs.View.{view}
 use Rattle.ylive.proofs.FittingTestLemmas.{sorted_is}

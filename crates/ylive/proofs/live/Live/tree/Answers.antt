@@ -1,7 +1,7 @@
 use Rattle.std.proofs.Common.{subst, sym}
 use Rattle.std.proofs.lemmas.Result.{MatchResult-weaker}
 use Rattle.yspec.specs.document.Fitting.{Fits}
-use Rattle.yschema.specs.View as schema_view
+use Rattle.ymodel.specs.View as schema_view
 use Rattle.ytree.specs.View.{tree_view}
 use Rattle.ylive.proofs.FittingTestLemmas.{fits_is}
 use Rattle.ylive.proofs.live.Live.tree.Goals as goal

@@ -8,7 +8,7 @@ use Rattle.yspec.specs.linking.Planned as spec
 use Rattle.yspec.specs.linking.Planned.{at_top, planned}
 use Rattle.ypreorder.specs.View.{rows_in}
 use Rattle.ypreorder.proofs.LayoutLemmas.{shown}
-use Rattle.ylink.specs.LinkView as link
+use Rattle.ygrammar.specs.LinkView as link
 use Rattle.yplan.specs.PlannedView.{planned_view}
 use Rattle.yplan.proofs.plan.Plan.of.Goals as goal
 

@@ -1,8 +1,8 @@
 use Rattle.std.proofs.Common.{◌∙◌, ap}
 use Rattle.yspec.specs.linking.Source.{argument_with}
 use Rattle.ypreorder.specs.View.{row_by}
-use Rattle.ylink.specs.KeywordView.{keyword_view}
-use Rattle.ylink.specs.SourceView.{source_view}
+use Rattle.yword.specs.KeywordView.{keyword_view}
+use Rattle.ygrammar.specs.SourceView.{source_view}
 use Rattle.yplan.proofs.PartLemmas.{stated_is}
 use Rattle.yplan.proofs.planned.Planned.stated.Goals as goal
 

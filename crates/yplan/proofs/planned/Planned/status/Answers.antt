@@ -2,8 +2,8 @@ use Rattle.std.proofs.Common.{◌≡◌, ap, sym, ◌∙◌}
 use Rattle.std.specs.Prelude.{option_map, option_and_then, unwrap_or}
 use Rattle.yspec.specs.schema.Schema.{current}
 use Rattle.yspec.specs.linking.Arguments.{status_of}
-use Rattle.ylink.specs.WordView.{status_view}
-use Rattle.ylink.specs.declared.word.Status.TheVariants as states
+use Rattle.yword.specs.WordView.{status_view}
+use Rattle.yword.specs.declared.word.Status.TheVariants as states
 use Rattle.yplan.proofs.FactLemmas.{unwrap_map}
 use Rattle.yplan.proofs.planned.Planned.status.Goals as goal
 

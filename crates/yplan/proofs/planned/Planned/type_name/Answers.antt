@@ -4,7 +4,7 @@ use Rattle.yspec.specs.linking.Keyword.{type_word}
 use Rattle.yspec.specs.linking.Source.{argument_with}
 use Rattle.yspec.specs.linking.TypeStatements.{built_in_named}
 use Rattle.ypreorder.specs.View.{row_by}
-use Rattle.ylink.specs.SourceView.{source_view}
+use Rattle.ygrammar.specs.SourceView.{source_view}
 use Rattle.yplan.proofs.PartLemmas.{stated_is}
 use Rattle.yplan.proofs.planned.Planned.type_name.Goals as goal
 

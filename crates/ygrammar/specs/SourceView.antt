@@ -1,0 +1,34 @@
+-- The statements of a table as the specification's.
+use Rattle.std.specs.Prelude.{ℕ, List, Option}
+use Rattle.yspec.specs.Forest.{Forest}
+use Rattle.yspec.specs.text.Statement.{Statement}
+use Rattle.yspec.specs.linking.Keyword as spec
+use Rattle.yspec.specs.linking.Source as spec_source
+use Rattle.yspec.specs.linking.Source.{numbered}
+use Rattle.ytext.specs.View as text
+use Rattle.ypreorder.specs.Layout.{Place, places, laid, seen}
+use Rattle.ypreorder.specs.View.{rows_in, row_by, label_by}
+use Rattle.ypreorder.specs.declared.nodes.Node.{Node}
+use Rattle.ypreorder.specs.declared.table.Table.{Table}
+use Rattle.yword.specs.KeywordView.{keyword_view}
+use Rattle.ygrammar.specs.declared.source.Source.{Source}
+
+-- a statement of a number
+abbrev pub source_view : ℕ → Source → spec_source.Source
+source_view number s = record {
+  keyword = keyword_view s.keyword;
+  statement = (text.view s.statement.now).0;
+  number = number;
+  home = s.home;
+}
+
+abbrev pub seen_rows : Table Source → List (Place spec_source.Source)
+seen_rows t = seen source_view 0 (laid (rows_in t))
+
+-- how statements that are kept lie below one, from a number on
+abbrev pub listed : Option ℕ → ℕ → ℕ → Forest (spec.Keyword × Statement) → List (Place spec_source.Source)
+listed parent home number statements = places parent number (numbered home number statements)
+
+-- a statement in its row, and what stands below it
+abbrev pub node_view : Node Source → spec_source.Source × Forest spec_source.Source
+node_view s = (label_by source_view s, row_by source_view s.children)

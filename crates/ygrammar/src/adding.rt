@@ -1,0 +1,64 @@
+//! How statements come into the table.
+
+ghost use Rattle.std.specs.Prelude.{◌≡◌, ◌++◌, OnOk, length, option_map};
+ghost use Rattle.yspec.specs.Forest.{end, node};
+ghost use Rattle.yspec.specs.linking.Source as spec;
+ghost use Rattle.yspec.specs.linking.Source.{kept};
+ghost use Rattle.ytext.specs.View as text;
+ghost use Rattle.ytext.specs.View.{row_view};
+ghost use Rattle.ypreorder.specs.View.{rows_in};
+ghost use Rattle.yword.specs.KeywordView.{keyword_view};
+ghost use Rattle.ygrammar.specs.SourceView.{seen_rows, listed};
+
+use crate::source::Source;
+use std::alloc::AllocError;
+use ypreorder::Table;
+use ytext::Stmt;
+use yword::Keyword;
+
+/// The keyword of a statement that is kept.
+fn kept_keyword(statement: &Stmt) -> Option<Keyword>
+    ensures { option_map keyword_view result ≡ spec.kept_keyword (text.view statement.now).0 }
+{
+    match Keyword::named(statement.keyword()) {
+        Some(Keyword::Extension) => None,
+        keyword => keyword,
+    }
+}
+
+/// Adds those of some statements that are kept, with all below them.
+#[cycle(statements)]
+fn add_statements<'a>(
+    table: &mut Table<Source<'a>>,
+    parent: Option<u32>,
+    home: usize,
+    statements: &'a [Stmt],
+) -> Result<(), AllocError>
+    ensures { OnOk result (seen_rows table.new ≡ seen_rows table.old
+        ++ listed parent home (length (rows_in table.old)) (kept (row_view statements.entry.now))) }
+{
+    for statement in statements {
+        add_statement(table, parent, home, statement)?;
+    }
+    Ok(())
+}
+
+/// Adds a statement, if it is kept, with all below it.
+#[cycle(statements)]
+pub(crate) fn add_statement<'a>(
+    table: &mut Table<Source<'a>>,
+    parent: Option<u32>,
+    home: usize,
+    statement: &'a Stmt,
+) -> Result<(), AllocError>
+    ensures { let s = text.view statement.entry.now in OnOk result (seen_rows table.new ≡ seen_rows table.old
+        ++ listed parent home (length (rows_in table.old)) (kept (node s.0 s.1 end))) }
+{
+    let Some(keyword) = kept_keyword(statement) else {
+        return Ok(());
+    };
+    let number = table.open(parent, Source::new(keyword, statement, home))?;
+    add_statements(table, Some(number), home, statement.substatements())?;
+    table.close(number);
+    Ok(())
+}

@@ -1,0 +1,27 @@
+//! The statements of modules: what the arguments of each spell, the table of what each takes and what breaks it, and the
+//! statements of a set in a table of their own.
+#![tactic(auto)]
+
+mod adding;
+mod cut;
+mod fault;
+mod form;
+mod grammar;
+mod name;
+mod number;
+mod row;
+mod source;
+mod sources;
+mod span;
+mod table;
+
+pub use fault::{Broken, CompileCode, least, least_when};
+pub use grammar::{broken, statement_fault};
+pub use name::{
+    Name, absolute_path, key_names, leafref_path, name_of, relative_path, unique_paths,
+};
+pub use number::{count, enum_value, fraction_digits, most};
+pub use row::{argument_of, argument_with, built_in_of, built_in_with, first_with, found_with};
+pub use source::Source;
+pub use sources::Sources;
+pub use span::spans;

@@ -1,0 +1,73 @@
+//! Statements with their keywords.
+
+ghost use Rattle.std.specs.Prelude.{◌≡◌, option_map};
+ghost use Rattle.ytext.specs.View.{view};
+ghost use Rattle.yword.specs.KeywordView.{keyword_view};
+ghost use Rattle.ygrammar.specs.NamedType.{type_named};
+ghost use Rattle.yword.specs.BuiltInView.{built_in_view};
+
+use ytext::Stmt;
+use yword::{BuiltIn, Keyword};
+
+
+/// A statement of the table of statements, and the place of its module in the set.
+#[derive(Clone, Copy)]
+pub struct Source<'a> {
+    pub keyword: Keyword,
+    // The built-in type that it names, where it is a `type` statement.
+    type_name: Option<BuiltIn>,
+    pub statement: &'a Stmt,
+    pub home: usize,
+    ghost named: { option_map built_in_view type_name ≡ type_named (keyword_view keyword) (view statement.now).0 },
+}
+
+// The built-in type that a statement of a keyword names, where it is a `type` statement.
+fn type_named(keyword: Keyword, statement: &Stmt) -> Option<BuiltIn>
+    ensures { option_map built_in_view result ≡ type_named (keyword_view keyword) (view statement.now).0 }
+{
+    if Keyword::Type.is(keyword) {
+        BuiltIn::named(statement.argument().unwrap_or(""))
+    } else {
+        None
+    }
+}
+
+impl<'a> Source<'a> {
+    ghost use Rattle.std.specs.Prelude.{◌≡◌, ℕ, option_map};
+    ghost use Rattle.ytext.specs.View.{view};
+    ghost use Rattle.yspec.specs.linking.TypeStatements.{built_in_named};
+    ghost use Rattle.yword.specs.KeywordView.{keyword_view};
+    ghost use Rattle.ygrammar.specs.NamedType.{argument_text};
+    ghost use Rattle.ygrammar.specs.SourceView.{source_view};
+    ghost use Rattle.yword.specs.BuiltInView.{built_in_view};
+
+    /// A statement of a keyword, in the module at a place of the set.
+    pub(crate) fn new(keyword: Keyword, statement: &'a Stmt, home: usize) -> Source<'a>
+        ensures { (number : ℕ) → source_view number result
+            ≡ record { keyword = keyword_view keyword; statement = (view statement.entry.now).0; number = number; home = home } }
+    {
+        Source {
+            keyword,
+            type_name: type_named(keyword, statement),
+            statement,
+            home,
+        }
+    }
+
+    /// The argument; no text where there is none.
+    pub fn argument(&self) -> &'a str
+        ensures { result.now ≡ argument_text (view self.now.statement.now).0 }
+    {
+        self.statement.argument().unwrap_or("")
+    }
+
+    /// The built-in type that the argument names. That of a `type` statement is known without a look at its text.
+    pub fn built_in(&self) -> Option<BuiltIn>
+        ensures { option_map built_in_view result ≡ built_in_named (argument_text (view self.now.statement.now).0) }
+    {
+        match self.type_name {
+            Some(found) => Some(found),
+            None => BuiltIn::named(self.argument()),
+        }
+    }
+}

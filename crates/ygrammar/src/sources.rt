@@ -1,0 +1,51 @@
+//! The statements that linking stands on: those of the table, each with its keyword.
+
+ghost use Rattle.ypreorder.specs.Layout.{IsLaidOut};
+ghost use Rattle.ypreorder.specs.View.{rows_in};
+
+use crate::adding::add_statement;
+use crate::source::Source;
+use std::alloc::{AllocError, Global};
+use ypreorder::{Nodes, Row, Table};
+use ytext::Module;
+
+/// The statements of a set of modules that a compiler looks at, in preorder: each of the table, but for `extension`.
+#[derive(Drop)]
+pub struct Sources<'a> {
+    table: Table<Source<'a>>,
+    ghost laid_out: { IsLaidOut (rows_in table) },
+}
+
+impl<'a> Sources<'a> {
+    ghost use Rattle.std.specs.Prelude.{◌≡◌, IfOk};
+    ghost use Rattle.yspec.specs.linking.Source.{sources_of};
+    ghost use Rattle.ytext.specs.View.{modules_view};
+    ghost use Rattle.ypreorder.specs.View.{row_by, rows_in};
+    ghost use Rattle.ygrammar.specs.SourceView.{source_view};
+    ghost use Rattle.ygrammar.specs.LinkView.{view};
+
+    /// The statements of some modules.
+    pub fn of(alloc: Global, modules: &'a [Module]) -> Result<Sources<'a>, AllocError>
+        ensures { IfOk result (λ sources. view sources ≡ sources_of (modules_view modules.entry.now)) }
+    {
+        let mut table = Table::new(alloc);
+        for (home, module) in modules.iter().enumerate() {
+            add_statement(&mut table, None, home, &module.top)?;
+        }
+        Ok(Sources { table })
+    }
+
+    /// The `module` statements, in order.
+    pub fn modules(&self) -> Nodes<'_, Source<'a>>
+        ensures { row_by source_view result ≡ view self.now }
+    {
+        self.table.nodes()
+    }
+
+    /// All statements, as they lie in the table.
+    pub fn rows(&self) -> &[Row<Source<'a>>]
+        ensures { result.now ≡ rows_in self.now.table }
+    {
+        self.table.rows()
+    }
+}

@@ -1,0 +1,27 @@
+-- What every schema has, for those who use one.
+use Rattle.std.proofs.Common.{◌≤◌, None}
+use Rattle.yspec.specs.Forest.{levels, size}
+use Rattle.yspec.specs.schema.Breaks.{level_limit, node_limit}
+use Rattle.yspec.specs.document.Fitting.{IsNumbered, LeafsAreBare}
+use Rattle.yspec.specs.document.Writing.{NamesDiffer}
+use Rattle.yspec.proofs.LinkingProofs.LinkedSchemaLemmas.{names_differ_of, leafs_bare_of, levels_of, size_of}
+use Rattle.ymodel.specs.declared.schema.Schema.{Schema}
+use Rattle.ymodel.specs.View.{view, forest_of}
+use Rattle.ymodel.proofs.ChildLemmas.{numbered_laid}
+
+-- its nodes are numbered in preorder
+pub numbered : (s : Schema) → IsNumbered 0 (view s).nodes
+numbered s = numbered_laid (forest_of 0 s.rows.items) None 0 s.rows.items s.laid_out
+
+-- no two siblings are written with one name
+pub names_differ : (s : Schema) → NamesDiffer (view s)
+names_differ s = names_differ_of (view s) s.compiled
+
+pub leafs_are_bare : (s : Schema) → LeafsAreBare (view s).nodes
+leafs_are_bare s = leafs_bare_of (view s) s.compiled
+
+pub not_deep : (s : Schema) → levels (view s).nodes ≤ level_limit
+not_deep s = levels_of (view s) s.compiled
+
+pub not_large : (s : Schema) → size (view s).nodes ≤ node_limit
+not_large s = size_of (view s) s.compiled

@@ -1,0 +1,12 @@
+pub mod LayoutLemmas
+pub mod QueryLemmas
+pub mod ReferenceLemmas
+pub mod RowLemmas
+pub mod WayLemmas
+pub mod ChildLemmas
+pub mod FindLemmas
+pub mod CallerLemmas
+pub mod PassedLemmas
+pub mod NearestLemmas
+pub mod DataChildLemmas
+pub mod QualifiedLemmas

@@ -1,0 +1,15 @@
+use Rattle.std.proofs.Common.{ap, ◌∙◌}
+use Rattle.yspec.specs.schema.Schema.{is_called}
+use Rattle.ymodel.specs.Layout.{laid, number_of}
+use Rattle.ymodel.specs.Lookup.{first_below}
+use Rattle.ymodel.proofs.ChildLemmas.{first_child}
+use Rattle.ymodel.proofs.schema.Schema.child.Goals as goal
+
+pub returns : goal.returns
+returns c =
+    let schema = c.args.self.now in
+    let rows = schema.rows.items in
+    let test = is_called c.args.«module» c.args.name.now in
+    c.id_of.ensures ∙ (c.named.ensures ∙ (ap (λ xs. first_below c.parent_number.result test (laid 0 xs)) c.deref.ensures.value
+    ∙ (ap (λ q. first_below q test (laid 0 rows)) c.parent_number.ensures
+    ∙ first_child schema.modules.items rows (number_of c.args.parent) test schema.laid_out)))

@@ -1,0 +1,18 @@
+use Rattle.std.proofs.Common.{None, sym, ap, ap₂, ◌∙◌}
+use Rattle.yspec.specs.schema.Schema.{is_written}
+use Rattle.ymodel.specs.Layout.{data_places, forest_of, number_of, schema_view}
+use Rattle.ymodel.specs.Lookup.{first_below, is_stored_as}
+use Rattle.ymodel.specs.View.{view}
+use Rattle.ymodel.proofs.DataChildLemmas.{first_data_child}
+use Rattle.ymodel.proofs.schema.Schema.child_written.Goals as goal
+
+pub returns-in-None : goal.returns-in-None
+returns-in-None c =
+    let schema = c.args.self.now in
+    let p = number_of c.args.parent in
+    let t = c.args.name.now in
+    let q = c.parent_number.result in
+    c.id_of.ensures ∙ (c.written.ensures
+    ∙ (ap₂ (λ ms rs. first_below q (is_stored_as (schema_view ms rs) q t) (data_places None (forest_of 0 rs))) c.deref-in-None.ensures.value c.deref-in-None-2.ensures.value
+    ∙ (ap (λ n. first_below n (is_stored_as (view schema) n t) (data_places None (forest_of 0 schema.rows.items))) c.parent_number.ensures
+    ∙ first_data_child schema.modules.items schema.rows.items p (is_written (view schema) p t) schema.laid_out (sym c.module_passed.ensures ∙ c.in-None.is))))

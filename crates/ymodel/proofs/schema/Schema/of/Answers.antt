@@ -1,0 +1,51 @@
+use Rattle.std.proofs.Common.{◌≡◌, ◌<◌, ◌≤◌, ◌^◌, List, None, length, ap, subst, arith}
+use Rattle.yspec.specs.Forest.{size}
+use Rattle.yspec.specs.schema.Breaks.{node_limit}
+use Rattle.yspec.specs.linking.Compiling.{IsCompiled}
+use Rattle.yspec.proofs.LinkingProofs.LinkedLemmas.{linked_few}
+use Rattle.ymodel.specs.declared.children.Row.{Row}
+use Rattle.ymodel.specs.declared.schema.SchemaModule.{SchemaModule}
+use Rattle.ymodel.specs.Layout.{data_places, forest_of, laid, schema_view}
+use Rattle.ymodel.specs.Lookup.{FindsNamed, FindsWritten}
+use Rattle.ymodel.specs.References.{FindsReferences}
+use Rattle.ymodel.proofs.QueryLemmas.{size_of_forest}
+use Rattle.ymodel.proofs.schema.Schema.of.Goals as goal
+
+few : (modules : List SchemaModule) (rows : List Row) → IsCompiled (schema_view modules rows) → length rows < 2 ^ 32
+few modules rows legal =
+    let limit : size (forest_of 0 rows) ≤ node_limit = linked_few legal.0 (schema_view modules rows) legal.1 in
+    let count : size (forest_of 0 rows) ≡ length rows = size_of_forest (length rows) 0 rows (omega arith) in
+    omega (arith, limit, count)
+
+pub index_of-requires-clause-numbered : goal.index_of-requires-clause-numbered
+index_of-requires-clause-numbered c =
+    let bound = few c.args.modules.items c.args.rows.items c.requires.compiled in
+    omega (arith, bound, ap length c.deref-2.ensures.value)
+
+pub of-requires : goal.of-requires
+of-requires c =
+    let bound = few c.args.modules.items c.args.rows.items c.requires.compiled in
+    omega (arith, bound, ap length c.deref-3.ensures.value)
+
+pub invariant_of-result-clause-numbered : goal.invariant_of-result-clause-numbered
+invariant_of-result-clause-numbered c =
+    let bound = few c.args.modules.items c.args.rows.items c.requires.compiled in
+    omega (arith, bound, c.args.rows.ok.0)
+
+pub invariant_of-result-clause-named : goal.invariant_of-result-clause-named
+invariant_of-result-clause-named c =
+    subst (λ rows. FindsNamed c.in_ok-index.index (laid 0 rows)) c.deref-2.ensures.value c.in_ok-index.ensures.named
+
+pub invariant_of-result-clause-written : goal.invariant_of-result-clause-written
+invariant_of-result-clause-written c =
+    let index = c.in_ok-index.index in
+    let rows = c.deref-2.result.now in
+    let of_modules : FindsWritten index (schema_view c.args.modules.items rows) (data_places None (forest_of 0 rows)) =
+        subst (λ modules. FindsWritten index (schema_view modules rows) (data_places None (forest_of 0 rows)))
+        c.deref.ensures.value c.in_ok-index.ensures.written in
+    subst (λ rows. FindsWritten index (schema_view c.args.modules.items rows) (data_places None (forest_of 0 rows)))
+    c.deref-2.ensures.value of_modules
+
+pub invariant_of-result-clause-referred : goal.invariant_of-result-clause-referred
+invariant_of-result-clause-referred c =
+    subst (λ rows. FindsReferences c.in_ok-references.references (laid 0 rows)) c.deref-3.ensures.value c.in_ok-references.ensures

@@ -1,0 +1,4 @@
+pub mod Layout
+pub mod Lookup
+pub mod References
+pub mod View

@@ -1,0 +1,15 @@
+//! The schema of a set of modules, as a compiler makes it: its nodes, and what can be asked of it.
+#![tactic(auto)]
+
+mod children;
+mod index;
+mod node;
+mod references;
+mod schema;
+mod written;
+
+pub use children::{Child, Children, Row};
+pub use index::id_of;
+pub use node::{Absence, Amount, Kind, LeafType, SchemaId, SchemaNode, Tuples};
+pub use schema::{Schema, SchemaModule};
+pub use yword::{BuiltIn, Status};

@@ -1,0 +1,133 @@
+//! Schema nodes.
+
+ghost use Rattle.std.specs.Prelude.{◌≡◌, ◌<◌, ◌^◌};
+
+use ytype::{Val, YType};
+use yword::{BuiltIn, Status};
+
+/// A schema node, named by its number in preorder over all nodes of the schema, modules as given.
+#[derive(Clone, Copy, Debug, PartialEq, Eq, PartialOrd, Ord, Hash)]
+pub struct SchemaId(pub u32);
+
+impl SchemaId {
+    /// The node of a number.
+    pub fn new(number: u32) -> SchemaId
+        ensures { result ≡ record { 0 = number } }
+    {
+        SchemaId(number)
+    }
+
+    /// Its number, from 0.
+    pub fn number(self) -> usize
+        ensures value { result ≡ self.0 }
+        ensures bound { result < 2 ^ 32 }
+    {
+        self.0 as usize
+    }
+}
+
+/// The type of a leaf or of items, and its name in the `type` statement; of a leafref it is that of its target, which
+/// stands beside it (RFC 7950, 9.9).
+#[derive(Debug, Drop)]
+pub struct LeafType {
+    pub name: BuiltIn,
+    pub value_type: YType,
+    pub target: Option<SchemaId>,
+}
+
+/// What it means that a leaf isn't stored.
+#[derive(Debug, Drop)]
+pub enum Absence {
+    /// Nothing.
+    Allowed,
+    /// Its default is in use (RFC 7950, 7.6.1).
+    DefaultUsed(Val),
+    /// It is mandatory (RFC 7950, 7.6.5).
+    Mandatory,
+    /// It is a key of its list (RFC 7950, 7.8.2).
+    Key,
+}
+
+/// How many entries or items there may be: min-elements and max-elements (RFC 7950, 7.7.5 and 7.7.6).
+#[derive(Clone, Copy, Debug, PartialEq, Eq)]
+pub struct Amount {
+    pub least: u32,
+    pub most: Option<u32>,
+}
+
+/// The leafs of a list whose values tell its entries apart (RFC 7950, 7.8.2 and 7.8.3).
+#[derive(Debug, Drop)]
+pub struct Tuples {
+    /// Those of its key, which stand directly in it.
+    pub keys: Vec<SchemaId>,
+    /// Those of each `unique`, each by the containers that lead to it and itself.
+    pub uniques: Vec<Vec<Vec<SchemaId>>>,
+}
+
+/// What only one kind of node has.
+#[derive(Debug, Drop)]
+pub enum Kind {
+    /// A container, and whether its presence means something (RFC 7950, 7.5.1).
+    Container {
+        presence: bool,
+    },
+    /// RFC 7950, 7.6.
+    Leaf {
+        leaf_type: LeafType,
+        absence: Absence,
+    },
+    /// With its defaults (RFC 7950, 7.7).
+    LeafList {
+        leaf_type: LeafType,
+        defaults: Vec<Val>,
+        amount: Amount,
+    },
+    /// RFC 7950, 7.8.
+    List {
+        tuples: Tuples,
+        amount: Amount,
+    },
+    /// With its default case (RFC 7950, 7.9).
+    Choice {
+        default_case: Option<SchemaId>,
+        mandatory: bool,
+    },
+    Case,
+}
+
+impl Kind {
+    ghost use Rattle.std.specs.Prelude.{◌≡◌};
+    ghost use Rattle.yspec.specs.schema.Schema as spec;
+    ghost use Rattle.ymodel.specs.Layout.{kind_view};
+
+    /// Whether it stands in documents: all but choices and cases.
+    pub fn is_data(&self) -> bool
+        ensures { result ≡ spec.is_data (kind_view self.now) }
+    {
+        !matches!(self, Kind::Choice { .. } | Kind::Case)
+    }
+
+    /// Whether it may be stored more than once in a row.
+    pub fn is_many(&self) -> bool
+        ensures { result ≡ spec.is_many (kind_view self.now) }
+    {
+        matches!(self, Kind::List { .. } | Kind::LeafList { .. })
+    }
+
+    /// Whether it holds a value.
+    pub fn has_value(&self) -> bool
+        ensures { result ≡ spec.has_value (kind_view self.now) }
+    {
+        matches!(self, Kind::Leaf { .. } | Kind::LeafList { .. })
+    }
+}
+
+/// All that a schema holds of a node. The module is given by its place in the set.
+#[derive(Debug, Drop)]
+pub struct SchemaNode {
+    pub module: usize,
+    pub name: String,
+    pub config: bool,
+    pub status: Status,
+    pub kind: Kind,
+}

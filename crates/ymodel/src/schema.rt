@@ -1,0 +1,222 @@
+//! The schema of a set of modules, and what can be asked of it.
+
+ghost use Rattle.std.specs.Prelude.{◌≡◌, ◌+◌, ◌<◌, ◌^◌, None, length, vec_len, position, string_bytes};
+ghost use Rattle.yspec.specs.text.Text.{is_text};
+ghost use Rattle.yspec.specs.linking.Compiling.{IsCompiled};
+ghost use Rattle.ymodel.specs.Layout.{data_places, laid, forest_of, schema_view, IsLaidOut};
+ghost use Rattle.ymodel.specs.Lookup.{FindsNamed, FindsWritten};
+ghost use Rattle.ymodel.specs.References.{FindsReferences};
+
+use crate::children::{Children, Row};
+use crate::index::{Index, id_of, index_of, parent_number};
+use crate::node::{SchemaId, SchemaNode};
+use crate::references::References;
+use crate::written::{first_written, other_name, written_name};
+use std::alloc::{AllocError, Global};
+
+/// A module of a schema.
+#[derive(Debug, Drop)]
+pub struct SchemaModule {
+    pub name: String,
+    pub prefix: String,
+}
+
+/// The schema tree of a set of modules (RFC 7950, 4.2.2).
+#[derive(Drop)]
+pub struct Schema {
+    modules: Vec<SchemaModule>,
+    rows: Vec<Row>,
+    index: Index,
+    references: References,
+    ghost numbered: { vec_len rows < 2 ^ 32 },
+    ghost laid_out: { IsLaidOut rows.items },
+    ghost named: { FindsNamed index (laid 0 rows.items) },
+    ghost written: { FindsWritten index (schema_view modules.items rows.items) (data_places None (forest_of 0 rows.items)) },
+    ghost referred: { FindsReferences references (laid 0 rows.items) },
+    ghost compiled: { ∥ IsCompiled (schema_view modules.items rows.items) ∥₁ },
+}
+
+impl Schema {
+    ghost use Rattle.std.specs.Prelude.{◌≡◌, ◌<◌, ◌++◌, option_map, slice_get, IfOk, IfSome};
+    ghost use Rattle.yspec.specs.Forest.{size};
+    ghost use Rattle.yspec.specs.schema.Schema as spec;
+    ghost use Rattle.yspec.specs.schema.Schema.{node_at, children_of, child_named, child_written, way_to};
+    ghost use Rattle.yspec.specs.schema.References.{references_to};
+    ghost use Rattle.ymodel.specs.Layout.{node_view, number_of, numbers_of};
+    ghost use Rattle.ymodel.specs.Lookup.{alone, module_passed, way_above};
+    ghost use Rattle.ymodel.specs.View.{view, row_view, forest_of, module_view};
+
+    /// The schema of some modules whose nodes lie in rows, each before those below it, once a compiler has found no broken
+    /// rule.
+    pub fn of(
+        alloc: Global,
+        modules: Vec<SchemaModule>,
+        rows: Vec<Row>,
+    ) -> Result<Schema, AllocError>
+        requires laid_out { IsLaidOut rows.items }
+        requires compiled { IsCompiled (schema_view modules.items rows.items) }
+        ensures { IfOk result (λ schema. view schema ≡ schema_view modules.items rows.items) }
+    {
+        let index = index_of(alloc, &modules, &rows)?;
+        let references = References::of(alloc, &rows)?;
+        Ok(Schema {
+            modules,
+            rows,
+            index,
+            references,
+        })
+    }
+
+    /// How many nodes it has.
+    pub fn nodes(&self) -> usize
+        ensures { result ≡ size (view self.now).nodes }
+    {
+        self.rows.len()
+    }
+
+    /// All that it holds of a node; nothing of a number that no node has.
+    pub fn kind(&self, id: SchemaId) -> Option<&SchemaNode>
+        ensures { option_map (λ n. node_view id.0 n.now) result ≡ node_at (view self.now) id.0 }
+    {
+        match self.rows.get(id.number()) {
+            Some(row) => Some(&row.node),
+            None => None,
+        }
+    }
+
+    /// The node above a node; none above a top node, nor of a number that no node has.
+    pub fn parent(&self, id: SchemaId) -> Option<SchemaId>
+        ensures way { way_to (view self.now) id.0 ≡ way_above (view self.now) (number_of result) ++ alone (node_at (view self.now) id.0) }
+        ensures above { IfSome result (λ p. p.0 < id.0) }
+    {
+        match self.rows.get(id.number()) {
+            Some(row) => row.parent,
+            None => None,
+        }
+    }
+
+    /// The top nodes, in order of definition.
+    pub fn roots(&self) -> Children<'_>
+        ensures { row_view result ≡ (view self.now).nodes }
+    {
+        Children::new(self.rows.as_slice(), 0)
+    }
+
+    /// The children of a node, in order of definition; none of a number that no node has.
+    pub fn children(&self, id: SchemaId) -> Children<'_>
+        ensures { row_view result ≡ children_of (view self.now) id.0 }
+    {
+        let rows = self.rows.as_slice();
+        let (_, from) = rows.split_at(id.number().min(rows.len()));
+        match from.split_first() {
+            Some((first, rest)) => {
+                let (below, _) = rest.split_at(first.below.min(rest.len()));
+                Children::new(below, id.0 + 1)
+            }
+            None => Children::new(&[], 0),
+        }
+    }
+
+    /// The child of a node, or the top node, of a module and a name.
+    pub fn child(&self, parent: Option<SchemaId>, module: usize, name: &str) -> Option<SchemaId>
+        ensures { number_of result ≡ child_named (view self.now) (number_of parent) «module» name.now }
+    {
+        id_of(
+            self.index
+                .named(&self.rows, parent_number(parent), module, name),
+        )
+    }
+
+    /// The child of a node, or the top node, whose name a document writes so; choices and cases are passed through.
+    pub fn child_written(&self, parent: Option<SchemaId>, name: &str) -> Option<SchemaId>
+        ensures { number_of result ≡ child_written (view self.now) (number_of parent) name.now }
+    {
+        match self.module_passed(parent) {
+            Some(module) => first_written(&self.modules, module, self.children(parent?), name),
+            None => id_of(
+                self.index
+                    .written(&self.modules, &self.rows, parent_number(parent), name),
+            ),
+        }
+    }
+
+    /// The module of a choice or a case; none of other nodes.
+    fn module_passed(&self, id: Option<SchemaId>) -> Option<usize>
+        ensures { result ≡ module_passed (view self.now) (number_of id) }
+    {
+        let node = self.kind(id?)?;
+        if node.kind.is_data() {
+            None
+        } else {
+            Some(node.module)
+        }
+    }
+
+    /// The leafs and leaf-lists that refer to a node by a leafref, in order (RFC 7950, 9.9).
+    pub fn references_to(&self, id: SchemaId) -> &[SchemaId]
+        ensures { numbers_of result.now ≡ references_to (view self.now) id.0 }
+    {
+        self.references.get(id)
+    }
+
+    /// The name that a document writes for a node whose parent is of a module, or that stands at the top.
+    pub fn written_name(
+        &self,
+        alloc: Global,
+        parent_module: Option<usize>,
+        node: &SchemaNode,
+    ) -> Result<String, AllocError>
+        ensures { IfOk result (λ s. string_bytes s ≡ spec.written_name (view self.now) parent_module (node_view 0 node.now)) }
+    {
+        written_name(alloc, &self.modules, parent_module, node)
+    }
+
+    /// The form of its name that isn't due there.
+    pub fn other_name(
+        &self,
+        alloc: Global,
+        parent_module: Option<usize>,
+        node: &SchemaNode,
+    ) -> Result<String, AllocError>
+        ensures { IfOk result (λ s. string_bytes s ≡ spec.other_name (view self.now) parent_module (node_view 0 node.now)) }
+    {
+        other_name(alloc, &self.modules, parent_module, node)
+    }
+
+    /// How many modules the set has.
+    pub fn modules(&self) -> usize
+        ensures { result ≡ length (view self.now).modules }
+    {
+        self.modules.len()
+    }
+
+    /// The place of the module of a name.
+    pub fn module(&self, name: &str) -> Option<usize>
+        ensures { result ≡ position (λ m. is_text m.name name.now) (view self.now).modules }
+    {
+        place_of(&self.modules, name)
+    }
+
+    /// The name of the module at a place; nothing where the set has fewer.
+    pub fn module_name(&self, module: usize) -> Option<&str>
+        ensures { option_map (λ t. t.now) result ≡ option_map (λ m. m.name) (slice_get (view self.now).modules «module») }
+    {
+        Some(self.modules.get(module)?.name.as_str())
+    }
+
+    /// The prefix of the module at a place, by its own `prefix` statement; nothing where the set has fewer.
+    pub fn module_prefix(&self, module: usize) -> Option<&str>
+        ensures { option_map (λ t. t.now) result ≡ option_map (λ m. m.prefix) (slice_get (view self.now).modules «module») }
+    {
+        Some(self.modules.get(module)?.prefix.as_str())
+    }
+}
+
+/// The place of the first of some modules that has a name.
+fn place_of(modules: &[SchemaModule], name: &str) -> Option<usize>
+    ensures { result ≡ position (λ m. is_text (string_bytes m.name) name.now) modules.now }
+{
+    modules
+        .iter()
+        .position(|module| module.name.as_str() == name)
+}

@@ -1,7 +1,0 @@
-use Rattle.std.proofs.Common.{refl}
-use Rattle.yplan.specs.Chains.{end_within, leads}
-use Rattle.yplan.proofs.chain_examples.one_chain.Goals as goal
-
-pub returns : goal.returns
-unfolding end_within leads
-returns c = record { ends = refl; circles = refl }

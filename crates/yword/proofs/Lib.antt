@@ -1,0 +1,3 @@
+pub mod KeywordLemmas
+pub mod LengthLemmas
+pub mod WordLemmas

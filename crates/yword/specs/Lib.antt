@@ -1,0 +1,4 @@
+pub mod BuiltInView
+pub mod KeywordView
+pub mod Lengths
+pub mod WordView
