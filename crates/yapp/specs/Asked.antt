@@ -5,7 +5,7 @@ use Rattle.yspec.specs.text.Text.{Text}
 use Rattle.yspec.specs.edit.EditText.{Edit}
 use Rattle.yspec.specs.edit.Editing.{Decision, EditRefusal}
 use Rattle.yspec.specs.program.Script.{asked_in, line_text}
-use Rattle.yinst.specs.Applying.{refusal_view}
+use Rattle.ypath.specs.Applying.{refusal_view}
 use Rattle.ylive.specs.View.{edits_view}
 use Rattle.yapp.specs.declared.script.Asked.{Asked}
 use Rattle.yapp.specs.declared.script.Asked.TheVariants as asked

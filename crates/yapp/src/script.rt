@@ -6,8 +6,8 @@ ghost use Rattle.yspec.specs.Results.{Gives};
 ghost use Rattle.yspec.specs.edit.EditText as text;
 ghost use Rattle.yspec.specs.program.Script as spec;
 ghost use Rattle.yspec.specs.text.Text.{line_feed};
-ghost use Rattle.yinst.specs.Applying.{told_by};
-ghost use Rattle.yinst.specs.EditView.{edit_view};
+ghost use Rattle.ypath.specs.Applying.{told_by};
+ghost use Rattle.ypath.specs.EditView.{edit_view};
 ghost use Rattle.ylive.specs.View.{outcomes_view};
 ghost use Rattle.yapp.specs.Asked.{behind, decision_text, line_view, refusal_in, refusal_of, refused_texts};
 

@@ -9,20 +9,19 @@ ghost use Rattle.yspec.specs.edit.Edit.{edit_at};
 ghost use Rattle.yspec.specs.edit.Editing as spec;
 ghost use Rattle.ymodel.specs.View as schema_view;
 ghost use Rattle.ytree.specs.View.{tree_view, row_view};
-ghost use Rattle.yinst.specs.EditView.{edit_view, path_view};
+ghost use Rattle.ypath.specs.EditView.{edit_view, path_view};
 ghost use Rattle.yspec.specs.Results.{Gives};
-ghost use Rattle.yinst.specs.Applying.{told_by};
-ghost use Rattle.yinst.specs.Binding.{node_of};
+ghost use Rattle.ypath.specs.Applying.{told_by};
+ghost use Rattle.ypath.specs.Binding.{node_of};
 ghost use Rattle.yinst.specs.Locating.{spot_view, spots_view, located_view};
 ghost use Rattle.yinst.specs.Rows.{branch_view, change_view};
 
-use crate::binding::{bind_path, refused};
 use crate::branch::part;
-use crate::edit::{Edit, EditCode, EditFault, Path};
 use crate::locating::{Located, Spot, count_of, instance_meant, locate};
 use crate::rows::{Change, changed, is_over};
 use std::alloc::{AllocError, Global};
 use ymodel::{Schema, SchemaId};
+use ypath::{Edit, EditCode, EditFault, Path, bind_path, refused};
 use ytree::{Stored, Tree};
 
 /// A document has at most so many nodes.

@@ -5,14 +5,13 @@ ghost use Rattle.serde_json.specs.View as json;
 ghost use Rattle.yspec.specs.edit.Editing as spec;
 ghost use Rattle.ymodel.specs.View as schema_view;
 ghost use Rattle.yspec.specs.Results.{Gives};
-ghost use Rattle.yinst.specs.Applying.{told_by};
+ghost use Rattle.ypath.specs.Applying.{told_by};
 ghost use Rattle.yinst.specs.Rows.{branch_view};
 
-use crate::binding::refused;
-use crate::edit::{EditCode, EditFault};
 use serde_json::Value;
 use std::alloc::Global;
 use ymodel::{Schema, SchemaId};
+use ypath::{EditCode, EditFault, refused};
 use ytree::{DocFault, Stored, read_node};
 
 /// The node that a JSON text denotes at a schema node, with what stands below it: E9 of a text that is no JSON, E10 with

@@ -13,17 +13,16 @@ ghost use Rattle.ymodel.specs.Layout.{kind_view, leaf_type_view, numbers_of};
 ghost use Rattle.ymodel.specs.View as schema_view;
 ghost use Rattle.ytree.specs.View.{view, row_view};
 ghost use Rattle.yspec.specs.Results.{Gives};
-ghost use Rattle.yinst.specs.Applying.{edit_number, told_by};
-ghost use Rattle.yinst.specs.Binding.{node_of};
-ghost use Rattle.yinst.specs.Binding as binding;
-ghost use Rattle.yinst.specs.EditView.{predicate_view, keys_view};
+ghost use Rattle.ypath.specs.Applying.{edit_number, told_by};
+ghost use Rattle.ypath.specs.Binding.{node_of};
+ghost use Rattle.ypath.specs.Binding as binding;
+ghost use Rattle.ypath.specs.EditView.{predicate_view, keys_view};
 ghost use Rattle.yinst.specs.Locating as locating;
 ghost use Rattle.yinst.specs.Locating.{spot_view, spots_view, located_view};
 
-use crate::binding::{BoundStep, has_name, refused};
-use crate::edit::{EditCode, EditFault, Key, Predicate};
 use std::alloc::{AllocError, Global};
 use ymodel::{Kind, LeafType, Schema, SchemaId};
+use ypath::{BoundStep, EditCode, EditFault, Key, Predicate, has_name, refused};
 use ytree::Stored;
 use ytype::{BadValue, Raw};
 

@@ -6,9 +6,9 @@ use Rattle.yspec.specs.edit.Editing as editing
 use Rattle.yspec.specs.edit.Editing.{EditRefusal, applied, decision, decisions, tree_or}
 use Rattle.yspec.specs.edit.Live as spec
 use Rattle.yspec.specs.edit.Live.{fault_count, faults_in, made_stale, with_tree}
-use Rattle.yinst.specs.Applying.{refusal_view}
-use Rattle.yinst.specs.declared.edit.EditFault.{EditFault}
-use Rattle.yinst.specs.declared.edit.EditFault.TheVariants as faults
+use Rattle.ypath.specs.Applying.{refusal_view}
+use Rattle.ypath.specs.declared.edit.EditFault.{EditFault}
+use Rattle.ypath.specs.declared.edit.EditFault.TheVariants as faults
 use Rattle.ycheck.specs.View.{views}
 use Rattle.ycheck.specs.declared.fault.Fault.{Fault}
 use Rattle.ylive.specs.View.{outcome_view, outcomes_view}

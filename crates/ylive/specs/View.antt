@@ -5,9 +5,9 @@ use Rattle.yspec.specs.edit.EditText as text
 use Rattle.yspec.specs.edit.Editing.{Decision}
 use Rattle.ymodel.specs.View as schema_view
 use Rattle.ytree.specs.View.{tree_view}
-use Rattle.yinst.specs.EditView.{edit_view}
-use Rattle.yinst.specs.Applying.{refusal_view}
-use Rattle.yinst.specs.declared.edit.Edit.{Edit}
+use Rattle.ypath.specs.EditView.{edit_view}
+use Rattle.ypath.specs.Applying.{refusal_view}
+use Rattle.ypath.specs.declared.edit.Edit.{Edit}
 use Rattle.ylive.specs.declared.live.Live.{Live}
 use Rattle.ylive.specs.declared.outcome.Outcome.{Outcome}
 use Rattle.ylive.specs.declared.outcome.Outcome.TheVariants.{Accepted, Refused}

@@ -30,8 +30,8 @@ impl Live {
     ghost use Rattle.yspec.specs.document.Fitting.{Fits};
     ghost use Rattle.yspec.specs.edit.Live.{opened, made_stale, made_anew};
     ghost use Rattle.yspec.specs.Results.{Gives};
-    ghost use Rattle.yinst.specs.Applying.{told_by};
-    ghost use Rattle.yinst.specs.EditView.{edit_view};
+    ghost use Rattle.ypath.specs.Applying.{told_by};
+    ghost use Rattle.ypath.specs.EditView.{edit_view};
     ghost use Rattle.ylive.specs.View.{view};
     ghost use Rattle.ylive.specs.Answers.{Edits, Lists, answer_to, known_count};
 

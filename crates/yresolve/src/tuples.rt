@@ -374,7 +374,7 @@ fn is_wrong_key<'a, 't>(
     if !are_key_leafs(&list, &children) {
         return Ok(true);
     }
-    let numbers = numbers_of(alloc, &children)?;
+    let numbers = numbers_found(alloc, &children)?;
     has_twice(alloc, &numbers)
 }
 

@@ -5,8 +5,8 @@ use Rattle.yspec.proofs.EditProofs.FittingEditLemmas.{edit_fits, edit_whole}
 use Rattle.ymodel.specs.View.{view}
 use Rattle.ymodel.proofs.CallerLemmas.{numbered, names_differ}
 use Rattle.ytree.specs.View.{tree_view}
-use Rattle.yinst.specs.EditView.{edit_view}
-use Rattle.yinst.proofs.EditLemmas.{if_given}
+use Rattle.ypath.specs.EditView.{edit_view}
+use Rattle.ypath.proofs.EditLemmas.{if_given}
 use Rattle.yinst.proofs.applying.apply.Goals as goal
 
 pub returns-clause-fitting : goal.returns-clause-fitting

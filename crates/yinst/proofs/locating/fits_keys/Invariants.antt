@@ -3,7 +3,7 @@ use Rattle.yspec.specs.edit.Editing.{fits_keys}
 use Rattle.ymodel.specs.Layout.{numbers_of}
 use Rattle.ymodel.specs.View.{view}
 use Rattle.ytree.specs.View.{row_view}
-use Rattle.yinst.specs.EditView.{keys_view}
+use Rattle.ypath.specs.EditView.{keys_view}
 use Rattle.yinst.proofs.locating.fits_keys.Given as goal
 
 abbrev pub invariant-loop-id : goal.invariant-loop-id

@@ -1,0 +1,4 @@
+pub mod BindingLemmas
+pub mod CutLemmas
+pub mod EditLemmas
+pub mod PathLemmas

@@ -1,0 +1,3 @@
+pub mod Applying
+pub mod Binding
+pub mod EditView
