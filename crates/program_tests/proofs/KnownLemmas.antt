@@ -2,7 +2,7 @@
 use Rattle.std.proofs.Common.{◌≡◌, inl, inr, ℕ, List, [], ◌∷◌, codes, Some, None, refl, sym, subst, ap, ◌∙◌, arith}
 use Rattle.yspec.specs.program.Output.{Outcome, Request, files_of, outcome, validate}
 use Rattle.clap.proofs.OnLiterals.{clap_on_literals}
-use Rattle.yapp.specs.Command.{refusals, request_of}
+use Rattle.ycommand.specs.Command.{refusals, request_of}
 use Rattle.yapp.specs.Files.{Answered, Contents, FileAnswers, IsOutcome, Store, WereRead, unread_in}
 use Rattle.program_tests.specs.Known.{IsKnown, contents_in, told_in, validate_words}
 use Rattle.yspec.specs.text.Text.{Text}

@@ -3,7 +3,7 @@ use Rattle.std.specs.Prelude.{◌≡◌, ◌⊎◌, ℕ, List, [], ◌∷◌, co
 use Rattle.std.specs.Str.{bytes_eq}
 use Rattle.yspec.specs.program.Output.{Outcome, outcome, validate}
 use Rattle.yspec.specs.text.Text.{Text}
-use Rattle.yapp.specs.Running.{without_memory}
+use Rattle.ycommand.specs.Running.{without_memory}
 
 -- what the first file of a name contains, of files with these names and contents
 abbrev pub contents_in : List Text → List (List ℕ) → Text → List ℕ

@@ -3,7 +3,7 @@
 ghost use Rattle.std.specs.Prelude.{◌≡◌, IfOk, map, string_bytes};
 ghost use Rattle.yspec.specs.program.Output.{Outcome};
 ghost use Rattle.youtput.specs.Writing.{side};
-ghost use Rattle.yapp.specs.Running.{Brings};
+ghost use Rattle.ycommand.specs.Running.{Brings};
 ghost use Rattle.program_tests.specs.Known.{IsKnown, contents_in, told_in, validate_words};
 
 use std::alloc::{AllocError, Global};

@@ -1,5 +1,3 @@
-pub mod HelpLemmas
-pub mod CommandLemmas
 pub mod RunningLemmas
 pub mod ContentsLemmas
 pub mod ScriptLemmas

@@ -3,7 +3,7 @@ use Rattle.std.proofs.Common.{◌≡◌, inl, inr, ℕ, List, [], ◌∷◌, ◌
 use Rattle.yspec.specs.program.Output.{Outcome}
 use Rattle.std.specs.Prelude.{Result, Ok, Err, IsErr, is_ok, if◌then◌else◌}
 use Rattle.youtput.specs.Writing.{Broke, Side, Writes, Wrote}
-use Rattle.yapp.specs.Running.{Brings, Ends, WritesBoth}
+use Rattle.ycommand.specs.Running.{Brings, Ends, WritesBoth}
 use Rattle.yapp.specs.Failing.{outcome_of}
 use Rattle.yapp.specs.Files.{came_to}
 use Rattle.yapp.specs.declared.failure.Failure.{Failure}

@@ -11,7 +11,7 @@ use Rattle.yspec.specs.schema.Diagram.{diagram}
 use Rattle.yspec.specs.program.Output.{Outcome, failed, found, refusal_line, report, unread}
 use Rattle.yspec.specs.text.Text.{Text}
 use Rattle.yapp.specs.Asked.{refused_texts}
-use Rattle.yapp.specs.Running.{without_memory}
+use Rattle.ycommand.specs.Running.{without_memory}
 use Rattle.yapp.specs.declared.failure.Failure.{Failure}
 use Rattle.yapp.specs.declared.failure.Failure.TheVariants as failures
 use Rattle.yapp.specs.declared.files.FileFault.{FileFault}

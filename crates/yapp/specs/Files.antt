@@ -3,7 +3,7 @@ use Rattle.std.specs.Prelude.{◌≡◌, ◌⊎◌, ℕ, ◌+◌, List, [], ◌�
 use Rattle.yspec.specs.program.Output.{Outcome, Request, files_of, outcome, with_files}
 use Rattle.yspec.specs.text.Text.{Text}
 use Rattle.yapp.specs.Failing.{outcome_of, reported}
-use Rattle.yapp.specs.Running.{without_memory}
+use Rattle.ycommand.specs.Running.{without_memory}
 use Rattle.yapp.specs.declared.failure.Failure.{Failure}
 use Rattle.yapp.specs.declared.failure.Failure.TheVariants.{Memory}
 use Rattle.yapp.specs.declared.files.FileFault.{FileFault}

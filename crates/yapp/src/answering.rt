@@ -4,11 +4,10 @@ ghost use Rattle.std.specs.Prelude.{◌≡◌, map, position};
 ghost use Rattle.yspec.specs.text.Text.{is_text};
 ghost use Rattle.yspec.specs.program.Output.{compilation, drawing, drawn, edition, performed, validation};
 ghost use Rattle.ymodel.specs.View as schema_view;
-ghost use Rattle.yapp.specs.Command.{view};
+ghost use Rattle.ycommand.specs.Command.{view};
 ghost use Rattle.yapp.specs.Failing.{LeadsTo, reported};
 ghost use Rattle.yapp.specs.Files.{IsOutcome, came_to, store};
 
-use crate::command::Request;
 use crate::contents::{names_of, read_files};
 use crate::document::{edit_document, read_document, report_on};
 use crate::failure::Failure;
@@ -16,6 +15,7 @@ use crate::files::Files;
 use crate::modules::compile_contents;
 use crate::report::Report;
 use std::alloc::Global;
+use ycommand::Request;
 use ymodel::Schema;
 
 /// How many nodes modules define, by the contents of their files.

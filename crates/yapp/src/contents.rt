@@ -2,13 +2,13 @@
 
 ghost use Rattle.std.specs.Prelude.{◌≡◌, ◌++◌, IfOk, map};
 ghost use Rattle.yspec.specs.program.Output.{files_of, first_file, other_files};
-ghost use Rattle.yapp.specs.Command.{view};
+ghost use Rattle.ycommand.specs.Command.{view};
 ghost use Rattle.yapp.specs.Files.{ReadsAll, store};
 
-use crate::command::Request;
 use crate::failure::Failure;
 use crate::files::Files;
 use std::alloc::{AllocError, Global};
+use ycommand::Request;
 
 /// What the first of some files came to, and the contents of those behind them.
 #[derive(Drop)]

@@ -15,9 +15,9 @@ use std::alloc::{AllocError, AllocFailed};
 use std::fmt;
 use thiserror::Error;
 use ycheck::write_path;
+use ymodel::Schema;
 use youtput::{Sink, SinkFault, write_texts};
 use yschema::CompileCode;
-use ymodel::Schema;
 use ytext::TextCode;
 use ytree::{DocCode, Step};
 

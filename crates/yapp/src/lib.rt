@@ -2,7 +2,6 @@
 #![tactic(auto)]
 
 mod answering;
-mod command;
 mod contents;
 mod document;
 mod failure;
@@ -14,7 +13,6 @@ mod script;
 mod status;
 
 pub use answering::answer;
-pub use command::{NoRequest, Request, read_request};
 pub use document::{Document, edit_document};
 pub use failure::Failure;
 pub use files::{FileFault, Files};
@@ -22,3 +20,4 @@ pub use program::{refuse, run, tell_memory};
 pub use report::{DocumentReport, Report};
 pub use script::{Refusal, RefusedLine};
 pub use status::{FAILED, FAULTY, GOOD, MISUSED, REFUSED};
+pub use ycommand::{NoRequest, Request, read_request};

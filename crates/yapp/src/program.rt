@@ -2,18 +2,18 @@
 
 ghost use Rattle.std.specs.Prelude.{◌≡◌, [], is_ok, if◌then◌else◌, map, string_bytes};
 ghost use Rattle.yspec.specs.program.Output.{Outcome};
-ghost use Rattle.yapp.specs.Command.{refusals, request_of};
+ghost use Rattle.ycommand.specs.Command.{refusals, request_of};
 ghost use Rattle.yapp.specs.Files.{IsOutcome, came_to, store};
-ghost use Rattle.yapp.specs.Running.{AnswersWords, Brings, Ends, refused, without_memory};
+ghost use Rattle.ycommand.specs.Running.{AnswersWords, Brings, Ends, refused, without_memory};
 ghost use Rattle.youtput.specs.Writing.{side};
 
 use crate::answering::answer;
-use crate::command::{NoRequest, read_request};
 use crate::failure::Failure;
 use crate::files::Files;
 use crate::report::Report;
 use crate::status::{FAILED, GOOD, MISUSED};
 use std::alloc::Global;
+use ycommand::{NoRequest, read_request};
 use youtput::{Sink, SinkFault, write_texts};
 
 /// The exit status after something was to be written: another one where a write failed.

@@ -10,15 +10,15 @@ ghost use Rattle.ymodel.specs.View as schema_view;
 ghost use Rattle.ycheck.specs.View.{views};
 ghost use Rattle.yapp.specs.Asked.{refused_text, refused_texts};
 ghost use Rattle.yapp.specs.Failing.{reported};
-ghost use Rattle.yapp.specs.Running.{WritesBoth};
+ghost use Rattle.ycommand.specs.Running.{WritesBoth};
 ghost use Rattle.yapp.specs.declared.report.Report.TheVariants.{Document};
 
 use crate::script::RefusedLine;
 use crate::status::{FAULTY, GOOD};
 use itoa::Buffer;
 use ycheck::{Fault, write_line};
-use youtput::{Sink, SinkFault, write_texts};
 use ymodel::Schema;
+use youtput::{Sink, SinkFault, write_texts};
 
 /// What a command found.
 #[derive(Drop)]

@@ -1,5 +1,5 @@
 use Rattle.std.proofs.Common.{map, string_bytes, ap, refl, ◌∙◌}
-use Rattle.yapp.specs.Command.{refusals, request_of}
+use Rattle.ycommand.specs.Command.{refusals, request_of}
 use Rattle.program_tests.proofs.KnownLemmas.{are_taken, ask_for, is_known}
 use Rattle.program_tests.proofs.running.validate_known.Goals as goal
 

@@ -2,10 +2,10 @@ use Rattle.std.proofs.Common.{inl, inr, refl, map, string_bytes, false, true}
 use Rattle.yspec.specs.program.Output.{found}
 use Rattle.yapp.specs.Files.{came_to}
 use Rattle.yapp.proofs.ContentsLemmas.{outcome_same}
-use Rattle.yapp.specs.Command.{Declines, refusals}
-use Rattle.yapp.specs.declared.command.NoRequest.TheVariants as none
-use Rattle.yapp.specs.Running.{refused, without_memory}
-use Rattle.yapp.proofs.CommandLemmas.{asked_help, text_is}
+use Rattle.ycommand.specs.Command.{Declines, refusals}
+use Rattle.ycommand.specs.declared.command.NoRequest.TheVariants as none
+use Rattle.ycommand.specs.Running.{refused, without_memory}
+use Rattle.ycommand.proofs.CommandLemmas.{asked_help, text_is}
 use Rattle.yapp.proofs.RunningLemmas.{on_output, on_errors}
 use Rattle.yapp.proofs.program.run.Goals as goal
 

@@ -13,13 +13,13 @@ use Rattle.clap.specs.declared.error.kind.ErrorKind.TheVariants.{OutOfMemory}
 use Rattle.clap.specs.declared.parser.matches.Found.{Found}
 use Rattle.clap.proofs.WalkLemmas.{first_value-rows}
 use Rattle.clap.proofs.OnLiterals.{clap_on_literals}
-use Rattle.yapp.specs.Application.{IsArgument, IsCommand, yanglive}
-use Rattle.yapp.specs.Command.{Declines, Explains, Understands, asked_by, asked_of, asks_help, is_help, value_of}
-use Rattle.yapp.specs.Running.{refused, with_text}
-use Rattle.yapp.specs.declared.command.Request.{Request}
-use Rattle.yapp.specs.declared.command.NoRequest.{NoRequest}
-use Rattle.yapp.specs.declared.command.NoRequest.TheVariants as none
-use Rattle.yapp.proofs.HelpLemmas.{Alike, said_by}
+use Rattle.ycommand.specs.Application.{IsArgument, IsCommand, yanglive}
+use Rattle.ycommand.specs.Command.{Declines, Explains, Understands, asked_by, asked_of, asks_help, is_help, value_of}
+use Rattle.ycommand.specs.Running.{refused, with_text}
+use Rattle.ycommand.specs.declared.command.Request.{Request}
+use Rattle.ycommand.specs.declared.command.NoRequest.{NoRequest}
+use Rattle.ycommand.specs.declared.command.NoRequest.TheVariants as none
+use Rattle.ycommand.proofs.HelpLemmas.{Alike, said_by}
 
 -- ---- the commands as they are built
 

@@ -3,7 +3,7 @@ use Rattle.std.specs.Prelude.{◌≡◌, ◌⊎◌, ℕ, List, [], codes, take, 
 use Rattle.clap.specs.Words.{Kinds}
 use Rattle.yspec.specs.program.Output.{Outcome, failed, found}
 use Rattle.youtput.specs.Writing.{Side, Wrote, Broke}
-use Rattle.yapp.specs.Command.{asks_help}
+use Rattle.ycommand.specs.Command.{asks_help}
 
 -- the status where a file, a stream or memory failed
 abbrev pub failure : ℕ

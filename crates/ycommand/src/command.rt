@@ -2,9 +2,9 @@
 
 ghost use Rattle.std.specs.Prelude.{◌≡◌, codes, map, string_bytes, IfOk};
 ghost use Rattle.clap.specs.Words.{app_of, found_of, kind_of, rows_of, subcommand_rows_of};
-ghost use Rattle.yapp.specs.Application.{IsArgument, IsCommand, compile_app, edit_app, flag, tree_app, validate_app, wanted, wanted_all, yanglive};
-ghost use Rattle.yapp.specs.Command.{Explains, Understands, asked_by, asked_of, compilation_of, drawing_of, edition_of, modules_of, validation_of, view};
-ghost use Rattle.yapp.specs.declared.command.NoRequest.TheVariants.{Memory};
+ghost use Rattle.ycommand.specs.Application.{IsArgument, IsCommand, compile_app, edit_app, flag, tree_app, validate_app, wanted, wanted_all, yanglive};
+ghost use Rattle.ycommand.specs.Command.{Explains, Understands, asked_by, asked_of, compilation_of, drawing_of, edition_of, modules_of, validation_of, view};
+ghost use Rattle.ycommand.specs.declared.command.NoRequest.TheVariants.{Memory};
 
 use clap::error::ErrorKind;
 use clap::{Arg, ArgAction, ArgMatches, Command};

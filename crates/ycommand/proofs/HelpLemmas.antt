@@ -21,8 +21,8 @@ use Rattle.clap.specs.declared.builder.action.ArgAction.TheVariants.{Set, Append
 use Rattle.clap.specs.declared.builder.value_parser.ValueParser.{ValueParser}
 use Rattle.clap.specs.declared.error.kind.ErrorKind.{ErrorKind}
 use Rattle.clap.proofs.OnLiterals.{clap_on_literals}
-use Rattle.yapp.specs.Application.{yanglive}
-use Rattle.yapp.specs.Command.{asks_help, is_help, refusals}
+use Rattle.ycommand.specs.Application.{yanglive}
+use Rattle.ycommand.specs.Command.{asks_help, is_help, refusals}
 
 -- these causes are help too where this one is, and else none of them is
 AllLike : ErrorKind → Kinds → Type 0

@@ -1,9 +1,9 @@
 use Rattle.std.proofs.Common.{true, ap, ◌∙◌}
 use Rattle.std.proofs.lemmas.Result.{IfOk-weaker}
 use Rattle.clap.specs.Simple.{app_of_fields, on_top}
-use Rattle.yapp.specs.Application.{compile_app, edit_app, tree_app, validate_app}
-use Rattle.yapp.proofs.CommandLemmas.{with_command}
-use Rattle.yapp.proofs.command.application.Goals as goal
+use Rattle.ycommand.specs.Application.{compile_app, edit_app, tree_app, validate_app}
+use Rattle.ycommand.proofs.CommandLemmas.{with_command}
+use Rattle.ycommand.proofs.command.application.Goals as goal
 
 pub returns : goal.returns
 returns c =

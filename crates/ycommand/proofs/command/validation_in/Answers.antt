@@ -1,8 +1,8 @@
 use Rattle.std.proofs.Common.{codes, ap₂, refl}
 use Rattle.clap.specs.Words.{found_of}
 use Rattle.yspec.specs.program.Output.{validate}
-use Rattle.yapp.proofs.CommandLemmas.{given}
-use Rattle.yapp.proofs.command.validation_in.Goals as goal
+use Rattle.ycommand.proofs.CommandLemmas.{given}
+use Rattle.ycommand.proofs.command.validation_in.Goals as goal
 
 pub returns : goal.returns
 returns c =

@@ -1,9 +1,9 @@
 use Rattle.std.proofs.Common.{map, string_bytes, ap, sym, ◌∙◌}
 use Rattle.clap.specs.Words.{App, fault_of, is_simple, is_simple_and_free, subcommand_of}
-use Rattle.yapp.specs.Command.{asked_by, refusals}
-use Rattle.yapp.proofs.CommandLemmas.{declined, declined_by_memory, is_free, is_plain}
-use Rattle.yapp.proofs.HelpLemmas.{refusals_alike}
-use Rattle.yapp.proofs.command.read_request.Goals as goal
+use Rattle.ycommand.specs.Command.{asked_by, refusals}
+use Rattle.ycommand.proofs.CommandLemmas.{declined, declined_by_memory, is_free, is_plain}
+use Rattle.ycommand.proofs.HelpLemmas.{refusals_alike}
+use Rattle.ycommand.proofs.command.read_request.Goals as goal
 
 pub returns-in_err-application : goal.returns-in_err-application
 returns-in_err-application c = declined_by_memory (map string_bytes c.args.words.now) c.from_residual.result c.from_residual.ensures.1

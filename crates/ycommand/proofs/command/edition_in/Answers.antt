@@ -1,8 +1,8 @@
 use Rattle.std.proofs.Common.{codes, ap, refl, ◌∙◌}
 use Rattle.std.specs.Str.{bytes_eq}
 use Rattle.clap.specs.Words.{found_of}
-use Rattle.yapp.proofs.CommandLemmas.{edit_same, given}
-use Rattle.yapp.proofs.command.edition_in.Goals as goal
+use Rattle.ycommand.proofs.CommandLemmas.{edit_same, given}
+use Rattle.ycommand.proofs.command.edition_in.Goals as goal
 
 pub returns : goal.returns
 returns c =

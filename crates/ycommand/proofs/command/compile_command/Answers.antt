@@ -1,8 +1,8 @@
 use Rattle.std.proofs.Common.{codes}
 use Rattle.std.proofs.lemmas.Result.{IfOk-weaker}
-use Rattle.yapp.specs.Application.{wanted_all}
-use Rattle.yapp.proofs.CommandLemmas.{told_command, with_argument}
-use Rattle.yapp.proofs.command.compile_command.Goals as goal
+use Rattle.ycommand.specs.Application.{wanted_all}
+use Rattle.ycommand.proofs.CommandLemmas.{told_command, with_argument}
+use Rattle.ycommand.proofs.command.compile_command.Goals as goal
 
 pub returns : goal.returns
 returns c =

@@ -3,8 +3,8 @@ use Rattle.std.specs.Prelude.{unwrap_or}
 use Rattle.std.proofs.lemmas.Result.{IfOk-weaker}
 use Rattle.clap.specs.Words.{found_of, Text}
 use Rattle.clap.proofs.WalkLemmas.{raw_values-rows}
-use Rattle.yapp.proofs.CommandLemmas.{names_or}
-use Rattle.yapp.proofs.command.modules_in.Goals as goal
+use Rattle.ycommand.proofs.CommandLemmas.{names_or}
+use Rattle.ycommand.proofs.command.modules_in.Goals as goal
 
 pub returns : goal.returns
 returns c =

@@ -6,11 +6,11 @@ use Rattle.yspec.specs.program.Output.{compile, draw, validate, edit}
 use Rattle.clap.specs.Words.{Kinds, Row, Text, all_of, fault_of, first_of, subcommand_of}
 use Rattle.clap.specs.declared.error.kind.ErrorKind.{ErrorKind}
 use Rattle.clap.specs.declared.error.kind.ErrorKind.TheVariants.{DisplayHelp, OutOfMemory}
-use Rattle.yapp.specs.Application.{yanglive}
-use Rattle.yapp.specs.declared.command.Request.{Request}
-use Rattle.yapp.specs.declared.command.Request.TheVariants as requests
-use Rattle.yapp.specs.declared.command.NoRequest.{NoRequest}
-use Rattle.yapp.specs.declared.command.NoRequest.TheVariants as none
+use Rattle.ycommand.specs.Application.{yanglive}
+use Rattle.ycommand.specs.declared.command.Request.{Request}
+use Rattle.ycommand.specs.declared.command.Request.TheVariants as requests
+use Rattle.ycommand.specs.declared.command.NoRequest.{NoRequest}
+use Rattle.ycommand.specs.declared.command.NoRequest.TheVariants as none
 
 -- ---- what words ask for; the first is the program's name
 

@@ -1,0 +1,6 @@
+//! The command line of the program: which words ask for what, by `clap`.
+#![tactic(auto)]
+
+mod command;
+
+pub use command::{NoRequest, Request, read_request};
