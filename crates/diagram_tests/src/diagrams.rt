@@ -2,8 +2,8 @@
 
 use std::alloc::Global;
 use ydiagram::{DiagramFault, write};
-use youtput::Cut;
 use ymodel::Schema;
+use youtput::Cut;
 use yschema::compile;
 use ytext::parse;
 

@@ -6,8 +6,8 @@ use crate::telling::{
 };
 use std::alloc::Global;
 use ycheck::Fault;
-use yinst::{Edit, EditFault, NamedStep, Path, Predicate, write};
 use yedits::{CheckFault, check_edits};
+use yinst::{Edit, EditFault, NamedStep, Path, Predicate, write};
 use ylive::{Applied, ListFault, Live, Outcome, Refused};
 
 /// A document with one fault.

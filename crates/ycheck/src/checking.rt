@@ -25,7 +25,9 @@ use crate::fault::{Fault, FaultCode, Info};
 use crate::repeated::{repeated_items, repeated_tuples};
 use crate::targets::Targets;
 use std::alloc::{AllocError, Global};
-use ymodel::{Absence, Amount, Child, Children, Kind, LeafType, Schema, SchemaId, SchemaNode, Tuples};
+use ymodel::{
+    Absence, Amount, Child, Children, Kind, LeafType, Schema, SchemaId, SchemaNode, Tuples,
+};
 use ytree::{Step, Stored, Tree, instances_of};
 use ytype::{BadValue, Raw, Val};
 

@@ -16,8 +16,8 @@ ghost use Rattle.ycheck.specs.View.{code_view, info_view, tag_name, view};
 use crate::fault::{ErrorTag, Fault, FaultCode, Info};
 use itoa::Buffer;
 use thiserror::Error;
-use youtput::{Sink, SinkFault, write_all, write_texts};
 use ymodel::{Schema, SchemaNode};
+use youtput::{Sink, SinkFault, write_all, write_texts};
 use ytree::Step;
 
 /// Why a line wasn't written.

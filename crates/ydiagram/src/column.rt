@@ -10,8 +10,8 @@ ghost use Rattle.ydiagram.specs.View.{step_text};
 
 use crate::fault::{DiagramFault, put};
 use crate::label::{label_width, write_prefixed};
-use youtput::Sink;
 use ymodel::{Kind, LeafType, Schema, SchemaId, SchemaNode};
+use youtput::Sink;
 use yword::BuiltIn;
 
 /// Writes so many spaces.

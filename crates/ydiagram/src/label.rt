@@ -8,8 +8,8 @@ ghost use Rattle.ymodel.specs.Layout.{absence_view, numbers_of};
 ghost use Rattle.ymodel.specs.View.{kind_view, node_view, view};
 
 use crate::fault::{DiagramFault, put};
-use youtput::Sink;
 use ymodel::{Absence, Kind, Schema, SchemaId, SchemaNode};
+use youtput::Sink;
 
 /// Writes the name of a node, behind its module's prefix where that isn't the module that is shown.
 pub(crate) fn write_prefixed<W: Sink>(

@@ -6,8 +6,8 @@ ghost use Rattle.youtput.specs.Writing.{Writes, side};
 ghost use Rattle.ymodel.specs.View.{kind_view, node_view, status_view};
 
 use crate::fault::{DiagramFault, put};
-use youtput::Sink;
 use ymodel::{Kind, SchemaNode};
+use youtput::Sink;
 use yword::Status;
 
 fn status_mark(status: Status) -> &'static str

@@ -12,8 +12,8 @@ use crate::fault::{DiagramFault, put};
 use crate::indentation::{Indentation, write_indentation};
 use crate::label::{label_width, write_label};
 use crate::marks::write_marks;
-use youtput::Sink;
 use ymodel::{Child, Children, Schema, SchemaNode};
+use youtput::Sink;
 
 /// Whether a row shows a node: one that shows the nodes of one module alone, or all.
 fn is_shown(owner: Option<usize>, node: &SchemaNode) -> bool

@@ -9,7 +9,6 @@ ghost use Rattle.yword.specs.BuiltInView.{built_in_view};
 use ytext::Stmt;
 use yword::{BuiltIn, Keyword};
 
-
 /// A statement of the table of statements, and the place of its module in the set.
 #[derive(Clone, Copy)]
 pub struct Source<'a> {

@@ -19,7 +19,10 @@ ghost use Rattle.ylink.specs.PrefixView.{IsOf};
 ghost use Rattle.ygrammar.specs.SourceView.{source_view};
 
 use std::alloc::{AllocError, Global};
-use ygrammar::{Broken, CompileCode, Name, Source, Sources, argument_with, broken, key_names, leafref_path, least, name_of, unique_paths};
+use ygrammar::{
+    Broken, CompileCode, Name, Source, Sources, argument_with, broken, key_names, leafref_path,
+    least, name_of, unique_paths,
+};
 use ypreorder::Node;
 use yword::Keyword;
 

@@ -21,7 +21,10 @@ ghost use Rattle.ylink.specs.TypeView.{meant_view, verdict_view};
 use crate::limit::{accepted, measured, ranged};
 use crate::naming::{bits, enumeration};
 use std::alloc::{AllocError, Global};
-use ygrammar::{Broken, CompileCode, Name, Source, Sources, argument_with, broken, built_in_of, found_with, fraction_digits, leafref_path, least_when};
+use ygrammar::{
+    Broken, CompileCode, Name, Source, Sources, argument_with, broken, built_in_of, found_with,
+    fraction_digits, leafref_path, least_when,
+};
 use ypreorder::{Node, Nodes};
 use ytype::{FractionDigits, YType};
 use yword::{BuiltIn, Keyword};

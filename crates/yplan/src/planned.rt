@@ -4,7 +4,6 @@ use ygrammar::{Broken, CompileCode, Source, argument_of, argument_with, built_in
 use ypreorder::Node;
 use yword::{BuiltIn, Keyword};
 
-
 /// A schema node that a statement defines, or the case that a single node of a choice stands for (RFC 7950, 7.9.2).
 #[derive(Clone, Copy)]
 pub struct Planned<'a, 't> {

@@ -10,7 +10,6 @@ ghost use Rattle.yplan.specs.PlanView.{view};
 use yplan::{Plan, Planned};
 use yword::Keyword;
 
-
 /// Whether it is a list that states no key.
 fn lacks_key(planned: &Planned<'_, '_>) -> bool
     ensures { (number : _) → let p = planned_view number planned.now in

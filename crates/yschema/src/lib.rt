@@ -12,5 +12,6 @@ pub use fault::CompileFault;
 pub use limits::{LEVEL_LIMIT, NODE_LIMIT};
 pub use ygrammar::CompileCode;
 pub use ymodel::{
-    Absence, Amount, BuiltIn, Child, Children, Kind, LeafType, Schema, SchemaId, SchemaModule, SchemaNode, Status, Tuples,
+    Absence, Amount, BuiltIn, Child, Children, Kind, LeafType, Schema, SchemaId, SchemaModule,
+    SchemaNode, Status, Tuples,
 };

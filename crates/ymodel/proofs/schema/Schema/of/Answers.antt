@@ -41,8 +41,8 @@ invariant_of-result-clause-written c =
     let index = c.in_ok-index.index in
     let rows = c.deref-2.result.now in
     let of_modules : FindsWritten index (schema_view c.args.modules.items rows) (data_places None (forest_of 0 rows)) =
-        subst (λ modules. FindsWritten index (schema_view modules rows) (data_places None (forest_of 0 rows)))
-        c.deref.ensures.value c.in_ok-index.ensures.written in
+    subst (λ modules. FindsWritten index (schema_view modules rows) (data_places None (forest_of 0 rows)))
+    c.deref.ensures.value c.in_ok-index.ensures.written in
     subst (λ rows. FindsWritten index (schema_view c.args.modules.items rows) (data_places None (forest_of 0 rows)))
     c.deref-2.ensures.value of_modules
 
