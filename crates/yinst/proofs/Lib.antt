@@ -1,3 +1,4 @@
 pub mod ApplyLemmas
+pub mod EditLemmas
 pub mod LocatingLemmas
 pub mod RowChangeLemmas

@@ -1,4 +1,4 @@
 pub mod BindingLemmas
 pub mod CutLemmas
-pub mod EditLemmas
+pub mod AnswerLemmas
 pub mod PathLemmas

@@ -6,7 +6,7 @@ use Rattle.ymodel.specs.View.{view}
 use Rattle.ymodel.proofs.CallerLemmas.{numbered, names_differ}
 use Rattle.ytree.specs.View.{tree_view}
 use Rattle.ypath.specs.EditView.{edit_view}
-use Rattle.ypath.proofs.EditLemmas.{if_given}
+use Rattle.yinst.proofs.EditLemmas.{if_given}
 use Rattle.yinst.proofs.applying.apply.Goals as goal
 
 pub returns-clause-fitting : goal.returns-clause-fitting

@@ -5,7 +5,7 @@ use Rattle.ymodel.specs.View as schema_view
 use Rattle.ytree.specs.View.{tree_view}
 use Rattle.yinst.specs.Locating.{spots_view, located_view}
 use Rattle.yinst.specs.Rows.{branch_view}
-use Rattle.ypath.proofs.EditLemmas.{answers_same}
+use Rattle.ypath.proofs.AnswerLemmas.{answers_same}
 use Rattle.yinst.proofs.ApplyLemmas.{created_so}
 use Rattle.yinst.proofs.applying.create.Goals as goal
 

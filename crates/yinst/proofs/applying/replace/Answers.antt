@@ -5,7 +5,7 @@ use Rattle.ymodel.specs.View as schema_view
 use Rattle.ytree.specs.View.{tree_view}
 use Rattle.yinst.specs.Locating.{spot_view, spots_view, located_view}
 use Rattle.yinst.specs.Rows.{branch_view}
-use Rattle.ypath.proofs.EditLemmas.{answers_same}
+use Rattle.ypath.proofs.AnswerLemmas.{answers_same}
 use Rattle.yinst.proofs.ApplyLemmas.{replaced_so}
 use Rattle.yinst.proofs.applying.replace.Goals as goal
 

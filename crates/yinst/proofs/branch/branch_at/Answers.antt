@@ -2,7 +2,7 @@ use Rattle.serde_json.specs.View as json
 use Rattle.ymodel.specs.View as schema_view
 use Rattle.ytree.specs.View.{view}
 use Rattle.ytree.specs.Told.{code_number}
-use Rattle.ypath.proofs.EditLemmas.{branch_denoted, branch_refused}
+use Rattle.yinst.proofs.EditLemmas.{branch_denoted, branch_refused}
 use Rattle.yinst.proofs.branch.branch_at.Goals as goal
 
 pub returns-in-Ok-Some : goal.returns-in-Ok-Some

@@ -2,7 +2,8 @@ use Rattle.serde_json.specs.View as json
 use Rattle.ymodel.specs.View as schema_view
 use Rattle.yinst.specs.Rows.{branch_view}
 use Rattle.yspec.proofs.DocumentProofs.JsonLemmas.{json_found}
-use Rattle.ypath.proofs.EditLemmas.{answers_same, branch_of_value}
+use Rattle.ypath.proofs.AnswerLemmas.{answers_same}
+use Rattle.yinst.proofs.EditLemmas.{branch_of_value}
 use Rattle.yinst.proofs.branch.part.Goals as goal
 
 pub returns-in-Ok : goal.returns-in-Ok

@@ -5,7 +5,7 @@ use Rattle.ypath.specs.Applying.{edit_number}
 use Rattle.ypath.specs.Binding.{node_of}
 use Rattle.ypath.specs.EditView.{predicate_view}
 use Rattle.yinst.specs.Locating.{spot_view, meant_in}
-use Rattle.ypath.proofs.EditLemmas.{answers_same}
+use Rattle.ypath.proofs.AnswerLemmas.{answers_same}
 use Rattle.yinst.proofs.LocatingLemmas.{meant_at}
 use Rattle.yinst.proofs.locating.instance_meant.Goals as goal
 

@@ -4,7 +4,7 @@ use Rattle.ymodel.specs.View as schema_view
 use Rattle.ytree.specs.View.{row_view}
 use Rattle.ypath.specs.Binding.{steps_view}
 use Rattle.yinst.specs.Locating.{spots_view, located_view, target_on}
-use Rattle.ypath.proofs.EditLemmas.{answers_same}
+use Rattle.ypath.proofs.AnswerLemmas.{answers_same}
 use Rattle.yinst.proofs.LocatingLemmas.{target_at}
 use Rattle.yinst.proofs.locating.locate.Goals as goal
 

@@ -4,7 +4,7 @@ use Rattle.ymodel.specs.View.{view}
 use Rattle.ymodel.proofs.CallerLemmas.{numbered}
 use Rattle.ypath.specs.EditView.{steps_view}
 use Rattle.ypath.specs.Binding.{bound_view, bound_on}
-use Rattle.ypath.proofs.EditLemmas.{answers_same}
+use Rattle.ypath.proofs.AnswerLemmas.{answers_same}
 use Rattle.ypath.proofs.BindingLemmas.{steps_named}
 use Rattle.ypath.proofs.binding.named_steps.Goals as goal
 

@@ -18,9 +18,6 @@ use Rattle.ypath.specs.Applying.{told_by}
 use Rattle.ytree.specs.declared.tree.Tree as tree
 use Rattle.ypath.specs.declared.edit.EditFault.{EditFault}
 
-pub answers_same : {X Y : Type 0} (see : X → Y) (given : Result X EditFault) (a b : Result Y EditRefusal) → a ≡ b → Gives see told_by given b → Gives see told_by given a
-answers_same {X} {Y} see given a b is h = subst (λ (r : Result Y EditRefusal). Gives see told_by given r) (sym is) h
-
 pub branch_of_value : (s : Schema) (n : ℕ) (bytes text : List ℕ) (d : Data) → bytes ≡ text → json_of bytes ≡ Some d → branch_of s n text ≡ branch_at s n d
 branch_of_value s n bytes text d same is = ap (λ o. option_map_or (branch_at s n) o (refused 9)) (ap json_of (sym same) ∙ is)
 
