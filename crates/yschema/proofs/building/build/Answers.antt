@@ -1,7 +1,8 @@
-use Rattle.std.proofs.Common.{None, Ok, sym, ap, ap₂, ◌∙◌}
+use Rattle.std.proofs.Common.{◌≡◌, IfOk, None, Ok, sym, subst, ap, ap₂, ◌∙◌}
 use Rattle.yspec.specs.linking.Compiling.{schema_modules}
 use Rattle.yspec.specs.linking.SchemaNodes.{schema_nodes}
 use Rattle.yplan.specs.PlanView as plans
+use Rattle.ymodel.specs.View.{view}
 use Rattle.ymodel.proofs.LayoutLemmas.{forest_of-laid, laid_as}
 use Rattle.yschema.proofs.building.build.Goals as goal
 
@@ -15,3 +16,11 @@ of-requires-clause-compiled c =
       c.requires.legal.1 ∙ ap Ok (sym (ap₂ (λ set nodes. record { modules = set; nodes = nodes })
           (c.in_ok-modules.ensures ∙ ap schema_modules c.sources.ensures) (forest_of-laid (schema_nodes p) None 0 c.in_ok-rows.rows.items c.in_ok-rows.ensures))),
     )
+
+pub returns : goal.returns
+returns c =
+    let p = plans.view c.args.plan.now in
+    subst (λ whole. IfOk c.of.result (λ schema. view schema ≡ whole))
+    (ap₂ (λ set nodes. record { modules = set; nodes = nodes })
+        (c.in_ok-modules.ensures ∙ ap schema_modules c.sources.ensures) (forest_of-laid (schema_nodes p) None 0 c.in_ok-rows.rows.items c.in_ok-rows.ensures))
+    c.of.ensures
