@@ -8,7 +8,7 @@ use Rattle.yspec.specs.Forest.{Forest, node, end, size, relabelled}
 use Rattle.yspec.specs.text.Text.{Text}
 use Rattle.yspec.specs.types.Types.{YangType, Val}
 use Rattle.yspec.specs.types.Values.{value_of_text}
-use Rattle.yspec.specs.schema.Schema.{SchemaNode, LeafType, LeafPath, Tuples, Status, Kind, case, Absence, key, mandatory}
+use Rattle.yspec.specs.schema.Schema.{SchemaNode, LeafType, Status, Kind, case, Absence, key, mandatory}
 use Rattle.yspec.specs.linking.Planned as spec
 use Rattle.yspec.specs.linking.SchemaNodes.{schema_node, schema_nodes, kind_by, absent_by, first_value, type_named}
 use Rattle.yspec.specs.linking.TypeStatements.{string, built_in_name, built_in_named}

@@ -22,5 +22,5 @@ returns c =
     let p = plans.view c.args.plan.now in
     subst (λ whole. IfOk c.of.result (λ schema. view schema ≡ whole))
     (ap₂ (λ set nodes. record { modules = set; nodes = nodes })
-        (c.in_ok-modules.ensures ∙ ap schema_modules c.sources.ensures) (forest_of-laid (schema_nodes p) None 0 c.in_ok-rows.rows.items c.in_ok-rows.ensures))
+    (c.in_ok-modules.ensures ∙ ap schema_modules c.sources.ensures) (forest_of-laid (schema_nodes p) None 0 c.in_ok-rows.rows.items c.in_ok-rows.ensures))
     c.of.ensures
