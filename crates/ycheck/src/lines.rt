@@ -165,7 +165,7 @@ fn write_app_tag<W: Sink>(app_tag: &Option<String>, sink: &mut W) -> Result<(), 
 }
 
 /// A byte of an error-app-tag as it prints.
-fn printed(byte: u8) -> u8
+fn printed_byte(byte: u8) -> u8
     ensures { result ≡ (if nat_le byte 32 then 95 else byte) }
 {
     if byte <= b' ' { b'_' } else { byte }
@@ -177,7 +177,7 @@ fn write_printed<W: Sink>(bytes: &[u8], sink: &mut W) -> Result<(), LineFault>
         (printed_tag bytes.now) result }
 {
     for byte in bytes {
-        match write_all(sink, &[printed(*byte)]) {
+        match write_all(sink, &[printed_byte(*byte)]) {
             Ok(()) => {}
             Err(fault) => return Err(LineFault::from(fault)),
         }

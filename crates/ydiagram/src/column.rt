@@ -70,7 +70,7 @@ fn write_path<W: Sink>(
 }
 
 /// To which node a leafref refers.
-fn referred(leaf_type: &LeafType) -> Option<SchemaId>
+fn referred_node(leaf_type: &LeafType) -> Option<SchemaId>
     ensures { number_of result ≡ spec.referred (leaf_type_view leaf_type.now) }
 {
     match leaf_type.name {
@@ -89,7 +89,7 @@ fn write_type<W: Sink>(
     ensures { Writes (side W.taken W.failures sink.old) (side W.taken W.failures sink.new)
         (spec.type_text (view schema.now) shown (leaf_type_view leaf_type.now)) result }
 {
-    match referred(leaf_type) {
+    match referred_node(leaf_type) {
         Some(target) => {
             put(sink, &["-> "])?;
             write_path(schema, shown, target, sink)

@@ -1,7 +1,7 @@
 -- Broken rules as the specification's.
 use Rattle.std.specs.Prelude.{ℕ, Option, option_map}
 use Rattle.yspec.specs.schema.Breaks as spec
-use Rattle.ygrammar.specs.declared.fault.Broken.{Broken}
+use Rattle.ygrammar.specs.declared.fault.BrokenRule.{BrokenRule}
 use Rattle.ygrammar.specs.declared.fault.CompileCode.{CompileCode}
 use Rattle.ygrammar.specs.declared.fault.CompileCode.TheVariants.{C1, C2, C3, C4, C5, C6, C7, C8, C9, C10, C11, C12, C13, C14, C15, C16, C17, C18}
 
@@ -25,8 +25,8 @@ code_number C16 = 16
 code_number C17 = 17
 code_number C18 = 18
 
-abbrev pub break_view : Broken → spec.Break
+abbrev pub break_view : BrokenRule → spec.Break
 break_view b = record { code = code_number b.code; module_number = b.«module»; line = b.line }
 
-abbrev pub seen : Option Broken → Option spec.Break
+abbrev pub seen : Option BrokenRule → Option spec.Break
 seen = option_map break_view

@@ -67,19 +67,19 @@ impl Display for CompileCode {
 
 /// A broken rule. The order is that in which one is told before another: by module, line and number.
 #[derive(Clone, Copy, Debug, PartialEq, Eq, PartialOrd, Ord)]
-pub struct Broken {
+pub struct BrokenRule {
     pub module: usize,
     pub line: u32,
     pub code: CompileCode,
 }
 
-impl Broken {
+impl BrokenRule {
     ghost use Rattle.std.specs.Prelude.{◌≡◌};
     ghost use Rattle.yspec.specs.schema.Breaks as spec;
     ghost use Rattle.ygrammar.specs.BreakView.{break_view};
 
     /// Whether this one is told before another.
-    pub fn is_before(&self, other: &Broken) -> bool
+    pub fn is_before(&self, other: &BrokenRule) -> bool
         ensures { result ≡ spec.is_before (break_view self.now) (break_view other.now) }
     {
         self < other
@@ -87,7 +87,7 @@ impl Broken {
 }
 
 /// The lesser of one so far and another.
-pub fn least(so_far: Option<Broken>, found: Broken) -> Option<Broken>
+pub fn least(so_far: Option<BrokenRule>, found: BrokenRule) -> Option<BrokenRule>
     ensures { seen result ≡ least_from (seen so_far) (break_view found ∷ []) }
 {
     match so_far {
@@ -97,7 +97,7 @@ pub fn least(so_far: Option<Broken>, found: Broken) -> Option<Broken>
 }
 
 /// The least so far, and another where a condition holds.
-pub fn least_when(condition: bool, so_far: Option<Broken>, found: Broken) -> Option<Broken>
+pub fn least_when(condition: bool, so_far: Option<BrokenRule>, found: BrokenRule) -> Option<BrokenRule>
     ensures { seen result ≡ least_from (seen so_far) (when condition (break_view found ∷ [])) }
 {
     if condition {

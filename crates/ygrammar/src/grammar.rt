@@ -16,7 +16,7 @@ ghost use Rattle.ygrammar.specs.TableView.{count_view, allowed_view, allowed_vie
 ghost use Rattle.ygrammar.specs.Counts.{AreOf, allowed_word, are_apart, count_at, has_word, is_miscounted_by, lacks};
 ghost use Rattle.ygrammar.specs.BreakView.{break_view, seen};
 
-use crate::fault::{Broken, CompileCode, least, least_when};
+use crate::fault::{BrokenRule, CompileCode, least, least_when};
 use crate::form::{Form, fits};
 use crate::name::colon_place;
 use crate::table::{Allowed, Count, Rule, needs_of, rule_of};
@@ -27,10 +27,10 @@ use yword::{KEYWORDS, Keyword};
 // Up to how many substatements are compared with one another, and not counted.
 const FEW: usize = 8;
 
-pub fn broken(code: CompileCode, module: usize, statement: &Stmt) -> Broken
+pub fn broken(code: CompileCode, module: usize, statement: &Stmt) -> BrokenRule
     ensures { result ≡ record { code = code; «module» = «module»; line = (view statement.now).0.line } }
 {
-    Broken {
+    BrokenRule {
         module,
         line: statement.line(),
         code,
@@ -217,7 +217,7 @@ fn has_fitting_argument(alloc: Global, form: Form, statement: &Stmt) -> Result<b
 }
 
 // Tells a broken rule, where it comes before the one told so far.
-fn tell(told: &mut Option<Broken>, found: Broken)
+fn tell(told: &mut Option<BrokenRule>, found: BrokenRule)
     ensures { seen told.new ≡ least_from (seen told.old) (break_view found ∷ []) }
 {
     *told = least(*told, found);
@@ -230,7 +230,7 @@ fn judge_alone(
     module: usize,
     keyword: Keyword,
     statement: &Stmt,
-    told: &mut Option<Broken>,
+    told: &mut Option<BrokenRule>,
 ) -> Result<(), AllocError>
     ensures { IfOk result (λ _. seen told.new ≡ least_from (seen told.old)
         (spec.own_breaks «module» (keyword_view keyword) (view statement.now).0 (view statement.now).1)) }
@@ -277,7 +277,7 @@ fn judge(
     module: usize,
     allowed: &[Allowed],
     statement: &Stmt,
-    told: &mut Option<Broken>,
+    told: &mut Option<BrokenRule>,
 ) -> Result<(), AllocError>
     ensures { let s = view statement.now in IfOk result (λ _. seen told.new ≡ least_from (seen told.old)
         (spec.breaks_at «module» (allowed_views allowed.now) s.0 s.1 (spec.row_breaks «module» (spec.substatements_of s.0.keyword) s.1))) }
@@ -311,7 +311,7 @@ fn judge_row(
     module: usize,
     allowed: &[Allowed],
     statements: &[Stmt],
-    told: &mut Option<Broken>,
+    told: &mut Option<BrokenRule>,
 ) -> Result<(), AllocError>
     ensures { IfOk result (λ _. seen told.new ≡ least_from (seen told.old)
         (spec.row_breaks «module» (allowed_views allowed.now) (row_view statements.now))) }
@@ -327,7 +327,7 @@ fn judge_top(
     alloc: Global,
     module: usize,
     statement: &Stmt,
-    told: &mut Option<Broken>,
+    told: &mut Option<BrokenRule>,
 ) -> Result<(), AllocError>
     ensures { let s = view statement.now in IfOk result (λ _. seen told.new ≡ least_from (seen told.old) (spec.top_breaks «module» s.0 s.1)) }
 {
@@ -348,7 +348,7 @@ fn judge_top(
 
 /// The least rule of the table that modules break, by module, line and number.
 #[tactic(auto, unfolding(yspec::specs::linking::StatementBreaks::breaks_from))]
-pub fn statement_fault(alloc: Global, modules: &[Module]) -> Result<Option<Broken>, AllocError>
+pub fn broken_statement_rule(alloc: Global, modules: &[Module]) -> Result<Option<BrokenRule>, AllocError>
     ensures { IfOk result (λ told. seen told ≡ least_from None (spec.statement_phase (modules_view modules.now))) }
 {
     let mut told = None;

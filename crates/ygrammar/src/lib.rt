@@ -15,8 +15,8 @@ mod sources;
 mod span;
 mod table;
 
-pub use fault::{Broken, CompileCode, least, least_when};
-pub use grammar::{broken, statement_fault};
+pub use fault::{BrokenRule, CompileCode, least, least_when};
+pub use grammar::{broken, broken_statement_rule};
 pub use name::{
     Name, absolute_path, key_names, leafref_path, name_of, relative_path, unique_paths,
 };

@@ -18,7 +18,7 @@ ghost use Rattle.yinst.specs.Rows.{branch_view, change_view};
 
 use crate::branch::part;
 use crate::locating::{Located, Spot, count_of, instance_meant, locate};
-use crate::rows::{Change, changed, is_over};
+use crate::rows::{Change, changed_row, is_over};
 use std::alloc::{AllocError, Global};
 use ymodel::{Schema, SchemaId};
 use ypath::{Edit, EditCode, EditFault, Path, bind_path, refused};
@@ -36,12 +36,12 @@ pub fn apply(alloc: Global, schema: &Schema, tree: &Tree, edit: &Edit) -> Result
     ensures whole { let s = schema_view.view schema.now in
         IsDocument s (tree_view tree.now) → IfOk result (λ t. IsDocument s (tree_view t)) }
 {
-    edited(alloc, schema, tree, edit)
+    edited_tree(alloc, schema, tree, edit)
 }
 
 /// The document after an edit.
 #[tactic(auto, unfolding(yspec::specs::edit::Editing::applied))]
-fn edited(alloc: Global, schema: &Schema, tree: &Tree, edit: &Edit) -> Result<Tree, EditFault>
+fn edited_tree(alloc: Global, schema: &Schema, tree: &Tree, edit: &Edit) -> Result<Tree, EditFault>
     ensures { Gives tree_view told_by result (spec.applied (schema_view.view schema.now) (tree_view tree.now) (edit_view edit.now)) }
 {
     match edit {
@@ -92,7 +92,7 @@ fn create(
         return Err(refused(EditCode::E8));
     }
     match part_at(alloc, schema, target.last.id, value) {
-        Ok(branch) => bounded(alloc, tree, target.above.as_slice(), Change::Add(branch)),
+        Ok(branch) => tree_within_limit(alloc, tree, target.above.as_slice(), Change::Add(branch)),
         Err(fault) => Err(fault),
     }
 }
@@ -140,7 +140,7 @@ fn replace(
 {
     match last_meant(alloc, schema, target) {
         Ok(spot) => match part_at(alloc, schema, target.last.id, value) {
-            Ok(branch) => bounded(
+            Ok(branch) => tree_within_limit(
                 alloc,
                 tree,
                 target.above.as_slice(),
@@ -182,11 +182,11 @@ fn last_meant(alloc: Global, schema: &Schema, target: &Located<'_, '_>) -> Resul
 fn with_row(alloc: Global, tree: &Tree, above: &[Spot], change: Change) -> Result<Tree, AllocError>
     ensures { IfOk result (λ t. tree_view t ≡ edit_at (spots_view above.now) (change_view change) (tree_view tree.now)) }
 {
-    Ok(Tree::new(changed(alloc, tree.nodes(), above, change)?))
+    Ok(Tree::new(changed_row(alloc, tree.nodes(), above, change)?))
 }
 
 /// The same, where the document has room for it: E11.
-fn bounded(alloc: Global, tree: &Tree, above: &[Spot], change: Change) -> Result<Tree, EditFault>
+fn tree_within_limit(alloc: Global, tree: &Tree, above: &[Spot], change: Change) -> Result<Tree, EditFault>
     ensures { Gives tree_view told_by result
         (spec.within_limit (edit_at (spots_view above.now) (change_view change) (tree_view tree.now))) }
 {

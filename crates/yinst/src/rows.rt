@@ -71,7 +71,7 @@ fn place_behind(row: &[Stored], id: SchemaId) -> Option<usize>
 
 /// A copy of a row with a change made in the row below these nodes, each of which is stored below the one before it.
 #[cycle(changed)]
-pub(crate) fn changed(
+pub(crate) fn changed_row(
     alloc: Global,
     row: &[Stored],
     above: &[Spot],
@@ -102,7 +102,7 @@ fn changed_below(
     let nodes = copies_of(alloc, before)?;
     match from.split_first() {
         Some((stored, after)) => {
-            let below = changed(alloc, stored.below(), rest, change)?;
+            let below = changed_row(alloc, stored.below(), rest, change)?;
             with_more(nodes, stored.with_below(below)?, after)
         }
         None => Ok(nodes),

@@ -15,7 +15,7 @@ ghost use Rattle.ylink.specs.TypeView.{is_plain, is_wrong};
 
 use crate::types::{are_in_place, path_stated, single_type};
 use std::alloc::{AllocError, Global};
-use ygrammar::{Broken, CompileCode, Source, Sources, broken, built_in_of, first_with, least_when};
+use ygrammar::{BrokenRule, CompileCode, Source, Sources, broken, built_in_of, first_with, least_when};
 use ypreorder::{Node, Nodes};
 use yword::{BuiltIn, Keyword};
 
@@ -105,19 +105,19 @@ fn is_wrong(
 }
 
 // The least rule that the `type` statements of a row, members of a union or not, and those below it break.
-fn fault_in(
+fn broken_type_rule_in(
     alloc: Global,
     is_member: bool,
     statements: Nodes<'_, Source<'_>>,
-    so_far: Option<Broken>,
-) -> Result<Option<Broken>, AllocError>
+    so_far: Option<BrokenRule>,
+) -> Result<Option<BrokenRule>, AllocError>
     ensures { IfOk result (λ told. seen told ≡ least_from (seen so_far) (spec.type_breaks_in is_member (row_by source_view statements.entry))) }
 {
     let mut told = so_far;
     for statement in statements {
         let source = statement.label();
         let is_type = Keyword::Type.is(source.keyword);
-        told = fault_in(alloc, is_type, statement.children(), told)?;
+        told = broken_type_rule_in(alloc, is_type, statement.children(), told)?;
         if !is_type {
             continue;
         }
@@ -132,8 +132,8 @@ fn fault_in(
 }
 
 /// The least of the `type` statements that break a rule of their own, by module and line.
-pub fn type_fault(alloc: Global, sources: &Sources<'_>) -> Result<Option<Broken>, AllocError>
+pub fn broken_type_rule(alloc: Global, sources: &Sources<'_>) -> Result<Option<BrokenRule>, AllocError>
     ensures { IfOk result (λ told. seen told ≡ least_from None (spec.type_breaks (view sources.now))) }
 {
-    fault_in(alloc, false, sources.modules(), None)
+    broken_type_rule_in(alloc, false, sources.modules(), None)
 }

@@ -7,6 +7,6 @@ mod naming;
 mod prefix;
 mod types;
 
-pub use judging::type_fault;
-pub use prefix::{NodeName, Prefixes, prefix_fault, type_name_fault};
+pub use judging::broken_type_rule;
+pub use prefix::{NodeName, Prefixes, broken_prefix_rule, broken_type_name_rule};
 pub use types::{Meant, Verdict, type_meant};

@@ -72,7 +72,7 @@ fn length_stated(
 }
 
 /// A type that was made, or none where it was refused.
-pub(crate) fn accepted(made: Result<YType, NarrowFault>) -> Result<Option<YType>, AllocError>
+pub(crate) fn accepted_type(made: Result<YType, NarrowFault>) -> Result<Option<YType>, AllocError>
     ensures { (answer : Option YangType) → Gives same narrow_refusal made (ok_or answer tt) → IfOk result (λ type. type ≡ answer) }
 {
     match made {
@@ -82,7 +82,7 @@ pub(crate) fn accepted(made: Result<YType, NarrowFault>) -> Result<Option<YType>
     }
 }
 
-fn limited(
+fn limited_type(
     alloc: Global,
     restriction: Option<Restriction>,
     outer: YType,
@@ -90,13 +90,13 @@ fn limited(
     ensures { IfOk result (λ type. type ≡ spec.limited (option_map restriction_of restriction) outer) }
 {
     match restriction {
-        Some(restriction) => accepted(outer.narrow(alloc, &restriction)),
+        Some(restriction) => accepted_type(outer.narrow(alloc, &restriction)),
         None => Ok(Some(outer)),
     }
 }
 
 /// What the range of a row makes of a type.
-pub(crate) fn ranged(
+pub(crate) fn ranged_type(
     alloc: Global,
     below: Nodes<'_, Source<'_>>,
     outer: Result<YType, NarrowFault>,
@@ -104,13 +104,13 @@ pub(crate) fn ranged(
     ensures { (type : YangType) → outer ≡ Ok type → IfOk result (λ t. t ≡ spec.limited_range (row_by source_view below.entry) type) }
 {
     match outer {
-        Ok(outer) => limited(alloc, range_stated(alloc, below)?, outer),
+        Ok(outer) => limited_type(alloc, range_stated(alloc, below)?, outer),
         Err(_) => Err(AllocError),
     }
 }
 
 /// What the length of a row makes of a type.
-pub(crate) fn measured(
+pub(crate) fn measured_type(
     alloc: Global,
     below: Nodes<'_, Source<'_>>,
     outer: Result<YType, NarrowFault>,
@@ -119,7 +119,7 @@ pub(crate) fn measured(
         → IfOk result (λ t. t ≡ spec.limited (spec.stated word.length_word restrictions.length (row_by source_view below.entry)) type) }
 {
     match outer {
-        Ok(outer) => limited(alloc, length_stated(alloc, below)?, outer),
+        Ok(outer) => limited_type(alloc, length_stated(alloc, below)?, outer),
         Err(_) => Err(AllocError),
     }
 }

@@ -9,7 +9,7 @@ ghost use Rattle.yspec.specs.linking.TypeStatements as spec;
 ghost use Rattle.ypreorder.specs.View.{row_by, label_by};
 ghost use Rattle.ygrammar.specs.SourceView.{source_view};
 
-use crate::limit::accepted;
+use crate::limit::accepted_type;
 use std::alloc::{AllocError, Global};
 use ygrammar::{Source, argument_of, argument_with, count, enum_value};
 use ypreorder::{Node, Nodes};
@@ -81,7 +81,7 @@ pub(crate) fn enumeration(
     if namings.is_empty() {
         return Ok(None);
     }
-    accepted(YType::enumeration(alloc, &namings))
+    accepted_type(YType::enumeration(alloc, &namings))
 }
 
 /// The bits that a row gives.
@@ -93,5 +93,5 @@ pub(crate) fn bits(alloc: Global, below: Nodes<'_, Source<'_>>) -> Result<Option
     if namings.is_empty() {
         return Ok(None);
     }
-    accepted(YType::bits(alloc, &namings))
+    accepted_type(YType::bits(alloc, &namings))
 }

@@ -20,7 +20,7 @@ ghost use Rattle.ygrammar.specs.SourceView.{source_view};
 
 use std::alloc::{AllocError, Global};
 use ygrammar::{
-    Broken, CompileCode, Name, Source, Sources, argument_with, broken, key_names, leafref_path,
+    BrokenRule, CompileCode, Name, Source, Sources, argument_with, broken, key_names, leafref_path,
     least, name_of, unique_paths,
 };
 use ypreorder::Node;
@@ -186,8 +186,8 @@ fn judge_prefixes(
     alloc: Global,
     prefixes: &Prefixes<'_>,
     source: &Source<'_>,
-    so_far: Option<Broken>,
-) -> Result<Option<Broken>, AllocError>
+    so_far: Option<BrokenRule>,
+) -> Result<Option<BrokenRule>, AllocError>
     ensures { IfOk result (λ told. (modules : Forest sources.Source) (number : ℕ) → IsOf prefixes.now modules
         → seen told ≡ least_from (seen so_far) (spec.prefix_break modules (source_view number source.now))) }
 {
@@ -202,7 +202,7 @@ fn judge_prefixes(
 }
 
 /// The least of the prefixes that name nothing, by module and line.
-pub fn prefix_fault(alloc: Global, sources: &Sources<'_>) -> Result<Option<Broken>, AllocError>
+pub fn broken_prefix_rule(alloc: Global, sources: &Sources<'_>) -> Result<Option<BrokenRule>, AllocError>
     ensures { IfOk result (λ told. seen told ≡ least_from None (spec.prefix_breaks (view sources.now))) }
 {
     let prefixes = Prefixes::of(alloc, sources)?;
@@ -220,7 +220,7 @@ fn is_not_found(source: &Source<'_>) -> bool
     Keyword::Type.is(source.keyword) && source.built_in().is_none()
 }
 
-fn judge_type_name(source: &Source<'_>, so_far: Option<Broken>) -> Option<Broken>
+fn judge_type_name(source: &Source<'_>, so_far: Option<BrokenRule>) -> Option<BrokenRule>
     ensures { (number : ℕ) → seen result ≡ least_from (seen so_far) (spec.type_name_break (source_view number source.now)) }
 {
     let missing = is_not_found(source);
@@ -234,7 +234,7 @@ fn judge_type_name(source: &Source<'_>, so_far: Option<Broken>) -> Option<Broken
 }
 
 /// The least of the types that aren't found, by module and line.
-pub fn type_name_fault(sources: &Sources<'_>) -> Option<Broken>
+pub fn broken_type_name_rule(sources: &Sources<'_>) -> Option<BrokenRule>
     ensures { seen result ≡ least_from None (spec.type_name_breaks (view sources.now)) }
 {
     let mut told = None;

@@ -18,11 +18,11 @@ ghost use Rattle.ygrammar.specs.SourceView.{source_view};
 ghost use Rattle.yword.specs.BuiltInView.{built_in_view};
 ghost use Rattle.ylink.specs.TypeView.{meant_view, verdict_view};
 
-use crate::limit::{accepted, measured, ranged};
+use crate::limit::{accepted_type, measured_type, ranged_type};
 use crate::naming::{bits, enumeration};
 use std::alloc::{AllocError, Global};
 use ygrammar::{
-    Broken, CompileCode, Name, Source, Sources, argument_with, broken, built_in_of, found_with,
+    BrokenRule, CompileCode, Name, Source, Sources, argument_with, broken, built_in_of, found_with,
     fraction_digits, leafref_path, least_when,
 };
 use ypreorder::{Node, Nodes};
@@ -96,7 +96,7 @@ fn decimal(alloc: Global, below: Nodes<'_, Source<'_>>) -> Result<Option<YType>,
     ensures { IfOk result (λ type. type ≡ spec.single_type spec.decimal64 (row_by source_view below.entry)) }
 {
     match digits_stated(below) {
-        Some(digits) => ranged(alloc, below, YType::decimal64(alloc, digits)),
+        Some(digits) => ranged_type(alloc, below, YType::decimal64(alloc, digits)),
         None => Ok(None),
     }
 }
@@ -110,18 +110,18 @@ pub(crate) fn single_type(
     ensures { IfOk result (λ type. type ≡ spec.single_type (built_in_view type_name) (row_by source_view below.entry)) }
 {
     match type_name {
-        BuiltIn::Int8 => ranged(alloc, below, YType::int8(alloc)),
-        BuiltIn::Int16 => ranged(alloc, below, YType::int16(alloc)),
-        BuiltIn::Int32 => ranged(alloc, below, YType::int32(alloc)),
-        BuiltIn::Int64 => ranged(alloc, below, YType::int64(alloc)),
-        BuiltIn::Uint8 => ranged(alloc, below, YType::uint8(alloc)),
-        BuiltIn::Uint16 => ranged(alloc, below, YType::uint16(alloc)),
-        BuiltIn::Uint32 => ranged(alloc, below, YType::uint32(alloc)),
-        BuiltIn::Uint64 => ranged(alloc, below, YType::uint64(alloc)),
+        BuiltIn::Int8 => ranged_type(alloc, below, YType::int8(alloc)),
+        BuiltIn::Int16 => ranged_type(alloc, below, YType::int16(alloc)),
+        BuiltIn::Int32 => ranged_type(alloc, below, YType::int32(alloc)),
+        BuiltIn::Int64 => ranged_type(alloc, below, YType::int64(alloc)),
+        BuiltIn::Uint8 => ranged_type(alloc, below, YType::uint8(alloc)),
+        BuiltIn::Uint16 => ranged_type(alloc, below, YType::uint16(alloc)),
+        BuiltIn::Uint32 => ranged_type(alloc, below, YType::uint32(alloc)),
+        BuiltIn::Uint64 => ranged_type(alloc, below, YType::uint64(alloc)),
         BuiltIn::Decimal64 => decimal(alloc, below),
-        BuiltIn::String => measured(alloc, below, YType::string(alloc)),
-        BuiltIn::Boolean => accepted(YType::boolean(alloc)),
-        BuiltIn::Empty => accepted(YType::empty(alloc)),
+        BuiltIn::String => measured_type(alloc, below, YType::string(alloc)),
+        BuiltIn::Boolean => accepted_type(YType::boolean(alloc)),
+        BuiltIn::Empty => accepted_type(YType::empty(alloc)),
         BuiltIn::Enumeration => enumeration(alloc, below),
         BuiltIn::Bits => bits(alloc, below),
         BuiltIn::Union | BuiltIn::Leafref => Ok(None),
@@ -195,7 +195,7 @@ fn union_verdict<'t>(alloc: Global, members: Vec<Verdict<'t>>) -> Result<Verdict
     let Some(types) = member_types(alloc, members)? else {
         return Ok(Verdict::Unjudged);
     };
-    Ok(own_or(accepted(YType::union(alloc, &types))?, Verdict::Unjudged))
+    Ok(own_or(accepted_type(YType::union(alloc, &types))?, Verdict::Unjudged))
 }
 
 // A type that refers to no other node, or another verdict where there is none.

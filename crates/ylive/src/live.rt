@@ -61,7 +61,7 @@ impl Live {
         let Some(before) = self.faults else {
             return Err(Refused::Stale);
         };
-        match self.edited(edit) {
+        match self.edited_tree(edit) {
             Ok(tree) => match count_of(self.alloc, &self.schema, &tree) {
                 Ok(after) => {
                     self.tree = tree;
@@ -82,7 +82,7 @@ impl Live {
     }
 
     /// The document after an edit, or why it is refused.
-    fn edited(&self, edit: &Edit) -> Result<Tree, EditFault>
+    fn edited_tree(&self, edit: &Edit) -> Result<Tree, EditFault>
         ensures answer { Gives tree_view told_by result (answer_to (edit_view edit.now) (view self.now)) }
         ensures fitting { IfOk result (λ tree. fits (schema_view.view self.now.schema) (tree_view tree) ≡ true) }
     {

@@ -153,7 +153,7 @@ fn fraction_units(digits: u32, text: &[u8]) -> Option<u128>
     times_ten_to(number_in(10, text), digits - text.len() as u32)
 }
 
-fn added(a: Option<u128>, b: Option<u128>) -> Option<u128>
+fn sum_of(a: Option<u128>, b: Option<u128>) -> Option<u128>
     requires a { ForSome a (λ n. n ≤ 2 ^ 64) }
     requires b { ForSome b (λ n. n ≤ 2 ^ 64) }
     ensures value { result ≡ capped (added a b) }
@@ -177,7 +177,7 @@ fn decimal_magnitude(digits: u32, text: &[u8]) -> Option<u128>
 {
     match point_in(text) {
         None => whole_units(digits, text),
-        Some(point) => added(
+        Some(point) => sum_of(
             whole_units(digits, &text[..point]),
             fraction_units(digits, &text[point + 1..]),
         ),

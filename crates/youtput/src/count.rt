@@ -24,7 +24,7 @@ impl CallCount {
     }
 
     // The count with one more call.
-    fn risen(&self) -> CallCount
+    fn with_one_more(&self) -> CallCount
         ensures { result.calls ≡ self.now.calls + 1 }
     {
         CallCount {}
@@ -34,6 +34,6 @@ impl CallCount {
     pub fn rise(&mut self)
         ensures { self.new.calls ≡ self.old.calls + 1 }
     {
-        *self = self.risen();
+        *self = self.with_one_more();
     }
 }

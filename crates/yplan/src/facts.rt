@@ -30,7 +30,7 @@ impl<'a, 't> Planned<'a, 't> {
     pub fn is_mandatory(&self) -> bool
         ensures { (number : _) → result ≡ spec.is_mandatory (planned_view number self.now) }
     {
-        match self.stated(Keyword::Mandatory) {
+        match self.own_argument(Keyword::Mandatory) {
             Some(text) => text == "true",
             None => false,
         }
@@ -40,7 +40,7 @@ impl<'a, 't> Planned<'a, 't> {
     pub fn least(&self) -> u32
         ensures { (number : _) → result ≡ spec.least_of (planned_view number self.now) }
     {
-        match self.stated(Keyword::MinElements) {
+        match self.own_argument(Keyword::MinElements) {
             Some(text) => count(text).unwrap_or(0),
             None => 0,
         }
@@ -50,7 +50,7 @@ impl<'a, 't> Planned<'a, 't> {
     fn most(&self) -> Option<u32>
         ensures { (number : _) → result ≡ (spec.amount_of (planned_view number self.now)).most }
     {
-        match self.stated(Keyword::MaxElements) {
+        match self.own_argument(Keyword::MaxElements) {
             Some(text) => most(text).unwrap_or(None),
             None => None,
         }
@@ -70,7 +70,7 @@ impl<'a, 't> Planned<'a, 't> {
     pub fn status(&self) -> Status
         ensures { (number : _) → status_view result ≡ spec.status_in (planned_view number self.now) }
     {
-        match self.stated(Keyword::Status) {
+        match self.own_argument(Keyword::Status) {
             Some(text) => status_of(text).unwrap_or(Status::Current),
             None => Status::Current,
         }
@@ -80,7 +80,7 @@ impl<'a, 't> Planned<'a, 't> {
     pub fn has_presence(&self) -> bool
         ensures { (number : _) → result ≡ is_some (stated_in presence_word (planned_view number self.now)) }
     {
-        self.stated(Keyword::Presence).is_some()
+        self.own_argument(Keyword::Presence).is_some()
     }
 }
 

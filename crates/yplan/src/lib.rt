@@ -12,7 +12,7 @@ mod planned;
 mod planning;
 
 pub use facts::{default_texts, is_wrong_case};
-pub use names::name_fault;
+pub use names::broken_name_rule;
 pub use nodes::{PlanNode, PlanNodes};
 pub use plan::Plan;
 pub use planned::Planned;

@@ -7,10 +7,10 @@ ghost use Rattle.ygrammar.specs.BreakView.{seen};
 ghost use Rattle.yplan.specs.PlanView.{view};
 
 use crate::plan::Plan;
-use ygrammar::{Broken, CompileCode, least_when};
+use ygrammar::{BrokenRule, CompileCode, least_when};
 
 /// The least of the nodes that have the name of an earlier one which shares its names.
-pub fn name_fault(plan: &Plan<'_, '_>) -> Option<Broken>
+pub fn broken_name_rule(plan: &Plan<'_, '_>) -> Option<BrokenRule>
     ensures { seen result ≡ least_from None (name_breaks (view plan.now)) }
 {
     let mut told = None;

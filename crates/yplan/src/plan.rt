@@ -233,7 +233,7 @@ impl<'a, 't> Plan<'a, 't> {
     pub fn default_case(&self, number: u32, planned: &Planned<'a, 't>) -> Option<u32>
         ensures { result ≡ option_map number_in (default_case (view self.now) (planned_view number planned.now)) }
     {
-        match planned.stated(Keyword::Default) {
+        match planned.own_argument(Keyword::Default) {
             Some(name) => self.child(Some(number), Some(planned.owner()), name),
             None => None,
         }

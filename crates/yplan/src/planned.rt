@@ -1,6 +1,6 @@
 //! Planned nodes.
 
-use ygrammar::{Broken, CompileCode, Source, argument_of, argument_with, built_in_with};
+use ygrammar::{BrokenRule, CompileCode, Source, argument_of, argument_with, built_in_with};
 use ypreorder::Node;
 use yword::{BuiltIn, Keyword};
 
@@ -58,7 +58,7 @@ impl<'a, 't> Planned<'a, 't> {
     }
 
     /// The argument of its first substatement with a keyword, which is none of those that define nodes.
-    pub fn stated(&self, keyword: Keyword) -> Option<&'t str>
+    pub fn own_argument(&self, keyword: Keyword) -> Option<&'t str>
         requires { defines_node (keyword_view keyword) ≡ false }
         ensures { (number : _) → option_map (λ text. text.now) result ≡ spec.stated_in (keyword_view keyword) (planned_view number self.now) }
     {
@@ -81,11 +81,11 @@ impl<'a, 't> Planned<'a, 't> {
     }
 
     /// A rule that it breaks, which is told at its statement.
-    pub fn broken(&self, code: CompileCode) -> Broken
+    pub fn broken(&self, code: CompileCode) -> BrokenRule
         ensures { (number : _) → break_view result ∷ [] ≡ broken_at (code_number code) (planned_view number self.now) }
     {
         let label = self.source.label();
-        Broken {
+        BrokenRule {
             module: label.home,
             line: label.statement.line(),
             code,

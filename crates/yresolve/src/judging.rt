@@ -15,17 +15,17 @@ use crate::references::is_wrong_reference;
 use crate::resolved::Resolved;
 use crate::tuples::has_wrong_tuples;
 use std::alloc::{AllocError, Global};
-use ygrammar::{Broken, CompileCode, least_when};
+use ygrammar::{BrokenRule, CompileCode, least_when};
 use yplan::{Plan, PlanNode};
 
 /// The lesser of one so far and of the rules that a node breaks.
-fn own_fault<'a, 't>(
+fn broken_own_rule<'a, 't>(
     alloc: Global,
     plan: &Plan<'a, 't>,
     resolved: &Resolved<'t>,
     node: PlanNode<'a, 't>,
-    so_far: Option<Broken>,
-) -> Result<Option<Broken>, AllocError>
+    so_far: Option<BrokenRule>,
+) -> Result<Option<BrokenRule>, AllocError>
     requires of_plan { IsOf resolved.now (view plan.now) }
     requires stands { slice_get (spec.nodes_of (view plan.now)) node.number ≡ Some (node_view node) }
     ensures { IfOk result (λ told. seen told ≡ least_from (seen so_far) (breaks.own_breaks (view plan.now) (node_view node.entry))) }
@@ -46,17 +46,17 @@ fn own_fault<'a, 't>(
 }
 
 /// The least of the rules of defaults, keys, config and references that nodes break, by module, line and number.
-pub fn node_fault<'t>(
+pub fn broken_node_rule<'t>(
     alloc: Global,
     plan: &Plan<'_, 't>,
     resolved: &Resolved<'t>,
-) -> Result<Option<Broken>, AllocError>
+) -> Result<Option<BrokenRule>, AllocError>
     requires { IsOf resolved.now (view plan.now) }
     ensures { IfOk result (λ told. seen told ≡ least_from None (breaks.node_breaks (view plan.now))) }
 {
     let mut told = None;
     for node in plan.iter() {
-        told = own_fault(alloc, plan, resolved, node, told)?;
+        told = broken_own_rule(alloc, plan, resolved, node, told)?;
     }
     Ok(told)
 }

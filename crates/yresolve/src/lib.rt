@@ -11,7 +11,7 @@ mod tuples;
 mod types;
 
 pub use defaults::{are_wrong_defaults, default_values, is_wrong_default};
-pub use judging::node_fault;
+pub use judging::broken_node_rule;
 pub use resolved::Resolved;
 pub use tuples::tuples_of;
 pub use types::{Types, types_of};

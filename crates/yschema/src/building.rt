@@ -26,12 +26,12 @@ use crate::limits::{LEVEL_LIMIT, NODE_LIMIT};
 use crate::making::rows_of;
 use crate::names::{broken_at, repeated_module};
 use std::alloc::{AllocError, Global};
-use ygrammar::{Broken, CompileCode, Source, Sources, argument_of, argument_with, statement_fault};
-use ylink::{prefix_fault, type_fault, type_name_fault};
+use ygrammar::{BrokenRule, CompileCode, Source, Sources, argument_of, argument_with, broken_statement_rule};
+use ylink::{broken_prefix_rule, broken_type_rule, broken_type_name_rule};
 use ymodel::{Schema, SchemaModule};
-use yplan::{Plan, name_fault};
+use yplan::{Plan, broken_name_rule};
 use ypreorder::Node;
-use yresolve::{Resolved, node_fault};
+use yresolve::{Resolved, broken_node_rule};
 use ytext::Module;
 use yword::Keyword;
 
@@ -44,7 +44,7 @@ pub fn compile(alloc: Global, modules: &[Module]) -> Result<Schema, CompileFault
     ensures bare { IfOk result (λ schema. LeafsAreBare (view schema).nodes) }
     ensures within { IfOk result (λ schema. levels (view schema).nodes ≤ level_limit) }
 {
-    if let Some(found) = statement_fault(alloc, modules)? {
+    if let Some(found) = broken_statement_rule(alloc, modules)? {
         return Err(CompileFault::from(found));
     }
     let sources = Sources::of(alloc, modules)?;
@@ -61,7 +61,7 @@ fn compile_sources(
     requires first { None ≡ first_broken (statement_part (modules_view modules.now)) }
     ensures { Gives view told_by result (compiled (modules_view modules.now)) }
 {
-    if let Some(found) = source_fault(alloc, modules, sources)? {
+    if let Some(found) = broken_source_rule(alloc, modules, sources)? {
         return Err(CompileFault::from(found));
     }
     let plan = Plan::of(alloc, sources)?;
@@ -79,7 +79,7 @@ fn compile_plan(
     requires second { None ≡ first_broken (source_part (modules_view modules.now) (sources_of (modules_view modules.now))) }
     ensures { Gives view told_by result (compiled (modules_view modules.now)) }
 {
-    if let Some(found) = plan_fault(modules, plan) {
+    if let Some(found) = broken_plan_rule(modules, plan) {
         return Err(CompileFault::from(found));
     }
     let resolved = Resolved::of(alloc, plan)?;
@@ -100,32 +100,32 @@ fn compile_rules<'t>(
     requires third { None ≡ first_broken (plan_part (modules_view modules.now) (plans.view plan.now)) }
     ensures { Gives view told_by result (compiled (modules_view modules.now)) }
 {
-    if let Some(found) = rule_fault(alloc, modules, plan, resolved)? {
+    if let Some(found) = broken_rule(alloc, modules, plan, resolved)? {
         return Err(CompileFault::from(found));
     }
     Ok(build(alloc, plan, resolved)?)
 }
 
 /// The rule that is told of prefixes and names of modules, of names of types, or of types.
-fn source_fault(
+fn broken_source_rule(
     alloc: Global,
     modules: &[Module],
     sources: &Sources<'_>,
-) -> Result<Option<Broken>, AllocError>
+) -> Result<Option<BrokenRule>, AllocError>
     ensures { let s = link.view sources.now in IfOk result (λ told. seen told ≡ first_broken (source_part (modules_view modules.now) s)) }
 {
-    let prefix = prefix_fault(alloc, sources)?;
+    let prefix = broken_prefix_rule(alloc, sources)?;
     if let Some(found) = repeated_module(alloc, modules, prefix)? {
         return Ok(Some(found));
     }
-    if let Some(found) = type_name_fault(sources) {
+    if let Some(found) = broken_type_name_rule(sources) {
         return Ok(Some(found));
     }
-    type_fault(alloc, sources)
+    broken_type_rule(alloc, sources)
 }
 
 /// A limit that is passed is told at the module given last.
-fn at_last(modules: &[Module], is_passed: bool) -> Option<Broken>
+fn at_last(modules: &[Module], is_passed: bool) -> Option<BrokenRule>
     ensures { seen result ≡ least_from None (limit_breaks is_passed (modules_view modules.now)) }
 {
     match modules.last() {
@@ -135,13 +135,13 @@ fn at_last(modules: &[Module], is_passed: bool) -> Option<Broken>
 }
 
 /// The rule that is told of the number of nodes, or of names of siblings.
-fn plan_fault(modules: &[Module], plan: &Plan<'_, '_>) -> Option<Broken>
+fn broken_plan_rule(modules: &[Module], plan: &Plan<'_, '_>) -> Option<BrokenRule>
     ensures { let p = plans.view plan.now in seen result ≡ first_broken (plan_part (modules_view modules.now) p) }
 {
     if let Some(found) = at_last(modules, plan.nodes() > NODE_LIMIT) {
         return Some(found);
     }
-    name_fault(plan)
+    broken_name_rule(plan)
 }
 
 /// Whether a plan has too many nodes or levels.
@@ -152,16 +152,16 @@ fn is_too_deep(plan: &Plan<'_, '_>) -> bool
 }
 
 /// The rule that is told of what nodes state and refer to, or of levels.
-fn rule_fault<'t>(
+fn broken_rule<'t>(
     alloc: Global,
     modules: &[Module],
     plan: &Plan<'_, 't>,
     resolved: &Resolved<'t>,
-) -> Result<Option<Broken>, AllocError>
+) -> Result<Option<BrokenRule>, AllocError>
     requires { IsOf resolved.now (plans.view plan.now) }
     ensures { let p = plans.view plan.now in IfOk result (λ told. seen told ≡ first_broken (rule_part (modules_view modules.now) p)) }
 {
-    if let Some(found) = node_fault(alloc, plan, resolved)? {
+    if let Some(found) = broken_node_rule(alloc, plan, resolved)? {
         return Ok(Some(found));
     }
     Ok(at_last(modules, is_too_deep(plan)))

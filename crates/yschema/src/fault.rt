@@ -4,7 +4,7 @@ ghost use Rattle.yschema.specs.declared.fault.CompileFault.TheVariants.{Memory, 
 
 use std::alloc::AllocError;
 use thiserror::Error;
-use ygrammar::{Broken, CompileCode};
+use ygrammar::{BrokenRule, CompileCode};
 
 /// Why a set of modules isn't compiled: the rule, the module by its place in the set, and the line, counted from 1.
 #[derive(Clone, Copy, Debug, PartialEq, Eq, Error)]
@@ -29,12 +29,12 @@ impl From<AllocError> for CompileFault {
     }
 }
 
-impl From<Broken> for CompileFault {
+impl From<BrokenRule> for CompileFault {
     ghost use Rattle.std.specs.Prelude.{◌≡◌};
 
     ghost from_gives = { λ broken e. e ≡ Refused broken.code broken.«module» broken.line };
 
-    fn from(broken: Broken) -> CompileFault {
+    fn from(broken: BrokenRule) -> CompileFault {
         CompileFault::Refused {
             code: broken.code,
             module: broken.module,

@@ -8,7 +8,7 @@ ghost use Rattle.ygrammar.specs.BreakView.{break_view, code_number, seen};
 
 use indexmap::IndexSet;
 use std::alloc::{AllocError, Global};
-use ygrammar::{Broken, CompileCode, least_when};
+use ygrammar::{BrokenRule, CompileCode, least_when};
 use ytext::{Module, Stmt};
 
 /// The name of a module's statement.
@@ -19,10 +19,10 @@ fn name_of(statement: &Stmt) -> &str
 }
 
 /// A rule that a module breaks, which is told at its statement.
-pub(crate) fn broken_at(code: CompileCode, module: usize, top: &Stmt) -> Broken
+pub(crate) fn broken_at(code: CompileCode, module: usize, top: &Stmt) -> BrokenRule
     ensures { break_view result ≡ record { code = code_number code; module_number = «module»; line = (view top.now).0.line } }
 {
-    Broken {
+    BrokenRule {
         module,
         line: top.line(),
         code,
@@ -33,8 +33,8 @@ pub(crate) fn broken_at(code: CompileCode, module: usize, top: &Stmt) -> Broken
 pub(crate) fn repeated_module(
     alloc: Global,
     modules: &[Module],
-    so_far: Option<Broken>,
-) -> Result<Option<Broken>, AllocError>
+    so_far: Option<BrokenRule>,
+) -> Result<Option<BrokenRule>, AllocError>
     ensures { IfOk result (λ told. seen told ≡ least_from (seen so_far) (module_breaks 0 [] (modules_view modules.now))) }
 {
     let mut names: IndexSet<&str> = IndexSet::new(alloc);

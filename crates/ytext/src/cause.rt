@@ -65,7 +65,7 @@ fn first_cause(forbidden: Option<usize>, end: usize, other: Option<Cause>) -> Op
 }
 
 /// The fault in the line of a cause. A line past the largest number is told as that one.
-pub(crate) fn told(text: &str, cause: Cause) -> TextFault
+pub(crate) fn fault_of(text: &str, cause: Cause) -> TextFault
     requires { cause.place ≤ length text.now }
     ensures { shown (Err result) ≡ told_of text.now (cause_of cause) }
 {

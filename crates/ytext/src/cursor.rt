@@ -79,7 +79,7 @@ impl<'a> Cursor<'a> {
     }
 
     // A later place.
-    pub(crate) fn moved(self, end: usize) -> Cursor<'a>
+    pub(crate) fn moved_to(self, end: usize) -> Cursor<'a>
         requires forward { self.at ≤ end }
         requires place { IsCharBoundary self.text.now end }
         ensures text { result.text.now ≡ self.entry.text.now }
@@ -215,7 +215,7 @@ impl<'a> Cursor<'a> {
         }
     }
 
-    fn lexed(self, lexeme: Lexeme<'a>) -> Lexed<'a>
+    fn with_lexeme(self, lexeme: Lexeme<'a>) -> Lexed<'a>
         ensures lexeme { result.lexeme ≡ lexeme.entry }
         ensures line { result.line ≡ self.entry.line }
     {
@@ -261,20 +261,20 @@ impl<'a> Cursor<'a> {
         let mut cursor = self.past_white();
         while cursor.at < bytes.len() {
             match cursor.front(bytes[cursor.at]) {
-                Front::Gap(end) => cursor = cursor.moved(end).past_white(),
+                Front::Gap(end) => cursor = cursor.moved_to(end).past_white(),
                 Front::Token(lexeme, end) => return Found {
                     cursor,
                     lexeme,
                     end,
                 },
-                Front::Last(lexeme) => return cursor.ended(lexeme),
+                Front::Last(lexeme) => return cursor.end_found(lexeme),
             }
         }
-        cursor.ended(Lexeme::End)
+        cursor.end_found(Lexeme::End)
     }
 
     // What ends the text at this place.
-    fn ended(self, lexeme: Lexeme<'a>) -> Found<'a>
+    fn end_found(self, lexeme: Lexeme<'a>) -> Found<'a>
         ensures cursor { result.cursor ≡ self.entry }
         ensures lexeme { result.lexeme ≡ lexeme.entry }
         ensures end { result.end ≡ self.entry.at }
@@ -297,8 +297,8 @@ impl<'a> Cursor<'a> {
     {
         let found = self.found();
         (
-            found.cursor.lexed(found.lexeme),
-            found.cursor.moved(found.end),
+            found.cursor.with_lexeme(found.lexeme),
+            found.cursor.moved_to(found.end),
         )
     }
 }

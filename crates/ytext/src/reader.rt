@@ -29,7 +29,7 @@ impl<'a> Lexed<'a> {
     ghost use Rattle.ytext.specs.View.{ends_text, lexeme_of};
 
     // What is wrong where this token may not stand.
-    fn misplaced(self) -> TextFault
+    fn misplaced_fault(self) -> TextFault
         requires { self.line < 2 ^ 32 }
         ensures { told_by result ≡ Some (record { code = misplaced_code (lexeme_of self.entry.lexeme); line = self.entry.line }) }
     {
@@ -178,7 +178,7 @@ impl<'a> Reader<'a> {
                 self.step();
                 self.block(level + 1)
             }
-            _ => Err(self.token.misplaced()),
+            _ => Err(self.token.misplaced_fault()),
         }
     }
 
@@ -206,7 +206,7 @@ impl<'a> Reader<'a> {
                 self.step();
                 Ok(())
             }
-            _ => Err(self.token.misplaced()),
+            _ => Err(self.token.misplaced_fault()),
         }
     }
 
@@ -265,7 +265,7 @@ impl<'a> Reader<'a> {
         match self.token.lexeme {
             Lexeme::Close => Ok(()),
             Lexeme::End => Ok(()),
-            _ => Err(self.token.misplaced()),
+            _ => Err(self.token.misplaced_fault()),
         }
     }
 
@@ -279,7 +279,7 @@ impl<'a> Reader<'a> {
                 TextCode::L6,
                 self.token.line,
             )),
-            _ => Err(self.token.misplaced()),
+            _ => Err(self.token.misplaced_fault()),
         }
     }
 
@@ -299,7 +299,7 @@ impl<'a> Reader<'a> {
                 }
             }
             Lexeme::Close => Err(TextFault::refused(TextCode::L6, self.token.line)),
-            _ => Err(self.token.misplaced()),
+            _ => Err(self.token.misplaced_fault()),
         }
     }
 }

@@ -2,7 +2,7 @@
 ghost use Rattle.std.specs.Prelude.{◌≤◌, length};
 ghost use Rattle.std.specs.Option.{ForSome};
 
-use crate::cause::told;
+use crate::cause::fault_of;
 use crate::cursor::Cursor;
 use crate::fault::TextFault;
 use crate::text::forbidden_place;
@@ -52,11 +52,11 @@ impl<'a> Iterator for Tokens<'a> {
         let found = self.cursor.found();
         if let Some(cause) = found.cause(self.forbidden) {
             self.ended = true;
-            return Some(Err(told(found.cursor.text, cause)));
+            return Some(Err(fault_of(found.cursor.text, cause)));
         }
         match kind_of(found.lexeme) {
             Some(kind) => {
-                self.cursor = found.cursor.moved(found.end);
+                self.cursor = found.cursor.moved_to(found.end);
                 Some(Ok(found.token(kind)))
             }
             None => {

@@ -163,7 +163,7 @@ pub(crate) fn forbidden_place(text: &str) -> Option<usize>
 }
 
 // The text of these bytes, where its length, its encoding and its characters are right.
-fn checked(bytes: &[u8]) -> Result<&str, TextFault>
+fn checked_text(bytes: &[u8]) -> Result<&str, TextFault>
     ensures text { IfOk result (λ text. text.now ≡ bytes.now) }
     ensures length { IfOk result (λ text. length text.now ≤ 4194304) }
     ensures ok { IfOk result (λ text. module_of bytes.now ≡ top_statement (tokens_of bytes.now)) }
@@ -198,7 +198,7 @@ pub fn parse(alloc: Global, bytes: &[u8]) -> Result<Module, TextFault>
 fn read_module(alloc: Global, bytes: &[u8]) -> Result<Module, TextFault>
     ensures { Gives (λ read. modules_view (read ∷ [])) told_by result (module_of bytes.now) }
 {
-    match checked(bytes) {
+    match checked_text(bytes) {
         Ok(text) => Reader::new(alloc, text).module(),
         Err(fault) => Err(fault),
     }

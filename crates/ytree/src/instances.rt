@@ -14,7 +14,7 @@ pub fn instances_of<'a>(rest: &'a [Stored], id: SchemaId) -> (&'a [Stored], &'a 
     ensures found { row_view result.0.now ≡ mine id.0 (row_view rest.entry.now) }
     ensures behind { row_view result.1.now ≡ others id.0 (row_view rest.entry.now) }
 {
-    parted(left_from(rest, id), id)
+    instances_and_rest(left_from(rest, id), id)
 }
 
 /// What is left of a row from a schema node on.
@@ -32,7 +32,7 @@ fn due_place(row: &[Stored], id: SchemaId) -> Option<usize>
 }
 
 /// The instances with which a row begins, and the nodes behind them.
-fn parted(row: &[Stored], id: SchemaId) -> (&[Stored], &[Stored])
+fn instances_and_rest(row: &[Stored], id: SchemaId) -> (&[Stored], &[Stored])
     ensures found { result.0.now ≡ before_first (is_other id.0) row.entry.now }
     ensures behind { result.1.now ≡ from_first (is_other id.0) row.entry.now }
 {

@@ -77,7 +77,7 @@ pub fn read_node(
         Err(fault) => return Err(fault),
     }
     match schema.kind(id) {
-        Some(node) => Ok(Some(stored(alloc, schema, id, node, schema.children(id), value)?)),
+        Some(node) => Ok(Some(stored_node(alloc, schema, id, node, schema.children(id), value)?)),
         None => Ok(None),
     }
 }
@@ -175,7 +175,7 @@ fn put_instance(
     ensures { let n = schema_view.label_of child.entry in let d = json.view value.now in OnOk result (row_view row.new.items
         ≡ join (row_view row.old.items) (node (stored_node n d) (inner_rows (schema_view.view schema.now) n (schema_view.below_of child.entry) d) end)) }
 {
-    row.push(stored(
+    row.push(stored_node(
         alloc,
         schema,
         child.id(),
@@ -188,7 +188,7 @@ fn put_instance(
 
 /// What a value denotes at a node whose children are given.
 #[cycle(rows)]
-fn stored(
+fn stored_node(
     alloc: Global,
     schema: &Schema,
     id: SchemaId,

@@ -10,7 +10,7 @@ loop-byte-init g c = left_all _ _
 pub loop-byte-preserved : goal.loop-byte-preserved
 loop-byte-preserved g c = left_after _ _ _ _ _ _
     (left_same _ _ _ _ _ (at_drop_more printed_tag c.args.bytes.now c.loop-byte.byte-index 0 c.loop-byte-test.true) c.loop-byte.invariant)
-    (wrote_same _ _ _ _ (ap (λ (x : ℕ). x ∷ []) c.printed.ensures) c.in-Ok.ensures)
+    (wrote_same _ _ _ _ (ap (λ (x : ℕ). x ∷ []) c.printed_byte.ensures) c.in-Ok.ensures)
 
 pub returns : goal.returns
 returns g c = left_none _ _ _
@@ -19,4 +19,4 @@ returns g c = left_none _ _ _
 pub returns-in-Err : goal.returns-in-Err
 returns-in-Err g c = left_broken _ _ _ _ _ _
     (left_same _ _ _ _ _ (at_drop_more printed_tag c.args.bytes.now c.loop-byte.byte-index 0 c.loop-byte-test.true) c.loop-byte.invariant)
-    (broke_same _ _ _ _ (ap (λ (x : ℕ). x ∷ []) c.printed.ensures) c.in-Err.ensures)
+    (broke_same _ _ _ _ (ap (λ (x : ℕ). x ∷ []) c.printed_byte.ensures) c.in-Err.ensures)

@@ -14,12 +14,12 @@ returns-clause-fitting c fits =
     let s = view c.args.schema.now in
     let before = tree_view c.args.tree.now in
     let edit = edit_view c.args.edit.now in
-    if_given (Fits s) c.edited.result (applied s before edit) c.edited.ensures (edit_fits s before edit (numbered c.args.schema.now) fits)
+    if_given (Fits s) c.edited_tree.result (applied s before edit) c.edited_tree.ensures (edit_fits s before edit (numbered c.args.schema.now) fits)
 
 pub returns-clause-whole : goal.returns-clause-whole
 returns-clause-whole c whole =
     let s = view c.args.schema.now in
     let before = tree_view c.args.tree.now in
     let edit = edit_view c.args.edit.now in
-    if_given (IsDocument s) c.edited.result (applied s before edit) c.edited.ensures
+    if_given (IsDocument s) c.edited_tree.result (applied s before edit) c.edited_tree.ensures
     (edit_whole s before edit (numbered c.args.schema.now) (names_differ c.args.schema.now) whole)

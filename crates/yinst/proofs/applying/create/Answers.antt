@@ -16,5 +16,5 @@ returns-in-Ok c =
     let t = located_view s c.args.target.now in
     let b = branch_view c.in-Ok.branch in
     let above = spots_view c.as_slice.result.now in
-    answers_same tree_view c.bounded.result (created s tree c.args.value.now t) (within_limit (edit_at above (with_branch b) tree))
-    (created_so s tree c.args.value.now t b above (sym c.is_there.ensures ∙ c.if-is_there.false) c.in-Ok.ensures (ap spots_view c.as_slice.ensures.value)) c.bounded.ensures
+    answers_same tree_view c.tree_within_limit.result (created s tree c.args.value.now t) (within_limit (edit_at above (with_branch b) tree))
+    (created_so s tree c.args.value.now t b above (sym c.is_there.ensures ∙ c.if-is_there.false) c.in-Ok.ensures (ap spots_view c.as_slice.ensures.value)) c.tree_within_limit.ensures

@@ -17,5 +17,5 @@ returns-in-Ok-part_at c =
     let step = spot_view c.in-Ok.spot in
     let b = branch_view c.in-Ok-part_at.branch in
     let above = spots_view c.as_slice.result.now in
-    answers_same tree_view c.bounded.result (replaced s tree c.args.value.now t) (within_limit (edit_at above (with_instead step b) tree))
-    (replaced_so s tree c.args.value.now t step b above c.in-Ok.ensures c.in-Ok-part_at.ensures (ap spots_view c.as_slice.ensures.value)) c.bounded.ensures
+    answers_same tree_view c.tree_within_limit.result (replaced s tree c.args.value.now t) (within_limit (edit_at above (with_instead step b) tree))
+    (replaced_so s tree c.args.value.now t step b above c.in-Ok.ensures c.in-Ok-part_at.ensures (ap spots_view c.as_slice.ensures.value)) c.tree_within_limit.ensures

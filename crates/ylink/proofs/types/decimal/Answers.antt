@@ -10,6 +10,6 @@ use Rattle.ylink.proofs.types.decimal.Goals as goal
 pub returns-in-Some : goal.returns-in-Some
 returns-in-Some c =
     let below = row_by source_view c.args.below in
-    if_ok_then _ _ c.ranged.result
+    if_ok_then _ _ c.ranged_type.result
     (λ t e. e ∙ ap (option_and_then (λ digits. limited_range below (plain (decimal_base digits)))) c.in-Some.ensures)
-    (c.ranged.ensures (plain (decimal_base c.in-Some.digits)) c.decimal64.ensures)
+    (c.ranged_type.ensures (plain (decimal_base c.in-Some.digits)) c.decimal64.ensures)

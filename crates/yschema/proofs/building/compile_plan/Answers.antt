@@ -13,4 +13,4 @@ returns-in-Some c =
     let f = modules_view c.args.modules.now in
     subst (λ fault. Fails (told_by fault) (compiled f)) (sym c.from.ensures)
     (in_plan f (sources_of f) refl (plans.view c.args.plan.now) c.requires.made c.requires.first c.requires.second
-    (break_view c.in-Some.found) (sym (ap seen c.in-Some.is) ∙ c.plan_fault.ensures))
+    (break_view c.in-Some.found) (sym (ap seen c.in-Some.is) ∙ c.broken_plan_rule.ensures))

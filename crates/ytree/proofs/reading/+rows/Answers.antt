@@ -43,9 +43,9 @@ pub put_instance-returns : goal.put_instance-returns
 put_instance-returns t c =
     let s = schema_view.view c.args.schema.now in
     let child = c.args.child in
-    row_pushed c.args.row.now.items c.push.new.self.items c.in_ok-stored.field-0 _ _ c.in_ok-push.ensures.items
+    row_pushed c.args.row.now.items c.push.new.self.items c.in_ok-stored_node.field-0 _ _ c.in_ok-push.ensures.items
     (seen_as s c.id.result.0 c.node.result.now (schema_view.label_of child) (schema_view.row_view c.children.result) (schema_view.below_of child) (json.view c.args.value.now)
-    c.in_ok-stored.field-0 c.id.ensures c.node.ensures c.children.ensures c.in_ok-stored.ensures)
+    c.in_ok-stored_node.field-0 c.id.ensures c.node.ensures c.children.ensures c.in_ok-stored_node.ensures)
 
 pub put_instances-returns-in_default : goal.put_instances-returns-in_default
 put_instances-returns-in_default t c =

@@ -14,7 +14,7 @@ returns-in-Some c =
     c.child.ensures
     ∙ (ap (λ m. option_map number_in (child_called plan (Some n) (record { module_number = Some m; name = c.in-Some.name.now }))) c.owner.ensures
     ∙ ap (λ o. option_map number_in (option_and_then (λ t. child_called plan (Some n) (record { module_number = Some owner; name = t })) o))
-    (ap (option_map (λ t. t.now)) (sym c.in-Some.is) ∙ c.stated.ensures n))
+    (ap (option_map (λ t. t.now)) (sym c.in-Some.is) ∙ c.own_argument.ensures n))
 
 pub returns-in-None : goal.returns-in-None
 returns-in-None c =
@@ -22,4 +22,4 @@ returns-in-None c =
     let n = c.args.number in
     let owner = (part_at c.args.planned.now).owner in
     ap (λ o. option_map number_in (option_and_then (λ t. child_called plan (Some n) (record { module_number = Some owner; name = t })) o))
-    (ap (option_map (λ t. t.now)) (sym c.in-None.is) ∙ c.stated.ensures n)
+    (ap (option_map (λ t. t.now)) (sym c.in-None.is) ∙ c.own_argument.ensures n)

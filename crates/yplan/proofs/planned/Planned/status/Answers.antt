@@ -11,7 +11,7 @@ pub returns-in-Some : goal.returns-in-Some
 returns-in-Some c =
     let value : status_view c.unwrap_or.result ≡ unwrap_or (status_of c.in-Some.text.now) current =
     ap status_view c.unwrap_or.ensures ∙ (unwrap_map status_view c.status_of.result states.Current ∙ ap (λ o. unwrap_or o current) c.status_of.ensures) in
-    λ number. value ∙ ap (λ o. unwrap_or (option_and_then status_of o) current) (ap (option_map (λ t. t.now)) (sym c.in-Some.is) ∙ c.stated.ensures number)
+    λ number. value ∙ ap (λ o. unwrap_or (option_and_then status_of o) current) (ap (option_map (λ t. t.now)) (sym c.in-Some.is) ∙ c.own_argument.ensures number)
 
 pub returns-in-None : goal.returns-in-None
-returns-in-None c = λ number. ap (λ o. unwrap_or (option_and_then status_of o) current) (ap (option_map (λ t. t.now)) (sym c.in-None.is) ∙ c.stated.ensures number)
+returns-in-None c = λ number. ap (λ o. unwrap_or (option_and_then status_of o) current) (ap (option_map (λ t. t.now)) (sym c.in-None.is) ∙ c.own_argument.ensures number)

@@ -10,10 +10,10 @@ loop-cursor-preserved c =
     let cursor = c.loop-cursor.cursor in
     let white = c.past_white-cursor-in-Gap.ensures in
     record {
-      text = white.text ∙ c.moved.ensures.text ∙ before.text;
-      at = omega (arith, before.at, c.in-Gap.ensures.later.0, c.moved.ensures.at, white.at);
+      text = white.text ∙ c.moved_to.ensures.text ∙ before.text;
+      at = omega (arith, before.at, c.in-Gap.ensures.later.0, c.moved_to.ensures.at, white.at);
       pieces = before.pieces ∙ left_by_front cursor (Gap c.in-Gap.end) (omega (arith, c.loop-cursor-test.true, ap length before.text, ap length c.as_bytes-bytes.ensures.value)) c.in-Gap.ensures.later c.in-Gap.ensures.front
-          ∙ sym c.moved.ensures.pieces ∙ white.pieces;
+          ∙ sym c.moved_to.ensures.pieces ∙ white.pieces;
     }
 
 pub returns-in-Token-clause-pieces : goal.returns-in-Token-clause-pieces
@@ -27,13 +27,13 @@ pub returns-in-Last-clause-pieces : goal.returns-in-Last-clause-pieces
 returns-in-Last-clause-pieces c =
     let cursor = c.loop-cursor.cursor in
     let told = c.in-Last.ensures in
-    let ended = c.ended.ensures in
-    c.loop-cursor.invariant.pieces ∙ last_met cursor c.ended.result c.in-Last.lexeme ended.cursor ended.lexeme ended.end told.later.0
+    let ended = c.end_found.ensures in
+    c.loop-cursor.invariant.pieces ∙ last_met cursor c.end_found.result c.in-Last.lexeme ended.cursor ended.lexeme ended.end told.later.0
     (left_by_front cursor (Last c.in-Last.lexeme) (omega (arith, c.loop-cursor-test.true, ap length c.loop-cursor.invariant.text, ap length c.as_bytes-bytes.ensures.value)) told.later told.front)
 
 pub returns-clause-pieces : goal.returns-clause-pieces
 returns-clause-pieces c =
     let cursor = c.loop-cursor.cursor in
-    let ended = c.ended-2.ensures in
-    c.loop-cursor.invariant.pieces ∙ last_met cursor c.ended-2.result End ended.cursor ended.lexeme ended.end refl
+    let ended = c.end_found-2.ensures in
+    c.loop-cursor.invariant.pieces ∙ last_met cursor c.end_found-2.result End ended.cursor ended.lexeme ended.end refl
     (end_met cursor (omega (arith, c.loop-cursor-test.false, ap length c.loop-cursor.invariant.text, ap length c.as_bytes-bytes.ensures.value)))

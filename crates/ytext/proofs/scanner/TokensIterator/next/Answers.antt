@@ -12,7 +12,7 @@ returns-in-Some-clause-steps c =
     let f = c.found-found in
     left_by_piece c.args.self.now f.result c.if-self.false f.ensures.text f.ensures.pieces
     ∙ told_given f.result.cursor.text.now c.args.self.now.forbidden (piece_of f.result) _ _ c.in-Some.ensures.cause
-    ∙ ap (λ (x : Result Scanned Slip). x ∷ []) (sym c.told.ensures)
+    ∙ ap (λ (x : Result Scanned Slip). x ∷ []) (sym c.fault_of.ensures)
 
 pub returns-in-Some-clause-goes : goal.returns-in-Some-clause-goes
 returns-in-Some-clause-goes c = progress _ _ _ _ _ tt (returns-in-Some-clause-steps c)
@@ -25,7 +25,7 @@ returns-in-Some-kind_of-clause-steps c =
     ∙ token_given text c.args.self.now.forbidden (piece_of f.result) _ _ c.in_default.ensures.cause c.in-Some-kind_of.ensures.kind
     ∙ ap (λ (x : Scanned). Ok x ∷ given_of text c.args.self.now.forbidden (cond (ends_text f.result.lexeme) [] (pieces_behind (f.result.end - f.result.cursor.at) f.result.cursor))) (sym c.token.ensures)
     ∙ ap (λ (xs : List (Result Scanned Slip)). Ok (scanned_of c.token.result) ∷ xs)
-    (behind_token f.result c.moved-self.result c.args.self.now.forbidden c.args.self.now.ended _ refl c.if-self.false c.in-Some-kind_of.ensures.token c.moved-self.ensures.text c.moved-self.ensures.pieces)
+    (behind_token f.result c.moved_to-self.result c.args.self.now.forbidden c.args.self.now.ended _ refl c.if-self.false c.in-Some-kind_of.ensures.token c.moved_to-self.ensures.text c.moved_to-self.ensures.pieces)
 
 pub returns-in-Some-kind_of-clause-goes : goal.returns-in-Some-kind_of-clause-goes
 returns-in-Some-kind_of-clause-goes c = progress _ _ _ _ _ tt (returns-in-Some-kind_of-clause-steps c)

@@ -13,7 +13,7 @@ use Rattle.yplan.specs.PlannedView.{planned_view}
 use Rattle.yplan.specs.Finding.{is_before}
 use Rattle.yplan.proofs.PlanLemmas.{nodes_are, labels_from, next_told, drop_past}
 use Rattle.yplan.proofs.NodeLemmas.{earlier}
-use Rattle.yplan.proofs.names.name_fault.Goals as goal
+use Rattle.yplan.proofs.names.broken_name_rule.Goals as goal
 
 pub is_repeated-is_repeated-requires : goal.is_repeated-is_repeated-requires
 is_repeated-is_repeated-requires c =

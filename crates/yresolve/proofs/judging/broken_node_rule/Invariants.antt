@@ -6,7 +6,7 @@ use Rattle.yspec.specs.linking.Planned.{Planned, nodes_of}
 use Rattle.ygrammar.specs.BreakView.{seen}
 use Rattle.yplan.specs.NodesView.{left}
 use Rattle.yplan.specs.PlanView.{view}
-use Rattle.yresolve.proofs.judging.node_fault.Given as goal
+use Rattle.yresolve.proofs.judging.broken_node_rule.Given as goal
 
 abbrev pub invariant-loop-node : goal.invariant-loop-node
 invariant-loop-node l =

@@ -3,7 +3,7 @@ use Rattle.yspec.specs.schema.Breaks.{least_from}
 use Rattle.yspec.specs.linking.StatementBreaks.{breaks_from}
 use Rattle.ytext.specs.View.{modules_view}
 use Rattle.ygrammar.specs.BreakView.{seen}
-use Rattle.ygrammar.proofs.grammar.statement_fault.Given as goal
+use Rattle.ygrammar.proofs.grammar.broken_statement_rule.Given as goal
 
 abbrev pub invariant-loop-module : goal.invariant-loop-module
 invariant-loop-module l =

@@ -5,7 +5,7 @@ use Rattle.ygrammar.specs.BreakView.{seen}
 use Rattle.yplan.specs.NodesView.{node_view}
 use Rattle.yplan.specs.PlanView.{view}
 use Rattle.yresolve.proofs.JudgingLemmas.{four_told}
-use Rattle.yresolve.proofs.judging.own_fault.Goals as goal
+use Rattle.yresolve.proofs.judging.broken_own_rule.Goals as goal
 
 pub returns : goal.returns
 returns c =

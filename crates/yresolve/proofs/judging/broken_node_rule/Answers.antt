@@ -6,7 +6,7 @@ use Rattle.ygrammar.specs.BreakView.{seen}
 use Rattle.yplan.specs.NodesView.{left, node_view}
 use Rattle.yplan.specs.PlanView.{view}
 use Rattle.yresolve.proofs.JudgingLemmas.{next_judged, first_stands, one_done}
-use Rattle.yresolve.proofs.judging.node_fault.Goals as goal
+use Rattle.yresolve.proofs.judging.broken_node_rule.Goals as goal
 
 pub loop-node-preserved : goal.loop-node-preserved
 loop-node-preserved c =
@@ -21,7 +21,7 @@ loop-node-preserved c =
           c.in-Some.ensures.steps c.in_ok-told.ensures c.loop-node.invariant.told;
     }
 
-pub own_fault-requires-clause-stands : goal.own_fault-requires-clause-stands
-own_fault-requires-clause-stands c =
+pub broken_own_rule-requires-clause-stands : goal.broken_own_rule-requires-clause-stands
+broken_own_rule-requires-clause-stands c =
     let whole = c.loop-node.invariant.whole in
     first_stands c.args.plan.now whole.0 (left c.loop-node.node-iterator) (left c.next.new.self) (node_view c.in-Some.node) c.in-Some.ensures.steps whole.1

@@ -6,7 +6,7 @@ use Rattle.ytext.specs.View.{modules_view}
 use Rattle.yplan.specs.PlanView as plans
 use Rattle.yschema.specs.Told.{seen}
 use Rattle.yschema.proofs.ToldLemmas.{told_later, told_last}
-use Rattle.yschema.proofs.building.rule_fault.Goals as goal
+use Rattle.yschema.proofs.building.broken_rule.Goals as goal
 
 pub returns : goal.returns
 returns c =

@@ -11,7 +11,7 @@ use Rattle.yword.specs.KeywordView.{keyword_view}
 use Rattle.ygrammar.specs.SourceView.{source_view}
 use Rattle.ylink.specs.TypeView.{is_wrong}
 use Rattle.ylink.proofs.TypeLemmas.{no_type, next_type, no_more_types}
-use Rattle.ylink.proofs.judging.+fault_in.Goals as goal
+use Rattle.ylink.proofs.judging.+broken_type_rule_in.Goals as goal
 
 pub loop-statement-preserved-then-not-is_type : goal.loop-statement-preserved-then-not-is_type
 loop-statement-preserved-then-not-is_type t c =

@@ -1,7 +1,7 @@
 use Rattle.std.proofs.Common.{arith}
 use Rattle.ygrammar.specs.BreakView.{seen}
 use Rattle.ygrammar.proofs.GrammarLemmas.{judged_module}
-use Rattle.ygrammar.proofs.grammar.statement_fault.Goals as goal
+use Rattle.ygrammar.proofs.grammar.broken_statement_rule.Goals as goal
 
 pub loop-module-preserved : goal.loop-module-preserved
 loop-module-preserved c =

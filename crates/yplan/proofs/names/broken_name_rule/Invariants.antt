@@ -6,7 +6,7 @@ use Rattle.ypreorder.specs.View.{rows_in}
 use Rattle.ygrammar.specs.BreakView.{seen}
 use Rattle.yplan.specs.PlannedView.{planned_view}
 use Rattle.yplan.specs.PlanView.{view}
-use Rattle.yplan.proofs.names.name_fault.Given as goal
+use Rattle.yplan.proofs.names.broken_name_rule.Given as goal
 
 abbrev pub invariant-loop-number : goal.invariant-loop-number
 invariant-loop-number l =

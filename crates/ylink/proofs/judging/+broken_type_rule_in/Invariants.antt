@@ -5,11 +5,11 @@ use Rattle.yspec.specs.linking.TypeStatements.{type_breaks_in}
 use Rattle.ypreorder.specs.View.{row_by, row_view}
 use Rattle.ygrammar.specs.BreakView.{seen}
 use Rattle.ygrammar.specs.SourceView.{source_view}
-use Rattle.ylink.proofs.judging.+fault_in.Given as goal
+use Rattle.ylink.proofs.judging.+broken_type_rule_in.Given as goal
 
 -- what stands below a statement is smaller than its row
-abbrev pub decreases-fault_in : goal.decreases-fault_in
-decreases-fault_in l = size (row_view l.statements)
+abbrev pub decreases-broken_type_rule_in : goal.decreases-broken_type_rule_in
+decreases-broken_type_rule_in l = size (row_view l.statements)
 
 abbrev pub invariant-loop-statement : goal.invariant-loop-statement
 invariant-loop-statement l = record {
