@@ -24,7 +24,8 @@ fn count_nodes<'a>(
     modules: &[&'a str],
     contents: &[Vec<u8>],
 ) -> Result<Report, Failure<'a>>
-    ensures { LeadsTo (compilation (map (λ n. n.now) modules.now) (map (λ c. c.items) contents.now)) reported result }
+    ensures { LeadsTo (compilation (map (λ n. n.now) modules.now) (map (λ c. c.items) contents.now))
+        reported result }
 {
     match compile_contents(alloc, modules, contents) {
         Ok(compiled) => Ok(Report::Nodes(compiled.value.nodes())),
@@ -35,7 +36,8 @@ fn count_nodes<'a>(
 /// The diagram of the module of a name.
 fn diagram_of<'a>(schema: Schema, name: &'a str) -> Result<Report, Failure<'a>>
     ensures { let s = schema_view.view schema in
-        LeadsTo (drawn s name.entry.now (position (λ m. is_text m.name name.entry.now) s.modules)) reported result }
+        LeadsTo (drawn s name.entry.now (position (λ m. is_text m.name name.entry.now) s.modules))
+        reported result }
 {
     match schema.module(name) {
         Some(module) => Ok(Report::Diagram { schema, module }),
@@ -50,7 +52,8 @@ fn draw<'a>(
     modules: &[&'a str],
     contents: &[Vec<u8>],
 ) -> Result<Report, Failure<'a>>
-    ensures { LeadsTo (drawing name.entry.now (map (λ n. n.now) modules.now) (map (λ c. c.items) contents.now)) reported result }
+    ensures { LeadsTo (drawing name.entry.now (map (λ n. n.now) modules.now)
+        (map (λ c. c.items) contents.now)) reported result }
 {
     match compile_contents(alloc, modules, contents) {
         Ok(compiled) => diagram_of(compiled.value, name),
@@ -65,7 +68,8 @@ fn validate<'a>(
     modules: &[&'a str],
     contents: &[Vec<u8>],
 ) -> Result<Report, Failure<'a>>
-    ensures { LeadsTo (validation document.entry.now (map (λ n. n.now) modules.now) (map (λ c. c.items) contents.now)) reported result }
+    ensures { LeadsTo (validation document.entry.now (map (λ n. n.now) modules.now)
+        (map (λ c. c.items) contents.now)) reported result }
 {
     match read_document(alloc, document, modules, contents) {
         Ok(read) => Ok(report_on(alloc, read.value, false)?),
@@ -81,7 +85,8 @@ fn edit<'a>(
     modules: &[&'a str],
     contents: &[Vec<u8>],
 ) -> Result<Report, Failure<'a>>
-    ensures { LeadsTo (edition is_dump document.entry.now (map (λ n. n.now) modules.now) (map (λ c. c.items) contents.now)) reported result }
+    ensures { LeadsTo (edition is_dump document.entry.now (map (λ n. n.now) modules.now)
+        (map (λ c. c.items) contents.now)) reported result }
 {
     match edit_document(alloc, document, modules, contents) {
         Ok(edited) => Ok(report_on(alloc, edited, is_dump)?),
@@ -95,7 +100,8 @@ fn perform<'a>(
     request: &Request<'a>,
     contents: &[Vec<u8>],
 ) -> Result<Report, Failure<'a>>
-    ensures { LeadsTo (performed (view request.now) (map (λ c. c.items) contents.now)) reported result }
+    ensures { LeadsTo (performed (view request.now) (map (λ c. c.items) contents.now)) reported
+        result }
 {
     match request {
         Request::Compile { modules } => count_nodes(alloc, modules, contents),
@@ -117,7 +123,8 @@ pub fn answer<'a, F: Files>(
     request: &Request<'a>,
     files: &mut F,
 ) -> Result<Report, Failure<'a>>
-    ensures { IsOutcome (store F.contents F.reads F.failures files.old) (store F.contents F.reads F.failures files.new)
+    ensures { IsOutcome (store F.contents F.reads F.failures files.old)
+        (store F.contents F.reads F.failures files.new)
         (view request.now) (came_to result) }
 {
     match names_of(alloc, request) {

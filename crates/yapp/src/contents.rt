@@ -23,7 +23,8 @@ pub fn read_files<'a, F: Files>(
     names: &[&'a str],
     files: &mut F,
 ) -> Result<Vec<Vec<u8>>, Failure<'a>>
-    ensures { ReadsAll (λ texts. map (λ text. text.items) texts.items) (store F.contents F.reads F.failures files.old)
+    ensures { ReadsAll (λ texts. map (λ text. text.items) texts.items)
+        (store F.contents F.reads F.failures files.old)
         (store F.contents F.reads F.failures files.new) (map (λ n. n.now) names.now) result }
 {
     let mut contents = Vec::new(alloc);
@@ -60,7 +61,8 @@ fn names_with<'a>(
     names: &[&'a str],
     others: &[&'a str],
 ) -> Result<Vec<&'a str>, AllocError>
-    ensures { IfOk result (λ all. map (λ n. n.now) all.items ≡ map (λ n. n.now) names.now ++ map (λ n. n.now) others.now) }
+    ensures { IfOk result (λ all. map (λ n. n.now) all.items ≡ map (λ n. n.now) names.now
+        ++ map (λ n. n.now) others.now) }
 {
     let mut all = Vec::from_slice(alloc, names)?;
     all.extend_from_slice(others)?;

@@ -41,8 +41,10 @@ fn read_under<'a>(
     schema: Schema,
     bytes: &[u8],
 ) -> Result<Document, Failure<'a>>
-    ensures leads { let s = schema_view.view schema in (next : schema_spec.Schema → document_spec.Tree → Outcome)
-        → LeadsTo (with_tree s name.entry.now (document_of s bytes.now) (next s)) (λ d. next (schema_of d) (tree_of d)) result }
+    ensures leads { let s = schema_view.view schema in
+        (next : schema_spec.Schema → document_spec.Tree → Outcome)
+        → LeadsTo (with_tree s name.entry.now (document_of s bytes.now) (next s))
+        (λ d. next (schema_of d) (tree_of d)) result }
     ensures sound { IfOk result (λ d. IsSound (schema_of d) (tree_of d)) }
     ensures unrefused { IfOk result (λ d. refused_of d ≡ []) }
 {
@@ -70,8 +72,10 @@ pub(crate) fn read_document<'a, 'b>(
     contents: &'b [Vec<u8>],
 ) -> Result<Taken<'b, Document>, Failure<'a>>
     ensures leads { (next : schema_spec.Schema → document_spec.Tree → List (List ℕ) → Outcome)
-        → LeadsTo (with_document document.entry.now (map (λ n. n.now) modules.now) (map (λ c. c.items) contents.entry.now) next)
-        (λ read. next (schema_of read.value) (tree_of read.value) (map (λ c. c.items) read.rest.now)) result }
+        → LeadsTo (with_document document.entry.now (map (λ n. n.now) modules.now)
+        (map (λ c. c.items) contents.entry.now) next)
+        (λ read. next (schema_of read.value) (tree_of read.value)
+        (map (λ c. c.items) read.rest.now)) result }
     ensures sound { IfOk result (λ read. IsSound (schema_of read.value) (tree_of read.value)) }
     ensures unrefused { IfOk result (λ read. refused_of read.value ≡ []) }
 {
@@ -92,7 +96,8 @@ pub(crate) fn read_document<'a, 'b>(
 /// A document after the lines of a script.
 fn edit(alloc: Global, document: Document, script: &[u8]) -> Result<Document, AllocError>
     requires { IsSound (schema_of document) (tree_of document) }
-    ensures { IfOk result (λ d. IsEdited (schema_of document) (tree_of document) (lines_of script.now) d) }
+    ensures { IfOk result (λ d. IsEdited (schema_of document) (tree_of document)
+        (lines_of script.now) d) }
 {
     let script = Script::read(alloc, script)?;
     match Live::open(alloc, document.schema, document.tree) {
@@ -129,8 +134,10 @@ pub fn edit_document<'a>(
     contents: &[Vec<u8>],
 ) -> Result<Document, Failure<'a>>
     ensures leads { (next : schema_spec.Schema → document_spec.Tree → List ℕ → Outcome)
-        → LeadsTo (with_document document.entry.now (map (λ n. n.now) modules.now) (map (λ c. c.items) contents.now) (λ schema tree files.
-        next schema (after_lines schema tree (lines_of (first_file files))) (refused_lines schema 1 tree (lines_of (first_file files)))))
+        → LeadsTo (with_document document.entry.now (map (λ n. n.now) modules.now)
+        (map (λ c. c.items) contents.now) (λ schema tree files.
+        next schema (after_lines schema tree (lines_of (first_file files)))
+        (refused_lines schema 1 tree (lines_of (first_file files)))))
         (λ d. next (schema_of d) (tree_of d) (refused_of d)) result }
     ensures sound { IfOk result (λ d. IsSound (schema_of d) (tree_of d)) }
 {
@@ -147,7 +154,8 @@ pub(crate) fn report_on(
     is_dump: bool,
 ) -> Result<Report, AllocError>
     requires { IsSound (schema_of document) (tree_of document) }
-    ensures { IfOk result (λ r. reported r ≡ left is_dump (schema_of document) (tree_of document) (refused_of document)) }
+    ensures { IfOk result (λ r. reported r
+        ≡ left is_dump (schema_of document) (tree_of document) (refused_of document)) }
 {
     let faults = faults(alloc, &document.schema, &document.tree)?;
     let text = text_of(alloc, &document, is_dump)?;
@@ -163,7 +171,8 @@ pub(crate) fn report_on(
 fn text_of(alloc: Global, document: &Document, is_dump: bool) -> Result<Option<String>, AllocError>
     requires { IsSound (schema_of document.now) (tree_of document.now) }
     ensures { IfOk result (λ text. option_map string_bytes text
-        ≡ (if is_dump then Some (written_text (schema_of document.now) (tree_of document.now)) else None)) }
+        ≡ (if is_dump then Some (written_text (schema_of document.now) (tree_of document.now)) else
+        None)) }
 {
     if is_dump {
         Ok(Some(write(alloc, &document.schema, &document.tree)?))

@@ -158,7 +158,8 @@ fn write_document_refusal<S: Sink>(
     sink: &mut S,
 ) -> Result<(), SinkFault>
     ensures { Writes (side S.taken S.failures sink.old) (side S.taken S.failures sink.new)
-        (refusal_line (schema_view.view schema.now) name.now (record { code = code; place = place_view place.now }) ++ codes "\n") result }
+        (refusal_line (schema_view.view schema.now) name.now
+        (record { code = code; place = place_view place.now }) ++ codes "\n") result }
 {
     write_document_code(name, code, sink)?;
     match write_path(schema, place, sink) {

@@ -25,8 +25,10 @@ fn parse_modules<'a, 'b>(
     contents: &'b [Vec<u8>],
 ) -> Result<Taken<'b, Vec<Module>>, Failure<'a>>
     ensures { (next : Forest Statement → List (List ℕ) → Outcome)
-        → LeadsTo (with_modules (map (λ n. n.now) names.now) (map (λ c. c.items) contents.entry.now) next)
-        (λ parsed. next (modules_view parsed.value.items) (map (λ c. c.items) parsed.rest.now)) result }
+        → LeadsTo (with_modules (map (λ n. n.now) names.now)
+        (map (λ c. c.items) contents.entry.now) next)
+        (λ parsed. next (modules_view parsed.value.items) (map (λ c. c.items) parsed.rest.now))
+        result }
 {
     let mut modules = Vec::new(alloc);
     let mut rest = contents;
@@ -70,7 +72,8 @@ fn compile_modules<'a>(
     modules: &[Module],
 ) -> Result<Schema, Failure<'a>>
     ensures { (next : schema_spec.Schema → Outcome)
-        → LeadsTo (with_compiled (map (λ n. n.now) names.now) (compiled (modules_view modules.now)) next)
+        → LeadsTo (with_compiled (map (λ n. n.now) names.now)
+        (compiled (modules_view modules.now)) next)
         (λ schema. next (schema_view.view schema)) result }
 {
     match compile(alloc, modules) {
@@ -90,8 +93,10 @@ pub fn compile_contents<'a, 'b>(
     contents: &'b [Vec<u8>],
 ) -> Result<Taken<'b, Schema>, Failure<'a>>
     ensures { (next : schema_spec.Schema → List (List ℕ) → Outcome)
-        → LeadsTo (with_schema (map (λ n. n.now) names.now) (map (λ c. c.items) contents.entry.now) next)
-        (λ compiled. next (schema_view.view compiled.value) (map (λ c. c.items) compiled.rest.now)) result }
+        → LeadsTo (with_schema (map (λ n. n.now) names.now)
+        (map (λ c. c.items) contents.entry.now) next)
+        (λ compiled. next (schema_view.view compiled.value) (map (λ c. c.items) compiled.rest.now))
+        result }
 {
     match parse_modules(alloc, names, contents) {
         Ok(parsed) => match compile_modules(alloc, names, &parsed.value) {

@@ -53,7 +53,8 @@ fn show<O: Sink>(text: &str, output: &mut O) -> u8
 /// Tells what was found, or why nothing was.
 fn tell<O: Sink, E: Sink>(found: Result<Report, Failure<'_>>, output: &mut O, errors: &mut E) -> u8
     ensures { Brings (side O.taken O.failures output.old) (side O.taken O.failures output.new)
-        (side E.taken E.failures errors.old) (side E.taken E.failures errors.new) (came_to found.entry) result }
+        (side E.taken E.failures errors.old) (side E.taken E.failures errors.new)
+        (came_to found.entry) result }
 {
     match found {
         Ok(report) => status_after(report.write(output, errors), report.status()),
@@ -71,7 +72,8 @@ pub fn run<F: Files, O: Sink, E: Sink>(
     errors: &mut E,
 ) -> u8
     ensures taken { (refusals (map string_bytes words.now) ≡ []) → (o : Outcome)
-        × IsOutcome (store F.contents F.reads F.failures files.old) (store F.contents F.reads F.failures files.new) (request_of (map string_bytes words.now)) o
+        × IsOutcome (store F.contents F.reads F.failures files.old)
+        (store F.contents F.reads F.failures files.new) (request_of (map string_bytes words.now)) o
         × Brings (side O.taken O.failures output.old) (side O.taken O.failures output.new)
         (side E.taken E.failures errors.old) (side E.taken E.failures errors.new) o result }
     ensures words { ¬ (refusals (map string_bytes words.now) ≡ []) → (o : Outcome)

@@ -53,8 +53,10 @@ impl Report {
 
     /// Writes the refused lines on the error side, and then what was found.
     pub fn write<O: Sink, E: Sink>(&self, output: &mut O, errors: &mut E) -> Result<(), SinkFault>
-        ensures { WritesBoth (side O.taken O.failures output.old) (side O.taken O.failures output.new)
-            (side E.taken E.failures errors.old) (side E.taken E.failures errors.new) (reported self.now) result }
+        ensures { WritesBoth (side O.taken O.failures output.old)
+            (side O.taken O.failures output.new)
+            (side E.taken E.failures errors.old) (side E.taken E.failures errors.new)
+            (reported self.now) result }
     {
         match self {
             Report::Nodes(count) => write_count(*count, " nodes\n", output),

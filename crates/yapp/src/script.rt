@@ -67,7 +67,8 @@ impl Script {
 
     /// The script that bytes are.
     pub fn read(alloc: Global, bytes: &[u8]) -> Result<Script, AllocError>
-        ensures { IfOk result (λ script. IsScript (kinds_in script) (edits_in script) (lines_of bytes.now)) }
+        ensures { IfOk result (λ script. IsScript (kinds_in script) (edits_in script)
+            (lines_of bytes.now)) }
     {
         let parts = parts_of(alloc, bytes)?;
         match parts.split_last() {
@@ -78,7 +79,8 @@ impl Script {
 
     /// A script of lines that line feeds end, and a last one.
     fn with_lines(alloc: Global, lines: &[&[u8]], last: &[u8]) -> Result<Script, AllocError>
-        ensures { IfOk result (λ script. IsScript (kinds_in script) (edits_in script) (map (λ line. without_return line.now) lines.now ++ last.now ∷ [])) }
+        ensures { IfOk result (λ script. IsScript (kinds_in script) (edits_in script)
+            (map (λ line. without_return line.now) lines.now ++ last.now ∷ [])) }
     {
         let mut script = Script::new(alloc);
         for line in lines {
@@ -90,8 +92,10 @@ impl Script {
 
     /// Adds a line.
     fn add(&mut self, line: &[u8]) -> Result<(), AllocError>
-        ensures kinds { OnOk result (kinds_in self.new ≡ kinds_in self.old ++ line_of (asked_in line.now) ∷ []) }
-        ensures edits { OnOk result (edits_in self.new ≡ edits_in self.old ++ edit_of (asked_in line.now)) }
+        ensures kinds { OnOk result (kinds_in self.new ≡ kinds_in self.old
+            ++ line_of (asked_in line.now) ∷ []) }
+        ensures edits { OnOk result (edits_in self.new ≡ edits_in self.old
+            ++ edit_of (asked_in line.now)) }
     {
         let asked = match asked_in(self.alloc, line) {
             Ok(None) => Asked::Nothing,
@@ -115,7 +119,8 @@ impl Script {
 
     /// Its refused lines, by what came of each edit.
     pub fn refused(&self, outcomes: &[Outcome]) -> Result<Vec<RefusedLine>, AllocError>
-        ensures { IfOk result (λ lines. refused_texts lines.items ≡ told_from 1 (kinds_in self.now) (outcomes_view outcomes.now)) }
+        ensures { IfOk result (λ lines. refused_texts lines.items
+            ≡ told_from 1 (kinds_in self.now) (outcomes_view outcomes.now)) }
     {
         let mut refused = Vec::new(self.alloc);
         let mut rest = outcomes;
@@ -135,7 +140,8 @@ fn add_refused(
     number: usize,
     refusal: Option<Refusal>,
 ) -> Result<(), AllocError>
-    ensures { OnOk result (refused_texts lines.new.items ≡ refused_texts lines.old.items ++ decision_text number (option_map refusal_of refusal)) }
+    ensures { OnOk result (refused_texts lines.new.items ≡ refused_texts lines.old.items
+        ++ decision_text number (option_map refusal_of refusal)) }
 {
     if let Some(refusal) = refusal {
         lines.push(RefusedLine { number, refusal })?;
@@ -145,7 +151,8 @@ fn add_refused(
 
 /// Why a line is refused, if it is, by what came of the edits from it on.
 fn refusal_of(line: Asked, outcomes: &[Outcome]) -> Option<Refusal>
-    ensures { option_map refusal_of result ≡ refusal_in (line_view line) (outcomes_view outcomes.now) }
+    ensures { option_map refusal_of result
+        ≡ refusal_in (line_view line) (outcomes_view outcomes.now) }
 {
     match line {
         Asked::Nothing => None,
@@ -162,7 +169,8 @@ fn refusal_of(line: Asked, outcomes: &[Outcome]) -> Option<Refusal>
 
 /// What came of the edits behind a line.
 fn outcomes_behind(line: Asked, outcomes: &[Outcome]) -> &[Outcome]
-    ensures { outcomes_view result.now ≡ behind (line_view line) (outcomes_view outcomes.entry.now) }
+    ensures { outcomes_view result.now
+        ≡ behind (line_view line) (outcomes_view outcomes.entry.now) }
 {
     match (line, outcomes.split_first()) {
         (Asked::Edit, Some((_, behind))) => behind,
@@ -172,7 +180,8 @@ fn outcomes_behind(line: Asked, outcomes: &[Outcome]) -> &[Outcome]
 
 /// What stands between line feeds.
 fn parts_of(alloc: Global, bytes: &[u8]) -> Result<Vec<&[u8]>, AllocError>
-    ensures { IfOk result (λ parts. map (λ part. part.now) parts.items ≡ slice_split (λ x. x == line_feed) bytes.now) }
+    ensures { IfOk result (λ parts. map (λ part. part.now) parts.items
+        ≡ slice_split (λ x. x == line_feed) bytes.now) }
 {
     bytes.split(|byte| *byte == b'\n').collect(alloc)
 }

@@ -36,7 +36,8 @@ impl StoredCases {
     /// How many of these cases have a data node stored in what is left of a row.
     pub(crate) fn of(cases: Children<'_>, rest: &[Stored]) -> StoredCases
         ensures { let t = document_view.row_view rest.now in
-            IsSorted t → result ≡ how_many (stored_cases (instances_in t) (schema_view.row_view cases.entry)) }
+            IsSorted t → result ≡ how_many
+            (stored_cases (instances_in t) (schema_view.row_view cases.entry)) }
     {
         let mut count = StoredCases::Zero;
         let mut left = rest;
@@ -68,7 +69,8 @@ impl Chosen {
         ensures same { result ≡ chosen_from (number_of default_case) with_stored }
         ensures chooses { (stored : _) (k : _) (cases : Forest spec.SchemaNode) → IsNumbered k cases
             → with_stored ≡ how_many (stored_cases stored cases)
-            → Chooses result stored (or_default (number_of default_case) (stored_cases stored cases)) cases }
+            → Chooses result stored (or_default (number_of default_case)
+            (stored_cases stored cases)) cases }
     {
         match (with_stored, default_case) {
             (StoredCases::Zero, Some(id)) => Chosen::Only(id),
@@ -80,7 +82,8 @@ impl Chosen {
     /// Whether a case is in play, given what is left of the row of the choice.
     pub(crate) fn has(self, case: Child<'_>, rest: &[Stored]) -> bool
         ensures { let t = document_view.row_view rest.now in
-            IsSorted t → result ≡ is_chosen self (instances_in t) (schema_view.label_of case.entry).number (schema_view.below_of case.entry) }
+            IsSorted t → result ≡ is_chosen self (instances_in t)
+            (schema_view.label_of case.entry).number (schema_view.below_of case.entry) }
     {
         match self {
             Chosen::NoCase => false,
@@ -95,7 +98,8 @@ impl Chosen {
 #[cycle(stored)]
 pub(crate) fn has_stored(children: Children<'_>, rest: &[Stored]) -> bool
     ensures { let t = document_view.row_view rest.now in
-        IsSorted t → result ≡ nat_lt 0 (stored_among (instances_in t) (schema_view.row_view children.entry)) }
+        IsSorted t → result ≡ nat_lt 0
+        (stored_among (instances_in t) (schema_view.row_view children.entry)) }
 {
     for child in children {
         if is_met(child, rest) {
@@ -109,7 +113,8 @@ pub(crate) fn has_stored(children: Children<'_>, rest: &[Stored]) -> bool
 #[cycle(stored)]
 fn is_met(child: Child<'_>, rest: &[Stored]) -> bool
     ensures { let t = document_view.row_view rest.now in IsSorted t
-        → result ≡ nat_lt 0 (stored_among (instances_in t) (node (schema_view.label_of child.entry) (schema_view.below_of child.entry) end)) }
+        → result ≡ nat_lt 0 (stored_among (instances_in t)
+        (node (schema_view.label_of child.entry) (schema_view.below_of child.entry) end)) }
 {
     if child.node().kind.is_data() {
         is_stored(child.id(), rest)
@@ -120,7 +125,8 @@ fn is_met(child: Child<'_>, rest: &[Stored]) -> bool
 
 /// Whether a node is stored in a row in order: the first that doesn't stand before it is one.
 pub(crate) fn is_stored(id: SchemaId, rest: &[Stored]) -> bool
-    ensures { let t = document_view.row_view rest.now in IsSorted t → result ≡ nat_lt 0 (instances_in t id.0) }
+    ensures { let t = document_view.row_view rest.now in
+        IsSorted t → result ≡ nat_lt 0 (instances_in t id.0) }
 {
     for stored in rest {
         if id.0 <= stored.id().0 {

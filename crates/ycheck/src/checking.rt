@@ -49,7 +49,8 @@ impl Findings {
     }
 
     fn leave(&mut self)
-        ensures place { self.new.steps.items ≡ take (length self.old.steps.items - 1) self.old.steps.items }
+        ensures place { self.new.steps.items
+            ≡ take (length self.old.steps.items - 1) self.old.steps.items }
         ensures found { self.new.faults.items ≡ self.old.faults.items }
     {
         self.steps.pop();
@@ -63,7 +64,8 @@ impl Findings {
         info: Info,
     ) -> Result<(), AllocError>
         ensures { OnOk result (Adds self.old self.new
-            (given_fault (code_view code) (option_map string_bytes app_tag) (info_view info) ∷ [])) }
+            (given_fault (code_view code) (option_map string_bytes app_tag) (info_view info)
+            ∷ [])) }
     {
         let steps = Vec::from_slice(self.alloc, &self.steps)?;
         self.faults.push(Fault {
@@ -89,7 +91,8 @@ fn own_app_tag(alloc: Global, code: FaultCode) -> Result<Option<String>, AllocEr
 
 /// Tells a fault of the node at hand, with the error-app-tag of its code.
 fn tell(code: FaultCode, info: Info, findings: &mut Findings) -> Result<(), AllocError>
-    ensures { OnOk result (Adds findings.old findings.new (fault_with (info_view info) (code_view code) [] ∷ [])) }
+    ensures { OnOk result (Adds findings.old findings.new
+        (fault_with (info_view info) (code_view code) [] ∷ [])) }
 {
     let app_tag = own_app_tag(findings.alloc, code)?;
     findings.tell(code, app_tag, info)
@@ -97,7 +100,8 @@ fn tell(code: FaultCode, info: Info, findings: &mut Findings) -> Result<(), Allo
 
 /// Tells a fault of a schema node below the node at hand.
 fn tell_below(id: SchemaId, code: FaultCode, findings: &mut Findings) -> Result<(), AllocError>
-    ensures { OnOk result (Adds findings.old findings.new (plain_fault (code_view code) (step_to id.0 ∷ []) ∷ [])) }
+    ensures { OnOk result (Adds findings.old findings.new
+        (plain_fault (code_view code) (step_to id.0 ∷ []) ∷ [])) }
 {
     findings.enter(Step { id, position: None })?;
     tell(code, Info::None, findings)?;
@@ -107,7 +111,8 @@ fn tell_below(id: SchemaId, code: FaultCode, findings: &mut Findings) -> Result<
 
 /// All faults of a document whose rows stand in the order of its schema, in order of definition.
 pub fn faults(alloc: Global, schema: &Schema, tree: &Tree) -> Result<Vec<Fault>, AllocError>
-    ensures { let schema' = schema_view.view schema.now in let tree' = document_view.tree_view tree.now in
+    ensures { let schema' = schema_view.view schema.now in
+        let tree' = document_view.tree_view tree.now in
         IsSorted tree' → IfOk result (λ found. views found.items ≡ faults_of schema' tree') }
 {
     let targets = Targets::of(alloc, schema, tree)?;
@@ -139,8 +144,10 @@ fn check_row(
     row: &[Stored],
     findings: &mut Findings,
 ) -> Result<(), AllocError>
-    ensures { let t = document_view.row_view row.now in IsSorted t → OnOk result (Adds findings.old findings.new
-        (walked (times_of targets.now) (schema_view.view schema.now) chosen (schema_view.row_view children.entry) t)) }
+    ensures { let t = document_view.row_view row.now in
+        IsSorted t → OnOk result (Adds findings.old findings.new
+        (walked (times_of targets.now) (schema_view.view schema.now) chosen
+        (schema_view.row_view children.entry) t)) }
 {
     let mut rest = row;
     for child in children {
@@ -159,10 +166,13 @@ fn check_child<'a>(
     rest: &'a [Stored],
     findings: &mut Findings,
 ) -> Result<&'a [Stored], AllocError>
-    ensures found { let t = document_view.row_view rest.entry.now in IsSorted t → OnOk result (Adds findings.old findings.new
-        (walked (times_of targets.now) (schema_view.view schema.now) chosen (node (schema_view.label_of child.entry) (schema_view.below_of child.entry) end) t)) }
+    ensures found { let t = document_view.row_view rest.entry.now in
+        IsSorted t → OnOk result (Adds findings.old findings.new
+        (walked (times_of targets.now) (schema_view.view schema.now) chosen
+        (node (schema_view.label_of child.entry) (schema_view.below_of child.entry) end) t)) }
     ensures behind { IfOk result (λ behind. document_view.row_view behind.now
-        ≡ others (schema_view.label_of child.entry).number (document_view.row_view rest.entry.now)) }
+        ≡ others (schema_view.label_of child.entry).number
+        (document_view.row_view rest.entry.now)) }
 {
     let (found, behind) = instances_of(rest, child.id());
     if child.node().kind.is_data() {
@@ -187,7 +197,8 @@ fn check_inside(
     ensures { let t = document_view.row_view rest.now in let n = schema_view.label_of child.entry in
         IsSorted t → OnOk result (Adds findings.old findings.new
         (inside_told n n.kind chosen (schema_view.below_of child.entry)
-        (λ d u. walked (times_of targets.now) (schema_view.view schema.now) d (schema_view.below_of child.entry) u) t)) }
+        (λ d u. walked (times_of targets.now) (schema_view.view schema.now) d
+        (schema_view.below_of child.entry) u) t)) }
 {
     let node = child.node();
     match &node.kind {
@@ -219,7 +230,8 @@ fn check_choice(
     stored: StoredCases,
     findings: &mut Findings,
 ) -> Result<(), AllocError>
-    ensures { OnOk result (Adds findings.old findings.new (choice_told (string_bytes node.now.name) mandatory stored)) }
+    ensures { OnOk result (Adds findings.old findings.new
+        (choice_told (string_bytes node.now.name) mandatory stored)) }
 {
     match stored {
         StoredCases::Zero => {
@@ -243,9 +255,12 @@ fn check_data(
     found: &[Stored],
     findings: &mut Findings,
 ) -> Result<(), AllocError>
-    ensures { let t = document_view.row_view found.now in IsSorted t → OnOk result (Adds findings.old findings.new
-        (data_told (times_of targets.now) (schema_view.view schema.now) (schema_view.label_of child.entry) (schema_view.label_of child.entry).kind
-        (λ u. walked (times_of targets.now) (schema_view.view schema.now) variant.NoCase (schema_view.below_of child.entry) u) t)) }
+    ensures { let t = document_view.row_view found.now in
+        IsSorted t → OnOk result (Adds findings.old findings.new
+        (data_told (times_of targets.now) (schema_view.view schema.now)
+        (schema_view.label_of child.entry) (schema_view.label_of child.entry).kind
+        (λ u. walked (times_of targets.now) (schema_view.view schema.now) variant.NoCase
+        (schema_view.below_of child.entry) u) t)) }
 {
     check_amount(child, found.len(), findings)?;
     if found.is_empty() {
@@ -273,7 +288,8 @@ fn tell_amount(
     count: usize,
     findings: &mut Findings,
 ) -> Result<(), AllocError>
-    ensures { OnOk result (Adds findings.old findings.new (wrong_amount id.0 (amount_view amount) count)) }
+    ensures { OnOk result (Adds findings.old findings.new
+        (wrong_amount id.0 (amount_view amount) count)) }
 {
     if count < amount.least as usize {
         tell_below(id, FaultCode::V6, findings)
@@ -301,8 +317,10 @@ fn check_absent(
     child: Child<'_>,
     findings: &mut Findings,
 ) -> Result<(), AllocError>
-    ensures { let n = schema_view.label_of child.entry in OnOk result (Adds findings.old findings.new
-        (absent_told n.number n.kind (walked (times_of targets.now) (schema_view.view schema.now) variant.NoCase (schema_view.below_of child.entry) end))) }
+    ensures { let n = schema_view.label_of child.entry in
+        OnOk result (Adds findings.old findings.new
+        (absent_told n.number n.kind (walked (times_of targets.now)
+        (schema_view.view schema.now) variant.NoCase (schema_view.below_of child.entry) end))) }
 {
     match &child.node().kind {
         Kind::Container { presence: false } => {
@@ -321,7 +339,8 @@ fn check_absent(
 }
 
 fn tell_absence(id: SchemaId, absence: &Absence, findings: &mut Findings) -> Result<(), AllocError>
-    ensures { OnOk result (Adds findings.old findings.new (absent_leaf_faults id.0 (absence_view absence.now))) }
+    ensures { OnOk result (Adds findings.old findings.new
+        (absent_leaf_faults id.0 (absence_view absence.now))) }
 {
     match absence {
         Absence::Mandatory => tell_below(id, FaultCode::V3, findings),
@@ -339,9 +358,12 @@ fn check_found(
     found: &[Stored],
     findings: &mut Findings,
 ) -> Result<(), AllocError>
-    ensures { let t = document_view.row_view found.now in IsSorted t → OnOk result (Adds findings.old findings.new
-        (instances_told (times_of targets.now) (schema_view.view schema.now) (schema_view.label_of child.entry) (schema_view.label_of child.entry).kind
-        (λ u. walked (times_of targets.now) (schema_view.view schema.now) variant.NoCase (schema_view.below_of child.entry) u) t)) }
+    ensures { let t = document_view.row_view found.now in
+        IsSorted t → OnOk result (Adds findings.old findings.new
+        (instances_told (times_of targets.now) (schema_view.view schema.now)
+        (schema_view.label_of child.entry) (schema_view.label_of child.entry).kind
+        (λ u. walked (times_of targets.now) (schema_view.view schema.now) variant.NoCase
+        (schema_view.below_of child.entry) u) t)) }
 {
     let node = child.node();
     let repeated = repeated_in(findings.alloc, schema, node, found)?;
@@ -369,7 +391,8 @@ fn check_found(
 
 /// The position of the instance behind so many, of a node that may be stored more than once.
 fn position_of(node: &SchemaNode, index: usize) -> Result<Option<u32>, AllocError>
-    ensures { IfOk result (λ position. position ≡ position_at (is_many (kind_view node.now.kind)) (index + 1)) }
+    ensures { IfOk result (λ position. position
+        ≡ position_at (is_many (kind_view node.now.kind)) (index + 1)) }
 {
     if !node.kind.is_many() {
         Ok(None)
@@ -388,7 +411,8 @@ fn check_value(
     findings: &mut Findings,
 ) -> Result<(), AllocError>
     ensures { OnOk result (Adds findings.old findings.new
-        (value_told (times_of targets.now) (kind_view node.now.kind) (option_map (λ raw. raw_of raw.now) value.entry))) }
+        (value_told (times_of targets.now) (kind_view node.now.kind)
+        (option_map (λ raw. raw_of raw.now) value.entry))) }
 {
     match (&node.kind, value) {
         (Kind::Leaf { leaf_type, .. }, Some(raw)) => check_raw(targets, leaf_type, raw, findings),
@@ -423,7 +447,8 @@ fn check_raw(
 
 /// Whether a value of a type that requires an instance has none.
 fn lacks_instance(targets: &Targets, leaf_type: &LeafType, value: &Val) -> bool
-    ensures { result ≡ lacks_instance (times_of targets.now) (leaf_type_view leaf_type.now) value.now }
+    ensures { result ≡ lacks_instance (times_of targets.now)
+        (leaf_type_view leaf_type.now) value.now }
 {
     if leaf_type.value_type.requires_instance() != Some(true) {
         return false;
@@ -443,7 +468,8 @@ fn repeated_in(
     found: &[Stored],
 ) -> Result<Vec<Vec<bool>>, AllocError>
     ensures { IfOk result (λ table. map (λ marks. marks.items) table.items
-        ≡ table_of (schema_view.view schema.now) (kind_view node.now.kind) node.now.config found.now) }
+        ≡ table_of (schema_view.view schema.now)
+        (kind_view node.now.kind) node.now.config found.now) }
 {
     match &node.kind {
         Kind::List { tuples, .. } => repeated_entries(alloc, schema, tuples, found),
@@ -481,7 +507,8 @@ fn tell_repeated(
     findings: &mut Findings,
 ) -> Result<(), AllocError>
     ensures { OnOk result (Adds findings.old findings.new
-        (marks_told (has_value (kind_view node.now.kind)) 0 (marks_at index (map (λ marks. marks.items) repeated.now)))) }
+        (marks_told (has_value (kind_view node.now.kind)) 0
+        (marks_at index (map (λ marks. marks.items) repeated.now)))) }
 {
     let is_item = node.kind.has_value();
     for (which, marks) in repeated.iter().enumerate() {

@@ -99,7 +99,8 @@ fn write_name<W: Sink>(
     sink: &mut W,
 ) -> Result<(), LineFault>
     ensures { Writes (side W.taken W.failures sink.old) (side W.taken W.failures sink.new)
-        (codes "/" ++ spec.written_name (schema_view.view schema.now) parent_module (node_view 0 node.now)) result }
+        (codes "/" ++ spec.written_name (schema_view.view schema.now) parent_module
+        (node_view 0 node.now)) result }
 {
     let name = node.name.as_str();
     if parent_module == Some(node.module) {

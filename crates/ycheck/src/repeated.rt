@@ -44,7 +44,8 @@ pub(crate) fn repeated_items(
     value_type: &YType,
     items: &[Stored],
 ) -> Result<Vec<bool>, AllocError>
-    ensures { IfOk result (λ found. found.items ≡ marks same_value (values_of value_type.now items.now)) }
+    ensures { IfOk result (λ found. found.items
+        ≡ marks same_value (values_of value_type.now items.now)) }
 {
     let mut values = Vec::with_capacity(alloc, items.len())?;
     for item in items {
@@ -63,7 +64,8 @@ pub(crate) fn repeated_tuples(
     number: usize,
 ) -> Result<Vec<bool>, AllocError>
     ensures { let s = schema_view.view schema.now in
-        IfOk result (λ found. found.items ≡ marks same_tuple (tuples_of s (tuples_view tuples.now) number entries.now)) }
+        IfOk result (λ found. found.items
+        ≡ marks same_tuple (tuples_of s (tuples_view tuples.now) number entries.now)) }
 {
     let mut found = Vec::with_capacity(alloc, entries.len())?;
     for entry in entries {
@@ -80,8 +82,10 @@ fn tuple_of(
     row: &[Stored],
     number: usize,
 ) -> Result<Option<Vec<Val>>, AllocError>
-    ensures { let s = schema_view.view schema.now in IfOk result (λ tuple. option_map (λ vs. vs.items) tuple
-        ≡ tuple_of_paths s (document_view.row_view row.now) (paths_of (tuples_view tuples.now) number)) }
+    ensures { let s = schema_view.view schema.now in
+        IfOk result (λ tuple. option_map (λ vs. vs.items) tuple
+        ≡ tuple_of_paths s (document_view.row_view row.now)
+        (paths_of (tuples_view tuples.now) number)) }
 {
     if number == 0 {
         return key_of(alloc, schema, &tuples.keys, row);
@@ -99,7 +103,8 @@ fn key_of(
     keys: &[SchemaId],
     row: &[Stored],
 ) -> Result<Option<Vec<Val>>, AllocError>
-    ensures { let s = schema_view.view schema.now in IfOk result (λ tuple. option_map (λ vs. vs.items) tuple
+    ensures { let s = schema_view.view schema.now in
+        IfOk result (λ tuple. option_map (λ vs. vs.items) tuple
         ≡ tuple_of_paths s (document_view.row_view row.now) (map own_path (numbers_of keys.now))) }
 {
     if keys.is_empty() {
@@ -122,8 +127,10 @@ fn unique_of(
     paths: &[Vec<SchemaId>],
     row: &[Stored],
 ) -> Result<Option<Vec<Val>>, AllocError>
-    ensures { let s = schema_view.view schema.now in IfOk result (λ tuple. option_map (λ vs. vs.items) tuple
-        ≡ tuple_of_paths s (document_view.row_view row.now) (map (λ path. numbers_of path.items) paths.now)) }
+    ensures { let s = schema_view.view schema.now in
+        IfOk result (λ tuple. option_map (λ vs. vs.items) tuple
+        ≡ tuple_of_paths s (document_view.row_view row.now)
+        (map (λ path. numbers_of path.items) paths.now)) }
 {
     if paths.is_empty() {
         return Ok(None);

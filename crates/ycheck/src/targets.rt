@@ -66,8 +66,10 @@ impl Targets {
 
     /// Keeps the values of a schema node from now on.
     fn keep(&mut self, alloc: Global, id: SchemaId) -> Result<(), AllocError>
-        ensures kept { OnOk result ((number : _) → is_kept self.new number ≡ (is_kept self.old number || id.0 == number)) }
-        ensures held { OnOk result ((number v : _) → holds self.new number v ≡ holds self.old number v) }
+        ensures kept { OnOk result ((number : _) → is_kept self.new number
+            ≡ (is_kept self.old number || id.0 == number)) }
+        ensures held { OnOk result ((number v : _) → holds self.new number v
+            ≡ holds self.old number v) }
     {
         if !self.is_kept(id) {
             self.sets.insert(id, BTreeSet::new(alloc))?;
@@ -109,8 +111,10 @@ fn keep_targets(
     targets: &mut Targets,
 ) -> Result<(), AllocError>
     ensures kept { OnOk result ((number : _) → words.is_kept targets.new number
-        ≡ (words.is_kept targets.old number || words.is_target_in (schema_view.row_view children.entry) number)) }
-    ensures held { OnOk result ((number v : _) → words.holds targets.new number v ≡ words.holds targets.old number v) }
+        ≡ (words.is_kept targets.old number
+        || words.is_target_in (schema_view.row_view children.entry) number)) }
+    ensures held { OnOk result ((number v : _) → words.holds targets.new number v
+        ≡ words.holds targets.old number v) }
 {
     for child in children {
         keep_target(alloc, child, targets)?;
@@ -122,8 +126,10 @@ fn keep_targets(
 /// Keeps the values of the schema node to which a node refers.
 fn keep_target(alloc: Global, child: Child<'_>, targets: &mut Targets) -> Result<(), AllocError>
     ensures kept { OnOk result ((number : _) → words.is_kept targets.new number
-        ≡ (words.is_kept targets.old number || words.refers_to number (schema_view.label_of child.entry))) }
-    ensures held { OnOk result ((number v : _) → words.holds targets.new number v ≡ words.holds targets.old number v) }
+        ≡ (words.is_kept targets.old number
+        || words.refers_to number (schema_view.label_of child.entry))) }
+    ensures held { OnOk result ((number v : _) → words.holds targets.new number v
+        ≡ words.holds targets.old number v) }
 {
     match required_target(&child.node().kind) {
         Some(id) => targets.keep(alloc, id),
@@ -140,8 +146,10 @@ fn add_row(
     row: &[Stored],
     targets: &mut Targets,
 ) -> Result<(), AllocError>
-    ensures { let s = schema_view.view schema.now in let t = document_view.row_view row.now in OnOk result (IsSorted t
-        → words.Gathers targets.old targets.new (words.times_of_row s (schema_view.row_view children.entry) t)) }
+    ensures { let s = schema_view.view schema.now in let t = document_view.row_view row.now in
+        OnOk result (IsSorted t
+        → words.Gathers targets.old targets.new
+        (words.times_of_row s (schema_view.row_view children.entry) t)) }
 {
     add_in_use(alloc, children, Chosen::NoCase, row, targets)?;
     for stored in row {
@@ -158,7 +166,8 @@ fn add_stored(
     stored: &Stored,
     targets: &mut Targets,
 ) -> Result<(), AllocError>
-    ensures { let s = schema_view.view schema.now in let n = document_view.view stored.now in OnOk result (IsSorted n.1
+    ensures { let s = schema_view.view schema.now in let n = document_view.view stored.now in
+        OnOk result (IsSorted n.1
         → words.Gathers targets.old targets.new (words.times_of_node s n.0 n.1)) }
 {
     add_own(alloc, schema, stored, targets)?;
@@ -174,7 +183,8 @@ fn add_own(
     targets: &mut Targets,
 ) -> Result<(), AllocError>
     ensures { let s = schema_view.view schema.now in
-        OnOk result (words.Gathers targets.old targets.new (words.own_value s (document_view.view stored.now).0)) }
+        OnOk result (words.Gathers targets.old targets.new
+        (words.own_value s (document_view.view stored.now).0)) }
 {
     let id = stored.id();
     if !targets.is_kept(id) {
@@ -195,8 +205,10 @@ fn add_in_use(
     rest: &[Stored],
     targets: &mut Targets,
 ) -> Result<(), AllocError>
-    ensures { let t = document_view.row_view rest.entry.now in let f = schema_view.row_view children.entry in OnOk result ((numbers : _) → IsSorted t
-        → Chooses chosen (instances_in t) numbers f → words.Gathers targets.old targets.new (words.times_used (instances_in t) numbers f)) }
+    ensures { let t = document_view.row_view rest.entry.now in
+        let f = schema_view.row_view children.entry in OnOk result ((numbers : _) → IsSorted t
+        → Chooses chosen (instances_in t) numbers f
+        → words.Gathers targets.old targets.new (words.times_used (instances_in t) numbers f)) }
 {
     let mut rest = rest;
     for child in children {
@@ -216,9 +228,11 @@ fn add_child(
     rest: &[Stored],
     targets: &mut Targets,
 ) -> Result<(), AllocError>
-    ensures { let t = document_view.row_view rest.now in let f = node (schema_view.label_of child.entry) (schema_view.below_of child.entry) end in
+    ensures { let t = document_view.row_view rest.now in
+        let f = node (schema_view.label_of child.entry) (schema_view.below_of child.entry) end in
         OnOk result ((numbers : _) → IsSorted t
-        → Chooses chosen (instances_in t) numbers f → words.Gathers targets.old targets.new (words.times_used (instances_in t) numbers f)) }
+        → Chooses chosen (instances_in t) numbers f
+        → words.Gathers targets.old targets.new (words.times_used (instances_in t) numbers f)) }
 {
     match &child.node().kind {
         Kind::Choice { default_case, .. } => {
@@ -245,7 +259,8 @@ fn add_child(
 #[cycle(in_use)]
 fn add_absent(alloc: Global, child: Child<'_>, targets: &mut Targets) -> Result<(), AllocError>
     ensures { let n = schema_view.label_of child.entry in OnOk result (spec.is_data n.kind ≡ true
-        → words.Gathers targets.old targets.new (words.times_used (instances_in end) [] (node n (schema_view.below_of child.entry) end))) }
+        → words.Gathers targets.old targets.new
+        (words.times_used (instances_in end) [] (node n (schema_view.below_of child.entry) end))) }
 {
     match &child.node().kind {
         Kind::Container { presence } => {
@@ -262,7 +277,8 @@ fn add_absent(alloc: Global, child: Child<'_>, targets: &mut Targets) -> Result<
 
 /// Adds the default of a leaf.
 fn add_default(id: SchemaId, absence: &Absence, targets: &mut Targets) -> Result<(), AllocError>
-    ensures { OnOk result (words.Gathers targets.old targets.new (words.default_value id.0 (absence_view absence.now))) }
+    ensures { OnOk result (words.Gathers targets.old targets.new
+        (words.default_value id.0 (absence_view absence.now))) }
 {
     match absence {
         Absence::DefaultUsed(value) => add_copy(id, value, targets),
@@ -271,7 +287,8 @@ fn add_default(id: SchemaId, absence: &Absence, targets: &mut Targets) -> Result
 }
 
 fn add_copies(id: SchemaId, values: &[Val], targets: &mut Targets) -> Result<(), AllocError>
-    ensures { OnOk result (words.Gathers targets.old targets.new (words.some_values id.0 values.now)) }
+    ensures { OnOk result (words.Gathers targets.old targets.new
+        (words.some_values id.0 values.now)) }
 {
     if !targets.is_kept(id) {
         return Ok(());

@@ -21,7 +21,8 @@ pub(crate) fn valid_value(
     value_type: &YType,
     raw: Option<&Raw>,
 ) -> Result<Option<Val>, AllocError>
-    ensures { IfOk result (λ value. value ≡ option_and_then (taken value_type.now) (option_map (λ r. raw_of r.now) raw.entry)) }
+    ensures { IfOk result (λ value. value
+        ≡ option_and_then (taken value_type.now) (option_map (λ r. raw_of r.now) raw.entry)) }
 {
     let Some(raw) = raw else {
         return Ok(None);
@@ -39,7 +40,8 @@ pub(crate) fn value_of(
     schema: &Schema,
     stored: &Stored,
 ) -> Result<Option<Val>, AllocError>
-    ensures { IfOk result (λ value. value ≡ spec.value_of (schema_view.view schema.now) (document_view.view stored.now).0) }
+    ensures { IfOk result (λ value. value
+        ≡ spec.value_of (schema_view.view schema.now) (document_view.view stored.now).0) }
 {
     match schema.kind(stored.id()) {
         Some(node) => kind_value(alloc, &node.kind, stored.value()),
@@ -49,7 +51,8 @@ pub(crate) fn value_of(
 
 fn kind_value(alloc: Global, kind: &Kind, raw: Option<&Raw>) -> Result<Option<Val>, AllocError>
     ensures { IfOk result (λ value. value
-        ≡ option_and_then (spec.kind_value (schema_view.kind_view kind.now)) (option_map (λ r. raw_of r.now) raw.entry)) }
+        ≡ option_and_then (spec.kind_value (schema_view.kind_view kind.now))
+        (option_map (λ r. raw_of r.now) raw.entry)) }
 {
     match kind {
         Kind::Leaf { leaf_type, .. } | Kind::LeafList { leaf_type, .. } => {
@@ -61,8 +64,10 @@ fn kind_value(alloc: Global, kind: &Kind, raw: Option<&Raw>) -> Result<Option<Va
 
 /// The first instance of a schema node in a row.
 fn stored_in(id: SchemaId, row: &[Stored]) -> Option<&Stored>
-    ensures node { option_map (λ s. (document_view.view s.now).0) result ≡ stored_in id.0 (document_view.row_view row.entry.now) }
-    ensures below { option_map (λ s. (document_view.view s.now).1) result ≡ row_in id.0 (document_view.row_view row.entry.now) }
+    ensures node { option_map (λ s. (document_view.view s.now).0) result
+        ≡ stored_in id.0 (document_view.row_view row.entry.now) }
+    ensures below { option_map (λ s. (document_view.view s.now).1) result
+        ≡ row_in id.0 (document_view.row_view row.entry.now) }
 {
     for stored in row {
         if stored.id().0 == id.0 {
@@ -91,7 +96,8 @@ pub(crate) fn leaf_value(
 /// The default of a leaf.
 fn default_of(schema: &Schema, id: SchemaId) -> Result<Option<Val>, AllocError>
     ensures { IfOk result (λ value. value
-        ≡ option_and_then (λ n. spec.absent_value n.kind) (node_at (schema_view.view schema.now) id.0)) }
+        ≡ option_and_then (λ n. spec.absent_value n.kind)
+        (node_at (schema_view.view schema.now) id.0)) }
 {
     match schema.kind(id) {
         Some(node) => absent_value(&node.kind),
@@ -114,7 +120,8 @@ fn absent_value(kind: &Kind) -> Result<Option<Val>, AllocError>
 /// The row in a container in play, stored or implied.
 fn container_row<'a>(schema: &Schema, row: &'a [Stored], id: SchemaId) -> Option<&'a [Stored]>
     ensures { let s = schema_view.view schema.now in let t = document_view.row_view row.entry.now in
-        option_map (λ r. document_view.row_view r.now) result ≡ spec.container_row s id.0 (row_in id.0 t) }
+        option_map (λ r. document_view.row_view r.now) result
+        ≡ spec.container_row s id.0 (row_in id.0 t) }
 {
     match stored_in(id, row) {
         Some(stored) => Some(stored.below()),
@@ -124,7 +131,8 @@ fn container_row<'a>(schema: &Schema, row: &'a [Stored], id: SchemaId) -> Option
 
 fn implied_row<'a>(schema: &Schema, id: SchemaId) -> Option<&'a [Stored]>
     ensures { option_map (λ r. document_view.row_view r.now) result
-        ≡ option_and_then (λ n. spec.implied_row n.kind) (node_at (schema_view.view schema.now) id.0) }
+        ≡ option_and_then (λ n. spec.implied_row n.kind)
+        (node_at (schema_view.view schema.now) id.0) }
 {
     match &schema.kind(id)?.kind {
         Kind::Container { presence: false } => Some(&[]),

@@ -221,7 +221,8 @@ fn application<'a>(alloc: Global) -> Result<Command<'a>, AllocError>
 
 /// The modules that were given.
 fn modules_in<'a>(alloc: Global, found: &ArgMatches<'a>) -> Result<Vec<&'a str>, AllocError>
-    ensures { IfOk result (λ names. map (λ n. n.now) names.items ≡ modules_of (rows_of (found_of found.now))) }
+    ensures { IfOk result (λ names. map (λ n. n.now) names.items
+        ≡ modules_of (rows_of (found_of found.now))) }
 {
     Vec::from_slice(alloc, found.get_strs("MODULE").unwrap_or(&[]))
 }

@@ -129,7 +129,8 @@ pub(crate) fn write_label<W: Sink>(
 
 /// How many bytes the name of a node has with its prefix.
 fn prefixed_width(schema: &Schema, shown: usize, node: &SchemaNode) -> u128
-    ensures width { result ≡ length (spec.prefixed_name (view schema.now) shown (node_view 0 node.now)) }
+    ensures width { result ≡ length
+        (spec.prefixed_name (view schema.now) shown (node_view 0 node.now)) }
     ensures bound { result < 2 ^ 66 }
 {
     let width = node.name.len() as u128;

@@ -27,7 +27,8 @@ fn is_shown(owner: Option<usize>, node: &SchemaNode) -> bool
 
 /// The width of the widest label in a row.
 fn row_width(schema: &Schema, shown: usize, owner: Option<usize>, nodes: Children<'_>) -> u128
-    ensures { result ≡ spec.row_width (view schema.now) shown (shown_in owner (row_view nodes.entry)) }
+    ensures { result ≡ spec.row_width (view schema.now) shown
+        (shown_in owner (row_view nodes.entry)) }
 {
     let mut width = 0;
     for child in nodes {
@@ -49,7 +50,8 @@ fn write_line<W: Sink>(
     sink: &mut W,
 ) -> Result<(), DiagramFault>
     ensures { Writes (side W.taken W.failures sink.old) (side W.taken W.failures sink.new)
-        (line_written (view schema.now) shown (indentation_text indentation.now) width (node_view 0 node.now)) result }
+        (line_written (view schema.now) shown (indentation_text indentation.now) width
+        (node_view 0 node.now)) result }
 {
     write_indentation(indentation, sink)?;
     write_marks(node, sink)?;
@@ -69,7 +71,8 @@ fn write_row<W: Sink>(
     sink: &mut W,
 ) -> Result<(), DiagramFault>
     ensures { Writes (side W.taken W.failures sink.old) (side W.taken W.failures sink.new)
-        (row_written (view schema.now) shown (indentation_text indentation.now) (shown_in owner (row_view nodes.entry))) result }
+        (row_written (view schema.now) shown (indentation_text indentation.now)
+        (shown_in owner (row_view nodes.entry))) result }
 {
     let width = row_width(schema, shown, owner, nodes);
     let mut held = None;
@@ -95,7 +98,8 @@ fn write_held<W: Sink>(
     sink: &mut W,
 ) -> Result<(), DiagramFault>
     ensures { Writes (side W.taken W.failures sink.old) (side W.taken W.failures sink.new)
-        (held_written (view schema.now) shown (indentation_text indentation.now) width held.entry is_followed) result }
+        (held_written (view schema.now) shown
+        (indentation_text indentation.now) width held.entry is_followed) result }
 {
     match held {
         Some(child) => write_node(schema, shown, indentation, width, child, is_followed, sink),
@@ -115,7 +119,8 @@ fn write_node<W: Sink>(
     sink: &mut W,
 ) -> Result<(), DiagramFault>
     ensures { Writes (side W.taken W.failures sink.old) (side W.taken W.failures sink.new)
-        (node_written (view schema.now) shown (indentation_text indentation.now) width (label_of child.entry) (below_of child.entry) is_followed) result }
+        (node_written (view schema.now) shown (indentation_text indentation.now) width
+        (label_of child.entry) (below_of child.entry) is_followed) result }
 {
     write_line(schema, shown, indentation, width, child.node(), sink)?;
     let inner = Indentation::Below {

@@ -48,7 +48,8 @@ pub fn check_edits(
     document: &[u8],
     edits: &[Edit],
 ) -> Result<Checked, CheckFault>
-    ensures answer { Gives checked_view told_by result (checked (modules_view modules.now) document.now (edits_view edits.now)) }
+    ensures answer { Gives checked_view told_by result
+        (checked (modules_view modules.now) document.now (edits_view edits.now)) }
     ensures memory { IfErr result TellsOrMemory }
 {
     match compile(alloc, modules) {
@@ -66,7 +67,8 @@ fn check_under(
     edits: &[Edit],
 ) -> Result<Checked, CheckFault>
     ensures answer { let s = schema_view.view schema in
-        Gives checked_view told_by result (checked_from s (edits_view edits.now) (document_of s document.now)) }
+        Gives checked_view told_by result
+        (checked_from s (edits_view edits.now) (document_of s document.now)) }
     ensures memory { IfErr result TellsOrMemory }
 {
     match read(alloc, &schema, document) {
@@ -85,7 +87,8 @@ fn check_under(
 /// The same of a live document.
 fn check_live(mut live: Live, edits: &[Edit]) -> Result<Checked, AllocError>
     ensures { let l = live_view.view live in
-        IfOk result (λ checked. Ok (checked_view checked) ≡ checked_from l.schema (edits_view edits.now) (Ok l.tree)) }
+        IfOk result (λ checked. Ok (checked_view checked)
+        ≡ checked_from l.schema (edits_view edits.now) (Ok l.tree)) }
 {
     match live.run(edits) {
         Ok(outcomes) => match live.list() {

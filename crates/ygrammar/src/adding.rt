@@ -51,7 +51,8 @@ pub(crate) fn add_statement<'a>(
     home: usize,
     statement: &'a Stmt,
 ) -> Result<(), AllocError>
-    ensures { let s = text.view statement.entry.now in OnOk result (seen_rows table.new ≡ seen_rows table.old
+    ensures { let s = text.view statement.entry.now in
+        OnOk result (seen_rows table.new ≡ seen_rows table.old
         ++ listed parent home (length (rows_in table.old)) (kept (node s.0 s.1 end))) }
 {
     let Some(keyword) = kept_keyword(statement) else {

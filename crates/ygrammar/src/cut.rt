@@ -17,19 +17,21 @@ pub(crate) fn is_white(byte: u8) -> bool
 
 fn place_of(bytes: &[u8], stop: u8) -> Option<usize>
     ensures value { result ≡ position (λ x. x == stop) bytes.now }
-    ensures within { IfSome result (λ n. (n < length bytes.now) × (slice_index bytes.now n ≡ stop)) }
+    ensures within { IfSome result
+        (λ n. (n < length bytes.now) × (slice_index bytes.now n ≡ stop)) }
 {
     bytes.iter().position(|byte| *byte == stop)
 }
 
 fn white_place(bytes: &[u8]) -> Option<usize>
     ensures value { result ≡ position is_white bytes.now }
-    ensures within { IfSome result (λ n. (n < length bytes.now) × (is_white (slice_index bytes.now n) ≡ true)) }
+    ensures within { IfSome result
+        (λ n. (n < length bytes.now) × (is_white (slice_index bytes.now n) ≡ true)) }
 {
     bytes.iter().position(|byte| is_white(*byte))
 }
 
-// A text before an ASCII character, and behind it.
+/// A text before an ASCII character, and behind it.
 fn around(text: &str, at: usize) -> (&str, &str)
     requires within { at < length text.now }
     requires ascii { slice_index text.now at < 128 }
@@ -42,7 +44,8 @@ fn around(text: &str, at: usize) -> (&str, &str)
 /// A text before and behind the first of these ASCII characters.
 pub(crate) fn cut(text: &str, stop: u8) -> Option<(&str, &str)>
     requires { stop < 128 }
-    ensures parts { slice_split (λ x. x == stop) text.now ≡ parts_of (λ x. x == stop) text.now (option_map sides result) }
+    ensures parts { slice_split (λ x. x == stop) text.now
+        ≡ parts_of (λ x. x == stop) text.now (option_map sides result) }
     ensures shorter { IfSome result (λ p. length p.1.now < length text.now) }
 {
     let at = place_of(text.as_bytes(), stop)?;
@@ -51,7 +54,8 @@ pub(crate) fn cut(text: &str, stop: u8) -> Option<(&str, &str)>
 
 /// A text before and behind the first white space.
 pub(crate) fn cut_at_white(text: &str) -> Option<(&str, &str)>
-    ensures parts { slice_split is_white text.now ≡ parts_of is_white text.now (option_map sides result) }
+    ensures parts { slice_split is_white text.now
+        ≡ parts_of is_white text.now (option_map sides result) }
     ensures shorter { IfSome result (λ p. length p.1.now < length text.now) }
 {
     let at = white_place(text.as_bytes())?;
@@ -68,7 +72,7 @@ pub(crate) fn behind_slash(text: &str) -> Option<&str>
     }
 }
 
-// A text without the white space that it begins with, where it begins with any.
+/// A text without the white space that it begins with, where it begins with any.
 fn behind_white(text: &str) -> Option<&str>
     ensures some { IfSome result (λ t. after_white t.now ≡ after_white text.now) }
     ensures shorter { IfSome result (λ t. length t.now < length text.now) }
@@ -80,7 +84,7 @@ fn behind_white(text: &str) -> Option<&str>
     }
 }
 
-// A text without the white space that it ends with, where it ends with any.
+/// A text without the white space that it ends with, where it ends with any.
 fn without_white(text: &str) -> Option<&str>
     ensures some { IfSome result (λ t. before_white t.now ≡ before_white text.now) }
     ensures shorter { IfSome result (λ t. length t.now < length text.now) }
@@ -126,9 +130,10 @@ fn are_dots(first: u8, second: u8) -> bool
     first == b'.' && second == b'.'
 }
 
-// Where the first `..` stands.
+/// Where the first `..` stands.
 fn dots_place(bytes: &[u8]) -> Option<usize>
-    ensures value { option_map (λ n. (take n bytes.now, drop (n + 2) bytes.now)) result ≡ cut_at_dots bytes.now }
+    ensures value { option_map (λ n. (take n bytes.now, drop (n + 2) bytes.now)) result
+        ≡ cut_at_dots bytes.now }
     ensures within { IfSome result (λ n. n + 1 < length bytes.now) }
     ensures first { IfSome result (λ n. slice_index bytes.now n ≡ 46) }
     ensures second { IfSome result (λ n. slice_index bytes.now (n + 1) ≡ 46) }

@@ -97,7 +97,11 @@ pub fn least(so_far: Option<BrokenRule>, found: BrokenRule) -> Option<BrokenRule
 }
 
 /// The least so far, and another where a condition holds.
-pub fn least_when(condition: bool, so_far: Option<BrokenRule>, found: BrokenRule) -> Option<BrokenRule>
+pub fn least_when(
+    condition: bool,
+    so_far: Option<BrokenRule>,
+    found: BrokenRule,
+) -> Option<BrokenRule>
     ensures { seen result ≡ least_from (seen so_far) (when condition (break_view found ∷ [])) }
 {
     if condition {

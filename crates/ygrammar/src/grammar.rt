@@ -24,11 +24,12 @@ use std::alloc::{AllocError, Global};
 use ytext::{Module, Stmt};
 use yword::{KEYWORDS, Keyword};
 
-// Up to how many substatements are compared with one another, and not counted.
+/// Up to how many substatements are compared with one another, and not counted.
 const FEW: usize = 8;
 
 pub fn broken(code: CompileCode, module: usize, statement: &Stmt) -> BrokenRule
-    ensures { result ≡ record { code = code; «module» = «module»; line = (view statement.now).0.line } }
+    ensures { result ≡ record
+        { code = code; «module» = «module»; line = (view statement.now).0.line } }
 {
     BrokenRule {
         module,
@@ -37,7 +38,7 @@ pub fn broken(code: CompileCode, module: usize, statement: &Stmt) -> BrokenRule
     }
 }
 
-// Whether a keyword has a prefix.
+/// Whether a keyword has a prefix.
 fn is_prefixed(statement: &Stmt) -> bool
     ensures { result ≡ spec.is_prefixed (view statement.now).0.keyword }
 {
@@ -53,7 +54,7 @@ fn has_keyword(statement: &Stmt, keyword: Keyword) -> bool
     }
 }
 
-// How many statements of each keyword there are, by its number.
+/// How many statements of each keyword there are, by its number.
 fn counts_of(statements: &[Stmt]) -> [usize; KEYWORDS]
     ensures { AreOf result (row_view statements.now) }
 {
@@ -103,7 +104,7 @@ fn has_wrong_counts(allowed: &[Allowed], counts: &[usize]) -> bool
     false
 }
 
-// Whether one of some statements has this word as its keyword.
+/// Whether one of some statements has this word as its keyword.
 fn has_word(word: &str, statements: &[Stmt]) -> bool
     ensures { result ≡ has_word word.now (row (row_view statements.now)) }
 {
@@ -115,7 +116,7 @@ fn has_word(word: &str, statements: &[Stmt]) -> bool
     false
 }
 
-// Whether no two statements have the same keyword.
+/// Whether no two statements have the same keyword.
 fn are_apart(statements: &[Stmt]) -> bool
     ensures { result ≡ are_apart (row (row_view statements.now)) }
 {
@@ -149,9 +150,10 @@ fn lacks_any(keywords: &[Keyword], statements: &[Stmt]) -> bool
     false
 }
 
-// Whether there are too many or too few of a substatement.
+/// Whether there are too many or too few of a substatement.
 fn is_miscounted(keyword: Keyword, statement: &Stmt) -> bool
-    ensures { result ≡ list_any (spec.is_miscounted (view statement.now).1) (table.rule_of (keyword_view keyword)).substatements }
+    ensures { result ≡ list_any (spec.is_miscounted (view statement.now).1)
+        (table.rule_of (keyword_view keyword)).substatements }
 {
     let statements = statement.substatements();
     if statements.len() <= FEW && are_apart(statements) {
@@ -191,14 +193,16 @@ fn has_version(statements: &[Stmt]) -> bool
 }
 
 fn is_unversioned(keyword: Keyword, statement: &Stmt) -> bool
-    ensures { result ≡ (same_keyword (keyword_view keyword) module_word && not (list_any spec.is_current_version (row (view statement.now).1))) }
+    ensures { result ≡ (same_keyword (keyword_view keyword) module_word
+        && not (list_any spec.is_current_version (row (view statement.now).1))) }
 {
     keyword.is(Keyword::Module) && !has_version(statement.substatements())
 }
 
-// Whether a statement is the type of a built-in name that isn't compiled.
+/// Whether a statement is the type of a built-in name that isn't compiled.
 fn is_type_outside(keyword: Keyword, statement: &Stmt) -> bool
-    ensures { result ≡ (same_keyword (keyword_view keyword) type_word && option_map_or spec.is_type_outside (view statement.now).0.argument false) }
+    ensures { result ≡ (same_keyword (keyword_view keyword) type_word
+        && option_map_or spec.is_type_outside (view statement.now).0.argument false) }
 {
     keyword.is(Keyword::Type)
         && matches!(
@@ -208,7 +212,8 @@ fn is_type_outside(keyword: Keyword, statement: &Stmt) -> bool
 }
 
 fn has_fitting_argument(alloc: Global, form: Form, statement: &Stmt) -> Result<bool, AllocError>
-    ensures { IfOk result (λ b. b ≡ option_map_or (arguments.fits (form_view form)) (view statement.now).0.argument false) }
+    ensures { IfOk result (λ b. b
+        ≡ option_map_or (arguments.fits (form_view form)) (view statement.now).0.argument false) }
 {
     match statement.argument() {
         Some(text) => fits(alloc, form, text),
@@ -216,14 +221,14 @@ fn has_fitting_argument(alloc: Global, form: Form, statement: &Stmt) -> Result<b
     }
 }
 
-// Tells a broken rule, where it comes before the one told so far.
+/// Tells a broken rule, where it comes before the one told so far.
 fn tell(told: &mut Option<BrokenRule>, found: BrokenRule)
     ensures { seen told.new ≡ least_from (seen told.old) (break_view found ∷ []) }
 {
     *told = least(*told, found);
 }
 
-// The rules that a statement breaks, apart from those that its substatements break.
+/// The rules that a statement breaks, apart from those that its substatements break.
 #[tactic(auto, using(yspec::proofs::SchemaProofs::LeastLemmas::least_of_both))]
 fn judge_alone(
     alloc: Global,
@@ -233,7 +238,8 @@ fn judge_alone(
     told: &mut Option<BrokenRule>,
 ) -> Result<(), AllocError>
     ensures { IfOk result (λ _. seen told.new ≡ least_from (seen told.old)
-        (spec.own_breaks «module» (keyword_view keyword) (view statement.now).0 (view statement.now).1)) }
+        (spec.own_breaks «module» (keyword_view keyword) (view statement.now).0
+        (view statement.now).1)) }
 {
     let rule = rule_of(keyword);
     let unfitting = !has_fitting_argument(alloc, rule.form, statement)?;
@@ -258,9 +264,10 @@ fn judge_alone(
     Ok(())
 }
 
-// The keyword of a statement, where it may stand there.
+/// The keyword of a statement, where it may stand there.
 fn allowed_keyword(allowed: &[Allowed], statement: &Stmt) -> Option<Keyword>
-    ensures { option_map keyword_view result ≡ allowed_word (allowed_views allowed.now) (keyword_named (view statement.now).0.keyword) }
+    ensures { option_map keyword_view result
+        ≡ allowed_word (allowed_views allowed.now) (keyword_named (view statement.now).0.keyword) }
 {
     let keyword = Keyword::named(statement.keyword())?;
     if is_allowed(keyword, allowed) {
@@ -270,7 +277,7 @@ fn allowed_keyword(allowed: &[Allowed], statement: &Stmt) -> Option<Keyword>
     }
 }
 
-// Tells the least rule broken by a statement that stands where these are allowed, and below it.
+/// Tells the least rule broken by a statement that stands where these are allowed, and below it.
 #[cycle(judge)]
 fn judge(
     alloc: Global,
@@ -279,8 +286,10 @@ fn judge(
     statement: &Stmt,
     told: &mut Option<BrokenRule>,
 ) -> Result<(), AllocError>
-    ensures { let s = view statement.now in IfOk result (λ _. seen told.new ≡ least_from (seen told.old)
-        (spec.breaks_at «module» (allowed_views allowed.now) s.0 s.1 (spec.row_breaks «module» (spec.substatements_of s.0.keyword) s.1))) }
+    ensures { let s = view statement.now in
+        IfOk result (λ _. seen told.new ≡ least_from (seen told.old)
+        (spec.breaks_at «module» (allowed_views allowed.now) s.0 s.1
+        (spec.row_breaks «module» (spec.substatements_of s.0.keyword) s.1))) }
 {
     match allowed_keyword(allowed, statement) {
         None if is_prefixed(statement) => Ok(()),
@@ -303,7 +312,7 @@ fn judge(
     }
 }
 
-// Tells the least rule broken by statements that stand in one block, and below them.
+/// Tells the least rule broken by statements that stand in one block, and below them.
 #[cycle(judge)]
 #[tactic(auto, unfolding(yspec::specs::linking::StatementBreaks::row_breaks))]
 fn judge_row(
@@ -322,14 +331,15 @@ fn judge_row(
     Ok(())
 }
 
-// Tells the least rule broken by the top statement of a module, and below it.
+/// Tells the least rule broken by the top statement of a module, and below it.
 fn judge_top(
     alloc: Global,
     module: usize,
     statement: &Stmt,
     told: &mut Option<BrokenRule>,
 ) -> Result<(), AllocError>
-    ensures { let s = view statement.now in IfOk result (λ _. seen told.new ≡ least_from (seen told.old) (spec.top_breaks «module» s.0 s.1)) }
+    ensures { let s = view statement.now in IfOk result (λ _. seen told.new
+        ≡ least_from (seen told.old) (spec.top_breaks «module» s.0 s.1)) }
 {
     if !has_keyword(statement, Keyword::Module) {
         tell(told, broken(CompileCode::C1, module, statement));
@@ -348,8 +358,12 @@ fn judge_top(
 
 /// The least rule of the table that modules break, by module, line and number.
 #[tactic(auto, unfolding(yspec::specs::linking::StatementBreaks::breaks_from))]
-pub fn broken_statement_rule(alloc: Global, modules: &[Module]) -> Result<Option<BrokenRule>, AllocError>
-    ensures { IfOk result (λ told. seen told ≡ least_from None (spec.statement_phase (modules_view modules.now))) }
+pub fn broken_statement_rule(
+    alloc: Global,
+    modules: &[Module],
+) -> Result<Option<BrokenRule>, AllocError>
+    ensures { IfOk result (λ told. seen told
+        ≡ least_from None (spec.statement_phase (modules_view modules.now))) }
 {
     let mut told = None;
     for (module, text) in modules.iter().enumerate() {

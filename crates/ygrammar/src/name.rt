@@ -45,7 +45,7 @@ pub fn name_of<'a>(text: &'a str) -> Option<Name<'a>>
     }
 }
 
-// Whether a text ends in white space.
+/// Whether a text ends in white space.
 fn ends_white(text: &str) -> bool
     ensures { result ≡ names.ends_white false text.now }
 {
@@ -56,7 +56,7 @@ fn ends_white(text: &str) -> bool
     white
 }
 
-// Whether a text isn't empty, and has no white space at either end.
+/// Whether a text isn't empty, and has no white space at either end.
 fn is_bare(text: &str) -> bool
     ensures { result ≡ names.is_enum_name text.now }
 {
@@ -68,7 +68,8 @@ fn is_bare(text: &str) -> bool
 
 /// The names that a text spells with slashes between them.
 pub fn relative_path<'a>(alloc: Global, text: &'a str) -> Result<Option<Vec<Name<'a>>>, AllocError>
-    ensures { IfOk result (λ path. option_map (λ p. names_view p.items) path ≡ spec.relative_path_of text.entry.now) }
+    ensures { IfOk result (λ path. option_map (λ p. names_view p.items) path
+        ≡ spec.relative_path_of text.entry.now) }
 {
     let mut path = Vec::new(alloc);
     let mut rest = text;
@@ -90,7 +91,8 @@ pub fn relative_path<'a>(alloc: Global, text: &'a str) -> Result<Option<Vec<Name
 
 /// The names that a text spells, each behind a slash.
 pub fn absolute_path<'a>(alloc: Global, text: &'a str) -> Result<Option<Vec<Name<'a>>>, AllocError>
-    ensures { IfOk result (λ path. option_map (λ p. names_view p.items) path ≡ spec.absolute_path_of text.entry.now) }
+    ensures { IfOk result (λ path. option_map (λ p. names_view p.items) path
+        ≡ spec.absolute_path_of text.entry.now) }
 {
     match behind_slash(text) {
         Some(steps) => relative_path(alloc, steps),
@@ -98,9 +100,10 @@ pub fn absolute_path<'a>(alloc: Global, text: &'a str) -> Result<Option<Vec<Name
     }
 }
 
-// The names that a text spells with slashes between them, and white space beside these.
+/// The names that a text spells with slashes between them, and white space beside these.
 fn spaced_path<'a>(alloc: Global, text: &'a str) -> Result<Option<Vec<Name<'a>>>, AllocError>
-    ensures { IfOk result (λ path. option_map (λ p. names_view p.items) path ≡ spec.spaced_path_of text.entry.now) }
+    ensures { IfOk result (λ path. option_map (λ p. names_view p.items) path
+        ≡ spec.spaced_path_of text.entry.now) }
 {
     let mut path = Vec::new(alloc);
     let mut rest = text;
@@ -122,7 +125,8 @@ fn spaced_path<'a>(alloc: Global, text: &'a str) -> Result<Option<Vec<Name<'a>>>
 
 /// The names that the path of a leafref spells, each behind a slash, beside which white space may stand.
 pub fn leafref_path<'a>(alloc: Global, text: &'a str) -> Result<Option<Vec<Name<'a>>>, AllocError>
-    ensures { IfOk result (λ path. option_map (λ p. names_view p.items) path ≡ spec.leafref_path_of text.entry.now) }
+    ensures { IfOk result (λ path. option_map (λ p. names_view p.items) path
+        ≡ spec.leafref_path_of text.entry.now) }
 {
     if ends_white(text) {
         return Ok(None);
@@ -135,7 +139,8 @@ pub fn leafref_path<'a>(alloc: Global, text: &'a str) -> Result<Option<Vec<Name<
 
 /// The names that a key spells.
 pub fn key_names<'a>(alloc: Global, text: &'a str) -> Result<Option<Vec<Name<'a>>>, AllocError>
-    ensures { IfOk result (λ key. option_map (λ p. names_view p.items) key ≡ spec.key_of text.entry.now) }
+    ensures { IfOk result (λ key. option_map (λ p. names_view p.items) key
+        ≡ spec.key_of text.entry.now) }
 {
     if !is_bare(text) {
         return Ok(None);
@@ -168,7 +173,8 @@ pub fn unique_paths<'a>(
     alloc: Global,
     text: &'a str,
 ) -> Result<Option<Vec<Vec<Name<'a>>>>, AllocError>
-    ensures { IfOk result (λ unique. option_map (λ u. map (λ p. names_view p.items) u.items) unique ≡ spec.unique_of text.entry.now) }
+    ensures { IfOk result (λ unique. option_map (λ u. map (λ p. names_view p.items) u.items) unique
+        ≡ spec.unique_of text.entry.now) }
 {
     if !is_bare(text) {
         return Ok(None);

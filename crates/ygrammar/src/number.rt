@@ -78,7 +78,7 @@ pub(crate) fn number_of_sign(is_negative: bool, magnitude: u128) -> i128
     if is_negative { -number } else { number }
 }
 
-// The number of a text, where it lies between two that aren't far.
+/// The number of a text, where it lies between two that aren't far.
 #[tactic(auto, using(crate::proofs::NumberLemmas::between_capped))]
 fn between(low: u32, high: u32, text: &str) -> Option<u32>
     ensures { result ≡ option_and_then (spec.between low high) (spec.whole_of text.now) }

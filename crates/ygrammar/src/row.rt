@@ -17,7 +17,8 @@ pub fn first_with<'a, 't>(
     keyword: Keyword,
     statements: Nodes<'a, Source<'t>>,
 ) -> Option<Node<'a, Source<'t>>>
-    ensures { option_map (label_by source_view) result ≡ spec.first_with (keyword_view keyword) (row_by source_view statements.entry) }
+    ensures { option_map (label_by source_view) result
+        ≡ spec.first_with (keyword_view keyword) (row_by source_view statements.entry) }
 {
     for statement in statements {
         if keyword.is(statement.label().keyword) {
@@ -36,14 +37,16 @@ pub fn argument_of<'a, 't>(statement: Node<'a, Source<'t>>) -> &'t str
 
 /// The built-in type that the argument of a statement names.
 pub fn built_in_of(statement: Node<'_, Source<'_>>) -> Option<BuiltIn>
-    ensures { option_map built_in_view result ≡ built_in_named (spec.argument_in (label_by source_view statement.entry)) }
+    ensures { option_map built_in_view result
+        ≡ built_in_named (spec.argument_in (label_by source_view statement.entry)) }
 {
     statement.label().built_in()
 }
 
 /// The argument of the first statement of a row with a keyword.
 pub fn argument_with<'a, 't>(keyword: Keyword, statements: Nodes<'a, Source<'t>>) -> Option<&'t str>
-    ensures { option_map (λ text. text.now) result ≡ spec.argument_with (keyword_view keyword) (row_by source_view statements.entry) }
+    ensures { option_map (λ text. text.now) result
+        ≡ spec.argument_with (keyword_view keyword) (row_by source_view statements.entry) }
 {
     match first_with(keyword, statements) {
         Some(statement) => Some(argument_of(statement)),
@@ -54,7 +57,8 @@ pub fn argument_with<'a, 't>(keyword: Keyword, statements: Nodes<'a, Source<'t>>
 /// The built-in type that the argument of the first statement of a row with a keyword names.
 pub fn built_in_with(keyword: Keyword, statements: Nodes<'_, Source<'_>>) -> Option<BuiltIn>
     ensures { option_map built_in_view result
-        ≡ option_and_then built_in_named (spec.argument_with (keyword_view keyword) (row_by source_view statements.entry)) }
+        ≡ option_and_then built_in_named
+        (spec.argument_with (keyword_view keyword) (row_by source_view statements.entry)) }
 {
     match first_with(keyword, statements) {
         Some(statement) => built_in_of(statement),
@@ -67,7 +71,8 @@ pub fn found_with<'a, 't>(
     keyword: Keyword,
     statements: Nodes<'a, Source<'t>>,
 ) -> Option<Node<'a, Source<'t>>>
-    ensures { option_map node_view result ≡ spec.found_with (keyword_view keyword) (row_by source_view statements.entry) }
+    ensures { option_map node_view result
+        ≡ spec.found_with (keyword_view keyword) (row_by source_view statements.entry) }
 {
     for statement in statements {
         if keyword.is(statement.label().keyword) {

@@ -20,9 +20,10 @@ pub struct Source<'a> {
     ghost named: { option_map built_in_view type_name ≡ type_named (keyword_view keyword) (view statement.now).0 },
 }
 
-// The built-in type that a statement of a keyword names, where it is a `type` statement.
+/// The built-in type that a statement of a keyword names, where it is a `type` statement.
 fn type_named(keyword: Keyword, statement: &Stmt) -> Option<BuiltIn>
-    ensures { option_map built_in_view result ≡ type_named (keyword_view keyword) (view statement.now).0 }
+    ensures { option_map built_in_view result
+        ≡ type_named (keyword_view keyword) (view statement.now).0 }
 {
     if Keyword::Type.is(keyword) {
         BuiltIn::named(statement.argument().unwrap_or(""))
@@ -43,7 +44,12 @@ impl<'a> Source<'a> {
     /// A statement of a keyword, in the module at a place of the set.
     pub(crate) fn new(keyword: Keyword, statement: &'a Stmt, home: usize) -> Source<'a>
         ensures { (number : ℕ) → source_view number result
-            ≡ record { keyword = keyword_view keyword; statement = (view statement.entry.now).0; number = number; home = home } }
+            ≡ record {
+              keyword = keyword_view keyword;
+              statement = (view statement.entry.now).0;
+              number = number;
+              home = home;
+            } }
     {
         Source {
             keyword,
@@ -62,7 +68,8 @@ impl<'a> Source<'a> {
 
     /// The built-in type that the argument names. That of a `type` statement is known without a look at its text.
     pub fn built_in(&self) -> Option<BuiltIn>
-        ensures { option_map built_in_view result ≡ built_in_named (argument_text (view self.now.statement.now).0) }
+        ensures { option_map built_in_view result
+            ≡ built_in_named (argument_text (view self.now.statement.now).0) }
     {
         match self.type_name {
             Some(found) => Some(found),

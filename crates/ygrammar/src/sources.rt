@@ -26,7 +26,8 @@ impl<'a> Sources<'a> {
 
     /// The statements of some modules.
     pub fn of(alloc: Global, modules: &'a [Module]) -> Result<Sources<'a>, AllocError>
-        ensures { IfOk result (λ sources. view sources ≡ sources_of (modules_view modules.entry.now)) }
+        ensures { IfOk result (λ sources. view sources
+            ≡ sources_of (modules_view modules.entry.now)) }
     {
         let mut table = Table::new(alloc);
         for (home, module) in modules.iter().enumerate() {

@@ -28,7 +28,7 @@ fn number_bound(is_negative: bool, units: u128, places: usize) -> Bound
     }
 }
 
-// The number that one digit or more make of the number so far.
+/// The number that one digit or more make of the number so far.
 fn with_digits(so_far: u128, digits: &[u8]) -> Option<u128>
     requires { so_far ≤ 2 ^ 64 }
     ensures value { result ≡ capped (spec.with_digits so_far digits.now) }
@@ -40,19 +40,21 @@ fn with_digits(so_far: u128, digits: &[u8]) -> Option<u128>
     }
 }
 
-// The units of what stands before a point, and of digits behind it.
+/// The units of what stands before a point, and of digits behind it.
 #[tactic(auto, using(crate::proofs::SpanLemmas::pointed_capped))]
 fn pointed(whole: &[u8], digits: &[u8]) -> Option<u128>
-    ensures value { result ≡ capped (option_and_then (λ n. spec.with_digits n digits.now) (spec.whole_of whole.now)) }
+    ensures value { result ≡ capped
+        (option_and_then (λ n. spec.with_digits n digits.now) (spec.whole_of whole.now)) }
     ensures bound { IfSome result (λ n. n ≤ 2 ^ 64) }
 {
     with_digits(whole_of(whole)?, digits)
 }
 
-// The bound whose magnitude is digits, and perhaps a point and digits.
+/// The bound whose magnitude is digits, and perhaps a point and digits.
 #[tactic(auto, using(crate::proofs::SpanLemmas::bound_capped))]
 fn magnitude_bound(is_negative: bool, text: &[u8]) -> Option<Bound>
-    ensures { option_map bound_of result ≡ spec.bound_cut is_negative text.now (position is_point text.now) }
+    ensures { option_map bound_of result
+        ≡ spec.bound_cut is_negative text.now (position is_point text.now) }
 {
     match point_place(text) {
         None => Some(number_bound(is_negative, whole_of(text)?, 0)),
@@ -64,7 +66,7 @@ fn magnitude_bound(is_negative: bool, text: &[u8]) -> Option<Bound>
     }
 }
 
-// The bound that a text spells.
+/// The bound that a text spells.
 fn bound(text: &str) -> Option<Bound>
     ensures { option_map bound_of result ≡ spec.bound_of text.now }
 {
@@ -84,7 +86,7 @@ fn span_between(first: Option<Bound>, last: Option<Bound>) -> Option<Span>
     Some(Span::new(first?, last?))
 }
 
-// One bound, or two with `..` between them.
+/// One bound, or two with `..` between them.
 fn span(text: &str) -> Option<Span>
     ensures { result ≡ spec.span_of text.now }
 {

@@ -653,7 +653,8 @@ pub(crate) fn rule_of(keyword: Keyword) -> Rule
 
 /// The keywords that a statement must have below it, once each; not `yang-version`, whose want is told by its own code.
 pub(crate) fn needs_of(keyword: Keyword) -> &'static [Keyword]
-    ensures { map keyword_view result.now ≡ needs (spec.rule_of (keyword_view keyword)).substatements }
+    ensures { map keyword_view result.now
+        ≡ needs (spec.rule_of (keyword_view keyword)).substatements }
 {
     match keyword {
         Keyword::Module => &[Keyword::Namespace, Keyword::Prefix],

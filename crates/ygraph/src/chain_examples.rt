@@ -5,14 +5,17 @@ ghost use Rattle.ygraph.specs.ChainSamples.{ends, circles};
 
 /// A chain through all nodes, in an order that is not theirs.
 pub fn one_chain()
-    ensures ends { ends (None ∷ Some 2 ∷ Some 0 ∷ Some 1 ∷ []) ≡ Some 0 ∷ Some 0 ∷ Some 0 ∷ Some 0 ∷ [] }
-    ensures circles { circles (None ∷ Some 2 ∷ Some 0 ∷ Some 1 ∷ []) ≡ false ∷ false ∷ false ∷ false ∷ [] }
+    ensures ends { ends (None ∷ Some 2 ∷ Some 0 ∷ Some 1 ∷ []) ≡ Some 0 ∷ Some 0 ∷ Some 0 ∷ Some 0
+        ∷ [] }
+    ensures circles { circles (None ∷ Some 2 ∷ Some 0 ∷ Some 1 ∷ []) ≡ false ∷ false ∷ false ∷ false
+        ∷ [] }
 {}
 
 /// A circle of two, and nodes that lead into it without lying on it.
 pub fn a_circle()
     ensures ends { ends (Some 1 ∷ Some 2 ∷ Some 1 ∷ Some 0 ∷ []) ≡ None ∷ None ∷ None ∷ None ∷ [] }
-    ensures circles { circles (Some 1 ∷ Some 2 ∷ Some 1 ∷ Some 0 ∷ []) ≡ false ∷ true ∷ true ∷ false ∷ [] }
+    ensures circles { circles (Some 1 ∷ Some 2 ∷ Some 1 ∷ Some 0 ∷ []) ≡ false ∷ true ∷ true ∷ false
+        ∷ [] }
 {}
 
 /// A circle of all nodes.

@@ -29,7 +29,8 @@ pub fn chains_of(alloc: Global, next: &[Option<u32>]) -> Result<Vec<Chain>, Allo
     ensures ends { IfOk result (λ chains. (i : ℕ) → i < length next.now
         → option_map (λ c. c.end) (slice_get chains.items i) ≡ Some (end_of next.now i)) }
     ensures circles { IfOk result (λ chains. (i : ℕ) → i < length next.now
-        → option_map (λ c. c.on_circle) (slice_get chains.items i) ≡ Some (is_on_circle next.now i)) }
+        → option_map (λ c. c.on_circle) (slice_get chains.items i)
+        ≡ Some (is_on_circle next.now i)) }
 {
     let mut seen = vec![in alloc; false; next.len()]?;
     let mut chains = first_chains(alloc, next)?;
@@ -43,7 +44,8 @@ pub fn chains_of(alloc: Global, next: &[Option<u32>]) -> Result<Vec<Chain>, Allo
 /// Each node without reference is its own end; the others have none yet.
 fn first_chains(alloc: Global, next: &[Option<u32>]) -> Result<Vec<Chain>, AllocError>
     ensures count { IfOk result (λ chains. length chains.items ≡ length next.now) }
-    ensures each { IfOk result (λ chains. (i : ℕ) → i < length next.now → slice_get chains.items i ≡ Some (first_chain next.now i)) }
+    ensures each { IfOk result (λ chains. (i : ℕ) → i < length next.now → slice_get chains.items i
+        ≡ Some (first_chain next.now i)) }
 {
     let mut chains = Vec::with_capacity(alloc, next.len())?;
     for node in 0..next.len() {
@@ -86,7 +88,8 @@ fn walk_from(
     seen: &mut Vec<bool>,
     start: usize,
 ) -> Result<Walk, AllocError>
-    ensures way { IfOk result (λ walk. Walked next.now seen.old.items start walk.nodes.items walk.to seen.new.items) }
+    ensures way { IfOk result
+        (λ walk. Walked next.now seen.old.items start walk.nodes.items walk.to seen.new.items) }
     ensures stops { IfOk result (λ walk. open_reference next.now seen.new.items walk.to ≡ None) }
 {
     let mut nodes = Vec::new(alloc);

@@ -27,12 +27,12 @@ pub struct Numbers<'b> {
     ghost stands: { next_in (length buckets.now.hashes.items) bucket at (drop at buckets.now.hashes.items) ≡ at },
 }
 
-// The first state and the factor of the hash FNV-1a of 64 bits.
+/// The first state and the factor of the hash FNV-1a of 64 bits.
 const BASIS: u64 = 14_695_981_039_346_656_037;
 
 const FACTOR: u64 = 1_099_511_628_211;
 
-// The greatest prime below 2^32.
+/// The greatest prime below 2^32.
 const RANGE: u64 = 4_294_967_291;
 
 /// The hash of a name below a node of a number, or at the top: FNV-1a of 64 bits, brought into 32.

@@ -30,8 +30,10 @@ const NODE_LIMIT: usize = 1_000_000;
 /// The document after an edit, or the first refusal: of the path's steps E1, of its names E2 and its predicates E3, of
 /// where it stands E4 to E8, of its value E9 and E10, and E11. The document that is given stays as it is.
 pub fn apply(alloc: Global, schema: &Schema, tree: &Tree, edit: &Edit) -> Result<Tree, EditFault>
-    ensures answer { Gives tree_view told_by result (spec.applied (schema_view.view schema.now) (tree_view tree.now) (edit_view edit.now)) }
-    ensures fitting { let s = schema_view.view schema.now in Fits s (tree_view tree.now) → IfOk result (λ t. Fits s (tree_view t)) }
+    ensures answer { Gives tree_view told_by result
+        (spec.applied (schema_view.view schema.now) (tree_view tree.now) (edit_view edit.now)) }
+    ensures fitting { let s = schema_view.view schema.now in
+        Fits s (tree_view tree.now) → IfOk result (λ t. Fits s (tree_view t)) }
     // in values as in shape
     ensures whole { let s = schema_view.view schema.now in
         IsDocument s (tree_view tree.now) → IfOk result (λ t. IsDocument s (tree_view t)) }
@@ -42,7 +44,8 @@ pub fn apply(alloc: Global, schema: &Schema, tree: &Tree, edit: &Edit) -> Result
 /// The document after an edit.
 #[tactic(auto, unfolding(yspec::specs::edit::Editing::applied))]
 fn edited_tree(alloc: Global, schema: &Schema, tree: &Tree, edit: &Edit) -> Result<Tree, EditFault>
-    ensures { Gives tree_view told_by result (spec.applied (schema_view.view schema.now) (tree_view tree.now) (edit_view edit.now)) }
+    ensures { Gives tree_view told_by result
+        (spec.applied (schema_view.view schema.now) (tree_view tree.now) (edit_view edit.now)) }
 {
     match edit {
         Edit::Create { path, value } => match target_of(alloc, schema, tree, true, path) {
@@ -69,7 +72,8 @@ fn target_of<'t, 'e>(
     path: &'e Path,
 ) -> Result<Located<'t, 'e>, EditFault>
     ensures { let s = schema_view.view schema.now in
-        Gives (located_view s) told_by result (spec.target_of s (tree_view tree.entry.now) is_create (path_view path.entry.now)) }
+        Gives (located_view s) told_by result
+        (spec.target_of s (tree_view tree.entry.now) is_create (path_view path.entry.now)) }
 {
     match bind_path(alloc, schema, is_create, path) {
         Ok(bound) => locate(alloc, schema, tree.nodes(), bound.steps.as_slice()),
@@ -86,7 +90,8 @@ fn create(
     value: &str,
 ) -> Result<Tree, EditFault>
     ensures { let s = schema_view.view schema.now in
-        Gives tree_view told_by result (spec.created s (tree_view tree.now) value.now (located_view s target.now)) }
+        Gives tree_view told_by result
+        (spec.created s (tree_view tree.now) value.now (located_view s target.now)) }
 {
     if is_there(schema, target) {
         return Err(refused(EditCode::E8));
@@ -115,7 +120,8 @@ fn is_many(schema: &Schema, id: SchemaId) -> bool
 
 /// Whether a row has an instance of a schema node.
 fn is_stored(schema: &Schema, row: &[Stored], id: SchemaId) -> bool
-    ensures { result ≡ nat_lt 0 (instances_in (row_view row.now) (node_of (schema_view.view schema.now) id.0).number) }
+    ensures { result ≡ nat_lt 0
+        (instances_in (row_view row.now) (node_of (schema_view.view schema.now) id.0).number) }
 {
     0 < count_of(row, id)
 }
@@ -136,7 +142,8 @@ fn replace(
     value: &str,
 ) -> Result<Tree, EditFault>
     ensures { let s = schema_view.view schema.now in
-        Gives tree_view told_by result (spec.replaced s (tree_view tree.now) value.now (located_view s target.now)) }
+        Gives tree_view told_by result
+        (spec.replaced s (tree_view tree.now) value.now (located_view s target.now)) }
 {
     match last_meant(alloc, schema, target) {
         Ok(spot) => match part_at(alloc, schema, target.last.id, value) {
@@ -159,7 +166,8 @@ fn remove(
     target: &Located<'_, '_>,
 ) -> Result<Tree, EditFault>
     ensures { let s = schema_view.view schema.now in
-        Gives tree_view told_by result (spec.removed s (tree_view tree.now) (located_view s target.now)) }
+        Gives tree_view told_by result
+        (spec.removed s (tree_view tree.now) (located_view s target.now)) }
 {
     match last_meant(alloc, schema, target) {
         Ok(spot) => {
@@ -180,15 +188,22 @@ fn last_meant(alloc: Global, schema: &Schema, target: &Located<'_, '_>) -> Resul
 
 /// A copy of a document with a change in a row.
 fn with_row(alloc: Global, tree: &Tree, above: &[Spot], change: Change) -> Result<Tree, AllocError>
-    ensures { IfOk result (λ t. tree_view t ≡ edit_at (spots_view above.now) (change_view change) (tree_view tree.now)) }
+    ensures { IfOk result (λ t. tree_view t
+        ≡ edit_at (spots_view above.now) (change_view change) (tree_view tree.now)) }
 {
     Ok(Tree::new(changed_row(alloc, tree.nodes(), above, change)?))
 }
 
 /// The same, where the document has room for it: E11.
-fn tree_within_limit(alloc: Global, tree: &Tree, above: &[Spot], change: Change) -> Result<Tree, EditFault>
+fn tree_within_limit(
+    alloc: Global,
+    tree: &Tree,
+    above: &[Spot],
+    change: Change,
+) -> Result<Tree, EditFault>
     ensures { Gives tree_view told_by result
-        (spec.within_limit (edit_at (spots_view above.now) (change_view change) (tree_view tree.now))) }
+        (spec.within_limit (edit_at (spots_view above.now) (change_view change)
+        (tree_view tree.now))) }
 {
     within_limit(with_row(alloc, tree, above, change)?)
 }

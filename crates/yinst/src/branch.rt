@@ -17,7 +17,8 @@ use ytree::{DocFault, Stored, read_node};
 /// The node that a JSON text denotes at a schema node, with what stands below it: E9 of a text that is no JSON, E10 with
 /// the first refusal of a document. Of a list or leaf-list the text is that of one entry or item.
 pub fn part(alloc: Global, schema: &Schema, id: SchemaId, text: &str) -> Result<Stored, EditFault>
-    ensures { Gives branch_view told_by result (spec.branch_of (schema_view.view schema.now) id.0 text.now) }
+    ensures { Gives branch_view told_by result
+        (spec.branch_of (schema_view.view schema.now) id.0 text.now) }
 {
     match Value::from_slice(alloc, text.as_bytes()) {
         Ok(value) => branch_at(alloc, schema, id, &value),
@@ -33,7 +34,8 @@ fn branch_at(
     id: SchemaId,
     value: &Value,
 ) -> Result<Stored, EditFault>
-    ensures { Gives branch_view told_by result (spec.branch_at (schema_view.view schema.now) id.0 (json.view value.now)) }
+    ensures { Gives branch_view told_by result
+        (spec.branch_at (schema_view.view schema.now) id.0 (json.view value.now)) }
 {
     match read_node(alloc, schema, id, value) {
         Ok(Some(stored)) => Ok(stored),

@@ -59,7 +59,8 @@ pub(crate) fn locate<'t, 'e>(
     steps: &[BoundStep<'e>],
 ) -> Result<Located<'t, 'e>, EditFault>
     ensures { let s = schema_view.view schema.now in
-        Gives (located_view s) told_by result (spec.target s (row_view row.entry.now) (binding.steps_view s steps.now)) }
+        Gives (located_view s) told_by result
+        (spec.target s (row_view row.entry.now) (binding.steps_view s steps.now)) }
 {
     locate_on(alloc, schema, Vec::new(alloc), row, steps)
 }
@@ -74,7 +75,8 @@ fn locate_on<'t, 'e>(
     steps: &[BoundStep<'e>],
 ) -> Result<Located<'t, 'e>, EditFault>
     ensures { let s = schema_view.view schema.now in Gives (located_view s) told_by result
-        (locating.target_on s (spots_view above.items) (row_view row.entry.now) (binding.steps_view s steps.now)) }
+        (locating.target_on s (spots_view above.items) (row_view row.entry.now)
+        (binding.steps_view s steps.now)) }
 {
     match steps.split_first() {
         None => Err(refused(EditCode::E1)),
@@ -124,7 +126,8 @@ pub(crate) fn instance_meant(
     step: BoundStep<'_>,
 ) -> Result<Spot, EditFault>
     ensures { let s = schema_view.view schema.now in Gives spot_view told_by result
-        (spec.instance_meant s (edit_number missing) (row_view row.now) (node_of s step.entry.id.0) (predicate_view step.entry.predicate.now)) }
+        (spec.instance_meant s (edit_number missing) (row_view row.now) (node_of s step.entry.id.0)
+        (predicate_view step.entry.predicate.now)) }
 {
     meant_in(alloc, schema, missing, row, step)
 }
@@ -137,7 +140,8 @@ fn meant_in(
     step: BoundStep<'_>,
 ) -> Result<Spot, EditFault>
     ensures { let s = schema_view.view schema.now in Gives spot_view told_by result
-        (locating.meant_in s (edit_number missing) (row_view row.now) step.entry.id.0 (predicate_view step.entry.predicate.now)) }
+        (locating.meant_in s (edit_number missing) (row_view row.now) step.entry.id.0
+        (predicate_view step.entry.predicate.now)) }
 {
     match step.predicate {
         Predicate::Unsaid => {
@@ -188,8 +192,10 @@ fn entry_meant(
     id: SchemaId,
     keys: &[Key],
 ) -> Result<Spot, EditFault>
-    ensures { let s = schema_view.view schema.now in Gives spot_view told_by result (spec.the_one (edit_number missing) id.0
-        (spec.positions_where id.0 (spec.fits_keys s (keys_in (node_of s id.0).kind) (keys_view keys.now)) 1 (row_view row.now))) }
+    ensures { let s = schema_view.view schema.now in
+        Gives spot_view told_by result (spec.the_one (edit_number missing) id.0
+        (spec.positions_where id.0 (spec.fits_keys s (keys_in (node_of s id.0).kind)
+        (keys_view keys.now)) 1 (row_view row.now))) }
 {
     let ids = keys_of(schema, id);
     let mut position = 1;
@@ -216,7 +222,8 @@ fn entry_meant(
 
 /// The keys of a list.
 fn keys_of(schema: &Schema, id: SchemaId) -> &[SchemaId]
-    ensures { numbers_of result.now ≡ keys_in (node_of (schema_view.view schema.entry.now) id.0).kind }
+    ensures { numbers_of result.now
+        ≡ keys_in (node_of (schema_view.view schema.entry.now) id.0).kind }
 {
     match schema.kind(id) {
         Some(node) => keys_in(&node.kind),
@@ -241,7 +248,8 @@ fn fits_keys(
     keys: &[Key],
     entry: &[Stored],
 ) -> Result<bool, AllocError>
-    ensures { IfOk result (λ fits. fits ≡ spec.fits_keys (schema_view.view schema.now) (numbers_of ids.now) (keys_view keys.now) (row_view entry.now)) }
+    ensures { IfOk result (λ fits. fits ≡ spec.fits_keys (schema_view.view schema.now)
+        (numbers_of ids.now) (keys_view keys.now) (row_view entry.now)) }
 {
     for id in ids {
         if !fits_key(alloc, schema, *id, keys, entry)? {
@@ -258,7 +266,8 @@ fn fits_key(
     keys: &[Key],
     entry: &[Stored],
 ) -> Result<bool, AllocError>
-    ensures { IfOk result (λ fits. fits ≡ locating.fits_key (schema_view.view schema.now) id.0 (keys_view keys.now) (row_view entry.now)) }
+    ensures { IfOk result (λ fits. fits ≡ locating.fits_key (schema_view.view schema.now) id.0
+        (keys_view keys.now) (row_view entry.now)) }
 {
     match first_of(entry, id) {
         Some(stored) => has_text(alloc, schema, stored, key_text(schema, keys, id)),
@@ -268,7 +277,8 @@ fn fits_key(
 
 /// Whether a stored leaf's value is valid and has that canonical text.
 fn has_text(alloc: Global, schema: &Schema, stored: &Stored, text: &str) -> Result<bool, AllocError>
-    ensures { IfOk result (λ has. has ≡ spec.is_the_text text.now (spec.text_of (schema_view.view schema.now) (view stored.now).0)) }
+    ensures { IfOk result (λ has. has ≡ spec.is_the_text text.now
+        (spec.text_of (schema_view.view schema.now) (view stored.now).0)) }
 {
     match text_of(alloc, schema, stored)? {
         Some(canonical) => Ok(text == canonical.as_str()),
@@ -278,7 +288,8 @@ fn has_text(alloc: Global, schema: &Schema, stored: &Stored, text: &str) -> Resu
 
 /// The text that the keys of a predicate say for a node.
 fn key_text<'k>(schema: &Schema, keys: &'k [Key], id: SchemaId) -> &'k str
-    ensures { result.now ≡ spec.key_text (keys_view keys.entry.now) (schema_view.view schema.now) id.0 }
+    ensures { result.now ≡ spec.key_text (keys_view keys.entry.now)
+        (schema_view.view schema.now) id.0 }
 {
     for key in keys {
         if has_name(schema, key.name.as_str(), id) {
@@ -290,7 +301,8 @@ fn key_text<'k>(schema: &Schema, keys: &'k [Key], id: SchemaId) -> &'k str
 
 /// The first instance of a schema node in a row.
 fn first_of(row: &[Stored], id: SchemaId) -> Option<&Stored>
-    ensures { option_map (λ stored. (view stored.now).0) result ≡ document.stored_in id.0 (row_view row.entry.now) }
+    ensures { option_map (λ stored. (view stored.now).0) result
+        ≡ document.stored_in id.0 (row_view row.entry.now) }
 {
     for stored in row {
         if stored.id() == id {
@@ -302,7 +314,8 @@ fn first_of(row: &[Stored], id: SchemaId) -> Option<&Stored>
 
 /// The canonical text of the valid value of a stored leaf.
 fn text_of(alloc: Global, schema: &Schema, stored: &Stored) -> Result<Option<String>, AllocError>
-    ensures { IfOk result (λ text. option_map string_bytes text ≡ spec.text_of (schema_view.view schema.now) (view stored.now).0) }
+    ensures { IfOk result (λ text. option_map string_bytes text
+        ≡ spec.text_of (schema_view.view schema.now) (view stored.now).0) }
 {
     let Some(node) = schema.kind(stored.id()) else {
         return Ok(None);
@@ -332,7 +345,8 @@ fn canonical_of(
     raw: &Raw,
 ) -> Result<Option<String>, AllocError>
     ensures { IfOk result (λ text. option_map string_bytes text
-        ≡ option_map (canonical leaf_type.now.value_type) (taken leaf_type.now.value_type (raw_of raw.now))) }
+        ≡ option_map (canonical leaf_type.now.value_type)
+        (taken leaf_type.now.value_type (raw_of raw.now))) }
 {
     match leaf_type.value_type.check(alloc, raw) {
         Ok(value) => Ok(Some(value.canonical(alloc, &leaf_type.value_type)?)),

@@ -29,8 +29,10 @@ pub(crate) enum Change {
 
 /// The nodes of a row before the one that a spot means, and those from it on.
 fn split_at_spot(row: &[Stored], spot: Spot) -> (&[Stored], &[Stored])
-    ensures before { result.0.now ≡ take (rows.nth_place spot.id.0 (edits.place_of (spot_view spot)) row.entry.now) row.entry.now }
-    ensures from { result.1.now ≡ drop (rows.nth_place spot.id.0 (edits.place_of (spot_view spot)) row.entry.now) row.entry.now }
+    ensures before { result.0.now ≡ take (rows.nth_place spot.id.0
+        (edits.place_of (spot_view spot)) row.entry.now) row.entry.now }
+    ensures from { result.1.now ≡ drop (rows.nth_place spot.id.0
+        (edits.place_of (spot_view spot)) row.entry.now) row.entry.now }
 {
     row.split_at(nth_place(row, spot))
 }
@@ -95,7 +97,8 @@ fn changed_below(
     rest: &[Spot],
     change: Change,
 ) -> Result<Vec<Stored>, AllocError>
-    ensures { IfOk result (λ nodes. row_view nodes.items ≡ change_below spot.id.0 (edits.place_of (spot_view spot))
+    ensures { IfOk result (λ nodes. row_view nodes.items
+        ≡ change_below spot.id.0 (edits.place_of (spot_view spot))
         (edit_at (spots_view rest.now) (change_view change)) (row_view row.now)) }
 {
     let (before, from) = split_at_spot(row, spot);
@@ -135,7 +138,8 @@ fn changed_here(alloc: Global, row: &[Stored], change: Change) -> Result<Vec<Sto
 }
 
 fn with_branch(alloc: Global, row: &[Stored], branch: Stored) -> Result<Vec<Stored>, AllocError>
-    ensures { IfOk result (λ nodes. row_view nodes.items ≡ spec.with_branch (branch_view branch) (row_view row.now)) }
+    ensures { IfOk result (λ nodes. row_view nodes.items
+        ≡ spec.with_branch (branch_view branch) (row_view row.now)) }
 {
     let (before, after) = split_behind(row, branch.id());
     let nodes = copies_of(alloc, before)?;
@@ -148,7 +152,8 @@ fn with_instead(
     spot: Spot,
     branch: Stored,
 ) -> Result<Vec<Stored>, AllocError>
-    ensures { IfOk result (λ nodes. row_view nodes.items ≡ spec.with_instead (spot_view spot) (branch_view branch) (row_view row.now)) }
+    ensures { IfOk result (λ nodes. row_view nodes.items
+        ≡ spec.with_instead (spot_view spot) (branch_view branch) (row_view row.now)) }
 {
     let (before, from) = split_at_spot(row, spot);
     let nodes = copies_of(alloc, before)?;
@@ -159,7 +164,8 @@ fn with_instead(
 }
 
 fn without(alloc: Global, row: &[Stored], spot: Spot) -> Result<Vec<Stored>, AllocError>
-    ensures { IfOk result (λ nodes. row_view nodes.items ≡ spec.without (spot_view spot) (row_view row.now)) }
+    ensures { IfOk result (λ nodes. row_view nodes.items
+        ≡ spec.without (spot_view spot) (row_view row.now)) }
 {
     let (before, from) = split_at_spot(row, spot);
     let mut nodes = copies_of(alloc, before)?;
@@ -188,7 +194,8 @@ fn copies_of(alloc: Global, row: &[Stored]) -> Result<Vec<Stored>, AllocError>
 
 /// Puts copies of the nodes of a row behind those of another.
 fn push_copies(nodes: &mut Vec<Stored>, row: &[Stored]) -> Result<(), AllocError>
-    ensures { OnOk result (row_view nodes.new.items ≡ join (row_view nodes.old.items) (row_view row.now)) }
+    ensures { OnOk result (row_view nodes.new.items
+        ≡ join (row_view nodes.old.items) (row_view row.now)) }
 {
     for stored in row {
         nodes.push(stored.clone()?)?;
@@ -206,7 +213,8 @@ pub(crate) fn is_over(row: &[Stored], most: usize) -> bool
 /// What is left of a number when the nodes of a row and those below them are taken from it; nothing where they are more.
 #[cycle(count)]
 fn left_of(most: usize, row: &[Stored]) -> Option<usize>
-    ensures { MatchOption result (most < size (row_view row.now)) (λ left. left + size (row_view row.now) ≡ most) }
+    ensures { MatchOption result (most < size (row_view row.now)) (λ left. left
+        + size (row_view row.now) ≡ most) }
 {
     let mut left = most;
     for stored in row {

@@ -15,11 +15,13 @@ ghost use Rattle.ylink.specs.TypeView.{is_plain, is_wrong};
 
 use crate::types::{are_in_place, path_stated, single_type};
 use std::alloc::{AllocError, Global};
-use ygrammar::{BrokenRule, CompileCode, Source, Sources, broken, built_in_of, first_with, least_when};
+use ygrammar::{
+    BrokenRule, CompileCode, Source, Sources, broken, built_in_of, first_with, least_when,
+};
 use ypreorder::{Node, Nodes};
 use yword::{BuiltIn, Keyword};
 
-// Whether a built-in type is one that needs no substatement.
+/// Whether a built-in type is one that needs no substatement.
 fn is_plain(type_name: BuiltIn) -> bool
     ensures { result ≡ is_plain (built_in_view type_name) }
 {
@@ -40,13 +42,14 @@ fn has_none(statements: Nodes<'_, Source<'_>>) -> bool
     left.next().is_none()
 }
 
-// Whether there is no such type, where it is no union and no leafref. A plain one isn't made.
+/// Whether there is no such type, where it is no union and no leafref. A plain one isn't made.
 fn is_refused(
     alloc: Global,
     type_name: BuiltIn,
     below: Nodes<'_, Source<'_>>,
 ) -> Result<bool, AllocError>
-    ensures { IfOk result (λ b. b ≡ not (is_some (spec.single_type (built_in_view type_name) (row_by source_view below.entry)))) }
+    ensures { IfOk result (λ b. b ≡ not (is_some (spec.single_type (built_in_view type_name)
+        (row_by source_view below.entry)))) }
 {
     if is_plain(type_name) && has_none(below) {
         return Ok(false);
@@ -54,13 +57,14 @@ fn is_refused(
     Ok(single_type(alloc, type_name, below)?.is_none())
 }
 
-// Whether a leafref breaks a rule: as a member of a union, or without a path.
+/// Whether a leafref breaks a rule: as a member of a union, or without a path.
 fn is_wrong_leafref(
     alloc: Global,
     is_member: bool,
     below: Nodes<'_, Source<'_>>,
 ) -> Result<bool, AllocError>
-    ensures { (home : _) → IfOk result (λ b. b ≡ is_wrong (spec.leafref_verdict is_member home (row_by source_view below.entry))) }
+    ensures { (home : _) → IfOk result (λ b. b
+        ≡ is_wrong (spec.leafref_verdict is_member home (row_by source_view below.entry))) }
 {
     if is_member {
         return Ok(true);
@@ -68,7 +72,7 @@ fn is_wrong_leafref(
     Ok(path_stated(alloc, below)?.is_none())
 }
 
-// Whether a `type` statement whose substatements may stand there breaks a rule. A union does where it has no member.
+/// Whether a `type` statement whose substatements may stand there breaks a rule. A union does where it has no member.
 fn is_wrong_in_place(
     alloc: Global,
     is_member: bool,
@@ -76,7 +80,8 @@ fn is_wrong_in_place(
     statement: Node<'_, Source<'_>>,
 ) -> Result<bool, AllocError>
     ensures { let f = row_by source_view statement.entry.children in IfOk result (λ b. b
-        ≡ is_wrong (spec.verdict_in_place is_member (label_by source_view statement.entry).home (built_in_view type_name) f (spec.verdicts true f))) }
+        ≡ is_wrong (spec.verdict_in_place is_member (label_by source_view statement.entry).home
+        (built_in_view type_name) f (spec.verdicts true f))) }
 {
     let below = statement.children();
     match type_name {
@@ -86,14 +91,15 @@ fn is_wrong_in_place(
     }
 }
 
-// Whether a `type` statement, a member of a union or not, breaks a rule of its own.
+/// Whether a `type` statement, a member of a union or not, breaks a rule of its own.
 fn is_wrong(
     alloc: Global,
     is_member: bool,
     statement: Node<'_, Source<'_>>,
 ) -> Result<bool, AllocError>
     ensures { let f = row_by source_view statement.entry.children in
-        IfOk result (λ b. b ≡ is_wrong (spec.verdict is_member (label_by source_view statement.entry) f (spec.verdicts true f))) }
+        IfOk result (λ b. b ≡ is_wrong
+        (spec.verdict is_member (label_by source_view statement.entry) f (spec.verdicts true f))) }
 {
     let Some(type_name) = built_in_of(statement) else {
         return Ok(false);
@@ -104,14 +110,15 @@ fn is_wrong(
     is_wrong_in_place(alloc, is_member, type_name, statement)
 }
 
-// The least rule that the `type` statements of a row, members of a union or not, and those below it break.
+/// The least rule that the `type` statements of a row, members of a union or not, and those below it break.
 fn broken_type_rule_in(
     alloc: Global,
     is_member: bool,
     statements: Nodes<'_, Source<'_>>,
     so_far: Option<BrokenRule>,
 ) -> Result<Option<BrokenRule>, AllocError>
-    ensures { IfOk result (λ told. seen told ≡ least_from (seen so_far) (spec.type_breaks_in is_member (row_by source_view statements.entry))) }
+    ensures { IfOk result (λ told. seen told ≡ least_from (seen so_far)
+        (spec.type_breaks_in is_member (row_by source_view statements.entry))) }
 {
     let mut told = so_far;
     for statement in statements {
@@ -132,8 +139,12 @@ fn broken_type_rule_in(
 }
 
 /// The least of the `type` statements that break a rule of their own, by module and line.
-pub fn broken_type_rule(alloc: Global, sources: &Sources<'_>) -> Result<Option<BrokenRule>, AllocError>
-    ensures { IfOk result (λ told. seen told ≡ least_from None (spec.type_breaks (view sources.now))) }
+pub fn broken_type_rule(
+    alloc: Global,
+    sources: &Sources<'_>,
+) -> Result<Option<BrokenRule>, AllocError>
+    ensures { IfOk result (λ told. seen told
+        ≡ least_from None (spec.type_breaks (view sources.now))) }
 {
     broken_type_rule_in(alloc, false, sources.modules(), None)
 }

@@ -20,7 +20,8 @@ use ytype::{NarrowFault, Restriction, Span, YType};
 use yword::Keyword;
 
 fn app_tag(alloc: Global, below: Nodes<'_, Source<'_>>) -> Result<Option<String>, AllocError>
-    ensures { IfOk result (λ tag. text_of tag ≡ sources.argument_with word.error_app_tag_word (row_by source_view below.entry)) }
+    ensures { IfOk result (λ tag. text_of tag
+        ≡ sources.argument_with word.error_app_tag_word (row_by source_view below.entry)) }
 {
     match argument_with(Keyword::ErrorAppTag, below) {
         Some(text) => Ok(Some(String::from_str(alloc, text)?)),
@@ -29,7 +30,8 @@ fn app_tag(alloc: Global, below: Nodes<'_, Source<'_>>) -> Result<Option<String>
 }
 
 fn spans_stated(alloc: Global, statement: Node<'_, Source<'_>>) -> Result<Vec<Span>, AllocError>
-    ensures { IfOk result (λ parts. parts.items ≡ unwrap_or (spans_of (sources.argument_in (label_by source_view statement.entry))) []) }
+    ensures { IfOk result (λ parts. parts.items
+        ≡ unwrap_or (spans_of (sources.argument_in (label_by source_view statement.entry))) []) }
 {
     match spans(alloc, argument_of(statement))? {
         Some(parts) => Ok(parts),
@@ -37,12 +39,13 @@ fn spans_stated(alloc: Global, statement: Node<'_, Source<'_>>) -> Result<Vec<Sp
     }
 }
 
-// The range of a row, where it states one.
+/// The range of a row, where it states one.
 fn range_stated(
     alloc: Global,
     below: Nodes<'_, Source<'_>>,
 ) -> Result<Option<Restriction>, AllocError>
-    ensures { IfOk result (λ r. option_map restriction_of r ≡ spec.stated word.range_word restrictions.range (row_by source_view below.entry)) }
+    ensures { IfOk result (λ r. option_map restriction_of r
+        ≡ spec.stated word.range_word restrictions.range (row_by source_view below.entry)) }
 {
     match found_with(Keyword::Range, below) {
         Some(statement) => {
@@ -54,12 +57,13 @@ fn range_stated(
     }
 }
 
-// The length of a row, where it states one.
+/// The length of a row, where it states one.
 fn length_stated(
     alloc: Global,
     below: Nodes<'_, Source<'_>>,
 ) -> Result<Option<Restriction>, AllocError>
-    ensures { IfOk result (λ r. option_map restriction_of r ≡ spec.stated word.length_word restrictions.length (row_by source_view below.entry)) }
+    ensures { IfOk result (λ r. option_map restriction_of r
+        ≡ spec.stated word.length_word restrictions.length (row_by source_view below.entry)) }
 {
     match found_with(Keyword::Length, below) {
         Some(statement) => {
@@ -73,7 +77,8 @@ fn length_stated(
 
 /// A type that was made, or none where it was refused.
 pub(crate) fn accepted_type(made: Result<YType, NarrowFault>) -> Result<Option<YType>, AllocError>
-    ensures { (answer : Option YangType) → Gives same narrow_refusal made (ok_or answer tt) → IfOk result (λ type. type ≡ answer) }
+    ensures { (answer : Option YangType) → Gives same narrow_refusal made (ok_or answer tt)
+        → IfOk result (λ type. type ≡ answer) }
 {
     match made {
         Ok(made) => Ok(Some(made)),
@@ -87,7 +92,8 @@ fn limited_type(
     restriction: Option<Restriction>,
     outer: YType,
 ) -> Result<Option<YType>, AllocError>
-    ensures { IfOk result (λ type. type ≡ spec.limited (option_map restriction_of restriction) outer) }
+    ensures { IfOk result (λ type. type
+        ≡ spec.limited (option_map restriction_of restriction) outer) }
 {
     match restriction {
         Some(restriction) => accepted_type(outer.narrow(alloc, &restriction)),
@@ -101,7 +107,8 @@ pub(crate) fn ranged_type(
     below: Nodes<'_, Source<'_>>,
     outer: Result<YType, NarrowFault>,
 ) -> Result<Option<YType>, AllocError>
-    ensures { (type : YangType) → outer ≡ Ok type → IfOk result (λ t. t ≡ spec.limited_range (row_by source_view below.entry) type) }
+    ensures { (type : YangType) → outer ≡ Ok type
+        → IfOk result (λ t. t ≡ spec.limited_range (row_by source_view below.entry) type) }
 {
     match outer {
         Ok(outer) => limited_type(alloc, range_stated(alloc, below)?, outer),
@@ -116,7 +123,8 @@ pub(crate) fn measured_type(
     outer: Result<YType, NarrowFault>,
 ) -> Result<Option<YType>, AllocError>
     ensures { (type : YangType) → outer ≡ Ok type
-        → IfOk result (λ t. t ≡ spec.limited (spec.stated word.length_word restrictions.length (row_by source_view below.entry)) type) }
+        → IfOk result (λ t. t ≡ spec.limited
+        (spec.stated word.length_word restrictions.length (row_by source_view below.entry)) type) }
 {
     match outer {
         Ok(outer) => limited_type(alloc, length_stated(alloc, below)?, outer),

@@ -33,14 +33,19 @@ fn naming(
     statement: Node<'_, Source<'_>>,
     number: Option<i64>,
 ) -> Result<Naming, AllocError>
-    ensures { IfOk result (λ naming. naming ≡ record { name = sources.argument_in (label_by source_view statement.entry); number = number }) }
+    ensures { IfOk result (λ naming. naming ≡ record {
+      name = sources.argument_in
+          (label_by source_view statement.entry);
+      number = number;
+    }) }
 {
     let name = String::from_str(alloc, argument_of(statement))?;
     Ok(Naming::new(name, number))
 }
 
 fn enum_namings(alloc: Global, below: Nodes<'_, Source<'_>>) -> Result<Vec<Naming>, AllocError>
-    ensures { IfOk result (λ namings. namings.items ≡ spec.namings word.enum_word spec.value_stated (row_by source_view below.entry)) }
+    ensures { IfOk result (λ namings. namings.items
+        ≡ spec.namings word.enum_word spec.value_stated (row_by source_view below.entry)) }
 {
     let mut namings = Vec::new(alloc);
     for statement in below {
@@ -55,7 +60,8 @@ fn enum_namings(alloc: Global, below: Nodes<'_, Source<'_>>) -> Result<Vec<Namin
 }
 
 fn bit_namings(alloc: Global, below: Nodes<'_, Source<'_>>) -> Result<Vec<Naming>, AllocError>
-    ensures { IfOk result (λ namings. namings.items ≡ spec.namings word.bit_word spec.position_stated (row_by source_view below.entry)) }
+    ensures { IfOk result (λ namings. namings.items
+        ≡ spec.namings word.bit_word spec.position_stated (row_by source_view below.entry)) }
 {
     let mut namings = Vec::new(alloc);
     for statement in below {

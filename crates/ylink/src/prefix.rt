@@ -40,7 +40,8 @@ pub struct NodeName<'t> {
 }
 
 fn prefix_of<'a, 't>(module: Node<'a, Source<'t>>) -> &'t str
-    ensures { result.now ≡ unwrap_or (sources.argument_with prefix_word (row_by source_view module.entry.children)) [] }
+    ensures { result.now ≡ unwrap_or
+        (sources.argument_with prefix_word (row_by source_view module.entry.children)) [] }
 {
     argument_with(Keyword::Prefix, module.children()).unwrap_or("")
 }
@@ -73,7 +74,8 @@ impl<'t> Prefixes<'t> {
 
     /// The place of the module that a prefix names in a module.
     pub fn module_meant(&self, home: usize, prefix: &str) -> Option<usize>
-        ensures { (modules : Forest sources.Source) → IsOf self.now modules → result ≡ spec.module_meant modules home prefix.now }
+        ensures { (modules : Forest sources.Source) → IsOf self.now modules → result
+            ≡ spec.module_meant modules home prefix.now }
     {
         if self.own_prefix(home) == prefix {
             Some(home)
@@ -122,7 +124,8 @@ fn has_unknown(prefixes: &Prefixes<'_>, home: usize, names: &[Name<'_>]) -> bool
 
 fn has_unknown_step(prefixes: &Prefixes<'_>, home: usize, paths: &[Vec<Name<'_>>]) -> bool
     ensures { (modules : Forest sources.Source) → IsOf prefixes.now modules
-        → result ≡ list_any (list_any (spec.is_unknown_prefix modules home)) (map (λ p. names_view p.items) paths.now) }
+        → result ≡ list_any (list_any (spec.is_unknown_prefix modules home))
+        (map (λ p. names_view p.items) paths.now) }
 {
     for path in paths {
         if has_unknown(prefixes, home, path) {
@@ -132,10 +135,11 @@ fn has_unknown_step(prefixes: &Prefixes<'_>, home: usize, paths: &[Vec<Name<'_>>
     false
 }
 
-// Whether one of these names has an unknown prefix, where there are any.
+/// Whether one of these names has an unknown prefix, where there are any.
 fn has_unknown_among(prefixes: &Prefixes<'_>, home: usize, names: Option<Vec<Name<'_>>>) -> bool
     ensures { (modules : Forest sources.Source) → IsOf prefixes.now modules
-        → result ≡ list_any (spec.is_unknown_prefix modules home) (unwrap_or (option_map (λ n. names_view n.items) names.entry) []) }
+        → result ≡ list_any (spec.is_unknown_prefix modules home)
+        (unwrap_or (option_map (λ n. names_view n.items) names.entry) []) }
 {
     match names {
         Some(names) => has_unknown(prefixes, home, &names),
@@ -143,10 +147,11 @@ fn has_unknown_among(prefixes: &Prefixes<'_>, home: usize, names: Option<Vec<Nam
     }
 }
 
-// Whether the argument of a statement, as the name of a type, has a prefix that names nothing. A built-in type has none.
+/// Whether the argument of a statement, as the name of a type, has a prefix that names nothing. A built-in type has none.
 fn is_unknown_type(prefixes: &Prefixes<'_>, source: &Source<'_>) -> bool
     ensures { (modules : Forest sources.Source) → IsOf prefixes.now modules
-        → result ≡ list_any (spec.is_unknown_prefix modules source.now.home) (spec.names_given type_word (argument_text (text.view source.now.statement.now).0)) }
+        → result ≡ list_any (spec.is_unknown_prefix modules source.now.home)
+        (spec.names_given type_word (argument_text (text.view source.now.statement.now).0)) }
 {
     if source.built_in().is_some() {
         return false;
@@ -157,7 +162,7 @@ fn is_unknown_type(prefixes: &Prefixes<'_>, source: &Source<'_>) -> bool
     }
 }
 
-// Whether a name in the argument of a statement has a prefix that names nothing.
+/// Whether a name in the argument of a statement has a prefix that names nothing.
 fn has_unknown_prefix(
     alloc: Global,
     prefixes: &Prefixes<'_>,
@@ -165,7 +170,8 @@ fn has_unknown_prefix(
 ) -> Result<bool, AllocError>
     ensures { IfOk result (λ b. (modules : Forest sources.Source) → IsOf prefixes.now modules
         → b ≡ list_any (spec.is_unknown_prefix modules source.now.home)
-        (spec.names_given (keyword_view source.now.keyword) (argument_text (text.view source.now.statement.now).0))) }
+        (spec.names_given (keyword_view source.now.keyword)
+        (argument_text (text.view source.now.statement.now).0))) }
 {
     let home = source.home;
     Ok(match source.keyword {
@@ -188,8 +194,10 @@ fn judge_prefixes(
     source: &Source<'_>,
     so_far: Option<BrokenRule>,
 ) -> Result<Option<BrokenRule>, AllocError>
-    ensures { IfOk result (λ told. (modules : Forest sources.Source) (number : ℕ) → IsOf prefixes.now modules
-        → seen told ≡ least_from (seen so_far) (spec.prefix_break modules (source_view number source.now))) }
+    ensures { IfOk result (λ told. (modules : Forest sources.Source) (number : ℕ)
+        → IsOf prefixes.now modules
+        → seen told ≡ least_from (seen so_far)
+        (spec.prefix_break modules (source_view number source.now))) }
 {
     let unknown = has_unknown_prefix(alloc, prefixes, source)?;
     if !unknown {
@@ -202,8 +210,12 @@ fn judge_prefixes(
 }
 
 /// The least of the prefixes that name nothing, by module and line.
-pub fn broken_prefix_rule(alloc: Global, sources: &Sources<'_>) -> Result<Option<BrokenRule>, AllocError>
-    ensures { IfOk result (λ told. seen told ≡ least_from None (spec.prefix_breaks (view sources.now))) }
+pub fn broken_prefix_rule(
+    alloc: Global,
+    sources: &Sources<'_>,
+) -> Result<Option<BrokenRule>, AllocError>
+    ensures { IfOk result (λ told. seen told
+        ≡ least_from None (spec.prefix_breaks (view sources.now))) }
 {
     let prefixes = Prefixes::of(alloc, sources)?;
     let mut told = None;
@@ -213,7 +225,7 @@ pub fn broken_prefix_rule(alloc: Global, sources: &Sources<'_>) -> Result<Option
     Ok(told)
 }
 
-// Whether a statement names a type that isn't found.
+/// Whether a statement names a type that isn't found.
 fn is_not_found(source: &Source<'_>) -> bool
     ensures { (number : ℕ) → result ≡ spec.is_not_found (source_view number source.now) }
 {
@@ -221,7 +233,8 @@ fn is_not_found(source: &Source<'_>) -> bool
 }
 
 fn judge_type_name(source: &Source<'_>, so_far: Option<BrokenRule>) -> Option<BrokenRule>
-    ensures { (number : ℕ) → seen result ≡ least_from (seen so_far) (spec.type_name_break (source_view number source.now)) }
+    ensures { (number : ℕ) → seen result
+        ≡ least_from (seen so_far) (spec.type_name_break (source_view number source.now)) }
 {
     let missing = is_not_found(source);
     if !missing {

@@ -52,7 +52,7 @@ pub enum Verdict<'t> {
     Unjudged,
 }
 
-// Whether a built-in type may bear a substatement.
+/// Whether a built-in type may bear a substatement.
 fn may_bear(type_name: BuiltIn, keyword: Keyword) -> bool
     ensures { result ≡ spec.may_bear (built_in_view type_name) (keyword_view keyword) }
 {
@@ -76,7 +76,8 @@ fn may_bear(type_name: BuiltIn, keyword: Keyword) -> bool
 }
 
 pub(crate) fn are_in_place(type_name: BuiltIn, below: Nodes<'_, Source<'_>>) -> bool
-    ensures { result ≡ spec.are_in_place (built_in_view type_name) (row_by source_view below.entry) }
+    ensures { result ≡ spec.are_in_place (built_in_view type_name)
+        (row_by source_view below.entry) }
 {
     for statement in below {
         if !may_bear(type_name, statement.label().keyword) {
@@ -87,13 +88,15 @@ pub(crate) fn are_in_place(type_name: BuiltIn, below: Nodes<'_, Source<'_>>) -> 
 }
 
 fn digits_stated(below: Nodes<'_, Source<'_>>) -> Option<FractionDigits>
-    ensures { result ≡ option_and_then fraction_digits_of (sources.argument_with word.fraction_digits_word (row_by source_view below.entry)) }
+    ensures { result ≡ option_and_then fraction_digits_of
+        (sources.argument_with word.fraction_digits_word (row_by source_view below.entry)) }
 {
     FractionDigits::new(fraction_digits(argument_with(Keyword::FractionDigits, below)?)?)
 }
 
 fn decimal(alloc: Global, below: Nodes<'_, Source<'_>>) -> Result<Option<YType>, AllocError>
-    ensures { IfOk result (λ type. type ≡ spec.single_type spec.decimal64 (row_by source_view below.entry)) }
+    ensures { IfOk result (λ type. type
+        ≡ spec.single_type spec.decimal64 (row_by source_view below.entry)) }
 {
     match digits_stated(below) {
         Some(digits) => ranged_type(alloc, below, YType::decimal64(alloc, digits)),
@@ -101,13 +104,14 @@ fn decimal(alloc: Global, below: Nodes<'_, Source<'_>>) -> Result<Option<YType>,
     }
 }
 
-// A type that is no union and no leafref.
+/// A type that is no union and no leafref.
 pub(crate) fn single_type(
     alloc: Global,
     type_name: BuiltIn,
     below: Nodes<'_, Source<'_>>,
 ) -> Result<Option<YType>, AllocError>
-    ensures { IfOk result (λ type. type ≡ spec.single_type (built_in_view type_name) (row_by source_view below.entry)) }
+    ensures { IfOk result (λ type. type
+        ≡ spec.single_type (built_in_view type_name) (row_by source_view below.entry)) }
 {
     match type_name {
         BuiltIn::Int8 => ranged_type(alloc, below, YType::int8(alloc)),
@@ -137,13 +141,14 @@ fn is_required(below: Nodes<'_, Source<'_>>) -> bool
     }
 }
 
-// The path of a leafref, where it has one.
+/// The path of a leafref, where it has one.
 pub(crate) fn path_stated<'t>(
     alloc: Global,
     below: Nodes<'_, Source<'t>>,
 ) -> Result<Option<Vec<Name<'t>>>, AllocError>
     ensures { IfOk result (λ path. option_map (λ p. names_view p.items) path
-        ≡ option_and_then leafref_path_of (sources.argument_with word.path_word (row_by source_view below.entry))) }
+        ≡ option_and_then leafref_path_of
+        (sources.argument_with word.path_word (row_by source_view below.entry))) }
 {
     match argument_with(Keyword::Path, below) {
         Some(text) => leafref_path(alloc, text),
@@ -157,7 +162,8 @@ fn leafref_verdict<'t>(
     home: usize,
     below: Nodes<'_, Source<'t>>,
 ) -> Result<Verdict<'t>, AllocError>
-    ensures { IfOk result (λ verdict. verdict_view verdict ≡ spec.leafref_verdict is_member home (row_by source_view below.entry)) }
+    ensures { IfOk result (λ verdict. verdict_view verdict
+        ≡ spec.leafref_verdict is_member home (row_by source_view below.entry)) }
 {
     if is_member {
         return Ok(Verdict::Wrong);
@@ -172,9 +178,10 @@ fn leafref_verdict<'t>(
     }
 }
 
-// The types of members, where each has one.
+/// The types of members, where each has one.
 fn member_types(alloc: Global, members: Vec<Verdict<'_>>) -> Result<Option<Vec<YType>>, AllocError>
-    ensures { IfOk result (λ types. option_map (λ t. t.items) types ≡ spec.member_types (map verdict_view members.entry.items)) }
+    ensures { IfOk result (λ types. option_map (λ t. t.items) types
+        ≡ spec.member_types (map verdict_view members.entry.items)) }
 {
     let mut types = Vec::new(alloc);
     for member in members {
@@ -187,7 +194,8 @@ fn member_types(alloc: Global, members: Vec<Verdict<'_>>) -> Result<Option<Vec<Y
 }
 
 fn union_verdict<'t>(alloc: Global, members: Vec<Verdict<'t>>) -> Result<Verdict<'t>, AllocError>
-    ensures { IfOk result (λ verdict. verdict_view verdict ≡ spec.union_verdict (map verdict_view members.entry.items)) }
+    ensures { IfOk result (λ verdict. verdict_view verdict
+        ≡ spec.union_verdict (map verdict_view members.entry.items)) }
 {
     if members.is_empty() {
         return Ok(Verdict::Wrong);
@@ -195,12 +203,16 @@ fn union_verdict<'t>(alloc: Global, members: Vec<Verdict<'t>>) -> Result<Verdict
     let Some(types) = member_types(alloc, members)? else {
         return Ok(Verdict::Unjudged);
     };
-    Ok(own_or(accepted_type(YType::union(alloc, &types))?, Verdict::Unjudged))
+    Ok(own_or(
+        accepted_type(YType::union(alloc, &types))?,
+        Verdict::Unjudged,
+    ))
 }
 
-// A type that refers to no other node, or another verdict where there is none.
+/// A type that refers to no other node, or another verdict where there is none.
 fn own_or<'t>(made: Option<YType>, other: Verdict<'t>) -> Verdict<'t>
-    ensures { verdict_view result ≡ option_map_or (λ type. spec.means (spec.own type)) made (verdict_view other.entry) }
+    ensures { verdict_view result
+        ≡ option_map_or (λ type. spec.means (spec.own type)) made (verdict_view other.entry) }
 {
     match made {
         Some(made) => Verdict::Means(Meant::Own(made)),
@@ -215,8 +227,10 @@ fn verdict_in_place<'t>(
     statement: Node<'_, Source<'t>>,
     members: Vec<Verdict<'t>>,
 ) -> Result<Verdict<'t>, AllocError>
-    ensures { IfOk result (λ verdict. verdict_view verdict ≡ spec.verdict_in_place is_member (label_by source_view statement.entry).home
-        (built_in_view type_name) (row_by source_view statement.entry.children) (map verdict_view members.entry.items)) }
+    ensures { IfOk result (λ verdict. verdict_view verdict
+        ≡ spec.verdict_in_place is_member (label_by source_view statement.entry).home
+        (built_in_view type_name) (row_by source_view statement.entry.children)
+        (map verdict_view members.entry.items)) }
 {
     let below = statement.children();
     match type_name {
@@ -226,14 +240,15 @@ fn verdict_in_place<'t>(
     }
 }
 
-// The verdict on a `type` statement, given those on the `type` statements below it.
+/// The verdict on a `type` statement, given those on the `type` statements below it.
 fn judge_type<'t>(
     alloc: Global,
     is_member: bool,
     statement: Node<'_, Source<'t>>,
     members: Vec<Verdict<'t>>,
 ) -> Result<Verdict<'t>, AllocError>
-    ensures { IfOk result (λ verdict. verdict_view verdict ≡ spec.verdict is_member (label_by source_view statement.entry)
+    ensures { IfOk result (λ verdict. verdict_view verdict
+        ≡ spec.verdict is_member (label_by source_view statement.entry)
         (row_by source_view statement.entry.children) (map verdict_view members.entry.items)) }
 {
     let Some(type_name) = built_in_of(statement) else {
@@ -245,12 +260,13 @@ fn judge_type<'t>(
     verdict_in_place(alloc, is_member, type_name, statement, members)
 }
 
-// The verdicts on the members of a union that stand in a row.
+/// The verdicts on the members of a union that stand in a row.
 fn member_verdicts<'t>(
     alloc: Global,
     statements: Nodes<'_, Source<'t>>,
 ) -> Result<Vec<Verdict<'t>>, AllocError>
-    ensures { IfOk result (λ found. map verdict_view found.items ≡ spec.verdicts true (row_by source_view statements.entry)) }
+    ensures { IfOk result (λ found. map verdict_view found.items
+        ≡ spec.verdicts true (row_by source_view statements.entry)) }
 {
     let mut found = Vec::new(alloc);
     for statement in statements {
@@ -269,7 +285,8 @@ pub fn type_meant<'t>(
     alloc: Global,
     own: Nodes<'_, Source<'t>>,
 ) -> Result<Option<Meant<'t>>, AllocError>
-    ensures { IfOk result (λ meant. option_map meant_view meant ≡ spec.type_meant (row_by source_view own.entry)) }
+    ensures { IfOk result (λ meant. option_map meant_view meant
+        ≡ spec.type_meant (row_by source_view own.entry)) }
 {
     let Some(statement) = found_with(Keyword::Type, own) else {
         return Ok(None);

@@ -38,7 +38,8 @@ impl Live {
     /// A document with its schema, under which it was read or made. Where memory runs out both are given back.
     pub fn open(alloc: Global, schema: Schema, tree: Tree) -> Result<Live, (Schema, Tree)>
         requires { Fits (schema_view.view schema) (tree_view tree) }
-        ensures opened { IfOk result (λ live. view live ≡ opened (schema_view.view schema) (tree_view tree)) }
+        ensures opened { IfOk result (λ live. view live
+            ≡ opened (schema_view.view schema) (tree_view tree)) }
         ensures schema { IfErr result (λ given. given.0 ≡ schema) }
         ensures tree { IfErr result (λ given. given.1 ≡ tree) }
     {
@@ -83,8 +84,10 @@ impl Live {
 
     /// The document after an edit, or why it is refused.
     fn edited_tree(&self, edit: &Edit) -> Result<Tree, EditFault>
-        ensures answer { Gives tree_view told_by result (answer_to (edit_view edit.now) (view self.now)) }
-        ensures fitting { IfOk result (λ tree. fits (schema_view.view self.now.schema) (tree_view tree) ≡ true) }
+        ensures answer { Gives tree_view told_by result
+            (answer_to (edit_view edit.now) (view self.now)) }
+        ensures fitting { IfOk result
+            (λ tree. fits (schema_view.view self.now.schema) (tree_view tree) ≡ true) }
     {
         apply(self.alloc, &self.schema, &self.tree, edit)
     }
@@ -170,7 +173,8 @@ impl Live {
 /// How many faults a document has that fits its schema.
 fn count_of(alloc: Global, schema: &Schema, tree: &Tree) -> Result<usize, AllocError>
     requires { fits (schema_view.view schema.now) (tree_view tree.now) ≡ true }
-    ensures { IfOk result (λ n. n ≡ length (faults_of (schema_view.view schema.now) (tree_view tree.now))) }
+    ensures { IfOk result (λ n. n
+        ≡ length (faults_of (schema_view.view schema.now) (tree_view tree.now))) }
 {
     Ok(faults(alloc, schema, tree)?.len())
 }

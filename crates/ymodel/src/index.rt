@@ -34,7 +34,8 @@ pub(crate) fn index_of(
     requires numbered { length rows.now < 2 ^ 32 }
     requires laid_out { IsLaidOut rows.now }
     ensures named { IfOk result (λ index. FindsNamed index (laid 0 rows.now)) }
-    ensures written { IfOk result (λ index. FindsWritten index (schema_view modules.now rows.now) (data_places None (forest_of 0 rows.now))) }
+    ensures written { IfOk result (λ index. FindsWritten index (schema_view modules.now rows.now)
+        (data_places None (forest_of 0 rows.now))) }
 {
     let mut named = Vec::with_capacity(alloc, rows.len())?;
     let mut written = Vec::with_capacity(alloc, rows.len())?;
@@ -102,7 +103,8 @@ fn written_hash(
 ) -> Result<u32, AllocError>
     requires { IsLaidOut rows.now }
     ensures { let schema = schema_view modules.now rows.now in
-        (number : _) → IfOk result (λ hash. hash ≡ hash_of above (written_name schema (module_at schema above) (node_view number row.now.node))) }
+        (number : _) → IfOk result (λ hash. hash ≡ hash_of above
+        (written_name schema (module_at schema above) (node_view number row.now.node))) }
 {
     if module_above(rows, above) == Some(row.node.module) {
         return Ok(hash_of(above, row.node.name.as_str()));
@@ -124,7 +126,8 @@ fn module_above(rows: &[Row], above: Option<u32>) -> Option<usize>
 
 /// Whether the node of a number has this parent, module and name.
 fn is_named(rows: &[Row], number: u32, parent: Option<u32>, module: usize, name: &str) -> bool
-    ensures { result ≡ option_map_or (λ r. matches parent (is_called «module» name.now) (place_of number r)) (slice_get rows.now number) false }
+    ensures { result ≡ option_map_or (λ r. matches parent (is_called «module» name.now)
+        (place_of number r)) (slice_get rows.now number) false }
 {
     match rows.get(number as usize) {
         Some(row) => {
@@ -144,7 +147,8 @@ fn is_written_below(
     name: &str,
 ) -> bool
     requires { IsLaidOut rows.now }
-    ensures { (number : _) → result ≡ is_written (schema_view modules.now rows.now) above name.now (node_view number node.now) }
+    ensures { (number : _) → result ≡ is_written (schema_view modules.now rows.now) above name.now
+        (node_view number node.now) }
 {
     is_written(modules, module_above(rows, above), node, name)
 }
@@ -185,8 +189,10 @@ impl Index {
         name: &str,
     ) -> bool
         requires { IsLaidOut rows.now }
-        ensures { result ≡ option_map_or (λ r. matches above (is_stored_as (schema_view modules.now rows.now) above name.now)
-            (data_place_of (unwrap_or (slice_get self.now.above.items number) None) number r)) (slice_get rows.now number) false }
+        ensures { result ≡ option_map_or
+            (λ r. matches above (is_stored_as (schema_view modules.now rows.now) above name.now)
+            (data_place_of (unwrap_or (slice_get self.now.above.items number) None) number r))
+            (slice_get rows.now number) false }
     {
         match rows.get(number as usize) {
             Some(row) => {
@@ -217,8 +223,11 @@ impl Index {
         name: &str,
     ) -> Option<u32>
         requires laid_out { IsLaidOut rows.now }
-        requires written { FindsWritten self.now (schema_view modules.now rows.now) (data_places None (forest_of 0 rows.now)) }
-        ensures { result ≡ first_below above (is_stored_as (schema_view modules.now rows.now) above name.now) (data_places None (forest_of 0 rows.now)) }
+        requires written { FindsWritten self.now (schema_view modules.now rows.now)
+            (data_places None (forest_of 0 rows.now)) }
+        ensures { result ≡ first_below above (is_stored_as
+            (schema_view modules.now rows.now) above name.now)
+            (data_places None (forest_of 0 rows.now)) }
     {
         for number in self.written.numbers(hash_of(above, name)) {
             if self.is_stored_as(modules, rows, number, above, name) {

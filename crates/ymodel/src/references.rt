@@ -56,7 +56,8 @@ impl References {
     }
 
     fn add_row(&mut self, alloc: Global, row: &Row, id: SchemaId) -> Result<(), AllocError>
-        ensures { OnOk result ((ps : _) → FindsReferences self.old ps → FindsReferences self.new (ps ++ place_of id.0 row.now ∷ [])) }
+        ensures { OnOk result ((ps : _) → FindsReferences self.old ps
+            → FindsReferences self.new (ps ++ place_of id.0 row.now ∷ [])) }
     {
         match target_of(&row.node.kind) {
             Some(target) => self.add(alloc, target, id),
@@ -66,7 +67,8 @@ impl References {
 
     /// Holds one more node that refers to a node.
     fn add(&mut self, alloc: Global, target: SchemaId, id: SchemaId) -> Result<(), AllocError>
-        ensures { OnOk result ((number : _) → held self.new number ≡ held self.old number ++ (if target.0 == number then id.0 ∷ [] else [])) }
+        ensures { OnOk result ((number : _) → held self.new number ≡ held self.old number
+            ++ (if target.0 == number then id.0 ∷ [] else [])) }
     {
         if let Some(ids) = self.by_target.get_mut(&target) {
             ids.push(id)?;

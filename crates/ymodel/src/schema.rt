@@ -86,7 +86,8 @@ impl Schema {
 
     /// The node above a node; none above a top node, nor of a number that no node has.
     pub fn parent(&self, id: SchemaId) -> Option<SchemaId>
-        ensures way { way_to (view self.now) id.0 ≡ way_above (view self.now) (number_of result) ++ alone (node_at (view self.now) id.0) }
+        ensures way { way_to (view self.now) id.0 ≡ way_above (view self.now) (number_of result)
+            ++ alone (node_at (view self.now) id.0) }
         ensures above { IfSome result (λ p. p.0 < id.0) }
     {
         match self.rows.get(id.number()) {
@@ -119,7 +120,8 @@ impl Schema {
 
     /// The child of a node, or the top node, of a module and a name.
     pub fn child(&self, parent: Option<SchemaId>, module: usize, name: &str) -> Option<SchemaId>
-        ensures { number_of result ≡ child_named (view self.now) (number_of parent) «module» name.now }
+        ensures { number_of result
+            ≡ child_named (view self.now) (number_of parent) «module» name.now }
     {
         id_of(
             self.index
@@ -166,7 +168,8 @@ impl Schema {
         parent_module: Option<usize>,
         node: &SchemaNode,
     ) -> Result<String, AllocError>
-        ensures { IfOk result (λ s. string_bytes s ≡ spec.written_name (view self.now) parent_module (node_view 0 node.now)) }
+        ensures { IfOk result (λ s. string_bytes s
+            ≡ spec.written_name (view self.now) parent_module (node_view 0 node.now)) }
     {
         written_name(alloc, &self.modules, parent_module, node)
     }
@@ -178,7 +181,8 @@ impl Schema {
         parent_module: Option<usize>,
         node: &SchemaNode,
     ) -> Result<String, AllocError>
-        ensures { IfOk result (λ s. string_bytes s ≡ spec.other_name (view self.now) parent_module (node_view 0 node.now)) }
+        ensures { IfOk result (λ s. string_bytes s
+            ≡ spec.other_name (view self.now) parent_module (node_view 0 node.now)) }
     {
         other_name(alloc, &self.modules, parent_module, node)
     }
@@ -199,14 +203,16 @@ impl Schema {
 
     /// The name of the module at a place; nothing where the set has fewer.
     pub fn module_name(&self, module: usize) -> Option<&str>
-        ensures { option_map (λ t. t.now) result ≡ option_map (λ m. m.name) (slice_get (view self.now).modules «module») }
+        ensures { option_map (λ t. t.now) result
+            ≡ option_map (λ m. m.name) (slice_get (view self.now).modules «module») }
     {
         Some(self.modules.get(module)?.name.as_str())
     }
 
     /// The prefix of the module at a place, by its own `prefix` statement; nothing where the set has fewer.
     pub fn module_prefix(&self, module: usize) -> Option<&str>
-        ensures { option_map (λ t. t.now) result ≡ option_map (λ m. m.prefix) (slice_get (view self.now).modules «module») }
+        ensures { option_map (λ t. t.now) result
+            ≡ option_map (λ m. m.prefix) (slice_get (view self.now).modules «module») }
     {
         Some(self.modules.get(module)?.prefix.as_str())
     }

@@ -72,7 +72,8 @@ pub(crate) fn first_written(
     name: &str,
 ) -> Option<SchemaId>
     ensures { number_of result ≡ first_in_row
-        (λ n. is_text name.now (spec.written_name (schema_view modules.now []) (Some parent_module) n)) (data_row (row_view children.entry)) }
+        (λ n. is_text name.now (spec.written_name (schema_view modules.now [])
+        (Some parent_module) n)) (data_row (row_view children.entry)) }
 {
     for child in children {
         if let Some(found) = written_at(modules, parent_module, child, name) {
@@ -90,7 +91,8 @@ fn written_at(
     child: Child<'_>,
     name: &str,
 ) -> Option<SchemaId>
-    ensures { number_of result ≡ first_in_row (λ n. is_text name.now (spec.written_name (schema_view modules.now []) (Some parent_module) n))
+    ensures { number_of result ≡ first_in_row (λ n. is_text name.now
+        (spec.written_name (schema_view modules.now []) (Some parent_module) n))
         (data_row (node (label_of child.entry) (below_of child.entry) end)) }
 {
     if !child.node().kind.is_data() {
@@ -109,7 +111,8 @@ pub(crate) fn is_written(
     node: &SchemaNode,
     name: &str,
 ) -> bool
-    ensures { result ≡ is_text name.now (spec.written_name (schema_view modules.now []) parent_module (node_view 0 node.now)) }
+    ensures { result ≡ is_text name.now
+        (spec.written_name (schema_view modules.now []) parent_module (node_view 0 node.now)) }
 {
     if parent_module == Some(node.module) {
         name == node.name.as_str()

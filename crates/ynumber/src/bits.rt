@@ -72,7 +72,8 @@ fn positions_among(
     names: &Names,
     words: &BTreeSet<&str>,
 ) -> Result<Vec<i64>, AllocError>
-    ensures { IfOk result (λ positions. positions.items ≡ positions_of (filter (λ a. holds_word words.now a.name) names.now)) }
+    ensures { IfOk result (λ positions. positions.items
+        ≡ positions_of (filter (λ a. holds_word words.now a.name) names.now)) }
 {
     let mut positions = Vec::new(alloc);
     for (number, name) in names.rows() {

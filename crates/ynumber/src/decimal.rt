@@ -33,7 +33,8 @@ fn first_digit(digits: u32, number: u64) -> (u8, u64)
 fn push_digits(text: &mut String, digits: u32, number: u64) -> Result<(), AllocError>
     requires digits { digits ≤ 18 }
     requires number { number < 10 ^ digits }
-    ensures { OnOk result (string_bytes text.new ≡ string_bytes text.old ++ fraction_digits digits number) }
+    ensures { OnOk result (string_bytes text.new ≡ string_bytes text.old
+        ++ fraction_digits digits number) }
 {
     if digits == 0 || number == 0 {
         return Ok(());
@@ -47,7 +48,8 @@ fn push_digits(text: &mut String, digits: u32, number: u64) -> Result<(), AllocE
 fn push_fraction(text: &mut String, digits: u32, number: u64) -> Result<(), AllocError>
     requires digits { digits ≤ 18 }
     requires number { number < 10 ^ digits }
-    ensures { OnOk result (string_bytes text.new ≡ string_bytes text.old ++ or_zero (fraction_digits digits number)) }
+    ensures { OnOk result (string_bytes text.new ≡ string_bytes text.old
+        ++ or_zero (fraction_digits digits number)) }
 {
     if number == 0 {
         text.push_str("0")
@@ -59,7 +61,8 @@ fn push_fraction(text: &mut String, digits: u32, number: u64) -> Result<(), Allo
 #[tactic(auto, using(crate::proofs::DecimalLemmas::fractions))]
 fn push_magnitude(text: &mut String, digits: u32, magnitude: u128) -> Result<(), AllocError>
     requires { digits ≤ 18 }
-    ensures { OnOk result (string_bytes text.new ≡ string_bytes text.old ++ decimal_magnitude_text digits magnitude) }
+    ensures { OnOk result (string_bytes text.new ≡ string_bytes text.old
+        ++ decimal_magnitude_text digits magnitude) }
 {
     let power = u128::from(power_of_ten(digits));
     let whole = magnitude / power;

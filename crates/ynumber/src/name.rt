@@ -68,7 +68,8 @@ fn with_name(
 
 fn assign(alloc: Global, numbers: &Part, namings: &[Naming]) -> Result<Names, NarrowFault>
     requires { FitsWord numbers.now }
-    ensures { Gives same narrow_refusal result (ok_or (assigned_from numbers.now [] namings.now) tt) }
+    ensures { Gives same narrow_refusal result
+        (ok_or (assigned_from numbers.now [] namings.now) tt) }
 {
     let mut names = Names::new(alloc, namings.len());
     'namings: for naming in namings {

@@ -14,7 +14,7 @@ use std::alloc::{AllocError, Global};
 use std::collections::BTreeMap;
 use std::marker::Model;
 
-// The numbers of names.
+/// The numbers of names.
 type Table = BTreeMap<String, i64>;
 
 /// The names of an enumeration or of bits in the order of their numbers. Each is found by its number, and by its name:
@@ -25,7 +25,7 @@ pub struct Names {
     by_name: Option<Table>,
 }
 
-// So many names are found without a table.
+/// So many names are found without a table.
 const FEW: usize = 8;
 
 impl Model for Names {
@@ -71,7 +71,7 @@ fn number_behind(number: i64) -> i128
     i128::from(number) + 1
 }
 
-// A table with one name more, where there is a table.
+/// A table with one name more, where there is a table.
 fn with_name(
     alloc: Global,
     table: Option<Table>,
@@ -89,7 +89,7 @@ fn with_name(
     }
 }
 
-// The number of a name among those by number.
+/// The number of a name among those by number.
 fn number_among(by_number: &BTreeMap<i64, String>, text: &str) -> Option<i64>
     ensures { result ≡ number_named text.now (assigned by_number.now.entries) }
 {
@@ -119,7 +119,8 @@ impl Names {
 
     /// The number of a name.
     pub fn number_of(&self, text: &str) -> Option<i64>
-        ensures { result ≡ option_map (λ a. a.number) (find (λ a. is_text text.now a.name) self.now) }
+        ensures { result ≡ option_map (λ a. a.number)
+            (find (λ a. is_text text.now a.name) self.now) }
     {
         match &self.by_name {
             None => number_among(&self.by_number, text),
@@ -143,7 +144,8 @@ impl Names {
 
     /// The name of a number.
     pub fn name_of(&self, number: i128) -> Option<&str>
-        ensures { option_copied result ≡ option_map (λ a. a.name) (find (λ a. int_eq a.number number) self.now) }
+        ensures { option_copied result
+            ≡ option_map (λ a. a.name) (find (λ a. int_eq a.number number) self.now) }
     {
         match i64::try_from(number) {
             Err(_) => None,
@@ -172,7 +174,8 @@ impl Names {
 
     /// With one name more. Refused where the name or the number is there.
     pub(crate) fn with(self, alloc: Global, name: &str, number: i64) -> Result<Names, NarrowFault>
-        ensures { Gives same narrow_refusal result (ok_or (new_placed (named name.now number) self) tt) }
+        ensures { Gives same narrow_refusal result
+            (ok_or (new_placed (named name.now number) self) tt) }
     {
         if self.is_taken(name, number) {
             return Err(NarrowFault::Refused);

@@ -116,7 +116,8 @@ fn parts_in(
     spans: &[Span],
 ) -> Result<Vec<Part>, NarrowFault>
     requires { digits ≤ 18 }
-    ensures { Gives (λ parts. parts.items) narrow_refusal result (ok_or (parts_in ends.now digits spans.now) tt) }
+    ensures { Gives (λ parts. parts.items) narrow_refusal result
+        (ok_or (parts_in ends.now digits spans.now) tt) }
 {
     let mut parts = Vec::with_capacity(alloc, spans.len())?;
     'spans: for span in spans {

@@ -23,7 +23,7 @@ impl CallCount {
         CallCount {}
     }
 
-    // The count with one more call.
+    /// The count with one more call.
     fn with_one_more(&self) -> CallCount
         ensures { result.calls ≡ self.now.calls + 1 }
     {

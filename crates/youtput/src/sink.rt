@@ -24,14 +24,16 @@ pub trait Sink {
     /// Takes a beginning of the part, and answers its length.
     fn write(&mut self, part: &[u8]) -> Result<usize, SinkFault>
         ensures length { IfOk result (λ n. n ≤ length part.now) }
-        ensures ok { IfOk result (λ n. taken self.new ≡ followed_by (taken self.old) (take n part.now)) }
+        ensures ok { IfOk result (λ n. taken self.new
+            ≡ followed_by (taken self.old) (take n part.now)) }
         ensures err { OnErr result (taken self.new ≡ taken self.old) }
         ensures counted { failures self.new ≡ failures self.old + failed_calls result part.now };
 }
 
 /// Writes bytes until all are taken. After a failed call it makes no other, and what is taken is a beginning of them.
 pub fn write_all<S: Sink>(sink: &mut S, bytes: &[u8]) -> Result<(), SinkFault>
-    ensures { Writes (side S.taken S.failures sink.old) (side S.taken S.failures sink.new) bytes.now result }
+    ensures { Writes (side S.taken S.failures sink.old)
+        (side S.taken S.failures sink.new) bytes.now result }
 {
     let mut at = 0;
     while at < bytes.len() {
@@ -110,7 +112,7 @@ impl Cut {
         self.calls
     }
 
-    // How much of a part is taken at once.
+    /// How much of a part is taken at once.
     fn share(&self, part: &[u8]) -> usize
         ensures { result ≡ cut.share self.now part.now }
     {
@@ -129,9 +131,12 @@ impl Sink for Cut {
 
     fn write(&mut self, part: &[u8]) -> Result<usize, SinkFault>
         ensures length { IfOk result (λ n. n ≤ length part.now) }
-        ensures ok { IfOk result (λ n. ⟦<Cut as Sink>⟧.taken self.new ≡ followed_by (⟦<Cut as Sink>⟧.taken self.old) (take n part.now)) }
-        ensures err { OnErr result (⟦<Cut as Sink>⟧.taken self.new ≡ ⟦<Cut as Sink>⟧.taken self.old) }
-        ensures counted { ⟦<Cut as Sink>⟧.failures self.new ≡ ⟦<Cut as Sink>⟧.failures self.old + failed_calls result part.now }
+        ensures ok { IfOk result (λ n. ⟦<Cut as Sink>⟧.taken self.new
+            ≡ followed_by (⟦<Cut as Sink>⟧.taken self.old) (take n part.now)) }
+        ensures err { OnErr result (⟦<Cut as Sink>⟧.taken self.new
+            ≡ ⟦<Cut as Sink>⟧.taken self.old) }
+        ensures counted { ⟦<Cut as Sink>⟧.failures self.new ≡ ⟦<Cut as Sink>⟧.failures self.old
+            + failed_calls result part.now }
         ensures failing { cut.failing_call self.old ≡ Some (cut.next_call self.old) → IsErr result }
         ensures share { IfOk result (λ n. n ≡ cut.share self.old part.now) }
         ensures calls { cut.calls self.new ≡ cut.next_call self.old }

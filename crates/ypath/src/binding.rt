@@ -82,7 +82,8 @@ fn named_steps<'e>(
     steps: &'e [NamedStep],
 ) -> Result<Bound<'e>, EditFault>
     ensures { let s = schema_view.view schema.now in
-        Gives (bound_view s) told_by result (spec.bound_steps s None s.nodes (steps_view steps.now)) }
+        Gives (bound_view s) told_by result
+        (spec.bound_steps s None s.nodes (steps_view steps.now)) }
 {
     steps_below(alloc, schema, steps)
 }
@@ -151,7 +152,8 @@ fn is_last_in_place(schema: &Schema, is_create: bool, step: BoundStep<'_>) -> bo
 
 fn fits_node(schema: &Schema, step: BoundStep<'_>) -> bool
     ensures { let s = schema_view.view schema.now in
-        result ≡ spec.fits_kind s (node_of s step.entry.id.0).kind (predicate_view step.entry.predicate.now) }
+        result ≡ spec.fits_kind s (node_of s step.entry.id.0).kind
+        (predicate_view step.entry.predicate.now) }
 {
     match schema.kind(step.id) {
         Some(node) => fits_kind(schema, &node.kind, step.predicate),
@@ -161,7 +163,8 @@ fn fits_node(schema: &Schema, step: BoundStep<'_>) -> bool
 
 /// Whether a node of a kind bears a predicate.
 fn fits_kind(schema: &Schema, kind: &Kind, predicate: &Predicate) -> bool
-    ensures { result ≡ spec.fits_kind (schema_view.view schema.now) (kind_view kind.now) (predicate_view predicate.now) }
+    ensures { result ≡ spec.fits_kind (schema_view.view schema.now) (kind_view kind.now)
+        (predicate_view predicate.now) }
 {
     match kind {
         Kind::List { tuples, .. } => fits_list(schema, tuples.keys.as_slice(), predicate),
@@ -173,7 +176,8 @@ fn fits_kind(schema: &Schema, kind: &Kind, predicate: &Predicate) -> bool
 
 /// Whether a list with these keys bears a predicate: a position, or its keys, where it has any.
 fn fits_list(schema: &Schema, ids: &[SchemaId], predicate: &Predicate) -> bool
-    ensures { result ≡ binding.fits_list (schema_view.view schema.now) (numbers_of ids.now) (predicate_view predicate.now) }
+    ensures { result ≡ binding.fits_list (schema_view.view schema.now) (numbers_of ids.now)
+        (predicate_view predicate.now) }
 {
     match predicate {
         Predicate::Unsaid => false,
@@ -184,13 +188,15 @@ fn fits_list(schema: &Schema, ids: &[SchemaId], predicate: &Predicate) -> bool
 
 /// Whether each key of a list is named once, and nothing else.
 fn names_keys(schema: &Schema, ids: &[SchemaId], keys: &[Key]) -> bool
-    ensures { result ≡ spec.names_keys (schema_view.view schema.now) (numbers_of ids.now) (keys_view keys.now) }
+    ensures { result ≡ spec.names_keys (schema_view.view schema.now) (numbers_of ids.now)
+        (keys_view keys.now) }
 {
     keys.len() == ids.len() && are_named(schema, ids, keys)
 }
 
 fn are_named(schema: &Schema, ids: &[SchemaId], keys: &[Key]) -> bool
-    ensures { result ≡ binding.are_named (schema_view.view schema.now) (keys_view keys.now) (numbers_of ids.now) }
+    ensures { result ≡ binding.are_named (schema_view.view schema.now) (keys_view keys.now)
+        (numbers_of ids.now) }
 {
     for id in ids {
         if !is_named(schema, *id, keys) {

@@ -7,12 +7,13 @@ ghost use Rattle.ypath.specs.EditView.{sides};
 /// Where a byte first stands.
 pub(crate) fn place_of(bytes: &[u8], wanted: u8) -> Option<usize>
     ensures value { result ≡ position (λ x. x == wanted) bytes.now }
-    ensures within { IfSome result (λ n. (n < length bytes.now) × (slice_index bytes.now n ≡ wanted)) }
+    ensures within { IfSome result
+        (λ n. (n < length bytes.now) × (slice_index bytes.now n ≡ wanted)) }
 {
     bytes.iter().position(|byte| *byte == wanted)
 }
 
-// The quote that is open behind a byte, where one is.
+/// The quote that is open behind a byte, where one is.
 fn quote_behind(byte: u8, quote: Option<u8>) -> Option<u8>
     ensures { result ≡ quote_behind byte quote }
 {
@@ -23,18 +24,20 @@ fn quote_behind(byte: u8, quote: Option<u8>) -> Option<u8>
     }
 }
 
-// Whether a text is cut at a byte.
+/// Whether a text is cut at a byte.
 fn is_stop(byte: u8, stop: u8, quote: Option<u8>) -> bool
     ensures { result ≡ (byte == stop && not (is_some quote)) }
 {
     byte == stop && quote.is_none()
 }
 
-// Where a byte first stands outside quotes.
+/// Where a byte first stands outside quotes.
 #[tactic(auto, using(crate::proofs::CutLemmas::cut_start, crate::proofs::CutLemmas::cut_more, crate::proofs::CutLemmas::cut_here, crate::proofs::CutLemmas::cut_nowhere))]
 fn stop_place(bytes: &[u8], stop: u8) -> Option<usize>
-    ensures value { option_map (λ n. (take n bytes.now, drop (n + 1) bytes.now)) result ≡ cut_at stop None bytes.now }
-    ensures within { IfSome result (λ n. (n < length bytes.now) × (slice_index bytes.now n ≡ stop)) }
+    ensures value { option_map (λ n. (take n bytes.now, drop (n + 1) bytes.now)) result
+        ≡ cut_at stop None bytes.now }
+    ensures within { IfSome result
+        (λ n. (n < length bytes.now) × (slice_index bytes.now n ≡ stop)) }
 {
     let mut at = 0;
     let mut quote = None;
@@ -49,7 +52,7 @@ fn stop_place(bytes: &[u8], stop: u8) -> Option<usize>
     None
 }
 
-// A text before an ASCII character, and behind it.
+/// A text before an ASCII character, and behind it.
 fn around(text: &str, at: usize) -> (&str, &str)
     requires within { at < length text.now }
     requires ascii { slice_index text.now at < 128 }

@@ -34,7 +34,7 @@ fn begins_position(bytes: &[u8]) -> bool
     }
 }
 
-// The number of these digits, or the last position if it is smaller.
+/// The number of these digits, or the last position if it is smaller.
 fn digits_value(bytes: &[u8]) -> u32
     ensures { result ≡ min (spec.digits_value 0 bytes.now) spec.last_position }
 {
@@ -46,7 +46,7 @@ fn digits_value(bytes: &[u8]) -> u32
     number
 }
 
-// A decimal number from 1 without leading zeros.
+/// A decimal number from 1 without leading zeros.
 fn position_of(digits: &str) -> Option<u32>
     ensures { result ≡ spec.position_of digits.now }
 {
@@ -58,7 +58,7 @@ fn position_of(digits: &str) -> Option<u32>
     }
 }
 
-// The text between two quotes, the second of which ends it and is the next of its kind.
+/// The text between two quotes, the second of which ends it and is the next of its kind.
 fn quoted_text(text: &str) -> Option<&str>
     ensures { option_map (λ t. t.now) result ≡ spec.quoted_text text.now }
 {
@@ -80,7 +80,7 @@ fn up_to_last(text: &str, quote: u8) -> Option<&str>
     }
 }
 
-// The key that a text spells as `name='text'` or `name="text"`.
+/// The key that a text spells as `name='text'` or `name="text"`.
 fn key_of(alloc: Global, text: &str) -> Result<Option<Key>, AllocError>
     ensures { IfOk result (λ key. option_map key_view key ≡ spec.key_of text.now) }
 {
@@ -99,7 +99,7 @@ fn key_of(alloc: Global, text: &str) -> Result<Option<Key>, AllocError>
     }))
 }
 
-// The key that a part before a closing bracket spells, behind an opening one.
+/// The key that a part before a closing bracket spells, behind an opening one.
 fn key_in(alloc: Global, part: &str) -> Result<Option<Key>, AllocError>
     ensures { IfOk result (λ key. option_map key_view key ≡ spec.key_in part.now) }
 {
@@ -109,9 +109,10 @@ fn key_in(alloc: Global, part: &str) -> Result<Option<Key>, AllocError>
     }
 }
 
-// The keys in pairs of brackets, behind which nothing stands.
+/// The keys in pairs of brackets, behind which nothing stands.
 fn keys_of(alloc: Global, text: &str) -> Result<Option<Vec<Key>>, AllocError>
-    ensures { IfOk result (λ keys. option_map (λ ks. keys_view ks.items) keys ≡ spec.keys_of (spec.parts_at spec.close_bracket None text.now)) }
+    ensures { IfOk result (λ keys. option_map (λ ks. keys_view ks.items) keys
+        ≡ spec.keys_of (spec.parts_at spec.close_bracket None text.now)) }
 {
     let mut keys = Vec::new(alloc);
     let mut rest = text;
@@ -129,7 +130,7 @@ fn keys_of(alloc: Global, text: &str) -> Result<Option<Vec<Key>>, AllocError>
     }
 }
 
-// The position in a pair of brackets, behind which nothing stands.
+/// The position in a pair of brackets, behind which nothing stands.
 fn position_in(text: &str) -> Option<u32>
     ensures { result ≡ spec.position_in text.now }
 {
@@ -141,7 +142,7 @@ fn position_in(text: &str) -> Option<u32>
     }
 }
 
-// The predicate that stands behind a name.
+/// The predicate that stands behind a name.
 fn predicate_of(alloc: Global, text: &str) -> Result<Option<Predicate>, AllocError>
     ensures { IfOk result (λ p. option_map predicate_view p ≡ spec.predicate_of text.now) }
 {
@@ -157,7 +158,7 @@ fn predicate_of(alloc: Global, text: &str) -> Result<Option<Predicate>, AllocErr
     }
 }
 
-// A text before its first `[`, and from there on.
+/// A text before its first `[`, and from there on.
 fn name_and_predicate(text: &str) -> (&str, &str)
     ensures name { result.0.now ≡ (spec.name_and_predicate text.now).0 }
     ensures predicate { result.1.now ≡ (spec.name_and_predicate text.now).1 }
@@ -168,7 +169,7 @@ fn name_and_predicate(text: &str) -> (&str, &str)
     }
 }
 
-// The step that a text spells: a name, or two with a colon between them, and perhaps predicates.
+/// The step that a text spells: a name, or two with a colon between them, and perhaps predicates.
 fn step_of(alloc: Global, text: &str) -> Result<Option<NamedStep>, AllocError>
     ensures { IfOk result (λ step. option_map step_view step ≡ spec.step_of text.now) }
 {
@@ -185,7 +186,7 @@ fn step_of(alloc: Global, text: &str) -> Result<Option<NamedStep>, AllocError>
     }
 }
 
-// The steps between slashes.
+/// The steps between slashes.
 fn steps_of(alloc: Global, text: &str) -> Result<Option<Vec<NamedStep>>, AllocError>
     ensures { IfOk result (λ steps. option_map (λ s. steps_view s.items) steps
         ≡ spec.all_or_none spec.step_of (spec.parts_at slash None text.now)) }
@@ -208,7 +209,7 @@ fn steps_of(alloc: Global, text: &str) -> Result<Option<Vec<NamedStep>>, AllocEr
     }
 }
 
-// The path that a text spells: one step or more, each behind a `/`.
+/// The path that a text spells: one step or more, each behind a `/`.
 #[tactic(auto, unfolding(yspec::specs::edit::EditText::path_of))]
 fn path_of(alloc: Global, text: &str) -> Result<Option<Path>, AllocError>
     ensures { IfOk result (λ path. option_map path_view path ≡ spec.path_of text.now) }
@@ -222,7 +223,7 @@ fn path_of(alloc: Global, text: &str) -> Result<Option<Path>, AllocError>
     }
 }
 
-// What follows the verb: the texts of the path and of the value.
+/// What follows the verb: the texts of the path and of the value.
 fn operands(text: &str) -> (&str, &str)
     ensures path { result.0.now ≡ (spec.operands text.now).0 }
     ensures value { result.1.now ≡ (spec.operands text.now).1 }
@@ -234,9 +235,10 @@ fn operands(text: &str) -> (&str, &str)
     }
 }
 
-// What a verb does at a path, with a value or without.
+/// What a verb does at a path, with a value or without.
 fn done_by(alloc: Global, verb: &str, value: &str, path: Path) -> Result<Option<Edit>, AllocError>
-    ensures { IfOk result (λ edit. option_map edit_view edit ≡ spec.done_by verb.now value.now (path_view path)) }
+    ensures { IfOk result (λ edit. option_map edit_view edit
+        ≡ spec.done_by verb.now value.now (path_view path)) }
 {
     if value.is_empty() {
         return Ok(if verb == "remove" {
@@ -256,7 +258,7 @@ fn done_by(alloc: Global, verb: &str, value: &str, path: Path) -> Result<Option<
     }
 }
 
-// The edit that a line spells.
+/// The edit that a line spells.
 #[tactic(auto, unfolding(yspec::specs::edit::EditText::edit_of))]
 fn edit_of(alloc: Global, line: &str) -> Result<Option<Edit>, AllocError>
     ensures { IfOk result (λ edit. option_map edit_view edit ≡ spec.edit_of line.now) }
@@ -274,7 +276,7 @@ fn edit_of(alloc: Global, line: &str) -> Result<Option<Edit>, AllocError>
     }
 }
 
-// Whether a line is empty, or begins with `#`.
+/// Whether a line is empty, or begins with `#`.
 fn is_passed_over(line: &str) -> bool
     ensures { result ≡ spec.is_passed_over line.now }
 {

@@ -58,7 +58,8 @@ impl<'a, 't> Planned<'a, 't> {
 
     /// How many instances there are.
     pub fn amount(&self) -> Amount
-        ensures { (number : _) → amount_view result ≡ spec.amount_of (planned_view number self.now) }
+        ensures { (number : _) → amount_view result
+            ≡ spec.amount_of (planned_view number self.now) }
     {
         Amount {
             least: self.least(),
@@ -68,7 +69,8 @@ impl<'a, 't> Planned<'a, 't> {
 
     /// How well it stands (RFC 7950, 7.21.2).
     pub fn status(&self) -> Status
-        ensures { (number : _) → status_view result ≡ spec.status_in (planned_view number self.now) }
+        ensures { (number : _) → status_view result
+            ≡ spec.status_in (planned_view number self.now) }
     {
         match self.own_argument(Keyword::Status) {
             Some(text) => status_of(text).unwrap_or(Status::Current),
@@ -78,7 +80,8 @@ impl<'a, 't> Planned<'a, 't> {
 
     /// Whether a container says that its presence means something (RFC 7950, 7.5.5).
     pub fn has_presence(&self) -> bool
-        ensures { (number : _) → result ≡ is_some (stated_in presence_word (planned_view number self.now)) }
+        ensures { (number : _) → result
+            ≡ is_some (stated_in presence_word (planned_view number self.now)) }
     {
         self.own_argument(Keyword::Presence).is_some()
     }
@@ -100,7 +103,8 @@ pub(crate) fn has_mandatory(nodes: Nodes<'_, Planned<'_, '_>>) -> bool
 /// Whether a node must be stored where the one above it is; a case needn't (RFC 7950, 3).
 #[cycle(mandatory)]
 fn must_be(node: Node<'_, Planned<'_, '_>>) -> bool
-    ensures { result ≡ breaks.must_be (label_by planned_view node.entry) (breaks.has_mandatory (row_by planned_view node.entry.children)) }
+    ensures { result ≡ breaks.must_be (label_by planned_view node.entry)
+        (breaks.has_mandatory (row_by planned_view node.entry.children)) }
 {
     let planned = node.label();
     match planned.keyword() {
@@ -119,7 +123,8 @@ fn arguments_with<'t>(
     keyword: Keyword,
     statements: Nodes<'_, Source<'t>>,
 ) -> Result<Vec<&'t str>, AllocError>
-    ensures { IfOk result (λ texts. map (λ t. t.now) texts.items ≡ map argument_in (all_with (keyword_view keyword) (row_by source_view statements.entry))) }
+    ensures { IfOk result (λ texts. map (λ t. t.now) texts.items
+        ≡ map argument_in (all_with (keyword_view keyword) (row_by source_view statements.entry))) }
 {
     let mut texts = Vec::new(alloc);
     for statement in statements {
@@ -135,7 +140,8 @@ pub fn default_texts<'t>(
     alloc: Global,
     planned: &Planned<'_, 't>,
 ) -> Result<Vec<&'t str>, AllocError>
-    ensures { (number : _) → IfOk result (λ texts. map (λ t. t.now) texts.items ≡ spec.default_texts (planned_view number planned.now)) }
+    ensures { (number : _) → IfOk result (λ texts. map (λ t. t.now) texts.items
+        ≡ spec.default_texts (planned_view number planned.now)) }
 {
     if planned.is_implied {
         Ok(Vec::new(alloc))
@@ -146,7 +152,8 @@ pub fn default_texts<'t>(
 
 /// Whether the default case of a choice isn't there, or is needless, or holds what must be stored (RFC 7950, 7.9.3).
 pub fn is_wrong_case<'a, 't>(plan: &Plan<'a, 't>, number: u32, planned: &Planned<'a, 't>) -> bool
-    ensures { let p = planned_view number planned.now in result ≡ breaks.is_wrong_case (view plan.now) p (spec.default_case (view plan.now) p) }
+    ensures { let p = planned_view number planned.now in
+        result ≡ breaks.is_wrong_case (view plan.now) p (spec.default_case (view plan.now) p) }
 {
     match plan.default_case(number, planned) {
         Some(case) => planned.is_mandatory() || has_mandatory(plan.row_below(case)),

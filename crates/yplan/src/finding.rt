@@ -52,7 +52,8 @@ impl Among {
         module: usize,
         name: &str,
     ) -> bool
-        ensures { (number : _) → result ≡ is_found self above «module» name.now (planned_view number planned.now) }
+        ensures { (number : _) → result
+            ≡ is_found self above «module» name.now (planned_view number planned.now) }
     {
         self.is_looked_for(planned)
             && (above == self.above(planned)
@@ -83,8 +84,10 @@ fn hash_in_scope(planned: &Planned<'_, '_>, name: &str, below_parent: u32) -> u3
 
 /// The hashes of all nodes by their names.
 pub(crate) fn hashes_of(alloc: Global, table: &Table<Planned<'_, '_>>) -> Result<Hashes, AllocError>
-    ensures children { IfOk result (λ hashes. hashes.children.items ≡ map (hash_among among.Children) (list_of table.now)) }
-    ensures scopes { IfOk result (λ hashes. hashes.scopes.items ≡ map (hash_among among.Scope) (list_of table.now)) }
+    ensures children { IfOk result (λ hashes. hashes.children.items
+        ≡ map (hash_among among.Children) (list_of table.now)) }
+    ensures scopes { IfOk result (λ hashes. hashes.scopes.items
+        ≡ map (hash_among among.Scope) (list_of table.now)) }
 {
     let mut children = Vec::with_capacity(alloc, table.len())?;
     let mut scopes = Vec::with_capacity(alloc, table.len())?;

@@ -99,14 +99,16 @@ impl<'a, 't> Plan<'a, 't> {
 
     /// What a name names that stands in a module; one without a prefix is of a module that is given (RFC 7950, 6.4.1).
     pub fn node_name<'n>(&self, home: usize, plain: usize, name: Name<'n>) -> NodeName<'n>
-        ensures { node_name_view result ≡ names.node_name (view self.now).modules home plain (name_view name.entry) }
+        ensures { node_name_view result
+            ≡ names.node_name (view self.now).modules home plain (name_view name.entry) }
     {
         self.prefixes.node_name(home, plain, name)
     }
 
     /// The first node of a name below another, or at the top.
     pub fn child_called(&self, parent: Option<u32>, name: NodeName<'_>) -> Option<PlanNode<'a, 't>>
-        ensures { option_map node_view result ≡ spec.child_called (view self.now) parent (node_name_view name.entry) }
+        ensures { option_map node_view result
+            ≡ spec.child_called (view self.now) parent (node_name_view name.entry) }
     {
         self.at(self.child(parent, name.module, name.name)?)
     }
@@ -117,7 +119,8 @@ impl<'a, 't> Plan<'a, 't> {
         scope: Option<u32>,
         name: NodeName<'_>,
     ) -> Option<PlanNode<'a, 't>>
-        ensures { option_map node_view result ≡ spec.data_child_called (view self.now) scope (node_name_view name.entry) }
+        ensures { option_map node_view result
+            ≡ spec.data_child_called (view self.now) scope (node_name_view name.entry) }
     {
         self.at(self.data_child(scope, name.module, name.name)?)
     }
@@ -137,14 +140,16 @@ impl<'a, 't> Plan<'a, 't> {
 
     /// The first node of a module and a name below another, or at the top, by its number.
     pub fn child(&self, parent: Option<u32>, module: Option<usize>, name: &str) -> Option<u32>
-        ensures { result ≡ option_map number_in (spec.child_called (view self.now) parent (record { module_number = «module»; name = name.now })) }
+        ensures { result ≡ option_map number_in (spec.child_called (view self.now) parent
+            (record { module_number = «module»; name = name.now })) }
     {
         self.first(Among::Children, parent, module?, name)
     }
 
     /// The first data node of a module and a name below a data node, or at the top, choices and cases passed through.
     pub fn data_child(&self, scope: Option<u32>, module: Option<usize>, name: &str) -> Option<u32>
-        ensures { result ≡ option_map number_in (spec.data_child_called (view self.now) scope (record { module_number = «module»; name = name.now })) }
+        ensures { result ≡ option_map number_in (spec.data_child_called (view self.now) scope
+            (record { module_number = «module»; name = name.now })) }
     {
         self.first(Among::DataNodes, scope, module?, name)
     }
@@ -157,7 +162,8 @@ impl<'a, 't> Plan<'a, 't> {
         module: usize,
         name: &str,
     ) -> Option<u32>
-        ensures { result ≡ option_map number_in (find (is_found among above «module» name.now) (spec.nodes_of (view self.now))) }
+        ensures { result ≡ option_map number_in
+            (find (is_found among above «module» name.now) (spec.nodes_of (view self.now))) }
     {
         for number in self.buckets(among).numbers(hash_of(above, name)) {
             if self.has(number, among, above, module, name) {
@@ -169,9 +175,12 @@ impl<'a, 't> Plan<'a, 't> {
 
     /// Whether a node before that of a number, among those that share their names with it, has its module and name.
     pub(crate) fn is_repeated(&self, number: u32, planned: &Planned<'_, '_>) -> bool
-        requires { slice_get (list_of self.now.table) number ≡ Some (planned_view number planned.now) }
+        requires { slice_get (list_of self.now.table) number
+            ≡ Some (planned_view number planned.now) }
         ensures { let p = planned_view number planned.now in
-            result ≡ is_before (option_map number_in (find (is_found among.Scope p.scope p.part.owner (argument_in p.part.source)) (spec.nodes_of (view self.now)))) number }
+            result ≡ is_before (option_map number_in
+            (find (is_found among.Scope p.scope p.part.owner (argument_in p.part.source))
+            (spec.nodes_of (view self.now)))) number }
     {
         for candidate in self.scopes.numbers(self.scopes.hash_at(number)) {
             if candidate >= number {
@@ -197,7 +206,8 @@ impl<'a, 't> Plan<'a, 't> {
 
     /// Whether the node of a number is among some below one, or at the top, and has this module and name.
     fn has(&self, number: u32, among: Among, above: Option<u32>, module: usize, name: &str) -> bool
-        ensures { result ≡ option_map_or (is_found among above «module» name.now) (spec.node_of (view self.now) number) false }
+        ensures { result ≡ option_map_or (is_found among above «module» name.now)
+            (spec.node_of (view self.now) number) false }
     {
         match self.node(number) {
             Some(planned) => among.has(planned, above, module, name),
@@ -207,7 +217,8 @@ impl<'a, 't> Plan<'a, 't> {
 
     /// The node of a number.
     pub fn node(&self, number: u32) -> Option<&Planned<'a, 't>>
-        ensures { option_map (λ p. planned_view number p.now) result ≡ spec.node_of (view self.now) number }
+        ensures { option_map (λ p. planned_view number p.now) result
+            ≡ spec.node_of (view self.now) number }
     {
         match self.table.rows().get(number as usize) {
             Some(row) => Some(&row.label),
@@ -231,7 +242,8 @@ impl<'a, 't> Plan<'a, 't> {
 
     /// The case of a choice that is its default, by its number (RFC 7950, 7.9.3).
     pub fn default_case(&self, number: u32, planned: &Planned<'a, 't>) -> Option<u32>
-        ensures { result ≡ option_map number_in (default_case (view self.now) (planned_view number planned.now)) }
+        ensures { result ≡ option_map number_in
+            (default_case (view self.now) (planned_view number planned.now)) }
     {
         match planned.own_argument(Keyword::Default) {
             Some(name) => self.child(Some(number), Some(planned.owner()), name),
@@ -256,7 +268,8 @@ impl<'a, 't> Plan<'a, 't> {
 
     /// Whether the node above one is configuration; so is what stands above the top nodes.
     pub fn is_config_above(&self, planned: &Planned<'a, 't>) -> bool
-        ensures { (number : _) → result ≡ is_config_above (view self.now) (planned_view number planned.now) }
+        ensures { (number : _) → result
+            ≡ is_config_above (view self.now) (planned_view number planned.now) }
     {
         match planned.parent {
             Some(parent) => match self.node(parent) {

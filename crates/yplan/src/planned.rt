@@ -60,7 +60,8 @@ impl<'a, 't> Planned<'a, 't> {
     /// The argument of its first substatement with a keyword, which is none of those that define nodes.
     pub fn own_argument(&self, keyword: Keyword) -> Option<&'t str>
         requires { defines_node (keyword_view keyword) ≡ false }
-        ensures { (number : _) → option_map (λ text. text.now) result ≡ spec.stated_in (keyword_view keyword) (planned_view number self.now) }
+        ensures { (number : _) → option_map (λ text. text.now) result
+            ≡ spec.stated_in (keyword_view keyword) (planned_view number self.now) }
     {
         if self.is_implied {
             None
@@ -71,7 +72,9 @@ impl<'a, 't> Planned<'a, 't> {
 
     /// The built-in type that its `type` statement names.
     pub fn type_name(&self) -> Option<BuiltIn>
-        ensures { (number : _) → option_map built_in_view result ≡ option_and_then built_in_named (spec.stated_in type_word (planned_view number self.now)) }
+        ensures { (number : _) → option_map built_in_view result
+            ≡ option_and_then built_in_named
+            (spec.stated_in type_word (planned_view number self.now)) }
     {
         if self.is_implied {
             None
@@ -82,7 +85,8 @@ impl<'a, 't> Planned<'a, 't> {
 
     /// A rule that it breaks, which is told at its statement.
     pub fn broken(&self, code: CompileCode) -> BrokenRule
-        ensures { (number : _) → break_view result ∷ [] ≡ broken_at (code_number code) (planned_view number self.now) }
+        ensures { (number : _) → break_view result ∷ []
+            ≡ broken_at (code_number code) (planned_view number self.now) }
     {
         let label = self.source.label();
         BrokenRule {

@@ -25,7 +25,8 @@ pub(crate) fn planned<'a, 't>(
     alloc: Global,
     sources: &'a Sources<'t>,
 ) -> Result<Table<Planned<'a, 't>>, AllocError>
-    ensures { IfOk result (λ table. seen_rows table ≡ listed 0 spec.at_top (parts_of_modules (link.view sources.entry.now))) }
+    ensures { IfOk result (λ table. seen_rows table
+        ≡ listed 0 spec.at_top (parts_of_modules (link.view sources.entry.now))) }
 {
     let around = Around {
         parent: None,
@@ -42,7 +43,8 @@ pub(crate) fn planned<'a, 't>(
 
 /// Whether a node with these substatements is configuration, below one that is or isn't.
 fn config_of(above: bool, own: Nodes<'_, Source<'_>>) -> bool
-    ensures { result ≡ option_map_or is_said (argument_with config_word (row_by source_view own.entry)) above }
+    ensures { result ≡ option_map_or is_said
+        (argument_with config_word (row_by source_view own.entry)) above }
 {
     match argument_with(Keyword::Config, own) {
         Some(text) => text == "true",
@@ -58,7 +60,8 @@ fn around_below(
     is_implied: bool,
     config: bool,
 ) -> Around
-    ensures { (p : Part) → p.source.keyword ≡ shown_keyword is_implied (keyword_view keyword) → config ≡ spec.config_of around.config p
+    ensures { (p : Part) → p.source.keyword ≡ shown_keyword is_implied (keyword_view keyword)
+        → config ≡ spec.config_of around.config p
         → around_view result ≡ spec.around_below number (around_view around) p }
 {
     let is_choice = !is_implied && Keyword::Choice.is(keyword);
@@ -84,8 +87,10 @@ fn add_nodes<'a, 't>(
     in_choice: bool,
     statements: Nodes<'a, Source<'t>>,
 ) -> Result<(), AllocError>
-    ensures { let nodes = parts (row_by source_view statements.entry) in OnOk result (seen_rows table.new ≡ seen_rows table.old
-        ++ listed (length (rows_in table.old)) (around_view around) (if in_choice then as_cases nodes else nodes)) }
+    ensures { let nodes = parts (row_by source_view statements.entry) in
+        OnOk result (seen_rows table.new ≡ seen_rows table.old
+        ++ listed (length (rows_in table.old)) (around_view around)
+        (if in_choice then as_cases nodes else nodes)) }
 {
     for statement in statements {
         add_statement(table, around, in_choice, statement)?;
@@ -101,9 +106,12 @@ fn add_statement<'a, 't>(
     in_choice: bool,
     statement: Node<'a, Source<'t>>,
 ) -> Result<(), AllocError>
-    ensures { let s = label_by source_view statement.entry in let below = row_by source_view statement.entry.children in
-        let nodes = parts (node s below end) in OnOk result (seen_rows table.new ≡ seen_rows table.old
-        ++ listed (length (rows_in table.old)) (around_view around) (if in_choice then as_cases nodes else nodes)) }
+    ensures { let s = label_by source_view statement.entry in
+        let below = row_by source_view statement.entry.children in
+        let nodes = parts (node s below end) in
+        OnOk result (seen_rows table.new ≡ seen_rows table.old
+        ++ listed (length (rows_in table.old)) (around_view around)
+        (if in_choice then as_cases nodes else nodes)) }
 {
     let keyword = statement.label().keyword;
     if !keyword.defines_node() {
@@ -122,9 +130,11 @@ fn add_node<'a, 't>(
     around: Around,
     statement: Node<'a, Source<'t>>,
 ) -> Result<(), AllocError>
-    ensures { let s = label_by source_view statement.entry in let below = row_by source_view statement.entry.children in
+    ensures { let s = label_by source_view statement.entry in
+        let below = row_by source_view statement.entry.children in
         OnOk result (seen_rows table.new ≡ seen_rows table.old
-        ++ listed (length (rows_in table.old)) (around_view around) (node (part_of s below) (within s (parts below)) end)) }
+        ++ listed (length (rows_in table.old)) (around_view around)
+        (node (part_of s below) (within s (parts below)) end)) }
 {
     let keyword = statement.label().keyword;
     let own = statement.children();
@@ -152,9 +162,11 @@ fn add_case<'a, 't>(
     around: Around,
     statement: Node<'a, Source<'t>>,
 ) -> Result<(), AllocError>
-    ensures { let s = label_by source_view statement.entry in let below = row_by source_view statement.entry.children in
+    ensures { let s = label_by source_view statement.entry in
+        let below = row_by source_view statement.entry.children in
         let part = part_of s below in OnOk result (seen_rows table.new ≡ seen_rows table.old
-        ++ listed (length (rows_in table.old)) (around_view around) (node (case_for part) (node part (within s (parts below)) end) end)) }
+        ++ listed (length (rows_in table.old)) (around_view around)
+        (node (case_for part) (node part (within s (parts below)) end) end)) }
 {
     let keyword = statement.label().keyword;
     let number = table.open(

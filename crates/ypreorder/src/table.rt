@@ -52,7 +52,8 @@ impl<L: Drop> Table<L> {
     /// Adds a node behind all others, below one of them or at the top, with nothing below it yet. It answers its number;
     /// there are at most 4,294,967,295.
     pub fn open(&mut self, parent: Option<u32>, label: L) -> Result<u32, AllocError>
-        ensures laid { OnOk result (laid (rows_in self.new) ≡ laid (rows_in self.old) ++ opened parent label ∷ []) }
+        ensures laid { OnOk result (laid (rows_in self.new) ≡ laid (rows_in self.old)
+            ++ opened parent label ∷ []) }
         ensures number { IfOk result (λ number. number ≡ length (rows_in self.old)) }
     {
         let number = self.rows.len() as u32;

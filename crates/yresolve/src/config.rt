@@ -24,7 +24,8 @@ fn lacks_key(planned: &Planned<'_, '_>) -> bool
 /// Whether it is configuration below state, or a list of configuration without a key.
 pub(crate) fn is_wrong_config<'a, 't>(plan: &Plan<'a, 't>, planned: &Planned<'a, 't>) -> bool
     ensures { (number : _) → let p = planned_view number planned.now in
-        result ≡ (p.config && (not (breaks.is_config_above (view plan.now) p) || (is_a list_word p && not (is_some (stated_in key_word p))))) }
+        result ≡ (p.config && (not (breaks.is_config_above (view plan.now) p)
+        || (is_a list_word p && not (is_some (stated_in key_word p))))) }
 {
     planned.config && (!plan.is_config_above(planned) || lacks_key(planned))
 }

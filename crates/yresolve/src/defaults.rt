@@ -31,7 +31,8 @@ fn value_of(alloc: Global, value_type: &YType, text: &str) -> Result<Option<Val>
 
 /// The values that a type takes from texts, in order.
 fn values_of(alloc: Global, value_type: &YType, texts: &[&str]) -> Result<Vec<Val>, AllocError>
-    ensures { IfOk result (λ values. values.items ≡ filter_map (value_of_text value_type.now) (map (λ t. t.now) texts.now)) }
+    ensures { IfOk result (λ values. values.items
+        ≡ filter_map (value_of_text value_type.now) (map (λ t. t.now) texts.now)) }
 {
     let mut values = Vec::new(alloc);
     for text in texts {
@@ -61,7 +62,9 @@ pub fn default_values(
     value_type: &YType,
     planned: &Planned<'_, '_>,
 ) -> Result<Vec<Val>, AllocError>
-    ensures { (number : _) → IfOk result (λ values. values.items ≡ filter_map (value_of_text value_type.now) (spec.default_texts (planned_view number planned.now))) }
+    ensures { (number : _) → IfOk result (λ values. values.items
+        ≡ filter_map (value_of_text value_type.now)
+        (spec.default_texts (planned_view number planned.now))) }
 {
     let texts = default_texts(alloc, planned)?;
     values_of(alloc, value_type, &texts)
@@ -73,7 +76,8 @@ pub fn is_wrong_default(
     value_type: &YType,
     planned: &Planned<'_, '_>,
 ) -> Result<bool, AllocError>
-    ensures { (number : _) → IfOk result (λ wrong. wrong ≡ breaks.is_wrong_default (planned_view number planned.now) value_type.now) }
+    ensures { (number : _) → IfOk result (λ wrong. wrong
+        ≡ breaks.is_wrong_default (planned_view number planned.now) value_type.now) }
 {
     let texts = default_texts(alloc, planned)?;
     if planned.is_mandatory() {
@@ -90,7 +94,8 @@ pub fn are_wrong_defaults(
     value_type: &YType,
     planned: &Planned<'_, '_>,
 ) -> Result<bool, AllocError>
-    ensures { (number : _) → IfOk result (λ wrong. wrong ≡ breaks.are_wrong_defaults (planned_view number planned.now) value_type.now) }
+    ensures { (number : _) → IfOk result (λ wrong. wrong
+        ≡ breaks.are_wrong_defaults (planned_view number planned.now) value_type.now) }
 {
     let texts = default_texts(alloc, planned)?;
     if planned.least() > 0 {
@@ -114,7 +119,9 @@ fn is_wrong_leaf(
     is_key: bool,
     value_type: Option<&YType>,
 ) -> Result<bool, AllocError>
-    ensures { (number : _) → IfOk result (λ wrong. wrong ≡ wrong_leaf (planned_view number planned.now) is_key (option_map (λ t. t.now) value_type.entry)) }
+    ensures { (number : _) → IfOk result (λ wrong. wrong
+        ≡ wrong_leaf (planned_view number planned.now) is_key
+        (option_map (λ t. t.now) value_type.entry)) }
 {
     match value_type {
         Some(value_type) => {
@@ -133,7 +140,9 @@ fn is_wrong_leaf_list(
     planned: &Planned<'_, '_>,
     value_type: Option<&YType>,
 ) -> Result<bool, AllocError>
-    ensures { (number : _) → IfOk result (λ wrong. wrong ≡ wrong_leaf_list (planned_view number planned.now) (option_map (λ t. t.now) value_type.entry)) }
+    ensures { (number : _) → IfOk result (λ wrong. wrong
+        ≡ wrong_leaf_list (planned_view number planned.now)
+        (option_map (λ t. t.now) value_type.entry)) }
 {
     match value_type {
         Some(value_type) => are_wrong_defaults(alloc, value_type, planned),
@@ -144,7 +153,8 @@ fn is_wrong_leaf_list(
 /// Whether a choice states a default case that it can't have.
 fn is_wrong_choice<'a, 't>(plan: &Plan<'a, 't>, number: u32, planned: &Planned<'a, 't>) -> bool
     ensures { let p = planned_view number planned.now in
-        result ≡ (is_some (stated_in default_word p) && breaks.is_wrong_case (view plan.now) p (spec.default_case (view plan.now) p)) }
+        result ≡ (is_some (stated_in default_word p)
+        && breaks.is_wrong_case (view plan.now) p (spec.default_case (view plan.now) p)) }
 {
     planned.stated(Keyword::Default).is_some() && is_wrong_case(plan, number, planned)
 }
@@ -158,7 +168,9 @@ pub(crate) fn has_wrong_default<'a, 't>(
     is_key: bool,
     value_type: Option<&YType>,
 ) -> Result<bool, AllocError>
-    ensures { let p = planned_view number planned.now in is_key ≡ spec.is_key (view plan.now) p → option_map (λ t. t.now) value_type.entry ≡ type_of (view plan.now) p
+    ensures { let p = planned_view number planned.now in
+        is_key ≡ spec.is_key (view plan.now) p → option_map (λ t. t.now) value_type.entry
+        ≡ type_of (view plan.now) p
         → IfOk result (λ wrong. wrong ≡ breaks.is_default_wrong (view plan.now) p) }
 {
     match planned.keyword() {

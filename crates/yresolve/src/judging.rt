@@ -27,8 +27,10 @@ fn broken_own_rule<'a, 't>(
     so_far: Option<BrokenRule>,
 ) -> Result<Option<BrokenRule>, AllocError>
     requires of_plan { IsOf resolved.now (view plan.now) }
-    requires stands { slice_get (spec.nodes_of (view plan.now)) node.number ≡ Some (node_view node) }
-    ensures { IfOk result (λ told. seen told ≡ least_from (seen so_far) (breaks.own_breaks (view plan.now) (node_view node.entry))) }
+    requires stands { slice_get (spec.nodes_of (view plan.now)) node.number
+        ≡ Some (node_view node) }
+    ensures { IfOk result (λ told. seen told
+        ≡ least_from (seen so_far) (breaks.own_breaks (view plan.now) (node_view node.entry))) }
 {
     let planned = &node.planned;
     let config = is_wrong_config(plan, planned);
@@ -52,7 +54,8 @@ pub fn broken_node_rule<'t>(
     resolved: &Resolved<'t>,
 ) -> Result<Option<BrokenRule>, AllocError>
     requires { IsOf resolved.now (view plan.now) }
-    ensures { IfOk result (λ told. seen told ≡ least_from None (breaks.node_breaks (view plan.now))) }
+    ensures { IfOk result (λ told. seen told
+        ≡ least_from None (breaks.node_breaks (view plan.now))) }
 {
     let mut told = None;
     for node in plan.iter() {

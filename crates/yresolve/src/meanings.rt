@@ -26,7 +26,8 @@ pub(crate) struct Meanings<'t> {
 
 /// What the type of a node means; none of a node without a type that is right.
 fn meaning_of<'t>(alloc: Global, planned: &Planned<'_, 't>) -> Result<Option<Meant<'t>>, AllocError>
-    ensures { (number : _) → IfOk result (λ meant. option_map meant_view meant ≡ type_meant (planned_view number planned.now).part.own) }
+    ensures { (number : _) → IfOk result (λ meant. option_map meant_view meant
+        ≡ type_meant (planned_view number planned.now).part.own) }
 {
     if planned.is_implied {
         Ok(None)
@@ -85,7 +86,8 @@ pub(crate) fn target_meant<'a, 't>(
     owner: usize,
     meant: &Meant<'_>,
 ) -> Option<PlanNode<'a, 't>>
-    ensures { (p : spec.Planned) → owner ≡ p.part.owner → option_map node_view result ≡ spec.target_meant (view plan.now) p (meant_view meant.now) }
+    ensures { (p : spec.Planned) → owner ≡ p.part.owner → option_map node_view result
+        ≡ spec.target_meant (view plan.now) p (meant_view meant.now) }
 {
     match meant {
         Meant::Own(_) => None,
@@ -101,8 +103,10 @@ fn target_of<'a, 't>(
     planned: &Planned<'a, 't>,
     meant: &Option<Meant<'t>>,
 ) -> Option<u32>
-    ensures { (number : _) → option_map meant_view meant.now ≡ type_meant (planned_view number planned.now).part.own
-        → result ≡ option_map number_in (spec.target_of (view plan.now) (planned_view number planned.now)) }
+    ensures { (number : _) → option_map meant_view meant.now
+        ≡ type_meant (planned_view number planned.now).part.own
+        → result ≡ option_map number_in
+        (spec.target_of (view plan.now) (planned_view number planned.now)) }
 {
     match meant {
         Some(meant) => number_of(target_meant(plan, planned.owner(), meant)),
@@ -115,8 +119,10 @@ pub(crate) fn meanings_of<'t>(
     alloc: Global,
     plan: &Plan<'_, 't>,
 ) -> Result<Meanings<'t>, AllocError>
-    ensures meant { IfOk result (λ m. map (option_map meant_view) m.meant.items ≡ map (λ p. type_meant p.part.own) (nodes_of (view plan.now))) }
-    ensures targets { let p = view plan.now in IfOk result (λ m. m.targets.items ≡ map (λ q. option_map number_in (spec.target_of p q)) (nodes_of p)) }
+    ensures meant { IfOk result (λ m. map (option_map meant_view) m.meant.items
+        ≡ map (λ p. type_meant p.part.own) (nodes_of (view plan.now))) }
+    ensures targets { let p = view plan.now in IfOk result (λ m. m.targets.items
+        ≡ map (λ q. option_map number_in (spec.target_of p q)) (nodes_of p)) }
 {
     let mut meant = Vec::with_capacity(alloc, plan.nodes())?;
     let mut targets = Vec::with_capacity(alloc, plan.nodes())?;

@@ -22,7 +22,8 @@ fn is_wrong_target(
     required: bool,
     target: Option<PlanNode<'_, '_>>,
 ) -> bool
-    ensures { (number : _) → result ≡ breaks.is_wrong_target (planned_view number planned.now) required (option_map node_view target.entry) }
+    ensures { (number : _) → result ≡ breaks.is_wrong_target
+        (planned_view number planned.now) required (option_map node_view target.entry) }
 {
     match target {
         Some(target) => planned.config && required && !target.planned.config,
@@ -52,9 +53,11 @@ fn is_wrong_meant<'a, 't>(
 /// Whether the type that a node states is a wrong reference.
 fn is_wrong_stated<'a, 't>(plan: &Plan<'a, 't>, types: &Types<'_>, node: PlanNode<'a, 't>) -> bool
     requires typed { AreOf types.now (view plan.now) }
-    requires stands { slice_get (spec.nodes_of (view plan.now)) node.number ≡ Some (node_view node) }
+    requires stands { slice_get (spec.nodes_of (view plan.now)) node.number
+        ≡ Some (node_view node) }
     ensures { let p = node_view node.entry in result
-        ≡ option_map_or (breaks.is_wrong_reference (view plan.now) p) (type_meant p.part.own) false }
+        ≡ option_map_or (breaks.is_wrong_reference (view plan.now) p)
+        (type_meant p.part.own) false }
 {
     match meant_at(types.meant.as_slice(), node.number as usize) {
         Some(meant) => {
@@ -72,9 +75,11 @@ pub(crate) fn is_wrong_reference<'a, 't>(
     node: PlanNode<'a, 't>,
 ) -> bool
     requires typed { AreOf types.now (view plan.now) }
-    requires stands { slice_get (spec.nodes_of (view plan.now)) node.number ≡ Some (node_view node) }
+    requires stands { slice_get (spec.nodes_of (view plan.now)) node.number
+        ≡ Some (node_view node) }
     ensures { let p = node_view node.entry in result ≡ (spec.is_leaf_or_leaf_list p
-        && option_map_or (breaks.is_wrong_reference (view plan.now) p) (type_meant p.part.own) false) }
+        && option_map_or (breaks.is_wrong_reference (view plan.now) p)
+        (type_meant p.part.own) false) }
 {
     if node.planned.is_leaf_or_leaf_list() {
         is_wrong_stated(plan, types, node)

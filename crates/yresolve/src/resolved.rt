@@ -34,7 +34,8 @@ impl<'t> Resolved<'t> {
 
     /// The type of the node of a number; a leafref has its target's, and none where it leads nowhere.
     pub fn value_type(&self, number: u32) -> Option<&YType>
-        ensures { (plan : spec.Plan) (p : spec.Planned) → IsOf self.now plan → slice_get (spec.nodes_of plan) number ≡ Some p
+        ensures { (plan : spec.Plan) (p : spec.Planned) → IsOf self.now plan
+            → slice_get (spec.nodes_of plan) number ≡ Some p
             → option_map (λ t. t.now) result ≡ spec.type_of plan p }
     {
         match self.types.types.get(number as usize) {
@@ -45,7 +46,8 @@ impl<'t> Resolved<'t> {
 
     /// The number of the leaf or leaf-list to which the type of a node refers.
     pub fn target(&self, number: u32) -> Option<u32>
-        ensures { (plan : spec.Plan) (p : spec.Planned) → IsOf self.now plan → slice_get (spec.nodes_of plan) number ≡ Some p
+        ensures { (plan : spec.Plan) (p : spec.Planned) → IsOf self.now plan
+            → slice_get (spec.nodes_of plan) number ≡ Some p
             → result ≡ option_map nodes.number_in (spec.target_of plan p) }
     {
         match self.types.targets.get(number as usize) {
@@ -56,7 +58,8 @@ impl<'t> Resolved<'t> {
 
     /// Whether the node of a number is a key of the list right above it.
     pub fn is_key(&self, number: u32) -> bool
-        ensures { (plan : spec.Plan) (p : spec.Planned) → IsOf self.now plan → slice_get (spec.nodes_of plan) number ≡ Some p
+        ensures { (plan : spec.Plan) (p : spec.Planned) → IsOf self.now plan
+            → slice_get (spec.nodes_of plan) number ≡ Some p
             → result ≡ nodes.is_key plan p }
     {
         match self.keys.get(number as usize) {

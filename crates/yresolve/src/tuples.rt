@@ -36,7 +36,8 @@ fn names_of_key<'a, 't>(
     alloc: Global,
     statement: Node<'a, Source<'t>>,
 ) -> Result<Vec<Name<'t>>, AllocError>
-    ensures { IfOk result (λ names. names_view names.items ≡ unwrap_or (key_of (argument_in (label_by source_view statement.entry))) []) }
+    ensures { IfOk result (λ names. names_view names.items
+        ≡ unwrap_or (key_of (argument_in (label_by source_view statement.entry))) []) }
 {
     match key_names(alloc, argument_of(statement))? {
         Some(names) => Ok(names),
@@ -49,7 +50,8 @@ fn names_of_unique<'a, 't>(
     alloc: Global,
     statement: Node<'a, Source<'t>>,
 ) -> Result<Vec<Vec<Name<'t>>>, AllocError>
-    ensures { IfOk result (λ paths. map (λ p. names_view p.items) paths.items ≡ unwrap_or (unique_of (argument_in (label_by source_view statement.entry))) []) }
+    ensures { IfOk result (λ paths. map (λ p. names_view p.items) paths.items
+        ≡ unwrap_or (unique_of (argument_in (label_by source_view statement.entry))) []) }
 {
     match unique_paths(alloc, argument_of(statement))? {
         Some(paths) => Ok(paths),
@@ -67,7 +69,8 @@ fn children_called<'a, 't>(
     names: &[Name<'t>],
 ) -> Result<Vec<Option<PlanNode<'a, 't>>>, AllocError>
     ensures { IfOk result (λ children. map (option_map node_view) children.items
-        ≡ map (child_called (view plan.now) (Some parent)) (map (node_name (view plan.now).modules home owner) (names_view names.now))) }
+        ≡ map (child_called (view plan.now) (Some parent))
+        (map (node_name (view plan.now).modules home owner) (names_view names.now))) }
 {
     let mut children = Vec::with_capacity(alloc, names.len())?;
     for name in names {
@@ -85,7 +88,8 @@ fn children_of_key<'a, 't>(
     statement: Node<'a, Source<'t>>,
 ) -> Result<Vec<Option<PlanNode<'a, 't>>>, AllocError>
     ensures { IfOk result (λ children. map (option_map node_view) children.items
-        ≡ children_named (view plan.now) (node_view list.entry) (label_by source_view statement.entry)) }
+        ≡ children_named (view plan.now) (node_view list.entry)
+        (label_by source_view statement.entry)) }
 {
     let names = names_of_key(alloc, statement)?;
     let home = statement.label().home;
@@ -100,7 +104,8 @@ fn children_of_keys<'a, 't>(
     statements: Nodes<'a, Source<'t>>,
 ) -> Result<Vec<Option<PlanNode<'a, 't>>>, AllocError>
     ensures { IfOk result (λ children. map (option_map node_view) children.items
-        ≡ children_by (view plan.now) (node_view list.entry) (row_by source_view statements.entry)) }
+        ≡ children_by (view plan.now) (node_view list.entry)
+        (row_by source_view statements.entry)) }
 {
     let mut children = Vec::new(alloc);
     for statement in statements {
@@ -117,7 +122,8 @@ fn key_children<'a, 't>(
     plan: &Plan<'a, 't>,
     list: PlanNode<'a, 't>,
 ) -> Result<Vec<Option<PlanNode<'a, 't>>>, AllocError>
-    ensures { let p = node_view list.entry in IfOk result (λ children. map (option_map node_view) children.items
+    ensures { let p = node_view list.entry in
+        IfOk result (λ children. map (option_map node_view) children.items
         ≡ map (child_called (view plan.now) (Some p.number)) (spec.key_names (view plan.now) p)) }
 {
     if list.planned.is_implied {
@@ -131,7 +137,8 @@ fn numbers_found<'a, 't>(
     alloc: Global,
     nodes: &[Option<PlanNode<'a, 't>>],
 ) -> Result<Vec<u32>, AllocError>
-    ensures { IfOk result (λ numbers. numbers.items ≡ map number_in (filter_map (option_map node_view) nodes.now)) }
+    ensures { IfOk result (λ numbers. numbers.items
+        ≡ map number_in (filter_map (option_map node_view) nodes.now)) }
 {
     let mut numbers = Vec::with_capacity(alloc, nodes.len())?;
     for node in nodes {
@@ -148,7 +155,8 @@ fn key_numbers<'a, 't>(
     plan: &Plan<'a, 't>,
     list: PlanNode<'a, 't>,
 ) -> Result<Vec<u32>, AllocError>
-    ensures { IfOk result (λ numbers. numbers.items ≡ spec.key_numbers (view plan.now) (node_view list.entry)) }
+    ensures { IfOk result (λ numbers. numbers.items
+        ≡ spec.key_numbers (view plan.now) (node_view list.entry)) }
 {
     let children = key_children(alloc, plan, list)?;
     numbers_found(alloc, &children)
@@ -164,7 +172,8 @@ fn way<'a, 't>(
     names: &[Name<'t>],
 ) -> Result<WayDown<'a, 't>, AllocError>
     ensures { IfOk result (λ way. way_view way
-        ≡ planned.way (view plan.now) (Some top) (map (node_name (view plan.now).modules home owner) (names_view names.now))) }
+        ≡ planned.way (view plan.now) (Some top)
+        (map (node_name (view plan.now).modules home owner) (names_view names.now))) }
 {
     let mut nodes = Vec::with_capacity(alloc, names.len())?;
     let mut parent = top;
@@ -189,7 +198,8 @@ fn ways_of_unique<'a, 't>(
     statement: Node<'a, Source<'t>>,
 ) -> Result<Vec<WayDown<'a, 't>>, AllocError>
     ensures { IfOk result (λ ways. map way_view ways.items
-        ≡ ways_named (view plan.now) (node_view list.entry) (label_by source_view statement.entry)) }
+        ≡ ways_named (view plan.now) (node_view list.entry)
+        (label_by source_view statement.entry)) }
 {
     let paths = names_of_unique(alloc, statement)?;
     let home = statement.label().home;
@@ -280,7 +290,8 @@ pub fn tuples_of<'a, 't>(
     plan: &Plan<'a, 't>,
     list: PlanNode<'a, 't>,
 ) -> Result<Tuples, AllocError>
-    ensures { IfOk result (λ tuples. tuples_view tuples ≡ spec.tuples_of (view plan.now) (node_view list.entry)) }
+    ensures { IfOk result (λ tuples. tuples_view tuples
+        ≡ spec.tuples_of (view plan.now) (node_view list.entry)) }
 {
     let numbers = key_numbers(alloc, plan, list)?;
     let keys = ids_of(alloc, &numbers)?;
@@ -298,7 +309,8 @@ fn mark_keys<'a, 't>(
     list: PlanNode<'a, 't>,
     marks: &mut Vec<bool>,
 ) -> Result<(), AllocError>
-    ensures { IfOk result (λ _. marks.new.items ≡ marked marks.old.items (spec.key_numbers (view plan.now) (node_view list.entry))) }
+    ensures { IfOk result (λ _. marks.new.items
+        ≡ marked marks.old.items (spec.key_numbers (view plan.now) (node_view list.entry))) }
 {
     let numbers = key_numbers(alloc, plan, list)?;
     for number in &numbers {
@@ -317,7 +329,8 @@ fn mark(marks: &mut Vec<bool>, place: usize)
 
 /// Of each node, by number, whether it is a key of the list right above it.
 pub(crate) fn keys<'a, 't>(alloc: Global, plan: &Plan<'a, 't>) -> Result<Vec<bool>, AllocError>
-    ensures { IfOk result (λ marks. marks.items ≡ map (spec.is_key (view plan.now)) (nodes_of (view plan.now))) }
+    ensures { IfOk result (λ marks. marks.items
+        ≡ map (spec.is_key (view plan.now)) (nodes_of (view plan.now))) }
 {
     let mut marks = vec![in alloc; false; plan.nodes()]?;
     for node in plan.iter() {
@@ -348,7 +361,9 @@ fn is_key_leaf<'a, 't>(list: &PlanNode<'a, 't>, child: &PlanNode<'a, 't>) -> boo
 }
 
 fn are_key_leafs<'a, 't>(list: &PlanNode<'a, 't>, children: &[Option<PlanNode<'a, 't>>]) -> bool
-    ensures { result ≡ list_all (λ child. option_map_or (breaks.is_key_leaf (node_view list.now)) child false) (map (option_map node_view) children.now) }
+    ensures { result ≡ list_all (λ child. option_map_or
+        (breaks.is_key_leaf (node_view list.now)) child false)
+        (map (option_map node_view) children.now) }
 {
     for child in children {
         let is_right = match child {
@@ -368,7 +383,8 @@ fn is_wrong_key<'a, 't>(
     plan: &Plan<'a, 't>,
     list: PlanNode<'a, 't>,
 ) -> Result<bool, AllocError>
-    ensures { IfOk result (λ wrong. wrong ≡ breaks.is_wrong_key (view plan.now) (node_view list.entry)) }
+    ensures { IfOk result (λ wrong. wrong
+        ≡ breaks.is_wrong_key (view plan.now) (node_view list.entry)) }
 {
     let children = key_children(alloc, plan, list)?;
     if !are_key_leafs(&list, &children) {
@@ -403,7 +419,8 @@ fn leaf_config<'a, 't>(way: &[PlanNode<'a, 't>]) -> Option<bool>
 
 /// Whether each of these ways leads to a leaf that is configuration, or is none, as is asked.
 fn are_all<'a, 't>(config: bool, ways: &[WayDown<'a, 't>]) -> bool
-    ensures { result ≡ list_all (breaks.is_config config) (map breaks.leaf_named (map way_view ways.now)) }
+    ensures { result ≡ list_all (breaks.is_config config)
+        (map breaks.leaf_named (map way_view ways.now)) }
 {
     for way in ways {
         let found = match way {
@@ -429,7 +446,8 @@ fn has_wrong_unique<'a, 't>(
     plan: &Plan<'a, 't>,
     list: PlanNode<'a, 't>,
 ) -> Result<bool, AllocError>
-    ensures { IfOk result (λ wrong. wrong ≡ list_any breaks.is_wrong_unique (spec.unique_ways (view plan.now) (node_view list.entry))) }
+    ensures { IfOk result (λ wrong. wrong ≡ list_any breaks.is_wrong_unique
+        (spec.unique_ways (view plan.now) (node_view list.entry))) }
 {
     for ways in &unique_ways(alloc, plan, list)? {
         if is_wrong_unique(ways) {
@@ -446,7 +464,8 @@ pub(crate) fn has_wrong_tuples<'a, 't>(
     node: PlanNode<'a, 't>,
 ) -> Result<bool, AllocError>
     ensures { let p = node_view node.entry in IfOk result (λ wrong. wrong
-        ≡ (planned.is_a list_word p && (breaks.is_wrong_key (view plan.now) p || list_any breaks.is_wrong_unique (spec.unique_ways (view plan.now) p)))) }
+        ≡ (planned.is_a list_word p && (breaks.is_wrong_key (view plan.now) p
+        || list_any breaks.is_wrong_unique (spec.unique_ways (view plan.now) p)))) }
 {
     if !Keyword::List.is(node.planned.keyword()) {
         return Ok(false);

@@ -34,7 +34,8 @@ pub(crate) fn meant_at<'m, 't>(
     meant: &'m [Option<Meant<'t>>],
     number: usize,
 ) -> Option<&'m Meant<'t>>
-    ensures { option_map (λ m. meant_view m.now) result ≡ meant_at (meants_view meant.entry.now) number }
+    ensures { option_map (λ m. meant_view m.now) result
+        ≡ meant_at (meants_view meant.entry.now) number }
 {
     match meant.get(number) {
         Some(Some(meant)) => Some(meant),
@@ -77,7 +78,8 @@ fn type_as(
     meant: Option<&Meant<'_>>,
     value_type: &YType,
 ) -> Result<YType, AllocError>
-    ensures { IfOk result (λ t. t ≡ as_meant (option_map (λ m. meant_view m.now) meant.entry) value_type.now) }
+    ensures { IfOk result (λ t. t
+        ≡ as_meant (option_map (λ m. meant_view m.now) meant.entry) value_type.now) }
 {
     match meant {
         Some(meant) => match meant {

@@ -26,8 +26,10 @@ use crate::limits::{LEVEL_LIMIT, NODE_LIMIT};
 use crate::making::rows_of;
 use crate::names::{broken_at, repeated_module};
 use std::alloc::{AllocError, Global};
-use ygrammar::{BrokenRule, CompileCode, Source, Sources, argument_of, argument_with, broken_statement_rule};
-use ylink::{broken_prefix_rule, broken_type_rule, broken_type_name_rule};
+use ygrammar::{
+    BrokenRule, CompileCode, Source, Sources, argument_of, argument_with, broken_statement_rule,
+};
+use ylink::{broken_prefix_rule, broken_type_name_rule, broken_type_rule};
 use ymodel::{Schema, SchemaModule};
 use yplan::{Plan, broken_name_rule};
 use ypreorder::Node;
@@ -76,7 +78,8 @@ fn compile_plan(
 ) -> Result<Schema, CompileFault>
     requires made { plans.view plan.now ≡ spec.plan_of (sources_of (modules_view modules.now)) }
     requires first { None ≡ first_broken (statement_part (modules_view modules.now)) }
-    requires second { None ≡ first_broken (source_part (modules_view modules.now) (sources_of (modules_view modules.now))) }
+    requires second { None ≡ first_broken
+        (source_part (modules_view modules.now) (sources_of (modules_view modules.now))) }
     ensures { Gives view told_by result (compiled (modules_view modules.now)) }
 {
     if let Some(found) = broken_plan_rule(modules, plan) {
@@ -96,8 +99,10 @@ fn compile_rules<'t>(
     requires of_plan { IsOf resolved.now (plans.view plan.now) }
     requires made { plans.view plan.now ≡ spec.plan_of (sources_of (modules_view modules.now)) }
     requires first { None ≡ first_broken (statement_part (modules_view modules.now)) }
-    requires second { None ≡ first_broken (source_part (modules_view modules.now) (sources_of (modules_view modules.now))) }
-    requires third { None ≡ first_broken (plan_part (modules_view modules.now) (plans.view plan.now)) }
+    requires second { None ≡ first_broken
+        (source_part (modules_view modules.now) (sources_of (modules_view modules.now))) }
+    requires third { None ≡ first_broken
+        (plan_part (modules_view modules.now) (plans.view plan.now)) }
     ensures { Gives view told_by result (compiled (modules_view modules.now)) }
 {
     if let Some(found) = broken_rule(alloc, modules, plan, resolved)? {
@@ -112,7 +117,8 @@ fn broken_source_rule(
     modules: &[Module],
     sources: &Sources<'_>,
 ) -> Result<Option<BrokenRule>, AllocError>
-    ensures { let s = link.view sources.now in IfOk result (λ told. seen told ≡ first_broken (source_part (modules_view modules.now) s)) }
+    ensures { let s = link.view sources.now in
+        IfOk result (λ told. seen told ≡ first_broken (source_part (modules_view modules.now) s)) }
 {
     let prefix = broken_prefix_rule(alloc, sources)?;
     if let Some(found) = repeated_module(alloc, modules, prefix)? {
@@ -136,7 +142,8 @@ fn at_last(modules: &[Module], is_passed: bool) -> Option<BrokenRule>
 
 /// The rule that is told of the number of nodes, or of names of siblings.
 fn broken_plan_rule(modules: &[Module], plan: &Plan<'_, '_>) -> Option<BrokenRule>
-    ensures { let p = plans.view plan.now in seen result ≡ first_broken (plan_part (modules_view modules.now) p) }
+    ensures { let p = plans.view plan.now in
+        seen result ≡ first_broken (plan_part (modules_view modules.now) p) }
 {
     if let Some(found) = at_last(modules, plan.nodes() > NODE_LIMIT) {
         return Some(found);
@@ -159,7 +166,8 @@ fn broken_rule<'t>(
     resolved: &Resolved<'t>,
 ) -> Result<Option<BrokenRule>, AllocError>
     requires { IsOf resolved.now (plans.view plan.now) }
-    ensures { let p = plans.view plan.now in IfOk result (λ told. seen told ≡ first_broken (rule_part (modules_view modules.now) p)) }
+    ensures { let p = plans.view plan.now in
+        IfOk result (λ told. seen told ≡ first_broken (rule_part (modules_view modules.now) p)) }
 {
     if let Some(found) = broken_node_rule(alloc, plan, resolved)? {
         return Ok(Some(found));
@@ -181,7 +189,8 @@ fn module_of(alloc: Global, module: Node<'_, Source<'_>>) -> Result<SchemaModule
 }
 
 fn modules_of(alloc: Global, sources: &Sources<'_>) -> Result<Vec<SchemaModule>, AllocError>
-    ensures { IfOk result (λ modules. map module_view modules.items ≡ spec.schema_modules (link.view sources.now)) }
+    ensures { IfOk result (λ modules. map module_view modules.items
+        ≡ spec.schema_modules (link.view sources.now)) }
 {
     let mut modules = Vec::new(alloc);
     for module in sources.modules() {

@@ -28,8 +28,10 @@ fn values_of<'a, 't>(
     node: PlanNode<'a, 't>,
 ) -> Result<Vec<Val>, AllocError>
     requires of_plan { IsOf resolved.now (plan_view.view plan.now) }
-    requires stands { slice_get (nodes_of (plan_view.view plan.now)) node.number ≡ Some (plans.node_view node) }
-    ensures { IfOk result (λ values. values.items ≡ spec.default_values (plan_view.view plan.now) (plans.node_view node.entry)) }
+    requires stands { slice_get (nodes_of (plan_view.view plan.now)) node.number
+        ≡ Some (plans.node_view node) }
+    ensures { IfOk result (λ values. values.items
+        ≡ spec.default_values (plan_view.view plan.now) (plans.node_view node.entry)) }
 {
     match resolved.value_type(node.number) {
         Some(value_type) => default_values(alloc, value_type, &node.planned),
@@ -52,9 +54,12 @@ fn absence_of<'a, 't>(
     node: PlanNode<'a, 't>,
 ) -> Result<Absence, AllocError>
     requires of_plan { IsOf resolved.now (plan_view.view plan.now) }
-    requires stands { slice_get (nodes_of (plan_view.view plan.now)) node.number ≡ Some (plans.node_view node) }
+    requires stands { slice_get (nodes_of (plan_view.view plan.now)) node.number
+        ≡ Some (plans.node_view node) }
     ensures { let p = plan_view.view plan.now in
-        IfOk result (λ absence. absence_view absence ≡ spec.absence_of p (spec.is_key p (plans.node_view node.entry)) (plans.node_view node.entry)) }
+        IfOk result (λ absence. absence_view absence
+        ≡ spec.absence_of p (spec.is_key p (plans.node_view node.entry))
+        (plans.node_view node.entry)) }
 {
     if resolved.is_key(node.number) {
         return Ok(Absence::Key);
@@ -71,7 +76,8 @@ fn absence_of<'a, 't>(
 
 /// A copy of a type; that of texts where there is none.
 fn type_or_text(alloc: Global, value_type: Option<&YType>) -> Result<YType, AllocError>
-    ensures { IfOk result (λ made. made ≡ unwrap_or (option_map (λ t. t.now) value_type.entry) string_type) }
+    ensures { IfOk result (λ made. made
+        ≡ unwrap_or (option_map (λ t. t.now) value_type.entry) string_type) }
 {
     let Some(value_type) = value_type else {
         return match YType::string(alloc) {
@@ -84,7 +90,8 @@ fn type_or_text(alloc: Global, value_type: Option<&YType>) -> Result<YType, Allo
 
 /// The name of the type that a leaf or leaf-list states; that of texts where it states none.
 fn type_name_of(planned: &Planned<'_, '_>) -> BuiltIn
-    ensures { (number : _) → built_in_name (built_in_view result) ≡ spec.type_name (planned_view number planned.now) }
+    ensures { (number : _) → built_in_name (built_in_view result)
+        ≡ spec.type_name (planned_view number planned.now) }
 {
     planned.type_name().unwrap_or(BuiltIn::String)
 }
@@ -97,8 +104,10 @@ fn leaf_type_of<'a, 't>(
     node: PlanNode<'a, 't>,
 ) -> Result<LeafType, AllocError>
     requires of_plan { IsOf resolved.now (plan_view.view plan.now) }
-    requires stands { slice_get (nodes_of (plan_view.view plan.now)) node.number ≡ Some (plans.node_view node) }
-    ensures { IfOk result (λ made. leaf_type_view made ≡ spec.leaf_type (plan_view.view plan.now) (plans.node_view node.entry)) }
+    requires stands { slice_get (nodes_of (plan_view.view plan.now)) node.number
+        ≡ Some (plans.node_view node) }
+    ensures { IfOk result (λ made. leaf_type_view made
+        ≡ spec.leaf_type (plan_view.view plan.now) (plans.node_view node.entry)) }
 {
     let value_type = type_or_text(alloc, resolved.value_type(node.number))?;
     Ok(LeafType {
@@ -116,9 +125,11 @@ fn kind_of<'a, 't>(
     node: PlanNode<'a, 't>,
 ) -> Result<Kind, AllocError>
     requires of_plan { IsOf resolved.now (plan_view.view plan.now) }
-    requires stands { slice_get (nodes_of (plan_view.view plan.now)) node.number ≡ Some (plans.node_view node) }
+    requires stands { slice_get (nodes_of (plan_view.view plan.now)) node.number
+        ≡ Some (plans.node_view node) }
     ensures { let p = plans.node_view node.entry in
-        IfOk result (λ kind. kind_view kind ≡ spec.kind_by (plan_view.view plan.now) p p.part.source.keyword) }
+        IfOk result (λ kind. kind_view kind
+        ≡ spec.kind_by (plan_view.view plan.now) p p.part.source.keyword) }
 {
     let planned = &node.planned;
     match planned.keyword() {
@@ -154,8 +165,10 @@ fn node_of<'a, 't>(
     node: PlanNode<'a, 't>,
 ) -> Result<SchemaNode, AllocError>
     requires of_plan { IsOf resolved.now (plan_view.view plan.now) }
-    requires stands { slice_get (nodes_of (plan_view.view plan.now)) node.number ≡ Some (plans.node_view node) }
-    ensures { IfOk result (λ made. node_view node.entry.number made ≡ spec.schema_node (plan_view.view plan.now) (plans.node_view node.entry)) }
+    requires stands { slice_get (nodes_of (plan_view.view plan.now)) node.number
+        ≡ Some (plans.node_view node) }
+    ensures { IfOk result (λ made. node_view node.entry.number made
+        ≡ spec.schema_node (plan_view.view plan.now) (plans.node_view node.entry)) }
 {
     let planned = &node.planned;
     Ok(SchemaNode {
@@ -176,8 +189,10 @@ fn row_of<'a, 't>(
     row: &ypreorder::Row<Planned<'a, 't>>,
 ) -> Result<Row, AllocError>
     requires of_plan { IsOf resolved.now (plan_view.view plan.now) }
-    requires stands { slice_get (nodes_of (plan_view.view plan.now)) number ≡ Some (planned_view number row.now.label) }
-    ensures { IfOk result (λ made. place_of number made ≡ place_made (spec.schema_node (plan_view.view plan.now)) (planned_place number row.now)) }
+    requires stands { slice_get (nodes_of (plan_view.view plan.now)) number
+        ≡ Some (planned_view number row.now.label) }
+    ensures { IfOk result (λ made. place_of number made
+        ≡ place_made (spec.schema_node (plan_view.view plan.now)) (planned_place number row.now)) }
 {
     let node = PlanNode {
         number,
@@ -197,7 +212,8 @@ pub(crate) fn rows_of<'t>(
     resolved: &Resolved<'t>,
 ) -> Result<Vec<Row>, AllocError>
     requires { IsOf resolved.now (plan_view.view plan.now) }
-    ensures { IfOk result (λ rows. laid 0 rows.items ≡ places None (spec.schema_nodes (plan_view.view plan.now))) }
+    ensures { IfOk result (λ rows. laid 0 rows.items
+        ≡ places None (spec.schema_nodes (plan_view.view plan.now))) }
 {
     let mut rows = Vec::with_capacity(alloc, plan.nodes())?;
     for (number, row) in plan.rows().iter().enumerate() {

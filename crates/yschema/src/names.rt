@@ -20,7 +20,11 @@ fn name_of(statement: &Stmt) -> &str
 
 /// A rule that a module breaks, which is told at its statement.
 pub(crate) fn broken_at(code: CompileCode, module: usize, top: &Stmt) -> BrokenRule
-    ensures { break_view result ≡ record { code = code_number code; module_number = «module»; line = (view top.now).0.line } }
+    ensures { break_view result ≡ record {
+      code = code_number code;
+      module_number = «module»;
+      line = (view top.now).0.line;
+    } }
 {
     BrokenRule {
         module,
@@ -35,7 +39,8 @@ pub(crate) fn repeated_module(
     modules: &[Module],
     so_far: Option<BrokenRule>,
 ) -> Result<Option<BrokenRule>, AllocError>
-    ensures { IfOk result (λ told. seen told ≡ least_from (seen so_far) (module_breaks 0 [] (modules_view modules.now))) }
+    ensures { IfOk result (λ told. seen told
+        ≡ least_from (seen so_far) (module_breaks 0 [] (modules_view modules.now))) }
 {
     let mut names: IndexSet<&str> = IndexSet::new(alloc);
     let mut told = so_far;

@@ -13,11 +13,13 @@ ghost use Rattle.yspec.specs.document.FrontFaults.{front_faults};
 /// The faults of a document are found by one walk over the rows of its schema and its own.
 pub fn faults_by_rows()
     ensures { (schema : Schema) (tree : Tree) → IsNumbered 0 schema.nodes
-        → faults_of schema tree ≡ row_faults (times_in schema tree) schema (row_times schema tree) [] schema.nodes tree }
+        → faults_of schema tree ≡ row_faults (times_in schema tree) schema
+        (row_times schema tree) [] schema.nodes tree }
 {}
 
 /// In a document whose rows stand in order each schema node takes what is stored of it from the front of a row.
 pub fn faults_by_one_walk()
     ensures { (schema : Schema) (tree : Tree) → IsNumbered 0 schema.nodes → IsSorted tree
-        → faults_of schema tree ≡ front_faults (times_in schema tree) schema (row_times schema tree) [] schema.nodes tree }
+        → faults_of schema tree ≡ front_faults (times_in schema tree) schema
+        (row_times schema tree) [] schema.nodes tree }
 {}

@@ -22,7 +22,8 @@ pub fn drawn_modules()
         ++ codes "           |  +--rw auto?   empty\n           +--:(fixed)\n              +--rw speed?   uint32\n"))) }
     ensures missing { drawn_as (codes "zz") net_module ≡ failed 2 (codes "zz: no such module") }
     ensures prefix { drawn_as (codes "ex") net_module ≡ failed 2 (codes "ex: no such module") }
-    ensures refused { drawn_as (codes "a") (codes "module a { prefix \"x") ≡ failed 2 (codes "m.yang:1: L3") }
+    ensures refused { drawn_as (codes "a") (codes "module a { prefix \"x")
+        ≡ failed 2 (codes "m.yang:1: L3") }
 {}
 
 /// Lines of scripts. A carriage return goes with its line feed alone.
@@ -35,58 +36,76 @@ pub fn lines_of_scripts()
 
 /// Lines are passed over, refused and applied.
 pub fn lines_of_every_kind()
-    ensures shown { scripted module_p (codes "{}") (codes "# x\n\ncreate /p:c {\"id\":1}\r\n" ++ (255 ∷ codes "\nreplace /p:c/id 300"))
+    ensures shown { scripted module_p (codes "{}") (codes "# x\n\ncreate /p:c {\"id\":1}\r\n"
+        ++ (255 ∷ codes "\nreplace /p:c/id 300"))
         ≡ faulty (codes "line 4: E1\n") (codes "V1 invalid-value - /p:c/id -\n1 faults\n") }
-    ensures dumped { dumped module_p (codes "{}") (codes "# x\n\ncreate /p:c {\"id\":1}\r\n" ++ (255 ∷ codes "\nreplace /p:c/id 300"))
+    ensures dumped { dumped module_p (codes "{}") (codes "# x\n\ncreate /p:c {\"id\":1}\r\n"
+        ++ (255 ∷ codes "\nreplace /p:c/id 300"))
         ≡ faulty (codes "line 4: E1\n") (codes "{\"p:c\":{\"id\":300}}\n") }
-    ensures other_bytes_behind_a_sign { scripted module_p (codes "{\"p:c\":{\"id\":1}}") (codes "#" ++ (255 ∷ [])) ≡ without_faults }
-    ensures unread { scripted module_p (codes "{\"c\":{}}") (codes "#") ≡ failed 2 (codes "d.json: J4 /") }
+    ensures other_bytes_behind_a_sign { scripted module_p (codes "{\"p:c\":{\"id\":1}}") (codes "#"
+        ++ (255 ∷ [])) ≡ without_faults }
+    ensures unread { scripted module_p (codes "{\"c\":{}}") (codes "#")
+        ≡ failed 2 (codes "d.json: J4 /") }
 {}
 
 /// Without edits it is what `validate` prints.
 pub fn scripts_without_edits()
-    ensures faulty { scripted module_p (codes "{\"p:c\":{\"id\":256}}") [] ≡ shown module_p (codes "{\"p:c\":{\"id\":256}}") }
-    ensures good { scripted module_p (codes "{\"p:c\":{\"id\":7}}") (codes "\n\n") ≡ without_faults }
+    ensures faulty { scripted module_p (codes "{\"p:c\":{\"id\":256}}") []
+        ≡ shown module_p (codes "{\"p:c\":{\"id\":256}}") }
+    ensures good { scripted module_p (codes "{\"p:c\":{\"id\":7}}") (codes "\n\n")
+        ≡ without_faults }
 {}
 
 /// Defaults in use go out of use and come back.
 pub fn defaults_in_use()
-    ensures stored { scripted net_module (hosts (codes "{\"name\":\"a\",\"auto\":[null],\"use-port\":80}")) (codes "create /ex-net:net/host[1]/port 22")
+    ensures stored { scripted net_module (hosts (codes
+        "{\"name\":\"a\",\"auto\":[null],\"use-port\":80}"))
+        (codes "create /ex-net:net/host[1]/port 22")
         ≡ found 1 (codes "V11 data-missing instance-required /ex-net:net/host[1]/use-port -\n1 faults\n") }
-    ensures removed { scripted net_module (hosts (codes "{\"name\":\"a\",\"auto\":[null],\"use-port\":80}"))
+    ensures removed { scripted net_module
+        (hosts (codes "{\"name\":\"a\",\"auto\":[null],\"use-port\":80}"))
         (codes "create /ex-net:net/host[1]/port 22\nremove /ex-net:net/host[1]/port") ≡ without_faults }
     ensures of_a_case { scripted k_module (codes "{\"k:want\":3}") (codes "create /k:boost 1")
         ≡ found 1 (codes "V11 data-missing instance-required /k:want -\n1 faults\n") }
-    ensures of_a_case_again { scripted k_module (codes "{\"k:want\":3}") (codes "create /k:boost 1\nremove /k:boost\n") ≡ without_faults }
+    ensures of_a_case_again { scripted k_module (codes "{\"k:want\":3}")
+        (codes "create /k:boost 1\nremove /k:boost\n") ≡ without_faults }
 {}
 
 /// References lose what they refer to, or keep it in another entry.
 pub fn references()
-    ensures lost { scripted net_module (hosts (codes "{\"name\":\"a\",\"auto\":[null],\"uplink\":\"b\"},{\"name\":\"b\",\"auto\":[null]}"))
+    ensures lost { scripted net_module (hosts (codes
+        "{\"name\":\"a\",\"auto\":[null],\"uplink\":\"b\"},{\"name\":\"b\",\"auto\":[null]}"))
         (codes "remove /ex-net:net/host[name='b']")
         ≡ found 1 (codes "V11 data-missing instance-required /ex-net:net/host[1]/uplink -\n1 faults\n") }
-    ensures kept { scripted net_module (hosts (codes "{\"name\":\"a\",\"auto\":[null],\"uplink\":\"b\"},{\"name\":\"b\",\"auto\":[null]}"))
+    ensures kept { scripted net_module (hosts (codes
+        "{\"name\":\"a\",\"auto\":[null],\"uplink\":\"b\"},{\"name\":\"b\",\"auto\":[null]}"))
         (codes "replace /ex-net:net/host[2] {\"name\":\"b\",\"speed\":7}") ≡ without_faults }
 {}
 
 /// Positions move, and a key that two entries have names neither.
 pub fn entries_removed()
-    ensures moved { scripted net_module (hosts (codes "{\"name\":\"a\",\"auto\":[null]},{\"name\":\"b\",\"auto\":[null]},{\"name\":\"c\"}"))
+    ensures moved { scripted net_module (hosts (codes
+        "{\"name\":\"a\",\"auto\":[null]},{\"name\":\"b\",\"auto\":[null]},{\"name\":\"c\"}"))
         (codes "remove /ex-net:net/host[1]")
         ≡ found 1 (codes "V4 data-missing missing-choice /ex-net:net/host[2] mode\n1 faults\n") }
-    ensures twice { scripted net_module (hosts (codes "{\"name\":\"a\",\"auto\":[null]},{\"name\":\"a\",\"auto\":[null]}"))
+    ensures twice { scripted net_module
+        (hosts (codes "{\"name\":\"a\",\"auto\":[null]},{\"name\":\"a\",\"auto\":[null]}"))
         (codes "remove /ex-net:net/host[name='a']\nremove /ex-net:net/host[2]") ≡ faulty (codes "line 1: E6\n") (codes "0 faults\n") }
-    ensures one_left { scripted net_module one_host (codes "create /ex-net:net/host[1]/name \"b\"\nremove /ex-net:net/host[1]")
+    ensures one_left { scripted net_module one_host
+        (codes "create /ex-net:net/host[1]/name \"b\"\nremove /ex-net:net/host[1]")
         ≡ faulty (codes "line 1: E8\n") (codes "V6 operation-failed too-few-elements /ex-net:net/host -\n1 faults\n") }
-    ensures none_left { dumped net_module one_host (codes "create /ex-net:net/host[1]/name \"b\"\nremove /ex-net:net/host[1]")
+    ensures none_left { dumped net_module one_host
+        (codes "create /ex-net:net/host[1]/name \"b\"\nremove /ex-net:net/host[1]")
         ≡ faulty (codes "line 1: E8\n") (codes "{\"ex-net:net\":{}}\n") }
 {}
 
 /// Refused edits, of which the first is told with its line.
 pub fn refused_edits()
-    ensures above { scripted net_module (codes "{}") (codes "create /ex-net:net/host {\"name\":\"z\",\"auto\":[null]}")
+    ensures above { scripted net_module (codes "{}")
+        (codes "create /ex-net:net/host {\"name\":\"z\",\"auto\":[null]}")
         ≡ faulty (codes "line 1: E4\n") (codes "V6 operation-failed too-few-elements /ex-net:net/host -\n1 faults\n") }
     ensures others { scripted net_module one_host (codes "replace /ex-net:net/host[1]/port 9\nreplace /ex-net:net/host[1]/name {}\n"
         ++ codes "remove /ex-net:net/host\n\nremove /ex-net:net/host[2]\n")
-        ≡ faulty (codes "line 1: E7\nline 2: E10 J5\nline 3: E3\nline 5: E5\n") (codes "0 faults\n") }
+        ≡ faulty (codes "line 1: E7\nline 2: E10 J5\nline 3: E3\nline 5: E5\n")
+        (codes "0 faults\n") }
 {}

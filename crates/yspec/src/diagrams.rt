@@ -28,14 +28,16 @@ pub fn choices()
 
 /// A path is shown by the data nodes that it leads through, whatever white space and prefixes it is written with.
 pub fn references()
-    ensures { diagram_lines (codes "leaf r { type leafref { path \" /m:c /\n m:d\"; } } container c { choice h { leaf-list d { type leafref { path /m:s; } } } } leaf s { type decimal64 { fraction-digits 2; } mandatory true; }")
+    ensures { diagram_lines (codes
+        "leaf r { type leafref { path \" /m:c /\n m:d\"; } } container c { choice h { leaf-list d { type leafref { path /m:s; } } } } leaf s { type decimal64 { fraction-digits 2; } mandatory true; }")
         ≡ codes "module: m\n  +--rw r?   -> /c/d\n  +--rw c\n  |  +--rw (h)?\n  |     +--:(d)\n  |        +--rw d*   -> /s\n  +--rw s    decimal64\n" }
 {}
 
 /// Several keys, keys whatever they state, and the columns of rows with nodes that have no type.
 pub fn keys()
     ensures unique { diagram_of v_module ≡ codes "module: v\n  +--rw e* [id]\n     +--rw id   uint8\n     +--rw in\n     |  +--rw x?   string\n     +--rw m*   uint8\n" }
-    ensures several { diagram_lines (codes "list l { key \"bb a\"; leaf a { type string; default x; } leaf bb { mandatory true; type bits { bit z; } } container a-long-name { } }")
+    ensures several { diagram_lines
+        (codes "list l { key \"bb a\"; leaf a { type string; default x; } leaf bb { mandatory true; type bits { bit z; } } container a-long-name { } }")
         ≡ codes "module: m\n  +--rw l* [bb a]\n     +--rw a    string\n     +--rw bb   bits\n     +--rw a-long-name\n" }
 {}
 

@@ -7,13 +7,17 @@ ghost use Rattle.yspec.specs.program.Output.{edit, outcome, validate};
 /// Where `edit` reports on a document (status 0 or 1), `validate` reports the same, under the same modules, on a file with
 /// the bytes that `edit --dump` writes, and refuses nothing of it.
 pub fn dumped_documents_are_validated()
-    ensures alike { (document script dumped : Text) (modules : List Text) (answers : List (Option (List ℕ)))
+    ensures alike { (document script dumped : Text) (modules : List Text)
+        (answers : List (Option (List ℕ)))
         → let shown = outcome (edit false document script modules) answers in
         let bytes = (outcome (edit true document script modules) answers).output in
-        let again = outcome (validate dumped modules) (take (length modules) answers ++ Some bytes ∷ []) in
+        let again = outcome (validate dumped modules) (take (length modules) answers ++ Some bytes
+        ∷ []) in
         shown.status ≤ 1 → again.output ≡ shown.output }
-    ensures unrefused { (document script dumped : Text) (modules : List Text) (answers : List (Option (List ℕ)))
+    ensures unrefused { (document script dumped : Text) (modules : List Text)
+        (answers : List (Option (List ℕ)))
         → let bytes = (outcome (edit true document script modules) answers).output in
-        let again = outcome (validate dumped modules) (take (length modules) answers ++ Some bytes ∷ []) in
+        let again = outcome (validate dumped modules) (take (length modules) answers ++ Some bytes
+        ∷ []) in
         (outcome (edit false document script modules) answers).status ≤ 1 → again.errors ≡ [] }
 {}

@@ -15,19 +15,22 @@ ghost use Rattle.yspec.specs.edit.Live.{of_document, of_modules};
 
 /// A document that fits its schema fits it after any edits.
 pub fn edited_documents_fit()
-    ensures { (schema : Schema) (tree : Tree) (edits : List Edit) → IsNumbered 0 schema.nodes → Fits schema tree
+    ensures { (schema : Schema) (tree : Tree) (edits : List Edit) → IsNumbered 0 schema.nodes
+        → Fits schema tree
         → Fits schema (after schema tree edits) }
 {}
 
 /// It does so in its values too, where no two siblings are written with one name.
 pub fn edited_documents_are_whole()
-    ensures { (schema : Schema) (tree : Tree) (edits : List Edit) → IsNumbered 0 schema.nodes → NamesDiffer schema
+    ensures { (schema : Schema) (tree : Tree) (edits : List Edit) → IsNumbered 0 schema.nodes
+        → NamesDiffer schema
         → IsDocument schema tree → IsDocument schema (after schema tree edits) }
 {}
 
 /// Edits keep the order of its rows, whether it fits or not.
 pub fn edited_rows_stay_in_order()
-    ensures { (schema : Schema) (tree : Tree) (edits : List Edit) → IsNumbered 0 schema.nodes → IsSorted tree
+    ensures { (schema : Schema) (tree : Tree) (edits : List Edit) → IsNumbered 0 schema.nodes
+        → IsSorted tree
         → IsSorted (after schema tree edits) }
 {}
 
@@ -40,9 +43,11 @@ pub fn edited_documents_are_within()
 /// What texts of paths spell: names, positions and keys; and texts that spell none.
 pub fn texts_of_paths()
     ensures names { path_of (codes "/p:c/id")
-        ≡ Some (record { name = codes "p:c"; predicate = unsaid } ∷ record { name = codes "id"; predicate = unsaid } ∷ []) }
+        ≡ Some (record { name = codes "p:c"; predicate = unsaid }
+        ∷ record { name = codes "id"; predicate = unsaid } ∷ []) }
     ensures position { path_of (codes "/p:l[12]/x")
-        ≡ Some (record { name = codes "p:l"; predicate = at_position 12 } ∷ record { name = codes "x"; predicate = unsaid } ∷ []) }
+        ≡ Some (record { name = codes "p:l"; predicate = at_position 12 }
+        ∷ record { name = codes "x"; predicate = unsaid } ∷ []) }
     ensures far_position { path_of (codes "/p:l[99999999999]")
         ≡ Some (record { name = codes "p:l"; predicate = at_position 4294967295 } ∷ []) }
     ensures keys { path_of (codes "/p:l[a='x/]y'][b=\"'\"]")
@@ -62,10 +67,16 @@ pub fn texts_of_paths()
 
 /// What lines of edits spell, and lines that spell none.
 pub fn texts_of_edits()
-    ensures value { edit_of (codes "create  /p:c  {} ") ≡ Some (create (record { name = codes "p:c"; predicate = unsaid } ∷ []) (codes "{} ")) }
-    ensures spaces_behind { edit_of (codes "remove /p:c  ") ≡ Some (remove (record { name = codes "p:c"; predicate = unsaid } ∷ [])) }
+    ensures value { edit_of (codes "create  /p:c  {} ")
+        ≡ Some (create (record { name = codes "p:c"; predicate = unsaid } ∷ []) (codes "{} ")) }
+    ensures spaces_behind { edit_of (codes "remove /p:c  ")
+        ≡ Some (remove (record { name = codes "p:c"; predicate = unsaid } ∷ [])) }
     ensures space_in_a_key { edit_of (codes "replace /p:l[a='x y'] 1")
-        ≡ Some (replace (record { name = codes "p:l"; predicate = with_keys (record { name = codes "a"; text = codes "x y" } ∷ []) } ∷ []) (codes "1")) }
+        ≡ Some (replace (record {
+          name = codes "p:l";
+          predicate = with_keys
+              (record { name = codes "a"; text = codes "x y" } ∷ []);
+        } ∷ []) (codes "1")) }
     ensures no_value { edit_of (codes "replace /p:c/id") ≡ None }
     ensures spaces_for_a_value { edit_of (codes "create /p:c   ") ≡ None }
     ensures a_value_too_many { edit_of (codes "remove /p:c {}") ≡ None }
@@ -76,45 +87,68 @@ pub fn texts_of_edits()
 
 /// A leaf and a container replaced, and why they can't be.
 pub fn replacements()
-    ensures leaf { edited (codes "{\"p:c\":{\"id\":256,\"note\":\"x\"}}") (codes "replace /p:c/id 7" ∷ [])
+    ensures leaf { edited (codes "{\"p:c\":{\"id\":256,\"note\":\"x\"}}") (codes "replace /p:c/id 7"
+        ∷ [])
         ≡ accepted (codes "{\"p:c\":{\"id\":7,\"note\":\"x\"}}") }
-    ensures container { edited (codes "{\"p:c\":{\"id\":300}}") (codes "replace /p:c {\"note\":\"y\"}" ∷ [])
+    ensures container { edited (codes "{\"p:c\":{\"id\":300}}")
+        (codes "replace /p:c {\"note\":\"y\"}" ∷ [])
         ≡ accepted (codes "{\"p:c\":{\"note\":\"y\"}}") }
-    ensures wrong_kind { edited (codes "{\"p:c\":{\"note\":\"x\"}}") (codes "replace /p:c/note {}" ∷ [])
+    ensures wrong_kind { edited (codes "{\"p:c\":{\"note\":\"x\"}}") (codes "replace /p:c/note {}"
+        ∷ [])
         ≡ value_refused_as 5 (codes "{\"p:c\":{\"note\":\"x\"}}") }
     ensures fraction { edited (codes "{\"p:c\":{\"id\":1}}") (codes "replace /p:c/id 1.5" ∷ [])
         ≡ value_refused_as 6 (codes "{\"p:c\":{\"id\":1}}") }
-    ensures unknown_member { edited (codes "{\"p:c\":{}}") (codes "replace /p:c {\"zz\":1}" ∷ []) ≡ value_refused_as 3 (codes "{\"p:c\":{}}") }
-    ensures no_json { edited (codes "{\"p:c\":{\"id\":1}}") (codes "replace /p:c/id x" ∷ []) ≡ refused_as 9 (codes "{\"p:c\":{\"id\":1}}") }
-    ensures unknown { edited (codes "{\"p:c\":{\"id\":1}}") (codes "replace /p:c/zz 1" ∷ []) ≡ refused_as 2 (codes "{\"p:c\":{\"id\":1}}") }
-    ensures unqualified { edited (codes "{\"p:c\":{\"id\":1}}") (codes "replace /c/id 1" ∷ []) ≡ refused_as 2 (codes "{\"p:c\":{\"id\":1}}") }
-    ensures position { edited (codes "{\"p:c\":{\"id\":1}}") (codes "replace /p:c[1]/id 1" ∷ []) ≡ refused_as 3 (codes "{\"p:c\":{\"id\":1}}") }
-    ensures name_before_position { edited (codes "{}") (codes "replace /p:c[1]/zz 1" ∷ []) ≡ refused_as 2 (codes "{}") }
-    ensures nothing_there { edited (codes "{\"p:c\":{\"note\":\"y\"}}") (codes "replace /p:c/id 1" ∷ []) ≡ refused_as 7 (codes "{\"p:c\":{\"note\":\"y\"}}") }
-    ensures nothing_above { edited (codes "{}") (codes "replace /p:c/id 1" ∷ []) ≡ refused_as 4 (codes "{}") }
+    ensures unknown_member { edited (codes "{\"p:c\":{}}") (codes "replace /p:c {\"zz\":1}" ∷ [])
+        ≡ value_refused_as 3 (codes "{\"p:c\":{}}") }
+    ensures no_json { edited (codes "{\"p:c\":{\"id\":1}}") (codes "replace /p:c/id x" ∷ [])
+        ≡ refused_as 9 (codes "{\"p:c\":{\"id\":1}}") }
+    ensures unknown { edited (codes "{\"p:c\":{\"id\":1}}") (codes "replace /p:c/zz 1" ∷ [])
+        ≡ refused_as 2 (codes "{\"p:c\":{\"id\":1}}") }
+    ensures unqualified { edited (codes "{\"p:c\":{\"id\":1}}") (codes "replace /c/id 1" ∷ [])
+        ≡ refused_as 2 (codes "{\"p:c\":{\"id\":1}}") }
+    ensures position { edited (codes "{\"p:c\":{\"id\":1}}") (codes "replace /p:c[1]/id 1" ∷ [])
+        ≡ refused_as 3 (codes "{\"p:c\":{\"id\":1}}") }
+    ensures name_before_position { edited (codes "{}") (codes "replace /p:c[1]/zz 1" ∷ [])
+        ≡ refused_as 2 (codes "{}") }
+    ensures nothing_there { edited (codes "{\"p:c\":{\"note\":\"y\"}}") (codes "replace /p:c/id 1"
+        ∷ []) ≡ refused_as 7 (codes "{\"p:c\":{\"note\":\"y\"}}") }
+    ensures nothing_above { edited (codes "{}") (codes "replace /p:c/id 1" ∷ [])
+        ≡ refused_as 4 (codes "{}") }
 {}
 
 /// Nodes created and removed: a container stays stored when what is in it goes.
 pub fn creations_and_removals()
-    ensures in_its_place { edited (codes "{\"p:c\":{\"note\":\"x\"}}") (codes "create /p:c/id 1" ∷ [])
+    ensures in_its_place { edited (codes "{\"p:c\":{\"note\":\"x\"}}") (codes "create /p:c/id 1"
+        ∷ [])
         ≡ accepted (codes "{\"p:c\":{\"id\":1,\"note\":\"x\"}}") }
-    ensures there_already { edited (codes "{\"p:c\":{}}") (codes "create /p:c {\"id\":1}" ∷ []) ≡ refused_as 8 (codes "{\"p:c\":{}}") }
-    ensures created_above_nothing { edited (codes "{}") (codes "create /p:c/id 1" ∷ []) ≡ refused_as 4 (codes "{}") }
-    ensures removed { edited (codes "{\"p:c\":{\"id\":1}}") (codes "remove /p:c/id" ∷ []) ≡ accepted (codes "{\"p:c\":{}}") }
-    ensures removed_already { edited (codes "{\"p:c\":{}}") (codes "remove /p:c/id" ∷ []) ≡ refused_as 7 (codes "{\"p:c\":{}}") }
-    ensures one_after_the_other { edited (codes "{}") (codes "create /p:c {}" ∷ codes "create /p:c/id 7" ∷ codes "remove /p:c" ∷ [])
+    ensures there_already { edited (codes "{\"p:c\":{}}") (codes "create /p:c {\"id\":1}" ∷ [])
+        ≡ refused_as 8 (codes "{\"p:c\":{}}") }
+    ensures created_above_nothing { edited (codes "{}") (codes "create /p:c/id 1" ∷ [])
+        ≡ refused_as 4 (codes "{}") }
+    ensures removed { edited (codes "{\"p:c\":{\"id\":1}}") (codes "remove /p:c/id" ∷ [])
+        ≡ accepted (codes "{\"p:c\":{}}") }
+    ensures removed_already { edited (codes "{\"p:c\":{}}") (codes "remove /p:c/id" ∷ [])
+        ≡ refused_as 7 (codes "{\"p:c\":{}}") }
+    ensures one_after_the_other { edited (codes "{}") (codes "create /p:c {}"
+        ∷ codes "create /p:c/id 7" ∷ codes "remove /p:c" ∷ [])
         ≡ Some (None ∷ None ∷ None ∷ [], codes "{}") }
 {}
 
 /// What comes of edits of a document, and its faults after them; and a document and a module that are refused.
 pub fn edits_checked()
-    ensures mended { checked_lines module_p (codes "{\"p:c\":{\"id\":256}}") (codes "replace /p:c/id 7" ∷ []) ≡ checked_as (None ∷ []) [] }
-    ensures spoiled { checked_lines module_p (codes "{\"p:c\":{\"id\":7}}") (codes "replace /p:c/id 300" ∷ codes "replace /p:c {}" ∷ codes "replace /p:c/id {}" ∷ [])
-        ≡ checked_as (None ∷ None ∷ Some (record { code = 7; document_code = None }) ∷ []) (at_id V3 ∷ []) }
-    ensures refused_value { checked_lines module_p (codes "{\"p:c\":{\"id\":256}}") (codes "replace /p:c/id {}" ∷ [])
+    ensures mended { checked_lines module_p (codes "{\"p:c\":{\"id\":256}}")
+        (codes "replace /p:c/id 7" ∷ []) ≡ checked_as (None ∷ []) [] }
+    ensures spoiled { checked_lines module_p (codes "{\"p:c\":{\"id\":7}}")
+        (codes "replace /p:c/id 300" ∷ codes "replace /p:c {}" ∷ codes "replace /p:c/id {}" ∷ [])
+        ≡ checked_as (None ∷ None ∷ Some (record { code = 7; document_code = None }) ∷ []) (at_id V3
+        ∷ []) }
+    ensures refused_value { checked_lines module_p (codes "{\"p:c\":{\"id\":256}}")
+        (codes "replace /p:c/id {}" ∷ [])
         ≡ checked_as (Some (record { code = 10; document_code = Some 5 }) ∷ []) (at_id V1 ∷ []) }
     ensures no_edits { checked_lines module_p (codes "{}") [] ≡ checked_as [] (at_id V3 ∷ []) }
-    ensures refused_document { checked_lines module_p (codes "[]") [] ≡ Some (Err (of_document (record { code = 2; place = [] }))) }
-    ensures refused_module { checked_lines (module_text (codes "p") (codes "  leaf x;\n")) (codes "[]") []
+    ensures refused_document { checked_lines module_p (codes "[]") []
+        ≡ Some (Err (of_document (record { code = 2; place = [] }))) }
+    ensures refused_module { checked_lines (module_text (codes "p") (codes "  leaf x;\n"))
+        (codes "[]") []
         ≡ Some (Err (of_modules (record { code = 2; module_number = 0; line = 5 }))) }
 {}

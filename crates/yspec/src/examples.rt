@@ -15,7 +15,8 @@ pub fn documents_of_a_container()
         ≡ found 1 (codes "V3 data-missing - /p:c/id -\n1 faults\n") }
     ensures implied_of_int32 { shown (container_module (codes "int32")) (codes "{}")
         ≡ found 1 (codes "V3 data-missing - /p:c/id -\n1 faults\n") }
-    ensures good_of_int32 { shown (container_module (codes "int32")) (codes "{\"p:c\":{\"id\":-256}}") ≡ without_faults }
+    ensures good_of_int32 { shown (container_module (codes "int32"))
+        (codes "{\"p:c\":{\"id\":-256}}") ≡ without_faults }
 {}
 
 /// Faults stand in order of definition.
@@ -45,9 +46,12 @@ pub fn refused_documents()
     ensures no_object { shown_by_p (codes "[]") ≡ failed 2 (codes "d.json: J2 /") }
     ensures unknown { shown_by_p (codes "{\"p:d\":1}") ≡ failed 2 (codes "d.json: J3 /") }
     ensures unqualified { shown_by_p (codes "{\"c\":{}}") ≡ failed 2 (codes "d.json: J4 /") }
-    ensures qualified { shown_by_p (codes "{\"p:c\":{\"p:id\":1}}") ≡ failed 2 (codes "d.json: J4 /p:c") }
-    ensures wrong_kind { shown_by_p (codes "{\"p:c\":{\"id\":{}}}") ≡ failed 2 (codes "d.json: J5 /p:c/id") }
-    ensures fraction { shown_by_p (codes "{\"p:c\":{\"id\":1.5}}") ≡ failed 2 (codes "d.json: J6 /p:c/id") }
+    ensures qualified { shown_by_p (codes "{\"p:c\":{\"p:id\":1}}")
+        ≡ failed 2 (codes "d.json: J4 /p:c") }
+    ensures wrong_kind { shown_by_p (codes "{\"p:c\":{\"id\":{}}}")
+        ≡ failed 2 (codes "d.json: J5 /p:c/id") }
+    ensures fraction { shown_by_p (codes "{\"p:c\":{\"id\":1.5}}")
+        ≡ failed 2 (codes "d.json: J6 /p:c/id") }
 {}
 
 /// What is written of documents: the same values, compact, members in byte order of their names.
@@ -62,11 +66,13 @@ pub fn written_documents()
 
 /// Refusals of a module, each with its line.
 pub fn refused_modules()
-    ensures type_outside { shown (container_module (codes "binary")) (codes "{}") ≡ failed 2 (codes "m.yang:6: C1") }
+    ensures type_outside { shown (container_module (codes "binary")) (codes "{}")
+        ≡ failed 2 (codes "m.yang:6: C1") }
     ensures two_types { compiled_alone (codes "  leaf a { type string;\n type uint8; }\n")
         ≡ failed 2 (codes "m.yang:5: C2") }
     ensures no_name { compiled_alone (codes "  container;\n") ≡ failed 2 (codes "m.yang:5: C3") }
-    ensures other_version { shown (codes "\nmodule a { namespace b; prefix c; yang-version 1; }") (codes "{}")
+    ensures other_version { shown (codes "\nmodule a { namespace b; prefix c; yang-version 1; }")
+        (codes "{}")
         ≡ failed 2 (codes "m.yang:2: C4") }
     ensures one_name_twice { compiled_alone (codes "  leaf a { type string; }\n  container a;\n")
         ≡ failed 2 (codes "m.yang:6: C13") }
@@ -79,17 +85,21 @@ pub fn refused_modules()
 pub fn sets_of_modules()
     ensures two { shown_of_two module_p nested_module (codes "{}")
         ≡ found 1 (codes "V3 data-missing - /p:c/id -\nV3 data-missing - /q:a/b/c -\n2 faults\n") }
-    ensures one_name { shown_of_two module_p (codes "\n\n" ++ module_text (codes "p") []) (codes "{}")
+    ensures one_name { shown_of_two module_p (codes "\n\n"
+        ++ module_text (codes "p") []) (codes "{}")
         ≡ failed 2 (codes "n.yang:3: C7") }
-    ensures before_names_of_siblings { shown_of_two (module_text (codes "p") (codes "  container c;\n  container c;\n")) module_p (codes "{}")
+    ensures before_names_of_siblings { shown_of_two
+        (module_text (codes "p") (codes "  container c;\n  container c;\n")) module_p (codes "{}")
         ≡ failed 2 (codes "n.yang:1: C7") }
-    ensures after_statements { shown_of_two module_p (module_text (codes "p") (codes "  container;\n")) (codes "{}")
+    ensures after_statements { shown_of_two module_p
+        (module_text (codes "p") (codes "  container;\n")) (codes "{}")
         ≡ failed 2 (codes "n.yang:5: C3") }
 {}
 
 /// The first file that can't be read is told, and nothing else.
 pub fn unread_files()
-    ensures of_a_document { outcome (validate (codes "d.json") (codes "m.yang" ∷ [])) (Some module_p ∷ None ∷ [])
+    ensures of_a_document { outcome (validate (codes "d.json") (codes "m.yang" ∷ [])) (Some module_p
+        ∷ None ∷ [])
         ≡ failed 4 (codes "cannot read d.json") }
     ensures of_a_module { outcome (validate (codes "d.json") (codes "m.yang" ∷ [])) (None ∷ [])
         ≡ failed 4 (codes "cannot read m.yang") }

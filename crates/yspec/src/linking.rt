@@ -18,23 +18,28 @@ pub fn keywords()
 pub fn named_things()
     ensures identifier { identifier_of (codes "a-1") ≡ Some (codes "a-1") }
     ensures plain { name_of (codes "a") ≡ Some (record { prefix = None; identifier = codes "a" }) }
-    ensures prefixed { name_of (codes "p:a") ≡ Some (record { prefix = Some (codes "p"); identifier = codes "a" }) }
+    ensures prefixed { name_of (codes "p:a")
+        ≡ Some (record { prefix = Some (codes "p"); identifier = codes "a" }) }
     ensures two_colons { name_of (codes "p:q:a") ≡ None }
     ensures relative { relative_path_of (codes "a/p:b")
-        ≡ Some (record { prefix = None; identifier = codes "a" } ∷ record { prefix = Some (codes "p"); identifier = codes "b" } ∷ []) }
+        ≡ Some (record { prefix = None; identifier = codes "a" }
+        ∷ record { prefix = Some (codes "p"); identifier = codes "b" } ∷ []) }
     ensures not_relative { relative_path_of (codes "/a") ≡ None }
     ensures absolute { absolute_path_of (codes "/a")
         ≡ Some (record { prefix = None; identifier = codes "a" } ∷ []) }
     ensures slash { absolute_path_of (codes "/") ≡ None }
     ensures spaced { leafref_path_of (codes " / a /\n\tb")
-        ≡ Some (record { prefix = None; identifier = codes "a" } ∷ record { prefix = None; identifier = codes "b" } ∷ []) }
+        ≡ Some (record { prefix = None; identifier = codes "a" }
+        ∷ record { prefix = None; identifier = codes "b" } ∷ []) }
     ensures open_end { leafref_path_of (codes "/a ") ≡ None }
     ensures key { key_of (codes "a  b")
-        ≡ Some (record { prefix = None; identifier = codes "a" } ∷ record { prefix = None; identifier = codes "b" } ∷ []) }
+        ≡ Some (record { prefix = None; identifier = codes "a" }
+        ∷ record { prefix = None; identifier = codes "b" } ∷ []) }
     ensures no_key { key_of [] ≡ None }
     ensures key_at_end { key_of (codes "a ") ≡ None }
     ensures unique { unique_of (codes "a/b c") ≡ Some (
-        (record { prefix = None; identifier = codes "a" } ∷ record { prefix = None; identifier = codes "b" } ∷ [])
+        (record { prefix = None; identifier = codes "a" }
+        ∷ record { prefix = None; identifier = codes "b" } ∷ [])
         ∷ (record { prefix = None; identifier = codes "c" } ∷ []) ∷ []) }
 {}
 
@@ -86,18 +91,24 @@ pub fn refused_statements()
     ensures not_judged_below { told_of_lines (codes "  x { leaf; }\n") ≡ Some (1, 5) }
     ensures not_yet { told_of_lines (codes "  grouping g;\n") ≡ Some (1, 5) }
     ensures type_outside { told_of_lines (codes "  leaf a {\n    type binary; }\n") ≡ Some (1, 6) }
-    ensures too_many { told_of_lines (codes "  leaf a { type string; units a;\n units b; }\n") ≡ Some (2, 5) }
+    ensures too_many { told_of_lines (codes "  leaf a { type string; units a;\n units b; }\n")
+        ≡ Some (2, 5) }
     ensures too_few { told_of_lines (codes "\n  leaf-list a;\n") ≡ Some (2, 6) }
     ensures missing { told_of_lines (codes "  leaf {\n type string; }\n") ≡ Some (3, 5) }
-    ensures wrong_form { told_of_lines (codes "  leaf a { type string;\n config yes; }\n") ≡ Some (3, 6) }
+    ensures wrong_form { told_of_lines (codes "  leaf a { type string;\n config yes; }\n")
+        ≡ Some (3, 6) }
     ensures no_version { told (codes "module a { namespace b;\n prefix c; leaf; }") ≡ Some (4, 1) }
-    ensures other_version { told (codes "module a { namespace b;\n prefix c;\n yang-version 1; }") ≡ Some (4, 1) }
-    ensures extended { told_of_lines (codes "  y:z { leaf; }\n  leaf a { type string; y:z; }\n") ≡ None }
+    ensures other_version { told (codes "module a { namespace b;\n prefix c;\n yang-version 1; }")
+        ≡ Some (4, 1) }
+    ensures extended { told_of_lines (codes "  y:z { leaf; }\n  leaf a { type string; y:z; }\n")
+        ≡ None }
     ensures extension { told_of_lines (codes "  extension { leaf; }\n") ≡ None }
-    ensures extension_below { told_of_lines (codes "  container c {\n    extension z; }\n") ≡ Some (1, 6) }
+    ensures extension_below { told_of_lines (codes "  container c {\n    extension z; }\n")
+        ≡ Some (1, 6) }
     ensures submodule { told (codes "submodule a { leaf; }") ≡ Some (1, 1) }
     ensures extended_top { told (codes "\na:module b;") ≡ Some (1, 2) }
-    ensures second { told_of_texts (codes "module a { yang-version 1.1; namespace b; prefix c; }" ∷ codes "\nleaf a;" ∷ [])
+    ensures second { told_of_texts (codes "module a { yang-version 1.1; namespace b; prefix c; }"
+        ∷ codes "\nleaf a;" ∷ [])
         ≡ Some (1, (1, 2)) }
 {}
 

@@ -19,14 +19,21 @@ pub fn schemas_of_texts()
 
 /// A single node in a choice stands for a case; a hexadecimal default; a state list without a key.
 pub fn nodes_of_lines()
-    ensures implied_case { nodes_in (compiled_lines (codes "  choice c { leaf a { type string; } }\n"))
+    ensures implied_case { nodes_in
+        (compiled_lines (codes "  choice c { leaf a { type string; } }\n"))
         ≡ Some (node (node_of 0 (codes "c") (choice None false)) (node (node_of 1 (codes "a") case)
-        (node (node_of 2 (codes "a") (leaf (of_base (codes "string") string_base) allowed)) end end) end) end) }
-    ensures hexadecimal { nodes_in (compiled_lines (codes "  leaf a { type uint8; default 0x1F; }\n"))
-        ≡ Some (node (node_of 0 (codes "a") (leaf (of_base (codes "uint8") (integer_base uint8)) (default_used (number_value_of 31)))) end end) }
-    ensures state_list { nodes_in (compiled_lines (codes "  list l { config false; leaf a { type string; } }\n"))
-        ≡ Some (node (state_node 0 (codes "l") (list (record { keys = []; uniques = [] }) any_amount))
-        (node (state_node 1 (codes "a") (leaf (of_base (codes "string") string_base) allowed)) end end) end) }
+        (node (node_of 2 (codes "a") (leaf (of_base (codes "string") string_base) allowed)) end end)
+        end) end) }
+    ensures hexadecimal { nodes_in
+        (compiled_lines (codes "  leaf a { type uint8; default 0x1F; }\n"))
+        ≡ Some (node (node_of 0 (codes "a") (leaf (of_base (codes "uint8") (integer_base uint8))
+        (default_used (number_value_of 31)))) end end) }
+    ensures state_list { nodes_in
+        (compiled_lines (codes "  list l { config false; leaf a { type string; } }\n"))
+        ≡ Some (node (state_node 0 (codes "l")
+        (list (record { keys = []; uniques = [] }) any_amount))
+        (node (state_node 1 (codes "a") (leaf (of_base (codes "string") string_base) allowed)) end
+        end) end) }
     ensures nothing { compiled_texts [] ≡ Ok (record { modules = []; nodes = end }) }
 {}
 
@@ -37,7 +44,8 @@ pub fn refused_names()
     ensures type_name { compiled_lines (codes "  leaf a { type t; }\n") ≡ told_at 8 5 }
     ensures own_prefix { compiled_lines (codes "  leaf a { type m:uint8; }\n") ≡ told_at 8 5 }
     ensures before_types { compiled_lines (codes "  leaf a { type uint8 { range 5..1; } }\n  leaf b { type t; }\n") ≡ told_at 8 6 }
-    ensures twice { compiled_lines (codes "  leaf b { type string; }\n  leaf b { type string; }\n") ≡ told_at 13 6 }
+    ensures twice { compiled_lines (codes "  leaf b { type string; }\n  leaf b { type string; }\n")
+        ≡ told_at 13 6 }
     ensures through_a_choice { compiled_lines (codes "  leaf b { type string; }\n  choice c {\n    leaf b { type string; }\n  }\n") ≡ told_at 13 7 }
     ensures cases { compiled_lines (codes "  choice c {\n    leaf b { type string; }\n    case b;\n  }\n") ≡ told_at 13 7 }
 {}
@@ -45,7 +53,8 @@ pub fn refused_names()
 /// Types that break a rule of their own.
 pub fn refused_types()
     ensures descending { compiled_lines (codes "  leaf a { type uint8 { range 5..1; } }\n  leaf b { type string; }\n  leaf b { type string; }\n") ≡ told_at 10 5 }
-    ensures out_of_place { compiled_lines (codes "  leaf a { type boolean { length 1; } }\n") ≡ told_at 10 5 }
+    ensures out_of_place { compiled_lines (codes "  leaf a { type boolean { length 1; } }\n")
+        ≡ told_at 10 5 }
     ensures no_digits { compiled_lines (codes "  leaf a { type decimal64; }\n") ≡ told_at 10 5 }
     ensures no_enum { compiled_lines (codes "  leaf a { type enumeration; }\n") ≡ told_at 10 5 }
     ensures no_path { compiled_lines (codes "  leaf a { type leafref; }\n") ≡ told_at 10 5 }
@@ -56,21 +65,34 @@ pub fn refused_types()
 
 /// Nodes that break a rule: defaults, keys, uniques, configuration, references.
 pub fn refused_nodes()
-    ensures too_great_a_default { compiled_lines (codes "  leaf a { type uint8; default 256; }\n") ≡ told_at 11 5 }
-    ensures mandatory_default { compiled_lines (codes "  leaf a { type uint8; default 1; mandatory true; }\n") ≡ told_at 11 5 }
-    ensures equal_defaults { compiled_lines (codes "  leaf-list a { type uint8; default 1; default 0x1; }\n") ≡ told_at 11 5 }
-    ensures no_case { compiled_lines (codes "  choice c { default b; leaf a { type string; } }\n") ≡ told_at 11 5 }
+    ensures too_great_a_default { compiled_lines (codes "  leaf a { type uint8; default 256; }\n")
+        ≡ told_at 11 5 }
+    ensures mandatory_default { compiled_lines
+        (codes "  leaf a { type uint8; default 1; mandatory true; }\n") ≡ told_at 11 5 }
+    ensures equal_defaults { compiled_lines
+        (codes "  leaf-list a { type uint8; default 1; default 0x1; }\n") ≡ told_at 11 5 }
+    ensures no_case { compiled_lines (codes "  choice c { default b; leaf a { type string; } }\n")
+        ≡ told_at 11 5 }
     ensures mandatory_in_default_case { compiled_lines (codes "  choice c { default a; leaf a { type string; mandatory true; } }\n") ≡ told_at 11 5 }
-    ensures no_key_leaf { compiled_lines (codes "  list l { key b; leaf a { type string; } }\n") ≡ told_at 12 5 }
-    ensures key_twice { compiled_lines (codes "  list l { key \"a m:a\"; leaf a { type string; } }\n") ≡ told_at 12 5 }
-    ensures container_key { compiled_lines (codes "  list l { key a; container a; }\n") ≡ told_at 12 5 }
-    ensures mixed_unique { compiled_lines (codes "  list l { key a; unique \"a b\"; leaf a { type string; } leaf b { type string; config false; } }\n") ≡ told_at 12 5 }
-    ensures unique_through_a_list { compiled_lines (codes "  list l { key a; unique \"k/a\"; leaf a { type string; } list k { key a; leaf a { type string; } } }\n") ≡ told_at 12 5 }
-    ensures no_key { compiled_lines (codes "  list l { leaf a { type string; } }\n") ≡ told_at 16 5 }
+    ensures no_key_leaf { compiled_lines (codes "  list l { key b; leaf a { type string; } }\n")
+        ≡ told_at 12 5 }
+    ensures key_twice { compiled_lines
+        (codes "  list l { key \"a m:a\"; leaf a { type string; } }\n") ≡ told_at 12 5 }
+    ensures container_key { compiled_lines (codes "  list l { key a; container a; }\n")
+        ≡ told_at 12 5 }
+    ensures mixed_unique { compiled_lines
+        (codes "  list l { key a; unique \"a b\"; leaf a { type string; } leaf b { type string; config false; } }\n") ≡ told_at 12 5 }
+    ensures unique_through_a_list { compiled_lines (codes
+        "  list l { key a; unique \"k/a\"; leaf a { type string; } list k { key a; leaf a { type string; } } }\n") ≡ told_at 12 5 }
+    ensures no_key { compiled_lines (codes "  list l { leaf a { type string; } }\n")
+        ≡ told_at 16 5 }
     ensures below_state { compiled_lines (codes "  container c { config false;\n    leaf a { type string; config true; } }\n") ≡ told_at 16 6 }
-    ensures nowhere { compiled_lines (codes "  leaf a { type leafref { path /m:b; } }\n") ≡ told_at 17 5 }
-    ensures to_a_container { compiled_lines (codes "  leaf a { type leafref { path /m:b; } }\n  container b;\n") ≡ told_at 17 5 }
-    ensures to_itself { compiled_lines (codes "  leaf a { type leafref { path /m:a; } }\n") ≡ told_at 17 5 }
+    ensures nowhere { compiled_lines (codes "  leaf a { type leafref { path /m:b; } }\n")
+        ≡ told_at 17 5 }
+    ensures to_a_container { compiled_lines
+        (codes "  leaf a { type leafref { path /m:b; } }\n  container b;\n") ≡ told_at 17 5 }
+    ensures to_itself { compiled_lines (codes "  leaf a { type leafref { path /m:a; } }\n")
+        ≡ told_at 17 5 }
     ensures to_state { compiled_lines (codes "  leaf a { type leafref { path /m:b; } }\n  leaf b { type string; config false; }\n") ≡ told_at 17 5 }
     ensures least_line { compiled_lines (codes "  leaf a { type leafref { path /m:b; } }\n  leaf c { type uint8; default x; }\n") ≡ told_at 17 5 }
 {}

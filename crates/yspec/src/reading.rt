@@ -19,21 +19,25 @@ pub fn read_documents_fit()
 
 /// It does so in its values too, where no two siblings are written with one name.
 pub fn read_documents_are_whole()
-    ensures { (schema : Schema) (bytes : List ℕ) (tree : Tree) → IsNumbered 0 schema.nodes → NamesDiffer schema
+    ensures { (schema : Schema) (bytes : List ℕ) (tree : Tree) → IsNumbered 0 schema.nodes
+        → NamesDiffer schema
         → document_of schema bytes ≡ Ok tree → IsDocument schema tree }
 {}
 
 /// Then each of its nodes is visited once: there are as many right visits as nodes, and not more than the limit.
 pub fn read_nodes_are_visited()
-    ensures visited { (schema : Schema) (bytes : List ℕ) (value : Data) (tree : Tree) → NamesDiffer schema
-        → json_of bytes ≡ Some value → document_of schema bytes ≡ Ok tree → right_nodes (visits schema value) ≡ size tree }
+    ensures visited { (schema : Schema) (bytes : List ℕ) (value : Data) (tree : Tree)
+        → NamesDiffer schema
+        → json_of bytes ≡ Some value → document_of schema bytes ≡ Ok tree
+        → right_nodes (visits schema value) ≡ size tree }
     ensures within { (schema : Schema) (bytes : List ℕ) (tree : Tree) → NamesDiffer schema
         → document_of schema bytes ≡ Ok tree → size tree ≤ document_limit }
 {}
 
 /// A text with the value that is written for a document within the limit reads as that document.
 pub fn written_documents_read_back()
-    ensures { (schema : Schema) (tree : Tree) (bytes : List ℕ) → IsNumbered 0 schema.nodes → NamesDiffer schema → LeafsAreBare schema.nodes
+    ensures { (schema : Schema) (tree : Tree) (bytes : List ℕ) → IsNumbered 0 schema.nodes
+        → NamesDiffer schema → LeafsAreBare schema.nodes
         → IsDocument schema tree → size tree ≤ document_limit
         → json_of bytes ≡ Some (written_value schema tree) → document_of schema bytes ≡ Ok tree }
 {}

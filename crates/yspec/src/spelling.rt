@@ -12,13 +12,16 @@ ghost use Rattle.yspec.specs.text.SpellingExamples.{labelled, module_named, slip
 /// Each text is cut into its tokens, and in no other way.
 pub fn one_cut()
     ensures found { (text : Text) → CutInto start text (tokens_of text) }
-    ensures alone { (text : Text) (a b : List Token) → CutInto start text a → CutInto start text b → a ≡ b }
+    ensures alone { (text : Text) (a b : List Token) → CutInto start text a → CutInto start text b
+        → a ≡ b }
 {}
 
 /// What is read of a text is what it spells, and what a text spells is read.
 pub fn reading()
-    ensures found { (text : Text) (top : Forest Statement) → module_of text ≡ Ok top → Spells text top }
-    ensures only { (text : Text) (top : Forest Statement) → Spells text top → module_of text ≡ Ok top }
+    ensures found { (text : Text) (top : Forest Statement) → module_of text ≡ Ok top
+        → Spells text top }
+    ensures only { (text : Text) (top : Forest Statement) → Spells text top → module_of text
+        ≡ Ok top }
 {}
 
 /// No text spells two statements.
@@ -28,7 +31,8 @@ pub fn one_reading()
 
 /// A text is refused exactly where it spells nothing.
 pub fn refusals()
-    ensures refused_alone { (text : Text) (slip : Slip) (top : Forest Statement) → module_of text ≡ Err slip
+    ensures refused_alone { (text : Text) (slip : Slip) (top : Forest Statement) → module_of text
+        ≡ Err slip
         → Spells text top → ⊥ }
     ensures all_refused { (text : Text) → ((top : Forest Statement) → Spells text top → ⊥)
         → (slip : Slip) × (module_of text ≡ Err slip) }
@@ -37,16 +41,21 @@ pub fn refusals()
 /// A text is refused with what is told of it: that it is too long, no UTF-8 or has a character that isn't allowed, and
 /// else the first of its slips. Nothing is told of a text exactly where it spells a statement.
 pub fn first_slip()
-    ensures refused { (text : Text) (slip : Slip) → module_of text ≡ Err slip → told_slip text ≡ Some slip }
-    ensures told_alone { (text : Text) (slip : Slip) → told_slip text ≡ Some slip → module_of text ≡ Err slip }
-    ensures spelled { (text : Text) (top : Forest Statement) → Spells text top → told_slip text ≡ None }
-    ensures else_spelled { (text : Text) → told_slip text ≡ None → (top : Forest Statement) × Spells text top }
+    ensures refused { (text : Text) (slip : Slip) → module_of text ≡ Err slip → told_slip text
+        ≡ Some slip }
+    ensures told_alone { (text : Text) (slip : Slip) → told_slip text ≡ Some slip → module_of text
+        ≡ Err slip }
+    ensures spelled { (text : Text) (top : Forest Statement) → Spells text top → told_slip text
+        ≡ None }
+    ensures else_spelled { (text : Text) → told_slip text ≡ None
+        → (top : Forest Statement) × Spells text top }
 {}
 
 /// What stands before the token of the first slip is the beginning of tokens that spell a statement, and with that token
 /// it isn't.
 pub fn place_of_the_first_slip()
-    ensures { (text : Text) (slip : Slip) → first (slips text) ≡ Some slip → IsFirstWrong (tokens_of text) slip }
+    ensures { (text : Text) (slip : Slip) → first (slips text) ≡ Some slip
+        → IsFirstWrong (tokens_of text) slip }
 {}
 
 /// Texts and the statements that they spell.
@@ -55,7 +64,8 @@ pub fn spelled_texts()
         (module_named (codes "a\n   bc\\n")) }
     ensures nothing_between { Spells (codes "module'a'+\"b\"{}") (module_named (codes "ab")) }
     ensures plus_alone { Spells (codes "module + ;") (module_named (codes "+")) }
-    ensures comments { Spells (codes "//\n/* ** */\np:a//;\n{b/***/c;}//") (node (labelled (codes "p:a") None 3)
+    ensures comments { Spells (codes "//\n/* ** */\np:a//;\n{b/***/c;}//")
+        (node (labelled (codes "p:a") None 3)
         (node (labelled (codes "b") (Some (codes "c")) 4) end end) end) }
 {}
 

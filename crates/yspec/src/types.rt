@@ -19,11 +19,14 @@ pub fn decimals()
     ensures no_digit_after { taken (decimal 2) (text (codes "1.")) ≡ None }
     ensures too_many_digits { taken (decimal 2) (text (codes "1.234")) ≡ None }
     ensures no_number { taken (decimal 2) (int (pos 7)) ≡ None }
-    ensures greatest_of_one_digit { shown (decimal 1) (codes "922337203685477580.7") ≡ Some (codes "922337203685477580.7") }
-    ensures past_greatest_of_one_digit { taken (decimal 1) (text (codes "922337203685477580.8")) ≡ None }
+    ensures greatest_of_one_digit { shown (decimal 1) (codes "922337203685477580.7")
+        ≡ Some (codes "922337203685477580.7") }
+    ensures past_greatest_of_one_digit { taken (decimal 1) (text (codes "922337203685477580.8"))
+        ≡ None }
     ensures least { taken (decimal 18) (text (codes "-9.223372036854775808"))
         ≡ number_is (negsuc (2 ^ 63 - 1)) }
-    ensures greatest { taken (decimal 18) (text (codes "9.223372036854775807")) ≡ number_is (pos (2 ^ 63 - 1)) }
+    ensures greatest { taken (decimal 18) (text (codes "9.223372036854775807"))
+        ≡ number_is (pos (2 ^ 63 - 1)) }
     ensures past_greatest { taken (decimal 18) (text (codes "9.223372036854775808")) ≡ None }
 {}
 
@@ -35,7 +38,8 @@ pub fn integers()
     ensures no_space { taken (integer_type int64) (text (codes " 5")) ≡ None }
     ensures greatest { taken (integer_type uint64) (text (codes "18446744073709551615"))
         ≡ number_is (pos (2 ^ 64 - 1)) }
-    ensures past_greatest { taken (integer_type uint64) (text (codes "18446744073709551616")) ≡ None }
+    ensures past_greatest { taken (integer_type uint64) (text (codes "18446744073709551616"))
+        ≡ None }
     ensures least { taken (integer_type int8) (int (negsuc 127)) ≡ number_is (negsuc 127) }
     ensures below_least { taken (integer_type int8) (int (negsuc 128)) ≡ None }
     ensures no_text { taken (integer_type int8) (text (codes "5")) ≡ None }
@@ -69,49 +73,67 @@ pub fn ranges()
 /// The innermost restriction that excludes a value gives its tag.
 pub fn tags()
     ensures outer { option_and_then (λ t. app_tag_of t (int (pos 7)))
-        (twice_narrowed uint8_type (tagged (from_to (pos 1) (pos 10) ∷ []) (codes "t1")) (tagged (from_to (pos 2) (pos 5) ∷ []) (codes "t2")))
+        (twice_narrowed uint8_type (tagged (from_to (pos 1) (pos 10) ∷ []) (codes "t1"))
+        (tagged (from_to (pos 2) (pos 5) ∷ []) (codes "t2")))
         ≡ Some (codes "t2") }
     ensures inner { option_and_then (λ t. app_tag_of t (int (pos 20)))
-        (twice_narrowed uint8_type (tagged (from_to (pos 1) (pos 10) ∷ []) (codes "t1")) (tagged (from_to (pos 2) (pos 5) ∷ []) (codes "t2")))
+        (twice_narrowed uint8_type (tagged (from_to (pos 1) (pos 10) ∷ []) (codes "t1"))
+        (tagged (from_to (pos 2) (pos 5) ∷ []) (codes "t2")))
         ≡ Some (codes "t1") }
     ensures built_in { option_and_then (λ t. app_tag_of t (int (pos 300)))
-        (twice_narrowed uint8_type (tagged (from_to (pos 1) (pos 10) ∷ []) (codes "t1")) (tagged (from_to (pos 2) (pos 5) ∷ []) (codes "t2")))
+        (twice_narrowed uint8_type (tagged (from_to (pos 1) (pos 10) ∷ []) (codes "t1"))
+        (tagged (from_to (pos 2) (pos 5) ∷ []) (codes "t2")))
         ≡ None }
     ensures port { option_and_then (λ t. app_tag_of t (int (pos 1025)))
-        (narrowed (integer_type uint16) (tagged (from_to (pos 1) (pos 1024) ∷ one (pos 8080) ∷ []) (codes "bad-port")))
+        (narrowed (integer_type uint16)
+        (tagged (from_to (pos 1) (pos 1024) ∷ one (pos 8080) ∷ []) (codes "bad-port")))
         ≡ Some (codes "bad-port") }
     ensures last_port { option_and_then (λ t. taken t (int (pos 1024)))
-        (narrowed (integer_type uint16) (tagged (from_to (pos 1) (pos 1024) ∷ one (pos 8080) ∷ []) (codes "bad-port")))
+        (narrowed (integer_type uint16)
+        (tagged (from_to (pos 1) (pos 1024) ∷ one (pos 8080) ∷ []) (codes "bad-port")))
         ≡ number_is (pos 1024) }
     ensures listed_port { option_and_then (λ t. taken t (int (pos 8080)))
-        (narrowed (integer_type uint16) (tagged (from_to (pos 1) (pos 1024) ∷ one (pos 8080) ∷ []) (codes "bad-port")))
+        (narrowed (integer_type uint16)
+        (tagged (from_to (pos 1) (pos 1024) ∷ one (pos 8080) ∷ []) (codes "bad-port")))
         ≡ number_is (pos 8080) }
     ensures no_port { option_and_then (λ t. app_tag_of t (int (pos 70000)))
-        (narrowed (integer_type uint16) (tagged (from_to (pos 1) (pos 1024) ∷ one (pos 8080) ∷ []) (codes "bad-port")))
+        (narrowed (integer_type uint16)
+        (tagged (from_to (pos 1) (pos 1024) ∷ one (pos 8080) ∷ []) (codes "bad-port")))
         ≡ None }
 {}
 
 /// A restriction lies within what it restricts, and only there where the type may bear it.
 pub fn restrictions()
-    ensures same { is_some (twice_narrowed uint8_type (untagged (from_to (pos 1) (pos 10) ∷ [])) (untagged (from_to (pos 1) (pos 10) ∷ [])))
+    ensures same { is_some (twice_narrowed uint8_type (untagged (from_to (pos 1) (pos 10) ∷ []))
+        (untagged (from_to (pos 1) (pos 10) ∷ [])))
         ≡ true }
-    ensures wider { twice_narrowed uint8_type (untagged (from_to (pos 1) (pos 10) ∷ [])) (untagged (from_to (pos 0) (pos 10) ∷ []))
+    ensures wider { twice_narrowed uint8_type (untagged (from_to (pos 1) (pos 10) ∷ []))
+        (untagged (from_to (pos 0) (pos 10) ∷ []))
         ≡ None }
-    ensures same_of_int32 { is_some (twice_narrowed (integer_type int32) (untagged (from_to (pos 1) (pos 10) ∷ [])) (untagged (from_to (pos 1) (pos 10) ∷ [])))
+    ensures same_of_int32 { is_some (twice_narrowed (integer_type int32)
+        (untagged (from_to (pos 1) (pos 10) ∷ [])) (untagged (from_to (pos 1) (pos 10) ∷ [])))
         ≡ true }
-    ensures wider_of_int32 { twice_narrowed (integer_type int32) (untagged (from_to (pos 1) (pos 10) ∷ [])) (untagged (from_to (pos 0) (pos 10) ∷ []))
+    ensures wider_of_int32 { twice_narrowed (integer_type int32)
+        (untagged (from_to (pos 1) (pos 10) ∷ [])) (untagged (from_to (pos 0) (pos 10) ∷ []))
         ≡ None }
-    ensures across_parts { is_some (twice_narrowed uint8_type (untagged (from_to (pos 1) (pos 5) ∷ from_to (pos 6) (pos 10) ∷ [])) (untagged (from_to (pos 3) (pos 8) ∷ [])))
+    ensures across_parts { is_some (twice_narrowed uint8_type
+        (untagged (from_to (pos 1) (pos 5) ∷ from_to (pos 6) (pos 10) ∷ []))
+        (untagged (from_to (pos 3) (pos 8) ∷ [])))
         ≡ true }
-    ensures across_a_gap { twice_narrowed uint8_type (untagged (from_to (pos 1) (pos 5) ∷ from_to (pos 7) (pos 10) ∷ [])) (untagged (from_to (pos 3) (pos 8) ∷ []))
+    ensures across_a_gap { twice_narrowed uint8_type
+        (untagged (from_to (pos 1) (pos 5) ∷ from_to (pos 7) (pos 10) ∷ []))
+        (untagged (from_to (pos 3) (pos 8) ∷ []))
         ≡ None }
     ensures downwards { narrowed uint8_type (untagged (from_to (pos 5) (pos 1) ∷ [])) ≡ None }
-    ensures overlapping { narrowed uint8_type (untagged (from_to (pos 1) (pos 5) ∷ from_to (pos 5) (pos 9) ∷ [])) ≡ None }
-    ensures point { narrowed uint8_type (untagged (record { first = number (pos 10) 1; last = at (pos 5) } ∷ [])) ≡ None }
+    ensures overlapping { narrowed uint8_type
+        (untagged (from_to (pos 1) (pos 5) ∷ from_to (pos 5) (pos 9) ∷ [])) ≡ None }
+    ensures point { narrowed uint8_type
+        (untagged (record { first = number (pos 10) 1; last = at (pos 5) } ∷ [])) ≡ None }
     ensures of_a_string { narrowed string_type (untagged (from_to (pos 1) (pos 5) ∷ [])) ≡ None }
     ensures of_a_number { narrowed uint8_type (length (from_to (pos 1) (pos 5) ∷ []) None) ≡ None }
     ensures instance { narrowed uint8_type (require_instance false) ≡ None }
-    ensures instance_of_leafref { option_and_then (λ t. t.requires_instance) (narrowed (leafref_type uint8_type) (require_instance false))
+    ensures instance_of_leafref { option_and_then (λ t. t.requires_instance)
+        (narrowed (leafref_type uint8_type) (require_instance false))
         ≡ Some false }
 {}
 
@@ -124,9 +146,11 @@ pub fn enumerations()
     ensures after_the_highest { taken_by (enumeration five_enums) (codes "e") ≡ number_is (pos 7) }
     ensures other { taken_by (enumeration five_enums) (codes "f") ≡ None }
     ensures canonical { shown_by (enumeration five_enums) (codes "d") ≡ Some (codes "d") }
-    ensures past_the_end { enum_names (numbered (codes "a") (pos (2 ^ 31 - 1)) ∷ named (codes "b") ∷ []) ≡ None }
+    ensures past_the_end { enum_names (numbered (codes "a") (pos (2 ^ 31 - 1)) ∷ named (codes "b")
+        ∷ []) ≡ None }
     ensures one_name_twice { enum_names (named (codes "a") ∷ named (codes "a") ∷ []) ≡ None }
-    ensures one_number_twice { enum_names (named (codes "a") ∷ numbered (codes "b") (pos 0) ∷ []) ≡ None }
+    ensures one_number_twice { enum_names (named (codes "a") ∷ numbered (codes "b") (pos 0) ∷ [])
+        ≡ None }
     ensures space_at_the_end { enum_names (named (codes "a ") ∷ []) ≡ None }
     ensures no_name { enum_names (named [] ∷ []) ≡ None }
 {}
@@ -137,7 +161,8 @@ pub fn sets_of_bits()
     ensures ends { shown_by (bits three_bits) (codes " x y z ") ≡ Some (codes "z x y") }
     ensures twice { taken_by (bits three_bits) (codes "y y") ≡ None }
     ensures none { shown_by (bits three_bits) [] ≡ Some [] }
-    ensures past_the_end { bit_names (numbered (codes "a") (pos (2 ^ 32 - 1)) ∷ named (codes "b") ∷ []) ≡ None }
+    ensures past_the_end { bit_names (numbered (codes "a") (pos (2 ^ 32 - 1)) ∷ named (codes "b")
+        ∷ []) ≡ None }
 {}
 
 /// A union's value bears the member that took it.
@@ -147,7 +172,8 @@ pub fn unions()
     ensures string { taken (union_type (uint8_type ∷ string_type ∷ [])) (text (codes "5"))
         ≡ Some (value (Some 1) (text_value (codes "5"))) }
     ensures neither { taken (union_type (uint8_type ∷ string_type ∷ [])) (bool true) ≡ None }
-    ensures of_unions { taken (union_type (uint8_type ∷ union_type (integer_type int8 ∷ string_type ∷ []) ∷ [])) (int (negsuc 0))
+    ensures of_unions { taken (union_type (uint8_type
+        ∷ union_type (integer_type int8 ∷ string_type ∷ []) ∷ [])) (int (negsuc 0))
         ≡ Some (value (Some 1) (number_value (negsuc 0))) }
 {}
 
@@ -155,14 +181,18 @@ pub fn unions()
 pub fn lengths()
     ensures three { is_taken (narrowed string_type (length (from_to (pos 1) (pos 3) ∷ []) None))
         (text (240 ∷ 159 ∷ 152 ∷ 128 ∷ 240 ∷ 159 ∷ 152 ∷ 128 ∷ 240 ∷ 159 ∷ 152 ∷ 128 ∷ [])) ≡ true }
-    ensures four { is_taken (narrowed string_type (length (from_to (pos 1) (pos 3) ∷ []) None)) (text (codes "abcd")) ≡ false }
-    ensures greatest { is_some (narrowed string_type (length (from_to (pos 0) (pos (2 ^ 64 - 1)) ∷ []) None)) ≡ true }
-    ensures past_the_greatest { narrowed string_type (length (from_to (pos 0) (pos (2 ^ 64)) ∷ []) None) ≡ None }
+    ensures four { is_taken (narrowed string_type (length (from_to (pos 1) (pos 3) ∷ []) None))
+        (text (codes "abcd")) ≡ false }
+    ensures greatest { is_some
+        (narrowed string_type (length (from_to (pos 0) (pos (2 ^ 64 - 1)) ∷ []) None)) ≡ true }
+    ensures past_the_greatest { narrowed string_type
+        (length (from_to (pos 0) (pos (2 ^ 64)) ∷ []) None) ≡ None }
 {}
 
 /// Two values are the same where the same member took them and their contents are the same.
 pub fn equal_values()
     ensures told_apart { TellsValues }
-    ensures of_two_members { same_value (value (Some 0) (number_value (pos 5))) (value (Some 1) (number_value (pos 5)))
+    ensures of_two_members { same_value (value (Some 0) (number_value (pos 5)))
+        (value (Some 1) (number_value (pos 5)))
         ≡ false }
 {}

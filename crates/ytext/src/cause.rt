@@ -17,7 +17,7 @@ pub(crate) struct Cause {
     pub(crate) place: usize,
 }
 
-// What is wrong in a token, or with what ends the text.
+/// What is wrong in a token, or with what ends the text.
 fn cause_within(start: usize, lexeme: Lexeme<'_>) -> Option<Cause>
     requires { start + extent lexeme < 2 ^ 63 }
     ensures cause { option_map cause_of result ≡ cause_within start (lexeme_of lexeme.entry) }
@@ -43,7 +43,7 @@ fn cause_within(start: usize, lexeme: Lexeme<'_>) -> Option<Cause>
     }
 }
 
-// The first of what is wrong up to the end of a token: a character that isn't allowed, or something else.
+/// The first of what is wrong up to the end of a token: a character that isn't allowed, or something else.
 fn first_cause(forbidden: Option<usize>, end: usize, other: Option<Cause>) -> Option<Cause>
     ensures { option_map cause_of result ≡ first_cause forbidden end (option_map cause_of other) }
 {
@@ -79,7 +79,8 @@ impl<'a> Found<'a> {
         requires reaches { Reaches self.cursor.text.now self.cursor.at self.lexeme self.end }
         requires within { ForSome forbidden (λ place. place ≤ length self.cursor.text.now) }
         ensures cause { option_map cause_of result
-            ≡ first_cause forbidden self.entry.end (cause_within self.entry.cursor.at (lexeme_of self.entry.lexeme)) }
+            ≡ first_cause forbidden self.entry.end
+            (cause_within self.entry.cursor.at (lexeme_of self.entry.lexeme)) }
         ensures within { IfSome result (λ c. c.place ≤ length self.entry.cursor.text.now) }
     {
         first_cause(

@@ -30,7 +30,7 @@ pub(crate) struct Lexed<'a> {
     pub(crate) lexeme: Lexeme<'a>,
 }
 
-// What stands at the front: a gap or a token with the place behind it, or what ends the text.
+/// What stands at the front: a gap or a token with the place behind it, or what ends the text.
 #[derive(Clone, Copy)]
 pub(crate) enum Front<'a> {
     Gap(usize),
@@ -78,7 +78,7 @@ impl<'a> Cursor<'a> {
         }
     }
 
-    // A later place.
+    /// A later place.
     pub(crate) fn moved_to(self, end: usize) -> Cursor<'a>
         requires forward { self.at ≤ end }
         requires place { IsCharBoundary self.text.now end }
@@ -103,7 +103,7 @@ impl<'a> Cursor<'a> {
         }
     }
 
-    // The text between two places.
+    /// The text between two places.
     pub(crate) fn between(self, start: usize, end: usize) -> &'a str
         requires order { start ≤ end }
         requires start { IsCharBoundary self.text.now start }
@@ -117,8 +117,10 @@ impl<'a> Cursor<'a> {
     fn word(self) -> Front<'a>
         requires { self.at < length self.text.now }
         ensures later { GoesOn self.entry.text.now self.entry.at result }
-        ensures front { let xs = drop (self.entry.at + 1) self.entry.text.now in let n = word_length xs in
-            front_of self.entry.at result ≡ token (word (slice_index self.entry.text.now self.entry.at ∷ take n xs)) (suc n) }
+        ensures front { let xs = drop (self.entry.at + 1) self.entry.text.now in
+            let n = word_length xs in
+            front_of self.entry.at result
+            ≡ token (word (slice_index self.entry.text.now self.entry.at ∷ take n xs)) (suc n) }
     {
         let end = word_end(self.text.as_bytes(), self.at + 1);
         Front::Token(Lexeme::Word(self.between(self.at, end)), end)
@@ -128,7 +130,8 @@ impl<'a> Cursor<'a> {
         requires slash { slice_index self.text.now self.at ≡ 47 }
         requires within { self.at < length self.text.now }
         ensures later { GoesOn self.entry.text.now self.entry.at result }
-        ensures front { front_of self.entry.at result ≡ slash_front (drop (self.entry.at + 1) self.entry.text.now) }
+        ensures front { front_of self.entry.at result
+            ≡ slash_front (drop (self.entry.at + 1) self.entry.text.now) }
     {
         let bytes = self.text.as_bytes();
         if stands_at(bytes, self.at + 1, b'/') {
@@ -147,7 +150,8 @@ impl<'a> Cursor<'a> {
         requires quote { slice_index self.text.now self.at ≡ 39 }
         requires within { self.at < length self.text.now }
         ensures later { GoesOn self.entry.text.now self.entry.at result }
-        ensures front { front_of self.entry.at result ≡ single_front (drop (self.entry.at + 1) self.entry.text.now) }
+        ensures front { front_of self.entry.at result
+            ≡ single_front (drop (self.entry.at + 1) self.entry.text.now) }
     {
         match single_end(self.text.as_bytes(), self.at + 1) {
             Some(end) => {
@@ -162,7 +166,8 @@ impl<'a> Cursor<'a> {
         requires quote { slice_index self.text.now self.at ≡ 34 }
         requires within { self.at < length self.text.now }
         ensures later { GoesOn self.entry.text.now self.entry.at result }
-        ensures front { front_of self.entry.at result ≡ double_front (column_of self.entry) (drop (self.entry.at + 1) self.entry.text.now) }
+        ensures front { front_of self.entry.at result
+            ≡ double_front (column_of self.entry) (drop (self.entry.at + 1) self.entry.text.now) }
     {
         let bytes = self.text.as_bytes();
         match double_end(bytes, self.at + 1) {
@@ -206,7 +211,9 @@ impl<'a> Cursor<'a> {
         requires within { self.at < length self.text.now }
         requires star { slice_index self.text.now self.at ≡ 42 }
         ensures later { GoesOn self.entry.text.now self.entry.at result }
-        ensures front { front_of self.entry.at result ≡ other_front (slice_index self.entry.text.now self.entry.at) (drop (self.entry.at + 1) self.entry.text.now) }
+        ensures front { front_of self.entry.at result
+            ≡ other_front (slice_index self.entry.text.now self.entry.at)
+            (drop (self.entry.at + 1) self.entry.text.now) }
     {
         if stands_at(self.text.as_bytes(), self.at + 1, b'/') {
             Front::Last(Lexeme::StrayEnd)
@@ -225,7 +232,7 @@ impl<'a> Cursor<'a> {
         }
     }
 
-    // The place behind the white space that stands here.
+    /// The place behind the white space that stands here.
     fn past_white(self) -> Cursor<'a>
         ensures text { result.text.now ≡ self.entry.text.now }
         ensures at { self.entry.at ≤ result.at }
@@ -273,7 +280,7 @@ impl<'a> Cursor<'a> {
         cursor.end_found(Lexeme::End)
     }
 
-    // What ends the text at this place.
+    /// What ends the text at this place.
     fn end_found(self, lexeme: Lexeme<'a>) -> Found<'a>
         ensures cursor { result.cursor ≡ self.entry }
         ensures lexeme { result.lexeme ≡ lexeme.entry }

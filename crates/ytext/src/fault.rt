@@ -56,7 +56,7 @@ pub enum TextFault {
 }
 
 impl TextFault {
-    // What is wrong with a text, and in which line.
+    /// What is wrong with a text, and in which line.
     pub(crate) fn refused(code: TextCode, line: u64) -> TextFault
         requires { line < 2 ^ 32 }
         ensures { result ≡ Refused code line }

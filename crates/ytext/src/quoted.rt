@@ -12,7 +12,7 @@ use crate::fault::{TextCode, TextFault};
 use crate::scan::{behind_ascii, stands_at};
 use std::alloc::AllocError;
 
-// The column behind these bytes of a line. A tab counts eight columns, another character one.
+/// The column behind these bytes of a line. A tab counts eight columns, another character one.
 fn column_behind(bytes: &[u8]) -> usize
     requires { 8 * length bytes.now < 2 ^ 63 }
     ensures { result ≡ column_behind 1 bytes.now }
@@ -24,7 +24,7 @@ fn column_behind(bytes: &[u8]) -> usize
     column
 }
 
-// The column behind one byte.
+/// The column behind one byte.
 fn column_after(byte: u8, column: usize) -> usize
     requires { column + 8 < 2 ^ 64 }
     ensures cases { result ≡ column_after byte column }
@@ -41,7 +41,7 @@ fn column_after(byte: u8, column: usize) -> usize
     }
 }
 
-// What a backslash and this character stand for.
+/// What a backslash and this character stand for.
 fn escape(byte: u8) -> Option<char>
     ensures value { result ≡ escape byte }
     ensures ascii { IsSome result → byte < 128 }
@@ -62,33 +62,35 @@ fn is_blank(byte: u8) -> bool
     byte == b' ' || byte == b'\t'
 }
 
-// How many columns a space or a tab takes.
+/// How many columns a space or a tab takes.
 fn blank_width(byte: u8) -> usize
     ensures { result ≡ blank_width byte }
 {
     if byte == b'\t' { 8 } else { 1 }
 }
 
-// Whether a carriage return stands at this place, and a line feed behind it.
+/// Whether a carriage return stands at this place, and a line feed behind it.
 fn returns_at(bytes: &[u8], at: usize) -> bool
     requires { at < length bytes.now }
-    ensures cases { result ≡ (slice_index bytes.now at == carriage_return && begins line_feed (drop (at + 1) bytes.now)) }
+    ensures cases { result ≡ (slice_index bytes.now at == carriage_return
+        && begins line_feed (drop (at + 1) bytes.now)) }
     ensures ascii { IsTrue result → slice_index bytes.now at ≡ 13 }
 {
     bytes[at] == b'\r' && stands_at(bytes, at + 1, b'\n')
 }
 
-// Whether the byte at this place is a line feed, or a carriage return with a line feed behind it.
+/// Whether the byte at this place is a line feed, or a carriage return with a line feed behind it.
 fn feeds_at(bytes: &[u8], at: usize) -> bool
     requires { at < length bytes.now }
     ensures cases { result ≡ (slice_index bytes.now at == line_feed
-        || (slice_index bytes.now at == carriage_return && begins line_feed (drop (at + 1) bytes.now))) }
+        || (slice_index bytes.now at == carriage_return
+        && begins line_feed (drop (at + 1) bytes.now))) }
     ensures ascii { IsTrue result → slice_index bytes.now at < 128 }
 {
     bytes[at] == b'\n' || returns_at(bytes, at)
 }
 
-// Whether a line break begins at this place.
+/// Whether a line break begins at this place.
 #[tactic(auto, using(crate::proofs::QuotedLemmas::break_at, crate::proofs::QuotedLemmas::no_break))]
 fn breaks_at(bytes: &[u8], at: usize) -> bool
     ensures cases { result ≡ is_break (drop at bytes.now) }
@@ -98,7 +100,7 @@ fn breaks_at(bytes: &[u8], at: usize) -> bool
     at < bytes.len() && feeds_at(bytes, at)
 }
 
-// Whether the character at this place stands for itself.
+/// Whether the character at this place stands for itself.
 #[tactic(auto, using(crate::proofs::QuotedLemmas::plain_at))]
 fn is_plain_at(bytes: &[u8], at: usize) -> bool
     requires { at < length bytes.now }
@@ -108,7 +110,7 @@ fn is_plain_at(bytes: &[u8], at: usize) -> bool
     bytes[at] != b'\\' && !is_blank(bytes[at]) && !breaks_at(bytes, at)
 }
 
-// Where the spaces and tabs end that go on at this place.
+/// Where the spaces and tabs end that go on at this place.
 fn blanks_end(raw: &str, from: usize) -> usize
     requires { IsCharBoundary raw.now from }
     ensures blank { all_blank (slice_range raw.now from result) ≡ true }
@@ -124,11 +126,12 @@ fn blanks_end(raw: &str, from: usize) -> usize
     at
 }
 
-// Where the characters end that stand for themselves, the first of which is at this place.
+/// Where the characters end that stand for themselves, the first of which is at this place.
 fn plain_end(raw: &str, from: usize) -> usize
     requires within { from < length raw.now }
     requires plain { is_plain (drop from raw.now) ≡ true }
-    ensures same { (width left line : ℕ) (text : List ℕ) → reading width left line text (drop from raw.now)
+    ensures same { (width left line : ℕ) (text : List ℕ)
+        → reading width left line text (drop from raw.now)
         ≡ reading width 0 line (text ++ slice_range raw.now from result) (drop result raw.now) }
     ensures forward { from < result }
     ensures place { IsCharBoundary raw.now result }
@@ -141,10 +144,11 @@ fn plain_end(raw: &str, from: usize) -> usize
     at
 }
 
-// Where the next carriage return stands with a line feed behind it, or the end.
+/// Where the next carriage return stands with a line feed behind it, or the end.
 fn return_place(raw: &str, from: usize) -> usize
     requires { from ≤ length raw.now }
-    ensures same { joined_breaks (drop from raw.now) ≡ slice_range raw.now from result ++ joined_breaks (drop result raw.now) }
+    ensures same { joined_breaks (drop from raw.now) ≡ slice_range raw.now from result
+        ++ joined_breaks (drop result raw.now) }
     ensures forward { from ≤ result }
     ensures place { IsCharBoundary raw.now result }
     ensures ascii { result < length raw.now → slice_index raw.now result ≡ 13 }
@@ -158,7 +162,7 @@ fn return_place(raw: &str, from: usize) -> usize
     at
 }
 
-// The text between two places.
+/// The text between two places.
 fn between(raw: &str, start: usize, end: usize) -> &str
     requires order { start ≤ end }
     requires start { IsCharBoundary raw.now start }
@@ -170,7 +174,8 @@ fn between(raw: &str, start: usize, end: usize) -> &str
 
 /// Adds what a single-quoted string says: each of its characters, a line break being a line feed.
 pub(crate) fn push_single(text: &mut String, raw: &str) -> Result<(), TextFault>
-    ensures { Gives (λ _. string_bytes text.new) told_by result (Ok (string_bytes text.old ++ single_text raw.now)) }
+    ensures { Gives (λ _. string_bytes text.new) told_by result
+        (Ok (string_bytes text.old ++ single_text raw.now)) }
 {
     let mut at = 0;
     while at <= raw.len() {
@@ -184,7 +189,7 @@ pub(crate) fn push_single(text: &mut String, raw: &str) -> Result<(), TextFault>
     Ok(())
 }
 
-// Adds so many spaces.
+/// Adds so many spaces.
 fn push_spaces(text: &mut String, count: usize) -> Result<(), AllocError>
     ensures { OnOk result (string_bytes text.new ≡ string_bytes text.old ++ replicate count space) }
 {
@@ -196,7 +201,7 @@ fn push_spaces(text: &mut String, count: usize) -> Result<(), AllocError>
     Ok(())
 }
 
-// Adds the spaces and tabs between two places, without so many columns of them.
+/// Adds the spaces and tabs between two places, without so many columns of them.
 fn push_blanks(
     text: &mut String,
     raw: &str,
@@ -224,7 +229,7 @@ fn push_blanks(
     Ok(())
 }
 
-// A place in a double-quoted string, its line, and how many columns of that line are still to be stripped.
+/// A place in a double-quoted string, its line, and how many columns of that line are still to be stripped.
 #[derive(Clone, Copy)]
 struct Place {
     at: usize,
@@ -232,15 +237,17 @@ struct Place {
     left: usize,
 }
 
-// Adds what the backslash at this place and the character behind it say.
+/// Adds what the backslash at this place and the character behind it say.
 fn push_escape(text: &mut String, raw: &str, place: Place) -> Result<Place, TextFault>
     requires within { place.at < length raw.now }
     requires slash { slice_index raw.now place.at ≡ 92 }
     requires few_lines { place.line < 2 ^ 32 }
-    ensures ok { (width : ℕ) → IfOk result (λ p. reading width p.left p.line (string_bytes text.new) (drop p.at raw.now)
+    ensures ok { (width : ℕ) → IfOk result
+        (λ p. reading width p.left p.line (string_bytes text.new) (drop p.at raw.now)
         ≡ reading width place.left place.line (string_bytes text.old) (drop place.at raw.now)) }
     ensures err { (width : ℕ) → IfErr result (λ e.
-        Fails (told_by e) (reading width place.left place.line (string_bytes text.old) (drop place.at raw.now))) }
+        Fails (told_by e) (reading width place.left place.line (string_bytes text.old)
+        (drop place.at raw.now))) }
     ensures place { IfOk result (λ p. (place.at < p.at) × IsCharBoundary raw.now p.at) }
     ensures line { IfOk result (λ p. p.line ≡ place.line) }
 {
@@ -266,14 +273,16 @@ fn push_escape(text: &mut String, raw: &str, place: Place) -> Result<Place, Text
     }
 }
 
-// Adds what stands at this place.
+/// Adds what stands at this place.
 fn push_next(text: &mut String, raw: &str, width: usize, place: Place) -> Result<Place, TextFault>
     requires within { place.at < length raw.now }
     requires place { IsCharBoundary raw.now place.at }
     requires few_lines { place.line + length raw.now < 2 ^ 32 + place.at }
-    ensures ok { IfOk result (λ p. reading width p.left p.line (string_bytes text.new) (drop p.at raw.now)
+    ensures ok { IfOk result (λ p. reading width p.left p.line (string_bytes text.new)
+        (drop p.at raw.now)
         ≡ reading width place.left place.line (string_bytes text.old) (drop place.at raw.now)) }
-    ensures err { IfErr result (λ e. Fails (told_by e) (reading width place.left place.line (string_bytes text.old) (drop place.at raw.now))) }
+    ensures err { IfErr result (λ e. Fails (told_by e)
+        (reading width place.left place.line (string_bytes text.old) (drop place.at raw.now))) }
     ensures place { IfOk result (λ p. (place.at < p.at) × IsCharBoundary raw.now p.at) }
     ensures line { IfOk result (λ p. p.line + place.at ≤ place.line + p.at) }
 {
@@ -334,7 +343,8 @@ pub(crate) fn push_double(
 ) -> Result<(), TextFault>
     requires few_columns { 8 * length before.now < 2 ^ 63 }
     requires few_lines { line + length raw.now < 2 ^ 32 }
-    ensures { Gives (λ _. string_bytes text.new) told_by result (reading (column_behind 1 before.now) 0 line (string_bytes text.old) raw.now) }
+    ensures { Gives (λ _. string_bytes text.new) told_by result
+        (reading (column_behind 1 before.now) 0 line (string_bytes text.old) raw.now) }
 {
     let width = column_behind(before);
     let mut place = Place {

@@ -28,10 +28,14 @@ impl<'a> Lexed<'a> {
     ghost use Rattle.ytext.specs.Told.{told_by};
     ghost use Rattle.ytext.specs.View.{ends_text, lexeme_of};
 
-    // What is wrong where this token may not stand.
+    /// What is wrong where this token may not stand.
     fn misplaced_fault(self) -> TextFault
         requires { self.line < 2 ^ 32 }
-        ensures { told_by result ≡ Some (record { code = misplaced_code (lexeme_of self.entry.lexeme); line = self.entry.line }) }
+        ensures { told_by result ≡ Some (record {
+          code = misplaced_code
+              (lexeme_of self.entry.lexeme);
+          line = self.entry.line;
+        }) }
     {
         let code = match self.lexeme {
             Lexeme::End => TextCode::L6,
@@ -85,7 +89,7 @@ impl<'a> Reader<'a> {
         }
     }
 
-    // Goes on to the next token.
+    /// Goes on to the next token.
     fn step(&mut self)
         requires { ends_text self.old.token.lexeme ≡ false }
         ensures ahead { ahead self.new < ahead self.old }
@@ -95,12 +99,13 @@ impl<'a> Reader<'a> {
         (self.token, self.cursor) = self.cursor.next();
     }
 
-    // Adds what the quoted string at hand says.
+    /// Adds what the quoted string at hand says.
     fn push_piece(&self, text: &mut String) -> Result<(), TextFault>
         requires { is_quoted (lexeme_of self.now.token.lexeme) ≡ true }
         ensures goes_on { OnOk result (ends_text self.now.token.lexeme ≡ false) }
         ensures piece { Gives (λ _. string_bytes text.new) told_by result
-            (added (string_bytes text.old) (piece self.now.token.line (lexeme_of self.now.token.lexeme))) }
+            (added (string_bytes text.old)
+            (piece self.now.token.line (lexeme_of self.now.token.lexeme))) }
     {
         match self.token.lexeme {
             Lexeme::Single(raw) => push_single(text, raw),
@@ -109,7 +114,7 @@ impl<'a> Reader<'a> {
         }
     }
 
-    // Adds what the quoted string at hand says, and goes on behind it.
+    /// Adds what the quoted string at hand says, and goes on behind it.
     fn take_piece(&mut self, text: &mut String) -> Result<(), TextFault>
         requires { is_quoted (lexeme_of self.old.token.lexeme) ≡ true }
         ensures ahead { OnOk result (ahead self.new < ahead self.old) }
@@ -121,11 +126,12 @@ impl<'a> Reader<'a> {
         Ok(())
     }
 
-    // Quoted strings with `+` between them.
+    /// Quoted strings with `+` between them.
     fn pieces(&mut self) -> Result<String, TextFault>
         requires { is_quoted (lexeme_of self.old.token.lexeme) ≡ true }
         ensures ahead { OnOk result (ahead self.new < ahead self.old) }
-        ensures pieces { Gives (λ text. (string_bytes text, tokens_ahead self.new)) told_by result (pieces (tokens_ahead self.old)) }
+        ensures pieces { Gives (λ text. (string_bytes text, tokens_ahead self.new)) told_by result
+            (pieces (tokens_ahead self.old)) }
     {
         let mut text = String::new(self.alloc);
         if let Err(fault) = self.take_piece(&mut text) {
@@ -146,7 +152,8 @@ impl<'a> Reader<'a> {
 
     fn argument(&mut self) -> Result<Option<String>, TextFault>
         ensures ahead { OnOk result (ahead self.new ≤ ahead self.old) }
-        ensures argument { Gives (λ arg. (option_map string_bytes arg, tokens_ahead self.new)) told_by result (argument (tokens_ahead self.old)) }
+        ensures argument { Gives (λ arg. (option_map string_bytes arg, tokens_ahead self.new))
+            told_by result (argument (tokens_ahead self.old)) }
     {
         if let Lexeme::Word(word) = self.token.lexeme {
             let text = String::from_str(self.alloc, word)?;
@@ -159,7 +166,7 @@ impl<'a> Reader<'a> {
         }
     }
 
-    // `;`, or a block.
+    /// `;`, or a block.
     #[cycle(reading)]
     fn body(&mut self, level: u32) -> Result<Vec<Stmt>, TextFault>
         ensures ahead { OnOk result (ahead self.new < ahead self.old) }
@@ -182,7 +189,7 @@ impl<'a> Reader<'a> {
         }
     }
 
-    // The statements of a block, and its `}`.
+    /// The statements of a block, and its `}`.
     #[cycle(reading)]
     fn block(&mut self, level: u32) -> Result<Vec<Stmt>, TextFault>
         ensures ahead { OnOk result (ahead self.new < ahead self.old) }
@@ -198,7 +205,8 @@ impl<'a> Reader<'a> {
 
     fn close(&mut self) -> Result<(), TextFault>
         ensures ahead { OnOk result (ahead self.new < ahead self.old) }
-        ensures closed { (below : Forest Statement) → Gives (λ _. (below, tokens_ahead self.new)) told_by result
+        ensures closed { (below : Forest Statement)
+            → Gives (λ _. (below, tokens_ahead self.new)) told_by result
             (closed (below, tokens_ahead self.old)) }
     {
         match self.token.lexeme {
@@ -210,13 +218,15 @@ impl<'a> Reader<'a> {
         }
     }
 
-    // The statement whose keyword is at hand.
+    /// The statement whose keyword is at hand.
     #[cycle(reading)]
     fn statement(&mut self, word: &str, level: u32) -> Result<Stmt, TextFault>
         requires { lexeme_of self.old.token.lexeme ≡ a_word word.now }
         ensures ahead { OnOk result (ahead self.new < ahead self.old) }
-        ensures statement { Gives (λ stmt. (row_view (stmt ∷ []), tokens_ahead self.new)) told_by result
-            (statement (rows (level + 1)) level word.now self.old.token.line (left self.old.cursor)) }
+        ensures statement { Gives
+            (λ stmt. (row_view (stmt ∷ []), tokens_ahead self.new)) told_by result
+            (statement (rows (level + 1)) level word.now self.old.token.line
+            (left self.old.cursor)) }
     {
         let line = self.token.line;
         if !is_name(word) {
@@ -234,11 +244,12 @@ impl<'a> Reader<'a> {
         })
     }
 
-    // Statements up to a `}` or the end of the text, so many blocks being open.
+    /// Statements up to a `}` or the end of the text, so many blocks being open.
     #[cycle(reading)]
     fn statements(&mut self, level: u32) -> Result<Vec<Stmt>, TextFault>
         ensures ahead { OnOk result (ahead self.new ≤ ahead self.old) }
-        ensures rows { Gives (λ subs. (row_view subs.items, tokens_ahead self.new)) told_by result (rows level (tokens_ahead self.old)) }
+        ensures rows { Gives (λ subs. (row_view subs.items, tokens_ahead self.new)) told_by result
+            (rows level (tokens_ahead self.old)) }
     {
         let mut subs = Vec::new(self.alloc);
         while let Lexeme::Word(word) = self.token.lexeme {
@@ -256,11 +267,12 @@ impl<'a> Reader<'a> {
         }
     }
 
-    // A row ends before a `}` and at the end of the text.
+    /// A row ends before a `}` and at the end of the text.
     fn row_end(&self) -> Result<(), TextFault>
         requires { is_word (lexeme_of self.now.token.lexeme) ≡ false }
         ensures { (level : ℕ) → Gives (λ _. (end, tokens_ahead self.now)) told_by result
-            (statements_at (lexeme_of self.now.token.lexeme) (rows (level + 1)) (rows level) level (first_of self.now) (rest_of self.now)) }
+            (statements_at (lexeme_of self.now.token.lexeme) (rows (level + 1)) (rows level) level
+            (first_of self.now) (rest_of self.now)) }
     {
         match self.token.lexeme {
             Lexeme::Close => Ok(()),
@@ -269,9 +281,10 @@ impl<'a> Reader<'a> {
         }
     }
 
-    // Nothing may follow the top statement.
+    /// Nothing may follow the top statement.
     fn end(&self) -> Result<(), TextFault>
-        ensures { (top : Forest Statement) → Gives (λ _. top) told_by result (ending (top, tokens_ahead self.now)) }
+        ensures { (top : Forest Statement)
+            → Gives (λ _. top) told_by result (ending (top, tokens_ahead self.now)) }
     {
         match self.token.lexeme {
             Lexeme::End => Ok(()),
@@ -285,7 +298,8 @@ impl<'a> Reader<'a> {
 
     /// The one statement of a module's text.
     pub(crate) fn module(&mut self) -> Result<Module, TextFault>
-        ensures { Gives (λ read. modules_view (read ∷ [])) told_by result (top_statement (tokens_ahead self.old)) }
+        ensures { Gives (λ read. modules_view (read ∷ [])) told_by result
+            (top_statement (tokens_ahead self.old)) }
     {
         match self.token.lexeme {
             Lexeme::Word(word) => {

@@ -29,14 +29,14 @@ pub(crate) fn is_white(byte: u8) -> bool
     byte == b' ' || byte == b'\t' || byte == b'\n' || byte == b'\r'
 }
 
-// White space, a quote, `;`, `{` or `}`.
+/// White space, a quote, `;`, `{` or `}`.
 fn is_delimiter(byte: u8) -> bool
     ensures { result ≡ is_delimiter byte }
 {
     is_white(byte) || byte == b'"' || byte == b'\'' || byte == b';' || byte == b'{' || byte == b'}'
 }
 
-// Whether a word ends before this place.
+/// Whether a word ends before this place.
 fn ends_word(bytes: &[u8], at: usize) -> bool
     requires { at < length bytes.now }
     ensures cases { result ≡ ends_word (slice_index bytes.now at) (drop (at + 1) bytes.now) }
@@ -77,11 +77,13 @@ pub(crate) fn line_end(bytes: &[u8], from: usize) -> usize
     at
 }
 
-// Whether `*/` stands at this place.
+/// Whether `*/` stands at this place.
 fn ends_comment(bytes: &[u8], at: usize) -> bool
     requires { at < length bytes.now }
-    ensures cases { result ≡ (slice_index bytes.now at == star && begins slash (drop (at + 1) bytes.now)) }
-    ensures within { IsTrue result → (at + 2 ≤ length bytes.now) × (slice_index bytes.now (at + 1) ≡ 47) }
+    ensures cases { result ≡ (slice_index bytes.now at == star
+        && begins slash (drop (at + 1) bytes.now)) }
+    ensures within { IsTrue result
+        → (at + 2 ≤ length bytes.now) × (slice_index bytes.now (at + 1) ≡ 47) }
 {
     bytes[at] == b'*' && stands_at(bytes, at + 1, b'/')
 }
@@ -90,8 +92,10 @@ fn ends_comment(bytes: &[u8], at: usize) -> bool
 /// Where the comment ends, behind its `*/`.
 pub(crate) fn comment_end(bytes: &[u8], from: usize) -> Option<usize>
     requires { from ≤ length bytes.now }
-    ensures length { result ≡ option_map (λ n. from + n) (comment_rest_length (drop from bytes.now)) }
-    ensures within { IfSome result (λ end. (from < end) × (end ≤ length bytes.now) × (slice_index bytes.now (end - 1) ≡ 47)) }
+    ensures length { result ≡ option_map (λ n. from
+        + n) (comment_rest_length (drop from bytes.now)) }
+    ensures within { IfSome result
+        (λ end. (from < end) × (end ≤ length bytes.now) × (slice_index bytes.now (end - 1) ≡ 47)) }
 {
     let mut at = from;
     while at < bytes.len() {
@@ -107,7 +111,8 @@ pub(crate) fn comment_end(bytes: &[u8], from: usize) -> Option<usize>
 pub(crate) fn single_end(bytes: &[u8], from: usize) -> Option<usize>
     requires { from ≤ length bytes.now }
     ensures length { result ≡ option_map (λ n. from + n) (single_length (drop from bytes.now)) }
-    ensures within { IfSome result (λ end. (from ≤ end) × (end < length bytes.now) × (slice_index bytes.now end ≡ 39)) }
+    ensures within { IfSome result
+        (λ end. (from ≤ end) × (end < length bytes.now) × (slice_index bytes.now end ≡ 39)) }
 {
     let mut at = from;
     while at < bytes.len() {
@@ -119,7 +124,7 @@ pub(crate) fn single_end(bytes: &[u8], from: usize) -> Option<usize>
     None
 }
 
-// Whether a byte is this one, and no backslash stands before it.
+/// Whether a byte is this one, and no backslash stands before it.
 pub(crate) fn is_unescaped(is_escaped: bool, byte: u8, wanted: u8) -> bool
     ensures { result ≡ (not is_escaped && (byte == wanted)) }
 {
@@ -129,8 +134,10 @@ pub(crate) fn is_unescaped(is_escaped: bool, byte: u8, wanted: u8) -> bool
 /// Where the next double quote stands that no backslash escapes.
 pub(crate) fn double_end(bytes: &[u8], from: usize) -> Option<usize>
     requires { from ≤ length bytes.now }
-    ensures length { result ≡ option_map (λ n. from + n) (double_length false (drop from bytes.now)) }
-    ensures within { IfSome result (λ end. (from ≤ end) × (end < length bytes.now) × (slice_index bytes.now end ≡ 34)) }
+    ensures length { result ≡ option_map (λ n. from
+        + n) (double_length false (drop from bytes.now)) }
+    ensures within { IfSome result
+        (λ end. (from ≤ end) × (end < length bytes.now) × (slice_index bytes.now end ≡ 34)) }
 {
     let mut at = from;
     let mut is_escaped = false;

@@ -25,7 +25,7 @@ use std::str;
 /// A module's text has at most so many bytes.
 const TEXT_LIMIT: usize = 4_194_304;
 
-// The line behind these bytes.
+/// The line behind these bytes.
 pub(crate) fn line_behind(bytes: &[u8]) -> u64
     ensures line { result ≡ line_behind 1 bytes.now }
     ensures bound { result ≤ length bytes.now + 1 }
@@ -39,14 +39,14 @@ pub(crate) fn line_behind(bytes: &[u8]) -> u64
     line
 }
 
-// Not U+FDD0 to U+FDEF, and not one of the last two characters of a plane.
+/// Not U+FDD0 to U+FDEF, and not one of the last two characters of a plane.
 fn is_noncharacter(code: u32) -> bool
     ensures { result ≡ is_noncharacter code }
 {
     (0xfdd0 <= code && code <= 0xfdef) || 0xfffe <= code % 0x1_0000
 }
 
-// Whether a character may stand in a text wherever it is.
+/// Whether a character may stand in a text wherever it is.
 fn is_yang_char(character: char) -> bool
     ensures { result ≡ is_yang_char character }
 {
@@ -54,26 +54,28 @@ fn is_yang_char(character: char) -> bool
     character == '\t' || character == '\n' || (0x20 <= code && !is_noncharacter(code))
 }
 
-// Whether a byte is part of no character that isn't allowed, and no carriage return.
+/// Whether a byte is part of no character that isn't allowed, and no carriage return.
 fn is_plain(byte: u8) -> bool
     ensures { result ≡ is_plain byte }
 {
     byte == b'\t' || byte == b'\n' || (0x20 <= byte && byte < 0xef)
 }
 
-// Whether all bytes are plain: most texts are told right so, without a look at their characters.
+/// Whether all bytes are plain: most texts are told right so, without a look at their characters.
 fn are_plain(bytes: &[u8]) -> bool
     ensures { result ≡ list_all is_plain bytes.now }
 {
     bytes.iter().all(|byte| is_plain(*byte))
 }
 
-// The line and whether a carriage return stands just before, behind one more character. None where one of the two
-// characters isn't allowed.
+/// The line and whether a carriage return stands just before, behind one more character. None where one of the two
+/// characters isn't allowed.
 fn behind_character(character: char, line: u64, has_returned: bool) -> Option<(u64, bool)>
     requires { line < 2 ^ 63 }
-    ensures allowed { (rest : List ℕ) → IfSome result (λ next. pending has_returned line (character ∷ rest) ≡ pending next.1 next.0 rest) }
-    ensures forbidden { (rest : List ℕ) → IfNone result (pending has_returned line (character ∷ rest) ≡ Some line) }
+    ensures allowed { (rest : List ℕ) → IfSome result
+        (λ next. pending has_returned line (character ∷ rest) ≡ pending next.1 next.0 rest) }
+    ensures forbidden { (rest : List ℕ)
+        → IfNone result (pending has_returned line (character ∷ rest) ≡ Some line) }
     ensures bound { IfSome result (λ next. next.0 ≤ line + 1) }
 {
     if character == '\n' {
@@ -92,7 +94,7 @@ fn behind_character(character: char, line: u64, has_returned: bool) -> Option<(u
     }
 }
 
-// The line of the first character that isn't allowed. A carriage return is allowed before a line feed alone.
+/// The line of the first character that isn't allowed. A carriage return is allowed before a line feed alone.
 fn forbidden_line(text: &str) -> Option<u64>
     requires { length text.now < 2 ^ 32 }
     ensures line { result ≡ forbidden_line 1 (chars text.now) }
@@ -115,8 +117,8 @@ fn forbidden_line(text: &str) -> Option<u64>
     if has_returned { Some(line) } else { None }
 }
 
-// The place behind one more character, and whether that is a carriage return. The place of the character or of the
-// carriage return before it, where it isn't allowed.
+/// The place behind one more character, and whether that is a carriage return. The place of the character or of the
+/// carriage return before it, where it isn't allowed.
 fn passed_character(
     character: char,
     place: usize,
@@ -124,8 +126,11 @@ fn passed_character(
 ) -> Result<(usize, bool), usize>
     requires room { place + 4 < 2 ^ 64 }
     requires behind { has_returned ≡ true → 0 < place }
-    ensures allowed { (rest : List ℕ) → IfOk result (λ next. pending_place has_returned place (character ∷ rest) ≡ pending_place next.1 next.0 rest) }
-    ensures forbidden { (rest : List ℕ) → IfErr result (λ found. pending_place has_returned place (character ∷ rest) ≡ Some found) }
+    ensures allowed { (rest : List ℕ) → IfOk result
+        (λ next. pending_place has_returned place (character ∷ rest)
+        ≡ pending_place next.1 next.0 rest) }
+    ensures forbidden { (rest : List ℕ) → IfErr result
+        (λ found. pending_place has_returned place (character ∷ rest) ≡ Some found) }
     ensures next { IfOk result (λ next. next.0 ≡ place + len_utf8 character) }
     ensures before { IfErr result (λ found. found ≤ place) }
 {
@@ -140,7 +145,7 @@ fn passed_character(
     }
 }
 
-// The place of the first character that isn't allowed.
+/// The place of the first character that isn't allowed.
 pub(crate) fn forbidden_place(text: &str) -> Option<usize>
     ensures place { result ≡ forbidden_place 0 (chars text.now) }
     ensures within { IfSome result (λ place. place ≤ length text.now) }
@@ -162,7 +167,7 @@ pub(crate) fn forbidden_place(text: &str) -> Option<usize>
     if has_returned { Some(place - 1) } else { None }
 }
 
-// The text of these bytes, where its length, its encoding and its characters are right.
+/// The text of these bytes, where its length, its encoding and its characters are right.
 fn checked_text(bytes: &[u8]) -> Result<&str, TextFault>
     ensures text { IfOk result (λ text. text.now ≡ bytes.now) }
     ensures length { IfOk result (λ text. length text.now ≤ 4194304) }
@@ -189,12 +194,13 @@ fn checked_text(bytes: &[u8]) -> Result<&str, TextFault>
 pub fn parse(alloc: Global, bytes: &[u8]) -> Result<Module, TextFault>
     ensures answer { Gives (λ read. modules_view (read ∷ [])) told_by result (module_of bytes.now) }
     ensures spells { IfOk result (λ read. Spells bytes.now (modules_view (read ∷ []))) }
-    ensures told { IfErr result (λ fault. IfSome (told_by fault) (λ slip. told_slip bytes.now ≡ Some slip)) }
+    ensures told { IfErr result
+        (λ fault. IfSome (told_by fault) (λ slip. told_slip bytes.now ≡ Some slip)) }
 {
     read_module(alloc, bytes)
 }
 
-// The same, as the definition by functions has it.
+/// The same, as the definition by functions has it.
 fn read_module(alloc: Global, bytes: &[u8]) -> Result<Module, TextFault>
     ensures { Gives (λ read. modules_view (read ∷ [])) told_by result (module_of bytes.now) }
 {

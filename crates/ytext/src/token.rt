@@ -53,7 +53,8 @@ impl<'a> Found<'a> {
     /// This piece as a token.
     pub(crate) fn token(self, kind: TokenKind) -> Token<'a>
         requires { Reaches self.cursor.text.now self.cursor.at self.lexeme self.end }
-        ensures { scanned_of result ≡ scanned self.entry.cursor.text.now (piece_of self.entry) (kind_shown kind) }
+        ensures { scanned_of result
+            ≡ scanned self.entry.cursor.text.now (piece_of self.entry) (kind_shown kind) }
     {
         Token {
             kind,

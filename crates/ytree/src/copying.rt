@@ -46,7 +46,8 @@ fn copy_of(stored: &Stored) -> Result<Stored, AllocError>
 }
 
 fn copy_of_value(value: Option<&Raw>) -> Result<Option<Raw>, AllocError>
-    ensures { IfOk result (λ raw. option_map raw_of raw ≡ option_map (λ r. raw_of r.now) value.entry) }
+    ensures { IfOk result (λ raw. option_map raw_of raw
+        ≡ option_map (λ r. raw_of r.now) value.entry) }
 {
     match value {
         Some(raw) => Ok(Some(raw.clone()?)),

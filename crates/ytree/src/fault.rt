@@ -74,7 +74,8 @@ impl<T: Drop> From<AllocFailed<T>> for DocFault {
 
 /// The refusal of a document at a place; for want of memory for the place, that.
 pub(crate) fn refused(alloc: Global, code: DocCode, place: &[Step]) -> DocFault
-    ensures { Tells result (Some (record { code = code_number code; place = place_view place.now })) }
+    ensures { Tells result (Some
+        (record { code = code_number code; place = place_view place.now })) }
 {
     match Vec::from_slice(alloc, place) {
         Ok(place) => DocFault::Refused { code, place },

@@ -47,8 +47,10 @@ fn is_other_form(
     parent: Option<SchemaId>,
     name: &str,
 ) -> Result<bool, AllocError>
-    ensures { let s = view schema.now in let p = number_of parent in IfOk result (λ is_other. is_other
-        ≡ list_any (λ n. is_text name.now (spec.other_name s (spec.module_at s p) n)) (row (data_row (row_at s p)))) }
+    ensures { let s = view schema.now in let p = number_of parent in
+        IfOk result (λ is_other. is_other
+        ≡ list_any (λ n. is_text name.now (spec.other_name s (spec.module_at s p) n))
+        (row (data_row (row_at s p)))) }
 {
     let parent_module = module_of(schema, parent);
     is_other_in(
@@ -70,7 +72,8 @@ fn is_other_in(
     name: &str,
 ) -> Result<bool, AllocError>
     ensures { IfOk result (λ is_other. is_other ≡ list_any
-        (λ n. is_text name.now (spec.other_name (view schema.now) parent_module n)) (row (data_row (row_view children.entry)))) }
+        (λ n. is_text name.now (spec.other_name (view schema.now) parent_module n))
+        (row (data_row (row_view children.entry)))) }
 {
     for child in children {
         if is_other_at(alloc, schema, parent_module, child, name)? {
@@ -88,7 +91,8 @@ fn is_other_at(
     child: Child<'_>,
     name: &str,
 ) -> Result<bool, AllocError>
-    ensures { IfOk result (λ is_other. is_other ≡ list_any (λ n. is_text name.now (spec.other_name (view schema.now) parent_module n))
+    ensures { IfOk result (λ is_other. is_other
+        ≡ list_any (λ n. is_text name.now (spec.other_name (view schema.now) parent_module n))
         (row (data_row (node (label_of child.entry) (below_of child.entry) end)))) }
 {
     if child.node().kind.is_data() {

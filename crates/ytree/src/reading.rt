@@ -29,9 +29,11 @@ const NODE_LIMIT: usize = 1_000_000;
 /// The document that JSON bytes denote under a schema, or the first refusal: J1 and J2, then J3 to J7 depth first, members
 /// in byte order of their names, items by position (RFC 7951).
 pub fn read(alloc: Global, schema: &Schema, bytes: &[u8]) -> Result<Tree, DocFault>
-    ensures answer { Gives tree_view told_by result (document_of (schema_view.view schema.now) bytes.now) }
+    ensures answer { Gives tree_view told_by result
+        (document_of (schema_view.view schema.now) bytes.now) }
     ensures fitting { IfOk result (λ tree. Fits (schema_view.view schema.now) (tree_view tree)) }
-    ensures whole { IfOk result (λ tree. IsDocument (schema_view.view schema.now) (tree_view tree)) }
+    ensures whole { IfOk result
+        (λ tree. IsDocument (schema_view.view schema.now) (tree_view tree)) }
     ensures within { IfOk result (λ tree. size (tree_view tree) ≤ document_limit) }
 {
     match Value::from_slice(alloc, bytes) {
@@ -68,8 +70,10 @@ pub fn read_node(
     id: SchemaId,
     value: &Value,
 ) -> Result<Option<Stored>, DocFault>
-    ensures refused { Judges result (refused_at (schema_view.view schema.now) id.0 [] (json.view value.now)) }
-    ensures node { IfOk result (λ s. option_map view s ≡ denoted_at (schema_view.view schema.now) id.0 (json.view value.now)) }
+    ensures refused { Judges result
+        (refused_at (schema_view.view schema.now) id.0 [] (json.view value.now)) }
+    ensures node { IfOk result (λ s. option_map view s
+        ≡ denoted_at (schema_view.view schema.now) id.0 (json.view value.now)) }
 {
     let mut place = Vec::new(alloc);
     match visit_instance(alloc, schema, id, value, &mut place, None) {
@@ -92,8 +96,10 @@ fn put_rows(
     members: &Map<String, Value>,
     row: &mut Vec<Stored>,
 ) -> Result<(), AllocError>
-    ensures { OnOk result (row_view row.new.items ≡ join (row_view row.old.items) (stored_rows (schema_view.view schema.now)
-        parent_module (schema_view.row_view children.entry) (json.members_view members.now.entries))) }
+    ensures { OnOk result (row_view row.new.items
+        ≡ join (row_view row.old.items) (stored_rows (schema_view.view schema.now)
+        parent_module (schema_view.row_view children.entry)
+        (json.members_view members.now.entries))) }
 {
     for child in children {
         put_child(alloc, schema, parent_module, child, members, row)?;
@@ -111,8 +117,10 @@ fn put_child(
     members: &Map<String, Value>,
     row: &mut Vec<Stored>,
 ) -> Result<(), AllocError>
-    ensures { OnOk result (row_view row.new.items ≡ join (row_view row.old.items) (stored_first (schema_view.view schema.now)
-        parent_module (schema_view.label_of child.entry) (schema_view.below_of child.entry) (json.members_view members.now.entries))) }
+    ensures { OnOk result (row_view row.new.items
+        ≡ join (row_view row.old.items) (stored_first (schema_view.view schema.now)
+        parent_module (schema_view.label_of child.entry) (schema_view.below_of child.entry)
+        (json.members_view members.now.entries))) }
 {
     if child.node().kind.is_data() {
         let name = written_name(alloc, schema, parent_module, child.node())?;
@@ -134,8 +142,10 @@ fn put_instances(
     value: &Value,
     row: &mut Vec<Stored>,
 ) -> Result<(), AllocError>
-    ensures { let n = schema_view.label_of child.entry in OnOk result (row_view row.new.items ≡ join (row_view row.old.items)
-        (instance_row n (inner_rows (schema_view.view schema.now) n (schema_view.below_of child.entry)) (Some (json.view value.now)))) }
+    ensures { let n = schema_view.label_of child.entry in
+        OnOk result (row_view row.new.items ≡ join (row_view row.old.items)
+        (instance_row n (inner_rows (schema_view.view schema.now) n
+        (schema_view.below_of child.entry)) (Some (json.view value.now)))) }
 {
     if child.node().kind.is_many() {
         match value {
@@ -155,8 +165,10 @@ fn put_items(
     items: &[Value],
     row: &mut Vec<Stored>,
 ) -> Result<(), AllocError>
-    ensures { let n = schema_view.label_of child.entry in OnOk result (row_view row.new.items ≡ join (row_view row.old.items)
-        (item_row n (inner_rows (schema_view.view schema.now) n (schema_view.below_of child.entry)) (json.items_view items.now))) }
+    ensures { let n = schema_view.label_of child.entry in
+        OnOk result (row_view row.new.items ≡ join (row_view row.old.items)
+        (item_row n (inner_rows (schema_view.view schema.now) n (schema_view.below_of child.entry))
+        (json.items_view items.now))) }
 {
     for item in items {
         put_instance(alloc, schema, child, item, row)?;
@@ -172,8 +184,10 @@ fn put_instance(
     value: &Value,
     row: &mut Vec<Stored>,
 ) -> Result<(), AllocError>
-    ensures { let n = schema_view.label_of child.entry in let d = json.view value.now in OnOk result (row_view row.new.items
-        ≡ join (row_view row.old.items) (node (stored_node n d) (inner_rows (schema_view.view schema.now) n (schema_view.below_of child.entry) d) end)) }
+    ensures { let n = schema_view.label_of child.entry in let d = json.view value.now in
+        OnOk result (row_view row.new.items
+        ≡ join (row_view row.old.items) (node (stored_node n d)
+        (inner_rows (schema_view.view schema.now) n (schema_view.below_of child.entry) d) end)) }
 {
     row.push(stored_node(
         alloc,

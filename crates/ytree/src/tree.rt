@@ -28,7 +28,8 @@ impl Stored {
 
     /// A node of a row, in which siblings stand in the order of their schema nodes.
     pub fn new(id: SchemaId, value: Option<Raw>, below: Vec<Stored>) -> Stored
-        ensures node { (view result).0 ≡ record { schema_number = id.0; value = option_map raw_of value } }
+        ensures node { (view result).0
+            ≡ record { schema_number = id.0; value = option_map raw_of value } }
         ensures below { (view result).1 ≡ row_view below.items }
     {
         Stored { id, value, below }

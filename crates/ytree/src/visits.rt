@@ -54,7 +54,8 @@ fn visit_member(
     place: &mut Vec<Step>,
     room: Option<usize>,
 ) -> Result<Option<usize>, DocFault>
-    ensures told { let s = view schema.now in let p = number_of parent in let steps = place_view place.old.items in
+    ensures told { let s = view schema.now in let p = number_of parent in
+        let steps = place_view place.old.items in
         Walks room (at_named (named s (module_at s p) name.now (row_at s p)) steps
         (λ n below. node_visits s n below steps (json.view value.now))) result }
     ensures place { OnOk result (place.new.items ≡ place.old.items) }
@@ -77,7 +78,8 @@ fn visit_node(
     room: Option<usize>,
 ) -> Result<Option<usize>, DocFault>
     ensures told { let s = view schema.now in
-        Walks room (visits_at s id.0 (λ n below. node_visits s n below (place_view place.old.items) (json.view value.now))) result }
+        Walks room (visits_at s id.0 (λ n below. node_visits s n below (place_view place.old.items)
+        (json.view value.now))) result }
     ensures place { OnOk result (place.new.items ≡ place.old.items) }
 {
     let Some(node) = schema.kind(id) else {
@@ -111,7 +113,8 @@ fn visit_items(
     room: Option<usize>,
 ) -> Result<Option<usize>, DocFault>
     ensures told { let s = view schema.now in
-        Walks room (visits_at s id.0 (λ n below. item_visits s n below (place_view place.old.items) 1 (json.items_view items.now))) result }
+        Walks room (visits_at s id.0 (λ n below. item_visits s n below
+        (place_view place.old.items) 1 (json.items_view items.now))) result }
     ensures place { OnOk result (place.new.items ≡ place.old.items) }
 {
     let mut left = room;
@@ -150,7 +153,8 @@ fn visit_below(
     room: Option<usize>,
 ) -> Result<Option<usize>, DocFault>
     ensures told { let s = view schema.now in
-        Walks room (visits_at s step.id.0 (λ n below. instance_visits s n below (place_view (place.old.items ++ step ∷ [])) (json.view value.now))) result }
+        Walks room (visits_at s step.id.0 (λ n below. instance_visits s n below
+        (place_view (place.old.items ++ step ∷ [])) (json.view value.now))) result }
     ensures place { OnOk result (place.new.items ≡ place.old.items) }
 {
     place.push(step)?;
@@ -174,7 +178,8 @@ pub(crate) fn visit_instance(
     room: Option<usize>,
 ) -> Result<Option<usize>, DocFault>
     ensures told { let s = view schema.now in
-        Walks room (visits_at s id.0 (λ n below. instance_visits s n below (place_view place.old.items) (json.view value.now))) result }
+        Walks room (visits_at s id.0 (λ n below. instance_visits s n below
+        (place_view place.old.items) (json.view value.now))) result }
     ensures place { OnOk result (place.new.items ≡ place.old.items) }
 {
     let Some(node) = schema.kind(id) else {
@@ -198,7 +203,8 @@ fn visit_value(
     place: &[Step],
     room: Option<usize>,
 ) -> Result<Option<usize>, DocFault>
-    ensures { Walks room (value_visit (kind_view node.now.kind) (place_view place.now) (json.view value.now)) result }
+    ensures { Walks room (value_visit (kind_view node.now.kind) (place_view place.now)
+        (json.view value.now)) result }
 {
     if node.kind.has_value() {
         visit_leaf(alloc, value, place, room)
@@ -234,7 +240,11 @@ fn one_less(alloc: Global, room: Option<usize>) -> Result<Option<usize>, DocFaul
 
 /// The refusal at a node below the place.
 fn refused_below(alloc: Global, code: DocCode, id: SchemaId, place: &mut Vec<Step>) -> DocFault
-    ensures { Tells result (Some (record { code = code_number code; place = place_view (place.old.items ++ record { id = id; position = None } ∷ []) })) }
+    ensures { Tells result (Some (record {
+      code = code_number code;
+      place = place_view
+          (place.old.items ++ record { id = id; position = None } ∷ []);
+    })) }
 {
     match place.push(Step { id, position: None }) {
         Ok(()) => refused(alloc, code, place),

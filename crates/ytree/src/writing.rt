@@ -29,14 +29,16 @@ pub fn write(alloc: Global, schema: &Schema, tree: &Tree) -> Result<String, Allo
     ensures text { let s = schema_view.view schema.now in let t = tree_view tree.now in
         IfOk result (λ text. IsSorted t → string_bytes text ≡ written_text s t) }
     ensures reads_back { let s = schema_view.view schema.now in let t = tree_view tree.now in
-        IfOk result (λ text. IsDocument s t → size t ≤ document_limit → document_of s (string_bytes text) ≡ Ok t) }
+        IfOk result (λ text. IsDocument s t → size t ≤ document_limit
+        → document_of s (string_bytes text) ≡ Ok t) }
 {
     value_of_tree(alloc, schema, tree)?.to_string(alloc)
 }
 
 fn value_of_tree(alloc: Global, schema: &Schema, tree: &Tree) -> Result<Value, AllocError>
     ensures { let s = schema_view.view schema.now in
-        IfOk result (λ value. json.view value ≡ object (members_in s None s.nodes (tree_view tree.now))) }
+        IfOk result (λ value. json.view value
+        ≡ object (members_in s None s.nodes (tree_view tree.now))) }
 {
     let nodes = tree.nodes();
     Ok(Value::Object(members_of(alloc, schema, None, schema.roots(), nodes)?))
@@ -52,7 +54,8 @@ fn members_of(
     row: &[Stored],
 ) -> Result<Map<String, Value>, AllocError>
     ensures { IfOk result (λ members. json.members_view members.entries
-        ≡ members_in (schema_view.view schema.now) parent_module (schema_view.row_view children.entry) (row_view row.now)) }
+        ≡ members_in (schema_view.view schema.now) parent_module
+        (schema_view.row_view children.entry) (row_view row.now)) }
 {
     let mut members = Map::new(alloc);
     put_row(alloc, schema, parent_module, children, row, &mut members)?;
@@ -69,8 +72,10 @@ fn put_row<'a>(
     row: &'a [Stored],
     members: &mut Map<String, Value>,
 ) -> Result<&'a [Stored], AllocError>
-    ensures { IfOk result (λ rest. walked (schema_view.view schema.now) parent_module (schema_view.row_view children.entry)
-        (json.members_view members.old.entries, row_view row.entry.now) ≡ (json.members_view members.new.entries, row_view rest.now)) }
+    ensures { IfOk result (λ rest. walked (schema_view.view schema.now) parent_module
+        (schema_view.row_view children.entry)
+        (json.members_view members.old.entries, row_view row.entry.now)
+        ≡ (json.members_view members.new.entries, row_view rest.now)) }
 {
     let mut rest = row;
     for child in children {
@@ -91,7 +96,8 @@ fn put_child<'a>(
 ) -> Result<&'a [Stored], AllocError>
     ensures { IfOk result (λ behind. walked (schema_view.view schema.now) parent_module
         (node (schema_view.label_of child.entry) (schema_view.below_of child.entry) end)
-        (json.members_view members.old.entries, row_view rest.entry.now) ≡ (json.members_view members.new.entries, row_view behind.now)) }
+        (json.members_view members.old.entries, row_view rest.entry.now)
+        ≡ (json.members_view members.new.entries, row_view behind.now)) }
 {
     if child.node().kind.is_data() {
         let (found, behind) = instances_of(rest, child.id());
@@ -113,8 +119,10 @@ fn put_instances(
     found: &[Stored],
     members: &mut Map<String, Value>,
 ) -> Result<(), AllocError>
-    ensures { let s = schema_view.view schema.now in let n = schema_view.label_of child.entry in OnOk result (json.members_view members.new.entries
-        ≡ with_instances (spec.written_name s parent_module n) n.kind (members_in s (Some n.module_number) (schema_view.below_of child.entry))
+    ensures { let s = schema_view.view schema.now in let n = schema_view.label_of child.entry in
+        OnOk result (json.members_view members.new.entries
+        ≡ with_instances (spec.written_name s parent_module n) n.kind
+        (members_in s (Some n.module_number) (schema_view.below_of child.entry))
         (row_view found.now) (json.members_view members.old.entries)) }
 {
     let Some((first, _)) = found.split_first() else {
@@ -138,8 +146,10 @@ fn items_of(
     child: Child<'_>,
     found: &[Stored],
 ) -> Result<Vec<Value>, AllocError>
-    ensures { let s = schema_view.view schema.now in let n = schema_view.label_of child.entry in IfOk result (λ items. json.items_view items.items
-        ≡ written_items n.kind (members_in s (Some n.module_number) (schema_view.below_of child.entry)) (row_view found.now)) }
+    ensures { let s = schema_view.view schema.now in let n = schema_view.label_of child.entry in
+        IfOk result (λ items. json.items_view items.items
+        ≡ written_items n.kind (members_in s (Some n.module_number)
+        (schema_view.below_of child.entry)) (row_view found.now)) }
 {
     let mut items = Vec::new(alloc);
     for stored in found {
@@ -170,7 +180,8 @@ fn value_of(
 ) -> Result<Value, AllocError>
     ensures { let s = schema_view.view schema.now in let n = schema_view.label_of child.entry in
         IfOk result (λ value. json.view value ≡ written_node n.kind (view stored.now).0.value
-        (members_in s (Some n.module_number) (schema_view.below_of child.entry) (view stored.now).1)) }
+        (members_in s (Some n.module_number) (schema_view.below_of child.entry)
+        (view stored.now).1)) }
 {
     let node = child.node();
     if node.kind.has_value() {
@@ -182,7 +193,8 @@ fn value_of(
 }
 
 fn value_of_leaf(alloc: Global, raw: Option<&Raw>) -> Result<Value, AllocError>
-    ensures { IfOk result (λ value. json.view value ≡ leaf_data (option_map (λ r. held.raw_of r.now) raw.entry)) }
+    ensures { IfOk result (λ value. json.view value
+        ≡ leaf_data (option_map (λ r. held.raw_of r.now) raw.entry)) }
 {
     match raw {
         Some(raw) => value_of_raw(alloc, raw),

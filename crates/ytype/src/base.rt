@@ -60,7 +60,8 @@ impl Integer {
     }
 
     fn taken(self, raw: &Raw) -> Option<i128>
-        ensures { option_map number_value result ≡ integer_taken (integer_of self) (raw_of raw.now) }
+        ensures { option_map number_value result
+            ≡ integer_taken (integer_of self) (raw_of raw.now) }
     {
         match raw {
             Raw::Int(number) => {
@@ -253,7 +254,8 @@ impl Base {
         alloc: Global,
         raw: &'a Raw,
     ) -> Result<Option<Found<'a>>, AllocError>
-        ensures { IfOk result (λ found. founds found ≡ base_taken (base_of self.now) (raw_of raw.now)) }
+        ensures { IfOk result (λ found. founds found
+            ≡ base_taken (base_of self.now) (raw_of raw.now)) }
     {
         match (self, raw) {
             (Base::Integer(integer), _) => Ok(number_found(integer.taken(raw))),

@@ -38,7 +38,8 @@ fn holds_position(positions: &BTreeSet<i64>, number: &i64) -> bool
 }
 
 fn names_text(alloc: Global, names: &Names, positions: &BTreeSet<i64>) -> Result<String, AllocError>
-    ensures { IfOk result (λ text. string_bytes text ≡ spaced_from true (filter (λ a. holds_position positions.now a.number) names.now)) }
+    ensures { IfOk result (λ text. string_bytes text
+        ≡ spaced_from true (filter (λ a. holds_position positions.now a.number) names.now)) }
 {
     let mut text = String::new(alloc);
     let mut first = true;
@@ -51,9 +52,10 @@ fn names_text(alloc: Global, names: &Names, positions: &BTreeSet<i64>) -> Result
     Ok(text)
 }
 
-// Adds a name, and a space before it where another one stands before.
+/// Adds a name, and a space before it where another one stands before.
 fn push_name(text: &mut String, name: &str, first: bool) -> Result<(), AllocError>
-    ensures { OnOk result (string_bytes text.new ≡ string_bytes text.old ++ (if first then name.now else (space ∷ name.now))) }
+    ensures { OnOk result (string_bytes text.new ≡ string_bytes text.old
+        ++ (if first then name.now else (space ∷ name.now))) }
 {
     if !first {
         text.push_str(" ")?;
@@ -63,7 +65,8 @@ fn push_name(text: &mut String, name: &str, first: bool) -> Result<(), AllocErro
 }
 
 fn bits_text(alloc: Global, names: &Names, positions: &[i64]) -> Result<String, AllocError>
-    ensures { IfOk result (λ text. string_bytes text ≡ spaced_from true (names_at positions.now names.now)) }
+    ensures { IfOk result (λ text. string_bytes text
+        ≡ spaced_from true (names_at positions.now names.now)) }
 {
     names_text(alloc, names, &set_of(alloc, positions)?)
 }
@@ -90,7 +93,8 @@ pub(crate) fn content_text(
     base: &Base,
     content: &Content,
 ) -> Result<String, AllocError>
-    ensures { IfOk result (λ text. string_bytes text ≡ content_text (base_of base.now) (content_of content.now)) }
+    ensures { IfOk result (λ text. string_bytes text
+        ≡ content_text (base_of base.now) (content_of content.now)) }
 {
     match content {
         Content::Text(text) => text.clone(),

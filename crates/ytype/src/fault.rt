@@ -25,7 +25,7 @@ impl From<AllocError> for BadValue {
     }
 }
 
-// An error-app-tag, with the space that parts it from what stands before it.
+/// An error-app-tag, with the space that parts it from what stands before it.
 #[derive(Drop)]
 struct TagBehind<'a>(&'a Option<String>);
 

@@ -211,7 +211,8 @@ impl SimpleType {
     }
 
     fn within(&self, alloc: Global, found: Option<Found<'_>>) -> Result<Option<Content>, AllocError>
-        ensures { IfOk result (λ content. contents content ≡ option_and_then (limited self.now.limits) (founds found.entry)) }
+        ensures { IfOk result (λ content. contents content
+            ≡ option_and_then (limited self.now.limits) (founds found.entry)) }
     {
         match found {
             None => Ok(None),
@@ -224,7 +225,8 @@ impl SimpleType {
 
     /// The value of what a document has.
     pub(crate) fn taken(&self, alloc: Global, raw: &Raw) -> Result<Option<Content>, AllocError>
-        ensures { IfOk result (λ content. contents content ≡ simple_taken self.now (raw_of raw.now)) }
+        ensures { IfOk result (λ content. contents content
+            ≡ simple_taken self.now (raw_of raw.now)) }
     {
         self.within(alloc, self.base().taken(alloc, raw)?)
     }
@@ -238,7 +240,8 @@ impl SimpleType {
 
     /// The canonical text of what it took.
     pub(crate) fn text_of(&self, alloc: Global, content: &Content) -> Result<String, AllocError>
-        ensures { IfOk result (λ text. string_bytes text ≡ content_text self.now.base (content_of content.now)) }
+        ensures { IfOk result (λ text. string_bytes text
+            ≡ content_text self.now.base (content_of content.now)) }
     {
         content_text(alloc, self.base(), content)
     }
@@ -288,7 +291,7 @@ impl SimpleType {
         }
     }
 
-    // The numbers that its restrictions leave of those of its built-in type.
+    /// The numbers that its restrictions leave of those of its built-in type.
     fn left<'a>(&'a self, numbers: &'a Part) -> &'a [Part]
         ensures { result.now ≡ left_by numbers.now self.now.limits }
     {
@@ -306,7 +309,8 @@ impl SimpleType {
         bounds: (Part, u32),
     ) -> Result<SimpleType, NarrowFault>
         requires { bounds.1 ≤ 18 }
-        ensures { Gives same narrow_refusal result (ok_or (limited_by self.now spans.now (text_of app_tag.now) bounds) tt) }
+        ensures { Gives same narrow_refusal result
+            (ok_or (limited_by self.now spans.now (text_of app_tag.now) bounds) tt) }
     {
         match restricted(alloc, self.left(&bounds.0), bounds.1, spans) {
             Err(fault) => Err(fault),
@@ -342,7 +346,8 @@ impl SimpleType {
     ) -> Result<SimpleType, NarrowFault>
         requires { ForSome bounds (λ b. b.1 ≤ 18) }
         ensures { Gives same narrow_refusal result
-            (ok_or (option_and_then (limited_by self.now spans.now (text_of app_tag.now)) bounds) tt) }
+            (ok_or (option_and_then (limited_by self.now spans.now (text_of app_tag.now)) bounds)
+            tt) }
     {
         match bounds {
             None => Err(NarrowFault::Refused),
@@ -356,7 +361,8 @@ impl SimpleType {
         alloc: Global,
         restriction: &Restriction,
     ) -> Result<SimpleType, NarrowFault>
-        ensures { Gives same narrow_refusal result (ok_or (narrowed_simple self.now (restriction_of restriction.now)) tt) }
+        ensures { Gives same narrow_refusal result
+            (ok_or (narrowed_simple self.now (restriction_of restriction.now)) tt) }
     {
         match restriction {
             Restriction::Range { spans, app_tag } => {

@@ -181,7 +181,8 @@ impl YType {
     /// white space at an end, or a number doesn't lie between -2147483648 and 2147483647.
     pub fn enumeration(alloc: Global, namings: &[Naming]) -> Result<YType, NarrowFault>
         ensures { Gives same narrow_refusal result
-            (ok_or (option_map (λ ns. plain (enumeration_base ns)) (names.enum_names namings.now)) tt) }
+            (ok_or (option_map (λ ns. plain (enumeration_base ns)) (names.enum_names namings.now))
+            tt) }
     {
         match enum_names(alloc, namings) {
             Err(fault) => Err(fault),
@@ -228,7 +229,8 @@ impl YType {
 
 impl Shape {
     fn add_to(&self, members: &mut Vec<SimpleType>) -> Result<(), AllocError>
-        ensures { OnOk result (members.new.items ≡ members.old.items ++ members_of (shape_of self.now)) }
+        ensures { OnOk result (members.new.items ≡ members.old.items
+            ++ members_of (shape_of self.now)) }
     {
         match self {
             Shape::Single(simple) => members.push(simple.clone()?)?,
@@ -243,7 +245,8 @@ impl Shape {
 }
 
 fn first_taken(alloc: Global, members: &[SimpleType], raw: &Raw) -> Result<Option<Val>, AllocError>
-    ensures { IfOk result (λ val. val ≡ first_value (λ s. simple_taken s (raw_of raw.now)) 0 members.now) }
+    ensures { IfOk result (λ val. val
+        ≡ first_value (λ s. simple_taken s (raw_of raw.now)) 0 members.now) }
 {
     'members: for (number, member) in members.iter().enumerate() {
         match member.taken(alloc, raw)? {
@@ -289,7 +292,8 @@ impl YType {
     /// is above its second, parts aren't disjoint and ascending, a bound has too many digits after its point, or the
     /// numbers don't all lie within those of the type.
     pub fn narrow(&self, alloc: Global, restriction: &Restriction) -> Result<YType, NarrowFault>
-        ensures { Gives same narrow_refusal result (ok_or (narrowed self.now (restriction_of restriction.now)) tt) }
+        ensures { Gives same narrow_refusal result
+            (ok_or (narrowed self.now (restriction_of restriction.now)) tt) }
     {
         match (self.requires_instance, &self.shape) {
             (None, Shape::Single(simple)) => match simple.narrow(alloc, restriction) {
