@@ -1,4 +1,4 @@
--- `risen` picks one more failure. Assumes `Logic`.
+-- `with_one_more` picks one more failure. Assumes `Logic`.
 use Rattle.std.proofs.Common.{List, [], ◌∷◌, ◌++◌, ◌+◌, refl}
 use seplogic.Ra.Ura.{Ura}
 use mir.Syntax.{Fn}
@@ -27,10 +27,10 @@ use denote.Triple.Table.{entered}
 use denote.Triple.Walked.{says, Stays, stay_dropped, walk_of, ends_at, walk_Meets, Goes-dropped}
 use Rattle.youtput.proofs.WalkLemmas.{none, none_made}
 use Rattle.youtput.specs.contracts.count.CallCount as CallCount
-use Rattle.youtput.specs.contracts.count.CallCount.risen as F
-use Rattle.youtput.specs.contracts.count.CallCount.risen.Key.{name as #self}
-use Rattle.youtput.proofs.count.CallCount.risen.Statement as stated
-use Rattle.youtput.proofs.count.CallCount.risen.Code as code
+use Rattle.youtput.specs.contracts.count.CallCount.with_one_more as F
+use Rattle.youtput.specs.contracts.count.CallCount.with_one_more.Key.{name as #self}
+use Rattle.youtput.proofs.count.CallCount.with_one_more.Statement as stated
+use Rattle.youtput.proofs.count.CallCount.with_one_more.Code as code
 
 abbrev function : Fn
 function = code.function
@@ -75,9 +75,9 @@ module _ {M : Type 1} {𝓤 : Ura M} (𝓛 : Logic 𝓤) (at_mem : Memory → SP
       walk_Meets 𝓛 ended stayed (Goes-dropped 𝓛 1 (RefOf (0 ∷ []) tt (plain (λ _. CallCount.the_row)) (λ _. tt)) yes (λ κs x f. refl), tt) held
       (WpFn 𝓤 H 𝓣.C 𝓣.Λ function) (WpFn-mono 𝓤 H 𝓛.laws 𝓣 function) (walks 𝓣.C 𝓣.Λ)
 
-pub risen_spec : {M : Type 1} → stated.statement M
+pub with_one_more_spec : {M : Type 1} → stated.statement M
 unfolding tables_of
-risen_spec 𝓤 𝓛 𝓜 𝓡 wired =
+with_one_more_spec 𝓤 𝓛 𝓜 𝓡 wired =
     let 𝓣 : Tables 𝓤 𝓛.H = tables_of 𝓤 𝓛.H 𝓜 (tables 𝓤 𝓛.H 𝓜 𝓡 𝓡.env) in
     entered 𝓤 𝓛.H (triple_of 𝓛 ended.signature (closing 𝓛 ended (held 𝓛 𝓜.mem 𝓡.returns))) 𝓣.C 𝓣.Λ #self function
     (code.unfolded 𝓤 𝓛.H 𝓜 𝓡 wired) (meets 𝓛 𝓜.mem 𝓡.returns 𝓣)
