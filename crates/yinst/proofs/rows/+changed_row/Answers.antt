@@ -2,7 +2,7 @@ use Rattle.yspec.specs.edit.Edit.{place_of}
 use Rattle.ytree.specs.View.{row_view}
 use Rattle.yinst.specs.Locating.{spot_view}
 use Rattle.yinst.proofs.RowChangeLemmas.{same_if_ok, below_changed, nothing_changed}
-use Rattle.yinst.proofs.rows.+changed.Goals as goal
+use Rattle.yinst.proofs.rows.+changed_row.Goals as goal
 
 pub changed_below-returns-in_ok-with_below-in-Some : goal.changed_below-returns-in_ok-with_below-in-Some
 changed_below-returns-in_ok-with_below-in-Some t c =

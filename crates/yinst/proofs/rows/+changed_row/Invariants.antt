@@ -1,5 +1,5 @@
 use Rattle.std.proofs.Common.{◌+◌, ◌*◌, length}
-use Rattle.yinst.proofs.rows.+changed.Given as goal
+use Rattle.yinst.proofs.rows.+changed_row.Given as goal
 
 -- one node less leads on
 abbrev pub decreases-changed : goal.decreases-changed

@@ -4,7 +4,7 @@ use Rattle.yspec.specs.Results.{Fails}
 use Rattle.ytext.specs.Told.{told_by}
 use Rattle.ytext.specs.declared.fault.TextFault.{TextFault}
 use Rattle.ytext.proofs.TextLemmas.{too_long, judged, no_text}
-use Rattle.ytext.proofs.text.checked.Goals as goal
+use Rattle.ytext.proofs.text.checked_text.Goals as goal
 
 pub returns-then-bytes-gt-TEXT_LIMIT-clause-err : goal.returns-then-bytes-gt-TEXT_LIMIT-clause-err
 returns-then-bytes-gt-TEXT_LIMIT-clause-err c =

@@ -1,7 +1,7 @@
 use Rattle.std.proofs.Common.{ap, take, drop, length, unwrap_or, ◌∙◌}
 use Rattle.ytree.specs.Walk.{is_other}
 use Rattle.ytree.proofs.InstanceLemmas.{place_or_len, before_place, from_place}
-use Rattle.ytree.proofs.instances.parted.Goals as goal
+use Rattle.ytree.proofs.instances.instances_and_rest.Goals as goal
 
 pub returns-clause-found : goal.returns-clause-found
 returns-clause-found c =

@@ -1,7 +1,7 @@
 use Rattle.ymodel.specs.View as schema_view
 use Rattle.ytree.specs.View.{tree_view}
 use Rattle.ylive.proofs.FittingTestLemmas.{fits_is, fits_if}
-use Rattle.ylive.proofs.live.Live.edited.Goals as goal
+use Rattle.ylive.proofs.live.Live.edited_tree.Goals as goal
 
 pub returns-clause-answer : goal.returns-clause-answer
 returns-clause-answer c = c.apply.ensures.answer

@@ -4,7 +4,7 @@ use Rattle.ypreorder.specs.View.{row_by}
 use Rattle.yword.specs.KeywordView.{keyword_view}
 use Rattle.ygrammar.specs.SourceView.{source_view}
 use Rattle.yplan.proofs.PartLemmas.{stated_is}
-use Rattle.yplan.proofs.planned.Planned.stated.Goals as goal
+use Rattle.yplan.proofs.planned.Planned.own_argument.Goals as goal
 
 pub returns-else-self : goal.returns-else-self
 returns-else-self c = λ number.

@@ -2,8 +2,8 @@ use Rattle.std.proofs.Common.{ℕ, List, ◌<◌, ◌+◌, ◌-◌, length, drop
 use Rattle.yspec.specs.text.Scanning.{pieces_from}
 use Rattle.ytext.specs.Left.{column_at}
 use Rattle.ytext.proofs.TokenLemmas.{break_passed, other_passed}
-use Rattle.ytext.proofs.cursor.Cursor.moved.Goals as goal
-use Rattle.ytext.proofs.cursor.Cursor.moved.Goals.{then-bytes-i-eq10, else-bytes-i-eq10}
+use Rattle.ytext.proofs.cursor.Cursor.moved_to.Goals as goal
+use Rattle.ytext.proofs.cursor.Cursor.moved_to.Goals.{then-bytes-i-eq10, else-bytes-i-eq10}
 
 pub loop-i-preserved : goal.loop-i-preserved
 loop-i-preserved c =

@@ -1,7 +1,7 @@
 use Rattle.std.proofs.Common.{◌≡◌, ◌+◌, ◌-◌, ◌≤◌, drop}
 use Rattle.yspec.specs.text.Scanning.{pieces_from}
 use Rattle.ytext.specs.Left.{pieces_behind, column_at}
-use Rattle.ytext.proofs.cursor.Cursor.moved.Given as goal
+use Rattle.ytext.proofs.cursor.Cursor.moved_to.Given as goal
 
 abbrev pub invariant-loop-i : goal.invariant-loop-i
 invariant-loop-i l = record {
