@@ -98,16 +98,6 @@ fn write_type<W: Sink>(
     }
 }
 
-/// The type of a leaf or of items.
-fn type_in(kind: &Kind) -> Option<&LeafType>
-    ensures { option_map (λ t. leaf_type_view t.now) result ≡ type_in (kind_view kind.now) }
-{
-    match kind {
-        Kind::Leaf { leaf_type, .. } | Kind::LeafList { leaf_type, .. } => Some(leaf_type),
-        _ => None,
-    }
-}
-
 /// Writes the type of a node behind its label, where it has one, given the widest label in its row.
 pub(crate) fn write_type_column<W: Sink>(
     schema: &Schema,
@@ -119,7 +109,7 @@ pub(crate) fn write_type_column<W: Sink>(
     ensures { Writes (side W.taken W.failures sink.old) (side W.taken W.failures sink.new)
         (spec.type_column (view schema.now) shown width (node_view 0 node.now)) result }
 {
-    let Some(leaf_type) = type_in(&node.kind) else {
+    let Some(leaf_type) = node.kind.leaf_type() else {
         return Ok(());
     };
     write_spaces(width.saturating_sub(label_width(schema, shown, node)), sink)?;

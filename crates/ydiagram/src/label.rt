@@ -78,15 +78,6 @@ fn absence_mark(absence: &Absence) -> &'static str
     }
 }
 
-fn keys_in(kind: &Kind) -> &[SchemaId]
-    ensures { numbers_of result.now ≡ keys_in (kind_view kind.now) }
-{
-    match kind {
-        Kind::List { tuples, .. } => tuples.keys.as_slice(),
-        _ => &[],
-    }
-}
-
 /// The name of a key, or no text of a number that no node has.
 fn key_name(schema: &Schema, id: SchemaId) -> &str
     ensures { result.now ≡ spec.key_name (view schema.now) id.0 }
@@ -124,7 +115,7 @@ pub(crate) fn write_label<W: Sink>(
 {
     write_name(schema, shown, node, sink)?;
     put(sink, &[option_mark(&node.kind)])?;
-    write_keys(schema, keys_in(&node.kind), sink)
+    write_keys(schema, node.kind.keys(), sink)
 }
 
 /// How many bytes the name of a node has with its prefix.

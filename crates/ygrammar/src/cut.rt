@@ -8,20 +8,7 @@ ghost use Rattle.yspec.specs.edit.EditText.{behind};
 ghost use Rattle.yspec.specs.linking.Arguments.{after_white, before_white, trimmed, cut_at_dots};
 ghost use Rattle.ygrammar.specs.Cut.{sides, parts_of};
 
-/// A space, a tab or a part of a line break.
-pub(crate) fn is_white(byte: u8) -> bool
-    ensures { result ≡ is_white byte }
-{
-    matches!(byte, b' ' | b'\t' | b'\n' | b'\r')
-}
-
-fn place_of(bytes: &[u8], stop: u8) -> Option<usize>
-    ensures value { result ≡ position (λ x. x == stop) bytes.now }
-    ensures within { IfSome result
-        (λ n. (n < length bytes.now) × (slice_index bytes.now n ≡ stop)) }
-{
-    bytes.iter().position(|byte| *byte == stop)
-}
+use ytext::{is_white, parts_around, place_of};
 
 fn white_place(bytes: &[u8]) -> Option<usize>
     ensures value { result ≡ position is_white bytes.now }
@@ -29,16 +16,6 @@ fn white_place(bytes: &[u8]) -> Option<usize>
         (λ n. (n < length bytes.now) × (is_white (slice_index bytes.now n) ≡ true)) }
 {
     bytes.iter().position(|byte| is_white(*byte))
-}
-
-/// A text before an ASCII character, and behind it.
-fn around(text: &str, at: usize) -> (&str, &str)
-    requires within { at < length text.now }
-    requires ascii { slice_index text.now at < 128 }
-    ensures before { result.0.now ≡ take at text.now }
-    ensures behind { result.1.now ≡ drop (at + 1) text.now }
-{
-    (&text[..at], &text[at + 1..])
 }
 
 /// A text before and behind the first of these ASCII characters.
@@ -49,7 +26,7 @@ pub(crate) fn cut(text: &str, stop: u8) -> Option<(&str, &str)>
     ensures shorter { IfSome result (λ p. length p.1.now < length text.now) }
 {
     let at = place_of(text.as_bytes(), stop)?;
-    Some(around(text, at))
+    Some(parts_around(text, at))
 }
 
 /// A text before and behind the first white space.
@@ -59,7 +36,7 @@ pub(crate) fn cut_at_white(text: &str) -> Option<(&str, &str)>
     ensures shorter { IfSome result (λ p. length p.1.now < length text.now) }
 {
     let at = white_place(text.as_bytes())?;
-    Some(around(text, at))
+    Some(parts_around(text, at))
 }
 
 /// What stands behind a slash, where a text begins with it.
@@ -67,7 +44,7 @@ pub(crate) fn behind_slash(text: &str) -> Option<&str>
     ensures { option_map (λ t. t.now) result ≡ behind 47 text.now }
 {
     match text.as_bytes().first() {
-        Some(b'/') => Some(around(text, 0).1),
+        Some(b'/') => Some(parts_around(text, 0).1),
         _ => None,
     }
 }
@@ -79,7 +56,7 @@ fn behind_white(text: &str) -> Option<&str>
     ensures none { IfNone result (after_white text.now ≡ text.now) }
 {
     match text.as_bytes().first() {
-        Some(byte) if is_white(*byte) => Some(around(text, 0).1),
+        Some(byte) if is_white(*byte) => Some(parts_around(text, 0).1),
         _ => None,
     }
 }
@@ -96,7 +73,7 @@ fn without_white(text: &str) -> Option<&str>
     }
     let last = bytes.len() - 1;
     if is_white(bytes[last]) {
-        Some(around(text, last).0)
+        Some(parts_around(text, last).0)
     } else {
         None
     }
@@ -153,5 +130,5 @@ pub(crate) fn cut_at_dots(text: &str) -> Option<(&str, &str)>
     ensures { option_map sides result ≡ cut_at_dots text.now }
 {
     let at = dots_place(text.as_bytes())?;
-    Some((around(text, at).0, around(text, at + 1).1))
+    Some((parts_around(text, at).0, parts_around(text, at + 1).1))
 }

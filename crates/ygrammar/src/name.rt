@@ -8,9 +8,9 @@ ghost use Rattle.yspec.specs.edit.EditText.{all_or_none};
 ghost use Rattle.yspec.specs.linking.Arguments as spec;
 ghost use Rattle.ygrammar.specs.NameView.{name_view, names_view};
 
-use crate::cut::{after_white, behind_slash, cut, cut_at_white, is_white, trimmed};
+use crate::cut::{after_white, behind_slash, cut, cut_at_white, trimmed};
 use std::alloc::{AllocError, Global};
-use ytext::is_name;
+use ytext::{is_name, is_white};
 
 /// A name, with the prefix in front of it where it has one.
 #[derive(Clone, Copy, Debug)]

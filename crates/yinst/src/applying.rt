@@ -22,10 +22,7 @@ use crate::rows::{Change, changed_row, is_over};
 use std::alloc::{AllocError, Global};
 use ymodel::{Schema, SchemaId};
 use ypath::{Edit, EditCode, EditFault, Path, bind_path, refused};
-use ytree::{Stored, Tree};
-
-/// A document has at most so many nodes.
-const NODE_LIMIT: usize = 1_000_000;
+use ytree::{DOCUMENT_LIMIT, Stored, Tree};
 
 /// The document after an edit, or the first refusal: of the path's steps E1, of its names E2 and its predicates E3, of
 /// where it stands E4 to E8, of its value E9 and E10, and E11. The document that is given stays as it is.
@@ -211,7 +208,7 @@ fn tree_within_limit(
 fn within_limit(tree: Tree) -> Result<Tree, EditFault>
     ensures { Gives tree_view told_by result (spec.within_limit (tree_view tree)) }
 {
-    if is_over(tree.nodes(), NODE_LIMIT) {
+    if is_over(tree.nodes(), DOCUMENT_LIMIT) {
         Err(refused(EditCode::E11))
     } else {
         Ok(tree)

@@ -226,17 +226,8 @@ fn keys_of(schema: &Schema, id: SchemaId) -> &[SchemaId]
         ≡ keys_in (node_of (schema_view.view schema.entry.now) id.0).kind }
 {
     match schema.kind(id) {
-        Some(node) => keys_in(&node.kind),
+        Some(node) => node.kind.keys(),
         None => &[],
-    }
-}
-
-fn keys_in(kind: &Kind) -> &[SchemaId]
-    ensures { numbers_of result.now ≡ keys_in (kind_view kind.entry.now) }
-{
-    match kind {
-        Kind::List { tuples, .. } => tuples.keys.as_slice(),
-        _ => &[],
     }
 }
 
@@ -320,21 +311,12 @@ fn text_of(alloc: Global, schema: &Schema, stored: &Stored) -> Result<Option<Str
     let Some(node) = schema.kind(stored.id()) else {
         return Ok(None);
     };
-    let Some(leaf_type) = type_in(&node.kind) else {
+    let Some(leaf_type) = node.kind.leaf_type() else {
         return Ok(None);
     };
     match stored.value() {
         Some(raw) => canonical_of(alloc, leaf_type, raw),
         None => Ok(None),
-    }
-}
-
-fn type_in(kind: &Kind) -> Option<&LeafType>
-    ensures { option_map (λ t. leaf_type_view t.now) result ≡ type_in (kind_view kind.entry.now) }
-{
-    match kind {
-        Kind::Leaf { leaf_type, .. } | Kind::LeafList { leaf_type, .. } => Some(leaf_type),
-        _ => None,
     }
 }
 

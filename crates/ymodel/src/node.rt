@@ -96,9 +96,9 @@ pub enum Kind {
 }
 
 impl Kind {
-    ghost use Rattle.std.specs.Prelude.{◌≡◌};
+    ghost use Rattle.std.specs.Prelude.{◌≡◌, option_map};
     ghost use Rattle.yspec.specs.schema.Schema as spec;
-    ghost use Rattle.ymodel.specs.Layout.{kind_view};
+    ghost use Rattle.ymodel.specs.Layout.{kind_view, leaf_type_view, numbers_of};
 
     /// Whether it stands in documents: all but choices and cases.
     pub fn is_data(&self) -> bool
@@ -119,6 +119,27 @@ impl Kind {
         ensures { result ≡ spec.has_value (kind_view self.now) }
     {
         matches!(self, Kind::Leaf { .. } | Kind::LeafList { .. })
+    }
+
+    /// The key leafs of a list; none of another kind, nor of a list without key.
+    pub fn keys(&self) -> &[SchemaId]
+        ensures { numbers_of result.now ≡ spec.keys_in (kind_view self.now) }
+    {
+        match self {
+            Kind::List { tuples, .. } => tuples.keys.as_slice(),
+            _ => &[],
+        }
+    }
+
+    /// The type of a leaf or of items; none of a kind without a value.
+    pub fn leaf_type(&self) -> Option<&LeafType>
+        ensures { option_map (λ t. leaf_type_view t.now) result
+            ≡ spec.type_in (kind_view self.now) }
+    {
+        match self {
+            Kind::Leaf { leaf_type, .. } | Kind::LeafList { leaf_type, .. } => Some(leaf_type),
+            _ => None,
+        }
     }
 }
 

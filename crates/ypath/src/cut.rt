@@ -4,14 +4,7 @@ ghost use Rattle.std.specs.Prelude.{◌≡◌, ◌+◌, ◌<◌, ◌≤◌, ℕ,
 ghost use Rattle.yspec.specs.edit.EditText.{cut_at, quote_behind, behind, after_spaces};
 ghost use Rattle.ypath.specs.EditView.{sides};
 
-/// Where a byte first stands.
-pub(crate) fn place_of(bytes: &[u8], wanted: u8) -> Option<usize>
-    ensures value { result ≡ position (λ x. x == wanted) bytes.now }
-    ensures within { IfSome result
-        (λ n. (n < length bytes.now) × (slice_index bytes.now n ≡ wanted)) }
-{
-    bytes.iter().position(|byte| *byte == wanted)
-}
+use ytext::parts_around;
 
 /// The quote that is open behind a byte, where one is.
 fn quote_behind(byte: u8, quote: Option<u8>) -> Option<u8>
@@ -52,16 +45,6 @@ fn stop_place(bytes: &[u8], stop: u8) -> Option<usize>
     None
 }
 
-/// A text before an ASCII character, and behind it.
-fn around(text: &str, at: usize) -> (&str, &str)
-    requires within { at < length text.now }
-    requires ascii { slice_index text.now at < 128 }
-    ensures before { result.0.now ≡ take at text.now }
-    ensures behind { result.1.now ≡ drop (at + 1) text.now }
-{
-    (&text[..at], &text[at + 1..])
-}
-
 /// A text before and behind the first of these ASCII characters that stands outside quotes.
 pub(crate) fn cut(text: &str, stop: u8) -> Option<(&str, &str)>
     requires { stop < 128 }
@@ -69,7 +52,7 @@ pub(crate) fn cut(text: &str, stop: u8) -> Option<(&str, &str)>
     ensures shorter { IfSome result (λ p. length p.1.now < length text.now) }
 {
     let at = stop_place(text.as_bytes(), stop)?;
-    Some(around(text, at))
+    Some(parts_around(text, at))
 }
 
 /// What stands behind an ASCII character, where a text begins with it.

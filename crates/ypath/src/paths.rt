@@ -8,16 +8,10 @@ ghost use Rattle.ypath.specs.EditView.{key_view, keys_view, predicate_view, step
 ghost use Rattle.ypath.specs.declared.edit.EditCode.TheVariants.{E1};
 ghost use Rattle.ypath.specs.declared.edit.EditFault.TheVariants.{Refused};
 
-use crate::cut::{after_spaces, behind, cut, place_of};
+use crate::cut::{after_spaces, behind, cut};
 use crate::edit::{Edit, EditCode, EditFault, Key, NamedStep, Path, Predicate};
 use std::alloc::{AllocError, Global};
-use ytext::{is_identifier, is_name};
-
-fn is_digit(byte: u8) -> bool
-    ensures { result ≡ is_digit byte }
-{
-    matches!(byte, b'0'..=b'9')
-}
+use ytext::{is_digit, is_identifier, is_name, place_of};
 
 fn are_digits(bytes: &[u8]) -> bool
     ensures { result ≡ list_all is_digit bytes.now }

@@ -1,6 +1,8 @@
 //! Planned nodes.
 
-use ygrammar::{BrokenRule, CompileCode, Source, argument_of, argument_with, built_in_with};
+use ygrammar::{
+    BrokenRule, CompileCode, Source, argument_of, argument_with, broken, built_in_with,
+};
 use ypreorder::Node;
 use yword::{BuiltIn, Keyword};
 
@@ -89,11 +91,7 @@ impl<'a, 't> Planned<'a, 't> {
             ≡ broken_at (code_number code) (planned_view number self.now) }
     {
         let label = self.source.label();
-        BrokenRule {
-            module: label.home,
-            line: label.statement.line(),
-            code,
-        }
+        broken(code, label.home, label.statement)
     }
 
     /// Whether it holds values.

@@ -24,10 +24,11 @@ ghost use Rattle.ymodel.specs.View.{view, module_view};
 use crate::fault::CompileFault;
 use crate::limits::{LEVEL_LIMIT, NODE_LIMIT};
 use crate::making::rows_of;
-use crate::names::{broken_at, repeated_module};
+use crate::names::repeated_module;
 use std::alloc::{AllocError, Global};
 use ygrammar::{
-    BrokenRule, CompileCode, Source, Sources, argument_of, argument_with, broken_statement_rule,
+    BrokenRule, CompileCode, Source, Sources, argument_of, argument_with, broken,
+    broken_statement_rule,
 };
 use ylink::{broken_prefix_rule, broken_type_name_rule, broken_type_rule};
 use ymodel::{Schema, SchemaModule};
@@ -135,7 +136,7 @@ fn at_last(modules: &[Module], is_passed: bool) -> Option<BrokenRule>
     ensures { seen result ≡ least_from None (limit_breaks is_passed (modules_view modules.now)) }
 {
     match modules.last() {
-        Some(last) if is_passed => Some(broken_at(CompileCode::C18, modules.len() - 1, &last.top)),
+        Some(last) if is_passed => Some(broken(CompileCode::C18, modules.len() - 1, &last.top)),
         _ => None,
     }
 }

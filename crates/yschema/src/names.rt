@@ -8,7 +8,7 @@ ghost use Rattle.ygrammar.specs.BreakView.{break_view, code_number, seen};
 
 use indexmap::IndexSet;
 use std::alloc::{AllocError, Global};
-use ygrammar::{BrokenRule, CompileCode, least_when};
+use ygrammar::{BrokenRule, CompileCode, broken, least_when};
 use ytext::{Module, Stmt};
 
 /// The name of a module's statement.
@@ -16,21 +16,6 @@ fn name_of(statement: &Stmt) -> &str
     ensures { result.now ≡ argument_text (view statement.now).0 }
 {
     statement.argument().unwrap_or("")
-}
-
-/// A rule that a module breaks, which is told at its statement.
-pub(crate) fn broken_at(code: CompileCode, module: usize, top: &Stmt) -> BrokenRule
-    ensures { break_view result ≡ record {
-      code = code_number code;
-      module_number = «module»;
-      line = (view top.now).0.line;
-    } }
-{
-    BrokenRule {
-        module,
-        line: top.line(),
-        code,
-    }
 }
 
 /// The least of one so far and of the modules that are named as one before them in the set.
@@ -46,7 +31,7 @@ pub(crate) fn repeated_module(
     let mut told = so_far;
     for (module, text) in modules.iter().enumerate() {
         let is_new = names.insert(name_of(&text.top))?;
-        let repeated = broken_at(CompileCode::C7, module, &text.top);
+        let repeated = broken(CompileCode::C7, module, &text.top);
         told = least_when(!is_new, told, repeated);
     }
     Ok(told)

@@ -3,6 +3,7 @@
 
 mod cause;
 mod cursor;
+mod cut;
 mod fault;
 mod name;
 mod quoted;
@@ -13,8 +14,10 @@ mod statement;
 mod text;
 mod token;
 
+pub use cut::{parts_around, place_of};
 pub use fault::{TextCode, TextFault};
-pub use name::{is_identifier, is_name};
+pub use name::{is_digit, is_identifier, is_name};
+pub use scan::is_white;
 pub use scanner::Tokens;
 pub use statement::{Module, Stmt};
 pub use text::{parse, tokens};

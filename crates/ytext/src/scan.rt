@@ -21,8 +21,8 @@ pub(crate) fn stands_at(bytes: &[u8], at: usize, byte: u8) -> bool
     at < bytes.len() && bytes[at] == byte
 }
 
-/// Whether a byte is a space, a tab or a part of a line break.
-pub(crate) fn is_white(byte: u8) -> bool
+/// Whether a byte is a space, a tab or a part of a line break (RFC 7950, 6.1.3).
+pub fn is_white(byte: u8) -> bool
     ensures cases { result ≡ is_white byte }
     ensures ascii { IsTrue result → byte < 128 }
 {

@@ -24,7 +24,7 @@ use ymodel::{Child, Children, Schema, SchemaId, SchemaNode};
 use ytype::Raw;
 
 /// The most nodes that a document may have.
-const NODE_LIMIT: usize = 1_000_000;
+pub const DOCUMENT_LIMIT: usize = 1_000_000;
 
 /// The document that JSON bytes denote under a schema, or the first refusal: J1 and J2, then J3 to J7 depth first, members
 /// in byte order of their names, items by position (RFC 7951).
@@ -52,7 +52,14 @@ fn tree_of(alloc: Global, schema: &Schema, value: &Value) -> Result<Tree, DocFau
         return Err(refused_at_root(alloc, DocCode::J2));
     };
     let mut place = Vec::new(alloc);
-    match visit_members(alloc, schema, None, members, &mut place, Some(NODE_LIMIT)) {
+    match visit_members(
+        alloc,
+        schema,
+        None,
+        members,
+        &mut place,
+        Some(DOCUMENT_LIMIT),
+    ) {
         Ok(_) => {
             let mut row = Vec::new(alloc);
             put_rows(alloc, schema, None, schema.roots(), members, &mut row)?;

@@ -21,5 +21,5 @@ pub returns : goal.returns
 returns g c =
     left_last _ _ _ _ _ c.write_keys.result
     (left_after _ _ _ _ _ _ (left_after _ _ _ _ _ _
-    (left_same _ _ _ _ _ (label_parts (view c.args.schema.now) c.args.shown (node_view 0 c.args.node.now) c.option_mark.result.now (numbers_of c.keys_in.result.now) c.option_mark.ensures c.keys_in.ensures) (left_all _ _))
+    (left_same _ _ _ _ _ (label_parts (view c.args.schema.now) c.args.shown (node_view 0 c.args.node.now) c.option_mark.result.now (numbers_of c.keys.result.now) c.option_mark.ensures c.keys.ensures) (left_all _ _))
     c.in_ok-write_name.ensures) c.in_ok-put.ensures) c.write_keys.ensures

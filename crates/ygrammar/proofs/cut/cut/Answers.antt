@@ -8,5 +8,5 @@ returns-in_err-at-clause-parts c =
 
 pub returns-clause-parts : goal.returns-clause-parts
 returns-clause-parts c =
-    split_somewhere (λ x. x == c.args.stop) c.args.text.now c.in_ok-at.at c.around.result.0.now c.around.result.1.now
-    (search rules) c.around.ensures.before c.around.ensures.behind
+    split_somewhere (λ x. x == c.args.stop) c.args.text.now c.in_ok-at.at c.parts_around.result.0.now c.parts_around.result.1.now
+    (search rules) c.parts_around.ensures.before c.parts_around.ensures.behind
