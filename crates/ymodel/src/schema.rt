@@ -155,7 +155,7 @@ impl Schema {
     }
 
     /// The leafs and leaf-lists that refer to a node by a leafref, in order (RFC 7950, 9.9).
-    pub fn references_to(&self, id: SchemaId) -> &[SchemaId]
+    pub fn targets(&self, id: SchemaId) -> &[SchemaId]
         ensures { numbers_of result.now ≡ references_to (view self.now) id.0 }
     {
         self.references.get(id)

@@ -2,7 +2,7 @@ use Rattle.std.proofs.Common.{None, ap, ◌∙◌}
 use Rattle.ymodel.specs.Layout.{forest_of}
 use Rattle.ymodel.specs.References.{referring}
 use Rattle.ymodel.proofs.ReferenceLemmas.{referring_places}
-use Rattle.ymodel.proofs.schema.Schema.references_to.Goals as goal
+use Rattle.ymodel.proofs.schema.Schema.targets.Goals as goal
 
 pub returns : goal.returns
 returns c =
