@@ -10,7 +10,7 @@ fn is_told_unread(alloc: Global, row: &str) -> Option<bool> {
     let (line, rest) = row.split_once('|')?;
     let (failing, name) = rest.split_once('|')?;
     let failing = failing.parse::<u64>().ok()?;
-    let files = InMemory::new(&[], Some(failing));
+    let files = InMemory::new(alloc, &[], Some(failing));
     let shown = shown_by(alloc, line, files, WHOLLY, WHOLLY).ok()?;
     let told = format!(in alloc; "cannot read {name}\n").ok()?;
     let is_told = shown.errors.bytes() == told.as_bytes() && shown.output.bytes().is_empty();
@@ -46,7 +46,7 @@ fn calls_with(written: usize) -> u64 {
 
 fn faulty(alloc: Global, written: usize) -> Result<Shown, AllocError> {
     let files = [file("p.yang", MODULE), file("d.json", TWO_FAULTS)];
-    let files = InMemory::new(&files, None);
+    let files = InMemory::new(alloc, &files, None);
     shown_by(alloc, VALIDATE, files, failing_behind(written), WHOLLY)
 }
 
@@ -83,7 +83,7 @@ fn is_refusal_cut(alloc: Global, written: usize) -> Option<bool> {
         file("p.yang", MODULE),
         file("d.json", "{\"p:c\":{\"id\":{}}}"),
     ];
-    let files = InMemory::new(&files, None);
+    let files = InMemory::new(alloc, &files, None);
     let shown = shown_by(alloc, VALIDATE, files, WHOLLY, failing_behind(written)).ok()?;
     let is_tried_once = shown.errors.calls() == calls_with(written) && shown.output.calls() == 0;
     let is_beginning = REFUSAL.as_bytes().get(..written) == Some(shown.errors.bytes());
@@ -117,7 +117,7 @@ fn is_tried_once(alloc: Global, row: &str) -> Option<bool> {
         file("d.json", "{}"),
         file("s.txt", "remove /p:d"),
     ];
-    let files = InMemory::new(&files, None);
+    let files = InMemory::new(alloc, &files, None);
     let shown = shown_by(alloc, line, files, nothing, nothing).ok()?;
     let is_tried = shown.output.calls() == to_output && shown.errors.calls() == to_errors;
     let is_empty = shown.output.bytes().is_empty() && shown.errors.bytes().is_empty();
@@ -160,7 +160,13 @@ fn scripted(alloc: Global, line: &str, output: Way, errors: Way) -> Result<Shown
         file("d.json", "{}"),
         file("s.txt", SCRIPT),
     ];
-    shown_by(alloc, line, InMemory::new(&files, None), output, errors)
+    shown_by(
+        alloc,
+        line,
+        InMemory::new(alloc, &files, None),
+        output,
+        errors,
+    )
 }
 
 /// Whether nothing is written behind a failure on the output: the row is the words and what is due there.

@@ -61,14 +61,16 @@ fn bytes_of<'a>(files: &[NamedFile<'a>], name: &str) -> &'a [u8]
 /// Files in memory, which tell what they contain.
 #[derive(Drop)]
 pub struct Known<'a> {
+    alloc: Global,
     files: &'a [NamedFile<'a>],
     reads: u64,
     count: CallCount,
 }
 
 impl<'a> Known<'a> {
-    fn new(files: &'a [NamedFile<'a>]) -> Known<'a> {
+    fn new(alloc: Global, files: &'a [NamedFile<'a>]) -> Known<'a> {
         Known {
+            alloc,
             files,
             reads: 0,
             count: CallCount::new(),
@@ -83,10 +85,10 @@ impl Files for Known<'_> {
 
     ghost failures = { λ _. 0 };
 
-    fn read(&mut self, alloc: Global, name: &str) -> Result<Vec<u8>, FileFault> {
+    fn read(&mut self, name: &str) -> Result<Vec<u8>, FileFault> {
         self.reads = self.reads.saturating_add(1);
         self.count.rise();
-        match Vec::from_slice(alloc, bytes_of(self.files, name)) {
+        match Vec::from_slice(self.alloc, bytes_of(self.files, name)) {
             Ok(bytes) => Ok(bytes),
             Err(_) => Err(FileFault::Memory),
         }
@@ -102,9 +104,13 @@ pub struct InMemory<'a> {
 }
 
 impl<'a> InMemory<'a> {
-    pub fn new(files: &'a [NamedFile<'a>], failing_read: Option<u64>) -> InMemory<'a> {
+    pub fn new(
+        alloc: Global,
+        files: &'a [NamedFile<'a>],
+        failing_read: Option<u64>,
+    ) -> InMemory<'a> {
         InMemory {
-            known: Known::new(files),
+            known: Known::new(alloc, files),
             failing_read,
             count: CallCount::new(),
         }
@@ -118,8 +124,8 @@ impl Files for InMemory<'_> {
 
     ghost failures = { λ s. s.count.calls };
 
-    fn read(&mut self, alloc: Global, name: &str) -> Result<Vec<u8>, FileFault> {
-        let read = self.known.read(alloc, name);
+    fn read(&mut self, name: &str) -> Result<Vec<u8>, FileFault> {
+        let read = self.known.read(name);
         if self.failing_read == Some(self.known.reads) {
             self.count.rise();
             return Err(FileFault::Unread);
@@ -210,7 +216,13 @@ pub fn shown_by(
 
 /// Runs a line of words over files of which none fails, to sides that take all.
 pub fn shown_of(alloc: Global, line: &str, files: &[NamedFile<'_>]) -> Result<Shown, AllocError> {
-    shown_by(alloc, line, InMemory::new(files, None), WHOLLY, WHOLLY)
+    shown_by(
+        alloc,
+        line,
+        InMemory::new(alloc, files, None),
+        WHOLLY,
+        WHOLLY,
+    )
 }
 
 /// Checks a document under a module.
@@ -227,7 +239,7 @@ pub fn validated(alloc: Global, module: &[u8], document: &[u8]) -> Result<Shown,
             bytes: document,
         },
     ];
-    let mut files = Known::new(&files);
+    let mut files = Known::new(alloc, &files);
     let status = validate_known(alloc, &mut files, &mut output, &mut errors)?;
     Ok(Shown {
         output,

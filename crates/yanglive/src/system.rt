@@ -2,7 +2,6 @@
 
 ghost use Rattle.std.specs.Prelude.{None};
 
-use std::alloc::Global;
 use std::io::{BufWriter, ErrorKind, Write};
 use std::{fs, rt};
 use yapp::{FileFault, Files};
@@ -34,7 +33,7 @@ impl<R: rt::Files + AllocGlobal> Files for FileSystem<'_, R> {
 
     ghost failures = { λ s. s.count.calls };
 
-    fn read(&mut self, _alloc: Global, name: &str) -> Result<Vec<u8>, FileFault> {
+    fn read(&mut self, name: &str) -> Result<Vec<u8>, FileFault> {
         self.reads.rise();
         match fs::read(self.runtime, name) {
             Ok(bytes) => Ok(bytes),

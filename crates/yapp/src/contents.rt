@@ -29,7 +29,7 @@ pub fn read_files<'a, F: Files>(
 {
     let mut contents = Vec::new(alloc);
     for name in names {
-        match files.read(alloc, *name) {
+        match files.read(*name) {
             Ok(bytes) => contents.push(bytes)?,
             Err(fault) => return Err(Failure::of_file(*name, fault)),
         }

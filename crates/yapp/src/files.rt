@@ -2,7 +2,6 @@
 
 ghost use Rattle.std.specs.Prelude.{◌≡◌, ℕ, ◌+◌, List, Option, IfOk};
 
-use std::alloc::Global;
 use thiserror::Error;
 
 /// Why a file wasn't read.
@@ -30,7 +29,7 @@ pub trait Files {
     ghost failures: { Self → ℕ };
 
     /// All that the file of a name contains.
-    fn read(&mut self, alloc: Global, name: &str) -> Result<Vec<u8>, FileFault>
+    fn read(&mut self, name: &str) -> Result<Vec<u8>, FileFault>
         ensures ok { IfOk result (λ bytes. IsTold (contents self.old name.now) bytes.items) }
         ensures kept { (other : List ℕ) → contents self.new other ≡ contents self.old other }
         ensures one_more { reads self.new ≡ reads self.old + 1 }
