@@ -37,7 +37,7 @@ pub struct Schema {
 }
 
 impl Schema {
-    ghost use Rattle.std.specs.Prelude.{◌≡◌, ◌<◌, ◌++◌, option_map, slice_get, IfOk, IfSome};
+    ghost use Rattle.std.specs.Prelude.{◌≡◌, ◌<◌, ◌++◌, option_map, slice_get, IfOk, IfSome, None};
     ghost use Rattle.yspec.specs.Forest.{size};
     ghost use Rattle.yspec.specs.schema.Schema as spec;
     ghost use Rattle.yspec.specs.schema.Schema.{node_at, children_of, child_named, child_written, way_to};
@@ -89,6 +89,7 @@ impl Schema {
         ensures way { way_to (view self.now) id.0 ≡ way_above (view self.now) (number_of result)
             ++ alone (node_at (view self.now) id.0) }
         ensures above { IfSome result (λ p. p.0 < id.0) }
+        ensures none { node_at (view self.now) id.0 ≡ None → result ≡ None }
     {
         match self.rows.get(id.number()) {
             Some(row) => row.parent,

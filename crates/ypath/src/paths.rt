@@ -307,15 +307,17 @@ impl Path {
 }
 
 impl Edit {
-    ghost use Rattle.std.specs.Prelude.{option_map};
+    ghost use Rattle.std.specs.Prelude.{◌≡◌, option_map, true, Ok, None};
+    ghost use Rattle.yspec.specs.edit.EditText.{is_passed_over};
     ghost use Rattle.yspec.specs.edit.Editing.{edit_asked};
     ghost use Rattle.yspec.specs.Results.{Gives};
     ghost use Rattle.ypath.specs.EditView.{edit_view};
     ghost use Rattle.ypath.specs.Applying.{told_by};
 
-    /// The edit that a line of a script spells; none where it is empty or begins with `#`; or E1.
+    /// The edit that a line of a script spells; none where it is empty or begins with `#`, which takes no memory; or E1.
     pub fn parse(alloc: Global, line: &str) -> Result<Option<Edit>, EditFault>
-        ensures { Gives (option_map edit_view) told_by result (edit_asked line.now) }
+        ensures answer { Gives (option_map edit_view) told_by result (edit_asked line.now) }
+        ensures passed { is_passed_over line.now ≡ true → result ≡ Ok None }
     {
         if is_passed_over(line) {
             return Ok(None);

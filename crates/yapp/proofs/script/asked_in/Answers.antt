@@ -9,7 +9,7 @@ use Rattle.yapp.proofs.script.asked_in.Goals as goal
 pub returns-in-Ok : goal.returns-in-Ok
 returns-in-Ok c = subst (Gives (option_map edit_view) told_by c.parse.result)
     (sym (asked_of_text c.args.line.now c.in-Ok.text.now (sym c.is_passed_over.ensures ∙ c.if-is_passed_over.false) c.in-Ok.ensures.cases.0 c.in-Ok.ensures.cases.1))
-    c.parse.ensures
+    c.parse.ensures.answer
 
 pub returns-in-Err : goal.returns-in-Err
 returns-in-Err c = asked_of_bytes c.args.line.now (sym c.is_passed_over.ensures ∙ c.if-is_passed_over.false) c.in-Err.ensures.cases.0
