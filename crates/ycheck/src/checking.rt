@@ -368,7 +368,7 @@ fn check_found(
     let node = child.node();
     let repeated = repeated_in(findings.alloc, schema, node, found)?;
     for (index, stored) in found.iter().enumerate() {
-        let position = position_of(node, index)?;
+        let position = position_of(node, index + 1);
         findings.enter(Step {
             id: child.id(),
             position,
@@ -389,17 +389,14 @@ fn check_found(
     Ok(())
 }
 
-/// The position of the instance behind so many, of a node that may be stored more than once.
-fn position_of(node: &SchemaNode, index: usize) -> Result<Option<u32>, AllocError>
-    ensures { IfOk result (λ position. position
-        ≡ position_at (is_many (kind_view node.now.kind)) (index + 1)) }
+/// A position, at a node that may be stored more than once.
+fn position_of(node: &SchemaNode, position: usize) -> Option<usize>
+    ensures { result ≡ position_at (is_many (kind_view node.now.kind)) position }
 {
-    if !node.kind.is_many() {
-        Ok(None)
-    } else if index < u32::MAX as usize {
-        Ok(Some(index as u32 + 1))
+    if node.kind.is_many() {
+        Some(position)
     } else {
-        Err(AllocError)
+        None
     }
 }
 

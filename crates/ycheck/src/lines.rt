@@ -111,7 +111,7 @@ fn write_name<W: Sink>(
     }
 }
 
-fn write_position<W: Sink>(position: Option<u32>, sink: &mut W) -> Result<(), LineFault>
+fn write_position<W: Sink>(position: Option<usize>, sink: &mut W) -> Result<(), LineFault>
     ensures { Writes (side W.taken W.failures sink.old) (side W.taken W.failures sink.new)
         (path.position_text position) result }
 {

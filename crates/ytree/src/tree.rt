@@ -8,7 +8,7 @@ use ytype::Raw;
 #[derive(Clone, Copy, Debug, PartialEq, Eq)]
 pub struct Step {
     pub id: SchemaId,
-    pub position: Option<u32>,
+    pub position: Option<usize>,
 }
 
 /// A stored node: its schema node, at a leaf its value, and what is stored below it.

@@ -119,27 +119,13 @@ fn visit_items(
 {
     let mut left = room;
     for (index, item) in items.iter().enumerate() {
-        let Some(position) = position_behind(index) else {
-            return Err(DocFault::Memory);
-        };
-        let position = Some(position);
+        let position = Some(index + 1);
         match visit_below(alloc, schema, Step { id, position }, item, place, left) {
             Ok(rest) => left = rest,
             Err(fault) => return Err(fault),
         }
     }
     Ok(left)
-}
-
-/// The position of the item behind so many; nothing past the last that a step can hold.
-fn position_behind(index: usize) -> Option<u32>
-    ensures { IfSome result (λ position. position ≡ index + 1) }
-{
-    if index < u32::MAX as usize {
-        Some(index as u32 + 1)
-    } else {
-        None
-    }
 }
 
 /// Refuses what stands a step below the place.

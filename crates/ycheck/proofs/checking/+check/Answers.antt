@@ -122,12 +122,12 @@ check_found-loop-index-preserved t c = λ sorted.
     let table = ap (λ vs. map (λ marks. marks.items) vs) c.deref.ensures.value ∙ (c.in_ok-repeated.ensures
     ∙ ap₂ (λ k g. table_of schema k g row) kind (ap (λ x. x.config) c.node-node.ensures)) in
     let step : Step = record { schema_number = n.number; position = position_at (is_many n.kind) (i + 1) } in
-    let at = ap₂ (λ k p. record { schema_number = k; position = p }) c.id.ensures (c.in_ok-position.ensures ∙ ap (λ k. position_at (is_many k) (i + 1)) kind) in
+    let at = ap₂ (λ k p. record { schema_number = k; position = p }) c.id.ensures (c.position_of-position.ensures ∙ ap (λ k. position_at (is_many k) (i + 1)) kind) in
     leaves_after _ _ _ (map (under step) (said (view s).0 (view s).1)) _ _ _
     (ap (λ u. each_told (is_many n.kind) n.number (i + 1) (each_of said u)) left)
     (c.loop-index.invariant sorted)
     (adds_same _ _ _ _ (ap (λ (x : Step). map (under x) (said (view s).0 (view s).1)) at)
-    (adds_below _ _ _ _ (record { id = c.id.result; position = c.in_ok-position.position }) _ c.in_ok-enter.ensures.place c.in_ok-enter.ensures.found
+    (adds_below _ _ _ _ (record { id = c.id.result; position = c.position_of-position.result }) _ c.in_ok-enter.ensures.place c.in_ok-enter.ensures.found
     (adds_both _ _ _ _ _
     (adds_same _ _ _ _ (ap₂ (value_told told) kind c.value.ensures) c.in_ok-check_value.ensures)
     (adds_both _ _ _ _ _

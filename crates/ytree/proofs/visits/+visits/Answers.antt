@@ -100,10 +100,9 @@ visit_items-loop-index-preserved t c =
     let items = c.args.items.now in
     let index = c.loop-index.index in
     let place = place_view c.args.place.now.items in
-    let step : Step = record { id = c.args.id; position = Some c.in-Some.position } in
+    let step : Step = record { id = c.args.id; position = Some (index + 1) } in
     let here : place_view (c.loop-index.place.items ++ step ∷ []) ≡ place ++ step_at i (index + 1) ∷ [] =
-    map_push step_view c.loop-index.place.items step ∙ (ap (λ steps. place_view steps ++ step_view step ∷ []) c.loop-index.invariant.0
-    ∙ ap (λ k. place ++ step_at i k ∷ []) c.in-Some.ensures) in
+    map_push step_view c.loop-index.place.items step ∙ ap (λ steps. place_view steps ++ step_view step ∷ []) c.loop-index.invariant.0 in
     let whole : List Visit → Option Refusal = λ others. told_within c.args.room (visits_at s i (λ n below. item_visits s n below place 1 (json.items_view items)) ++ others) in (
       c.in-Ok.ensures.place ∙ c.loop-index.invariant.0,
       front_right c.loop-index.left c.in-Ok.rest _ _ _ whole
@@ -118,10 +117,9 @@ visit_items-returns-in-Err-clause-told t c =
     let items = c.args.items.now in
     let index = c.loop-index.index in
     let place = place_view c.args.place.now.items in
-    let step : Step = record { id = c.args.id; position = Some c.in-Some.position } in
+    let step : Step = record { id = c.args.id; position = Some (index + 1) } in
     let here : place_view (c.loop-index.place.items ++ step ∷ []) ≡ place ++ step_at i (index + 1) ∷ [] =
-    map_push step_view c.loop-index.place.items step ∙ (ap (λ steps. place_view steps ++ step_view step ∷ []) c.loop-index.invariant.0
-    ∙ ap (λ k. place ++ step_at i k ∷ []) c.in-Some.ensures) in
+    map_push step_view c.loop-index.place.items step ∙ ap (λ steps. place_view steps ++ step_view step ∷ []) c.loop-index.invariant.0 in
     let whole : List Visit → Option Refusal = λ others. told_within c.args.room (visits_at s i (λ n below. item_visits s n below place 1 (json.items_view items)) ++ others) in
     front_wrong c.loop-index.left _ _ _ whole c.in-Err.fault
     (item_first s i place (place_view (c.loop-index.place.items ++ step ∷ [])) items index c.index-items-index.result (omega arith) c.index-items-index.is here)
