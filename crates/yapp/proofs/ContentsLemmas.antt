@@ -12,7 +12,7 @@ use Rattle.yspec.proofs.ForestLemmas.{join_end, join_assoc}
 use Rattle.ytext.specs.View.{view, modules_view}
 use Rattle.ytext.specs.declared.statement.Module.{Module}
 use Rattle.yapp.specs.Failing.{FailsWith, FromFile, LeadsTo, outcome_of, reported}
-use Rattle.yapp.specs.Files.{Answered, Contents, FileAnswers, IsOutcome, IsTold, ReadsAll, Store, WereRead, came_to, failed_reads, unread_in}
+use Rattle.yapp.specs.Files.{Answered, Contents, FileAnswers, IsOutcome, IsTold, ReadsAll, Store, WasCut, WereRead, came_to, failed_reads, unread_in}
 use Rattle.yapp.specs.declared.failure.Failure.{Failure}
 use Rattle.yapp.specs.declared.failure.Failure.TheVariants as failures
 use Rattle.yapp.specs.declared.files.FileFault.{FileFault}
@@ -79,6 +79,14 @@ with_all_read contents (name ∷ names) (text ∷ texts) next a = with_all_read 
 
 length_behind : (texts : List (List ℕ)) → length (map Some texts ++ None ∷ []) ≡ length texts + 1
 length_behind texts = omega (arith, length-append (map (λ (t : List ℕ). Some t) texts) (None ∷ []), length-map texts (λ (t : List ℕ). Some t))
+
+-- a file has one answer at most
+answers_few : (contents : Contents) (names : List Text) (answers : FileAnswers) → Answered contents names answers → length answers ≤ length names
+answers_few contents [] [] a = omega arith
+answers_few contents [] (answer ∷ answers) a = absurd a
+answers_few contents (name ∷ names) [] a = absurd a
+answers_few contents (name ∷ names) (None ∷ answers) a = omega (arith, ap length a)
+answers_few contents (name ∷ names) (Some bytes ∷ answers) a = omega (arith, answers_few contents names answers a.1)
 
 unread_behind : (texts : List (List ℕ)) → unread_in (map Some texts ++ None ∷ []) ≡ 1
 unread_behind [] = refl
@@ -161,7 +169,15 @@ were_read before after names texts so_far reads same = record {
 abbrev pub ReadsNot : Store → Store → List Text → Failure → Type 0
 ReadsNot before after names f = ((answers : FileAnswers) × WereRead before after names answers
     × ((next : List (List ℕ) → Outcome) → with_files names answers next ≡ outcome_of f))
-    ⊎ ((after.failures ≡ before.failures) × (f ≡ failures.Memory))
+    ⊎ (WasCut before after names × (f ≡ failures.Memory))
+
+-- there was no memory for the file at hand
+pub cut_short : (before after : Store) (names left : List Text) (texts : List (List ℕ)) (name : Text)
+    → ReadSoFar before.contents names (name ∷ left) texts → after.reads ≡ before.reads + (length texts + 1) → after.failures ≡ before.failures
+    → WasCut before after names
+cut_short before after names left texts name so_far reads same =
+    let few = answers_few before.contents names (map Some texts ++ None ∷ []) (so_far.answered (None ∷ []) refl) in
+    record { failures = same; reads = omega (arith, reads, few, length_behind texts) }
 
 -- the file at hand couldn't be read, or there was no memory for it
 pub reading_fails : (X : Type 0) (before now after : Store) (names left : List Text) (texts : List (List ℕ)) (name : Text) (fault : FileFault) (f : Failure)
@@ -178,12 +194,12 @@ reading_fails X before now after names left texts name faults.Unread f so_far re
   λ next. so_far.goes_on (None ∷ []) next ∙ sym is,
 )
 reading_fails X before now after names left texts name faults.Memory f so_far reads same one_more counted is =
-    inr (omega (arith, counted, same), is)
+    inr (cut_short before after names left texts name so_far (omega (arith, one_more, reads)) (omega (arith, counted, same)), is)
 
 pub memory_reads : {X : Type 0} (see : X → List (List ℕ)) (before after : Store) (names : List Text) (r : Result X Failure)
-    → IsErrAnd r (λ e. e ≡ failures.Memory) → after.failures ≡ before.failures → ReadsAll see before after names r
-memory_reads see before after names (Ok x) e same = absurd e
-memory_reads see before after names (Err f) e same = inr (same, e)
+    → IsErrAnd r (λ e. e ≡ failures.Memory) → WasCut before after names → ReadsAll see before after names r
+memory_reads see before after names (Ok x) e cut = absurd e
+memory_reads see before after names (Err f) e cut = inr (cut, e)
 
 -- what is returned is the outcome, or there was no memory
 came_of_answer : (before after : Store) (request : Request) (answers : FileAnswers) (r : Result Report Failure)
@@ -195,7 +211,9 @@ came_of_answer before after request answers (Err (failures.Text name code line))
 came_of_answer before after request answers (Err (failures.Compile name code line)) read same is = inl (answers, read, sym is)
 came_of_answer before after request answers (Err (failures.Document name schema code place)) read same is = inl (answers, read, sym is)
 came_of_answer before after request answers (Err (failures.NoModule name)) read same is = inl (answers, read, sym is)
-came_of_answer before after request answers (Err failures.Memory) read same is = inr (same, refl)
+came_of_answer before after request answers (Err failures.Memory) read same is =
+    let few = answers_few before.contents (files_of request) answers read.answered in
+    inr (record { failures = same; reads = omega (arith, read.reads, few) }, refl)
 
 -- a request after its files were read
 pub came_of_texts : (before after : Store) (request : Request) (files : List Text) (texts : List (List ℕ)) (r : Result Report Failure)
@@ -217,7 +235,7 @@ came_of_reading before after request files f e (inl read) = inl (
   subst (λ ns. WereRead before after ns read.0) e read.1,
   sym (subst (λ ns. with_files ns read.0 (performed request) ≡ outcome_of f) e (read.2 (performed request))),
 )
-came_of_reading before after request files f e (inr none) = inr (none.0, ap outcome_of none.1)
+came_of_reading before after request files f e (inr none) = inr (subst (WasCut before after) e none.0, ap outcome_of none.1)
 
 pub outcome_same : (before after : Store) (asked request : Request) (o : Outcome) → asked ≡ request → IsOutcome before after asked o → IsOutcome before after request o
 outcome_same before after asked request o e is = subst (λ (r : Request). IsOutcome before after r o) e is

@@ -1,5 +1,5 @@
 -- What files contain, as far as that is told, how often one was read, and how often that failed.
-use Rattle.std.specs.Prelude.{◌≡◌, ◌⊎◌, ℕ, ◌+◌, List, [], ◌∷◌, length, map, Option, Some, None, Result, Ok, Err}
+use Rattle.std.specs.Prelude.{◌≡◌, ◌⊎◌, ℕ, ◌+◌, ◌≤◌, List, [], ◌∷◌, length, map, Option, Some, None, Result, Ok, Err}
 use Rattle.yspec.specs.program.Output.{Outcome, Request, files_of, outcome, with_files}
 use Rattle.yspec.specs.text.Text.{Text}
 use Rattle.yapp.specs.Failing.{outcome_of, reported}
@@ -60,20 +60,23 @@ pub record WereRead (before after : Store) (names : List Text) (answers : FileAn
 
 -- ---- reading them, and what comes of it
 
--- All were read, none failing. Or one couldn't be read, whatever was to be made of them. Or memory was wanting, and none
--- failed.
+-- memory was wanting: no read failed for another cause, and the file of each name was read at most once
+pub record WasCut (before after : Store) (names : List Text) : Type 0 where
+  pub failures : after.failures ≡ before.failures
+  pub reads : after.reads ≤ before.reads + length names
+
+-- All were read, none failing. Or one couldn't be read, whatever was to be made of them. Or memory was wanting.
 abbrev pub ReadsAll : {X : Type 0} → (X → List (List ℕ)) → Store → Store → List Text → Result X Failure → Type 0
 ReadsAll see before after names (Ok texts) = WereRead before after names (map Some (see texts))
 ReadsAll see before after names (Err failure) = ((answers : FileAnswers) × WereRead before after names answers
     × ((next : List (List ℕ) → Outcome) → with_files names answers next ≡ outcome_of failure))
-    ⊎ ((after.failures ≡ before.failures) × (failure ≡ Memory))
+    ⊎ (WasCut before after names × (failure ≡ Memory))
 
--- The outcome is that of the request for what its files answered, of which so many reads failed. Or memory was wanting,
--- and none failed.
+-- The outcome is that of the request for what its files answered, of which so many reads failed. Or memory was wanting.
 abbrev pub IsOutcome : Store → Store → Request → Outcome → Type 0
 IsOutcome before after request o =
     ((answers : FileAnswers) × WereRead before after (files_of request) answers × (o ≡ outcome request answers))
-    ⊎ ((after.failures ≡ before.failures) × (o ≡ without_memory))
+    ⊎ (WasCut before after (files_of request) × (o ≡ without_memory))
 
 -- what was found, or why nothing was, as an outcome
 abbrev pub came_to : Result Report Failure → Outcome

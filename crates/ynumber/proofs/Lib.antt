@@ -1,5 +1,6 @@
 pub mod DecimalLemmas
 pub mod NumeralLemmas
+pub mod PositionLemmas
 pub mod SetLemmas
 pub mod TableLemmas
 pub mod WordLemmas

@@ -1,5 +1,6 @@
+pub mod Digits
+pub mod Positions
+pub mod Sets
+pub mod Tables
 pub mod View
 pub mod Words
-pub mod Digits
-pub mod Tables
-pub mod Sets

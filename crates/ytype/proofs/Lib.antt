@@ -1,3 +1,2 @@
 pub mod LimitLemmas
 pub mod MemberLemmas
-pub mod PositionLemmas

@@ -4,4 +4,3 @@ pub mod Forms
 pub mod Shapes
 pub mod Refusals
 pub mod Laws
-pub mod Positions

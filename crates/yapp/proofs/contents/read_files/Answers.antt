@@ -1,7 +1,7 @@
 use Rattle.std.proofs.Common.{ℕ, Global, Vec, [], ◌∷◌, ◌+◌, ◌∙◌, ap, arith, drop, get_or, length, refl, subst, sym}
 use Rattle.std.proofs.lemmas.List.{at_drop_all, at_drop_more, length-append, length-map, map-append}
 use Rattle.yapp.specs.Files.{IsTold, store}
-use Rattle.yapp.proofs.ContentsLemmas.{ReadSoFar, memory_reads, names_in, no_name, none_read, one_read, reading_fails, texts_in, were_read}
+use Rattle.yapp.proofs.ContentsLemmas.{ReadSoFar, cut_short, memory_reads, names_in, no_name, none_read, one_read, reading_fails, texts_in, were_read}
 use Rattle.yapp.proofs.contents.read_files.Goals as goal
 
 pub loop-name-init : goal.loop-name-init
@@ -67,4 +67,12 @@ pub returns-in_err-push-in-Ok : goal.returns-in_err-push-in-Ok
 returns-in_err-push-in-Ok g c =
     let before = c.loop-name.invariant in
     let read = c.in-Ok.ensures in
-    memory_reads _ _ _ _ c.from_residual.result c.from_residual.ensures.1 (omega (arith, read.counted, before.counted))
+    let contents = g.F.Files.contents c.args.files.now in
+    let names = names_in c.args.names.now in
+    memory_reads _ _ _ _ c.from_residual.result c.from_residual.ensures.1 (cut_short _ _ names
+    (names_in (drop (c.loop-name.name-index + 1) c.args.names.now)) (texts_in c.loop-name.contents.items)
+    (get_or c.args.names.now c.loop-name.name-index no_name).now
+    (subst (λ ns. ReadSoFar contents names ns (texts_in c.loop-name.contents.items))
+    (at_drop_more names_in c.args.names.now c.loop-name.name-index no_name c.loop-name-test.true) before.so_far)
+    (omega (arith, read.one_more, before.reads, length-map c.loop-name.contents.items (λ (t : Vec ℕ Global). t.items)))
+    (omega (arith, read.counted, before.counted)))

@@ -47,7 +47,7 @@ returns-in-Err-Refused g c =
 
 pub returns-in-Err-Memory : goal.returns-in-Err-Memory
 returns-in-Err-Memory g c = record {
-  taken = λ taken. (without_memory, inr (refl, refl), on_errors _ _ _ without_memory _ refl c.tell_memory.ensures);
+  taken = λ taken. (without_memory, inr (record { failures = refl; reads = omega arith }, refl), on_errors _ _ _ without_memory _ refl c.tell_memory.ensures);
   words = λ not_taken. (without_memory, inl refl, on_errors _ _ _ without_memory _ refl c.tell_memory.ensures);
   untouched = λ not_taken. refl;
 }

@@ -7,7 +7,7 @@ use Rattle.std.specs.Ordering.{int_cmp, int_eq}
 use Rattle.std.specs.BTreeSet.{BTreeSet, IsFromIterResult}
 use Rattle.yspec.specs.types.Names.{Assigned}
 use Rattle.yspec.specs.types.Values.{is_position, names_at}
-use Rattle.ytype.specs.Positions.{holds_position}
+use Rattle.ynumber.specs.Positions.{holds_position}
 
 any_turned : (z : ℤ) (ps : List ℤ) → list_any (int_eq z) ps ≡ is_position ps z
 any_turned z [] = refl

@@ -1,8 +1,8 @@
 use Rattle.std.proofs.Common.{◌≡◌, true, List, IfOk, subst, string_bytes}
 use Rattle.yspec.specs.types.Names.{Assigned}
 use Rattle.yspec.specs.types.Values.{spaced_from}
-use Rattle.ytype.proofs.PositionLemmas.{names_held}
-use Rattle.ytype.proofs.canonical.bits_text.Goals as goal
+use Rattle.ynumber.proofs.PositionLemmas.{names_held}
+use Rattle.ynumber.proofs.named.bits_text.Goals as goal
 
 pub returns : goal.returns
 returns c =
