@@ -10,8 +10,8 @@ use Rattle.yspec.specs.schema.Schema.{Schema}
 use Rattle.yspec.specs.document.Fitting.{IsNumbered, LeafsAreBare}
 use Rattle.yspec.specs.linking.Source.{sources_from, sources_of}
 use Rattle.yspec.specs.linking.StatementBreaks.{statement_phase}
-use Rattle.yspec.specs.linking.Prefixes.{prefix_breaks, type_name_breaks}
-use Rattle.yspec.specs.linking.TypeStatements.{type_breaks}
+use Rattle.yspec.specs.linking.Prefixes.{prefix_breaks}
+use Rattle.yspec.specs.linking.TypeStatements.{type_name_breaks, type_breaks}
 use Rattle.yspec.specs.linking.Parts.{Part, parts_of_modules}
 use Rattle.yspec.specs.linking.Planned.{Plan, Around, around_below, planned}
 use Rattle.yspec.specs.linking.SchemaNodes.{schema_node}

@@ -6,8 +6,8 @@ use Rattle.yspec.specs.text.Statement.{Statement}
 use Rattle.yspec.specs.linking.Keyword as word
 use Rattle.yspec.specs.linking.Source.{Source, sources_of, argument_in, argument_with}
 use Rattle.yspec.specs.linking.StatementBreaks.{statement_phase}
-use Rattle.yspec.specs.linking.TypeStatements.{type_breaks}
-use Rattle.yspec.specs.linking.Prefixes.{prefix_breaks, type_name_breaks}
+use Rattle.yspec.specs.linking.TypeStatements.{type_name_breaks, type_breaks}
+use Rattle.yspec.specs.linking.Prefixes.{prefix_breaks}
 use Rattle.yspec.specs.linking.Parts.{parts_of_modules}
 use Rattle.yspec.specs.linking.Planned.{Planned, Plan, at_top, planned}
 use Rattle.yspec.specs.linking.SchemaNodes.{schema_nodes}

@@ -10,8 +10,8 @@ use Rattle.yspec.specs.types.Values.{value_of_text}
 use Rattle.yspec.specs.linking.Keyword.{Keyword}
 use Rattle.yspec.specs.linking.Keyword as word
 use Rattle.yspec.specs.linking.Source.{argument_in}
-use Rattle.yspec.specs.linking.TypeStatements.{Meant, own, of_target, type_meant}
-use Rattle.yspec.specs.linking.Planned.{Planned, Plan, same_number, nodes_of, node_of, child_called, is_a, is_leaf_or_leaf_list, stated_in, target_meant, type_of, is_on_circle}
+use Rattle.yspec.specs.linking.TypeStatements.{Meant, own, of_target}
+use Rattle.yspec.specs.linking.Planned.{Planned, Plan, same_number, nodes_of, node_of, child_called, is_a, is_leaf_or_leaf_list, stated_in, meant_in, target_meant, type_of, is_on_circle}
 use Rattle.yspec.specs.linking.SchemaNodes.{is_mandatory, least_of, key_names, key_numbers, unique_ways, default_texts, default_case, is_key}
 use Rattle.yspec.specs.schema.Breaks.{Break, broken, when}
 
@@ -96,7 +96,7 @@ is_wrong_reference plan p (of_target home steps required) =
     is_wrong_target p required (target_meant plan p (of_target home steps required)) || is_on_circle plan p
 
 abbrev pub reference_breaks : Plan → Planned → List Break
-reference_breaks plan p = when (is_leaf_or_leaf_list p && option_map_or (is_wrong_reference plan p) (type_meant p.part.own) false)
+reference_breaks plan p = when (is_leaf_or_leaf_list p && option_map_or (is_wrong_reference plan p) (meant_in plan p) false)
     (broken_at 17 p)
 
 -- ---- C11: defaults

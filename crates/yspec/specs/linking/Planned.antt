@@ -6,7 +6,7 @@ use Rattle.yspec.specs.text.Text.{Text, is_text}
 use Rattle.yspec.specs.types.Types.{YangType}
 use Rattle.yspec.specs.linking.Keyword.{Keyword}
 use Rattle.yspec.specs.linking.Keyword as word
-use Rattle.yspec.specs.linking.Source.{Source, is_source_of, argument_in, argument_with}
+use Rattle.yspec.specs.linking.Source.{Source, is_source_of, argument_in, argument_with, found_with}
 use Rattle.yspec.specs.linking.Parts.{Part}
 use Rattle.yspec.specs.linking.Prefixes.{NodeName, node_name}
 use Rattle.yspec.specs.linking.TypeStatements.{Meant, own, of_target, type_meant}
@@ -128,6 +128,12 @@ data_node_at plan scope (name ∷ []) = data_child_called plan scope name
 data_node_at plan scope (name ∷ next ∷ names) =
     option_and_then (λ p. data_node_at plan (Some p.number) (next ∷ names)) (data_child_called plan scope name)
 
+-- ---- types
+
+-- what the `type` statement of a node means
+abbrev pub meant_in : Plan → Planned → Option Meant
+meant_in plan p = option_and_then (λ s. type_meant plan.modules s.0 s.1) (found_with word.type_word p.part.own)
+
 -- ---- leafrefs
 
 abbrev pub leaf_found : Option Planned → Option Planned
@@ -140,7 +146,7 @@ target_meant plan p (of_target home steps required) =
 
 -- the leaf or leaf-list to which a leafref refers
 abbrev pub target_of : Plan → Planned → Option Planned
-target_of plan p = option_and_then (target_meant plan p) (type_meant p.part.own)
+target_of plan p = option_and_then (target_meant plan p) (meant_in plan p)
 
 -- a leafref has the values of its target's type (RFC 7950, 9.9)
 abbrev pub referring : Bool → YangType → YangType
@@ -154,7 +160,7 @@ type_by plan others p (of_target home steps required) =
 -- the type that leads there by fewer leafrefs than a number
 unfoldable pub type_within : Plan → ℕ → Planned → Option YangType
 type_within plan zero p = None
-type_within plan (suc steps) p = option_and_then (type_by plan (type_within plan steps) p) (type_meant p.part.own)
+type_within plan (suc steps) p = option_and_then (type_by plan (type_within plan steps) p) (meant_in plan p)
 
 -- the type of a leaf or leaf-list; none where a leafref leads nowhere, or in a circle
 abbrev pub type_of : Plan → Planned → Option YangType

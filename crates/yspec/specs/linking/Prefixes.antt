@@ -1,5 +1,5 @@
 -- What prefixes and prefixed names mean (RFC 7950, 5.1.3 and 6.4), and where one means nothing.
-use Rattle.std.specs.Prelude.{ℕ, zero, suc, ◌&&◌, Bool, false, not, List, [], ◌∷◌, Option, Some, None, is_some, unwrap_or, if◌then◌else◌}
+use Rattle.std.specs.Prelude.{ℕ, zero, suc, Bool, false, not, List, [], ◌∷◌, Option, Some, None, is_some, unwrap_or, if◌then◌else◌}
 use Rattle.std.specs.List.{list_any, flat_map}
 use Rattle.std.specs.Option.{option_map_or}
 use Rattle.yspec.specs.Forest.{Forest, end, node, preorder}
@@ -7,8 +7,7 @@ use Rattle.yspec.specs.text.Text.{Text, is_text}
 use Rattle.yspec.specs.linking.Keyword.{Keyword}
 use Rattle.yspec.specs.linking.Keyword as word
 use Rattle.yspec.specs.linking.Arguments.{Name, name_of, key_of, unique_of, leafref_path_of}
-use Rattle.yspec.specs.linking.Source.{Source, is_source_of, argument_in, argument_with}
-use Rattle.yspec.specs.linking.TypeStatements.{built_in_named}
+use Rattle.yspec.specs.linking.Source.{Source, argument_in, argument_with}
 use Rattle.yspec.specs.schema.Breaks.{Break, broken, when}
 
 -- what stands below the `module` statement at a place of the set
@@ -20,7 +19,7 @@ body_at (node s below after) (suc home) = body_at after home
 abbrev pub own_prefix : Forest Source → ℕ → Text
 own_prefix modules home = unwrap_or (argument_with word.prefix_word (body_at modules home)) []
 
--- the place of the module that a prefix names in a module
+-- the place of the module that a prefix names in a module; wherever a prefix stands, it means what is said here
 abbrev pub module_meant : Forest Source → ℕ → Text → Option ℕ
 module_meant modules home prefix = if is_text (own_prefix modules home) prefix then Some home else None
 
@@ -58,14 +57,3 @@ prefix_break modules s = when (has_unknown_prefix modules s) (broken 6 s.home s.
 
 abbrev pub prefix_breaks : Forest Source → List Break
 prefix_breaks modules = flat_map (prefix_break modules) (preorder modules)
-
--- ---- C8: types that are not found
-
-abbrev pub is_not_found : Source → Bool
-is_not_found s = is_source_of word.type_word s && not (is_some (built_in_named (argument_in s)))
-
-abbrev pub type_name_break : Source → List Break
-type_name_break s = when (is_not_found s) (broken 8 s.home s.statement.line)
-
-abbrev pub type_name_breaks : Forest Source → List Break
-type_name_breaks modules = flat_map type_name_break (preorder modules)

@@ -1,5 +1,5 @@
 -- The schema nodes that planned ones stand for (RFC 7950, 4.2.2 and 7.5 to 7.9).
-use Rattle.std.specs.Prelude.{ℕ, ◌==◌, Bool, false, List, [], ◌∷◌, map, codes, Option, Some, None, is_some, option_map, option_and_then, unwrap_or, if◌then◌else◌}
+use Rattle.std.specs.Prelude.{ℕ, ◌==◌, ◌&&◌, Bool, false, List, [], ◌∷◌, map, codes, Option, Some, None, is_some, option_map, option_and_then, unwrap_or, if◌then◌else◌}
 use Rattle.std.specs.List.{list_any, filter_map, flat_map}
 use Rattle.std.specs.Option.{option_map_or}
 use Rattle.yspec.specs.Forest.{Forest, relabelled}
@@ -9,10 +9,10 @@ use Rattle.yspec.specs.types.Values.{value_of_text}
 use Rattle.yspec.specs.linking.Keyword.{Keyword}
 use Rattle.yspec.specs.linking.Keyword as word
 use Rattle.yspec.specs.linking.Arguments.{Name, key_of, unique_of, count_of, most_of, status_of}
-use Rattle.yspec.specs.linking.Source.{Source, argument_in, all_with}
-use Rattle.yspec.specs.linking.TypeStatements.{built_in_named}
+use Rattle.yspec.specs.linking.Source.{Source, argument_in, first_with, all_with}
+use Rattle.yspec.specs.linking.TypeStatements.{built_in_meant}
 use Rattle.yspec.specs.linking.Prefixes.{NodeName, node_name}
-use Rattle.yspec.specs.linking.Planned.{Planned, Plan, is_said, stated_in, node_of, child_called, way, target_of, type_of}
+use Rattle.yspec.specs.linking.Planned.{Planned, Plan, is_said, is_a, stated_in, node_of, child_called, way, target_of, type_of}
 use Rattle.yspec.specs.schema.Schema.{SchemaNode, Kind, container, leaf, leaf_list, list, choice, case, LeafType, Absence, allowed, default_used, mandatory, key, Amount, Tuples, LeafPath, Status, current}
 
 abbrev pub is_mandatory : Planned → Bool
@@ -92,18 +92,19 @@ default_case plan p = option_and_then
 
 -- ---- kinds
 
--- a text that names a type
-abbrev pub type_named : Text → Option Text
-type_named t = option_map (λ type. t) (built_in_named t)
+-- the name that a `type` statement has, where it names a type
+abbrev pub type_named : Forest Source → Source → Option Text
+type_named modules s = option_map (λ type. argument_in s) (built_in_meant modules s)
 
 -- the name of its type as its `type` statement has it; that of texts where it names none
-abbrev pub type_name : Planned → Text
-type_name p = unwrap_or (option_and_then type_named (stated_in word.type_word p)) (codes "string")
+abbrev pub type_name : Plan → Planned → Text
+type_name plan p =
+    unwrap_or (option_and_then (type_named plan.modules) (first_with word.type_word p.part.own)) (codes "string")
 
 -- the type of a leaf or of items; that of a leafref stands beside the number of its target
 abbrev pub leaf_type : Plan → Planned → LeafType
 leaf_type plan p = record {
-  name = type_name p;
+  name = type_name plan p;
   type = unwrap_or (type_of plan p) string_type;
   target = option_map number_in (target_of plan p);
 }
@@ -113,7 +114,8 @@ is_among numbers p = list_any (λ m. m == p.number) numbers
 
 -- whether a node is a key of the list right above it
 abbrev pub is_key : Plan → Planned → Bool
-is_key plan p = option_map_or (λ above. is_among (key_numbers plan above) p) (option_and_then (node_of plan) p.parent) false
+is_key plan p = option_map_or (λ above. is_a word.list_word above && is_among (key_numbers plan above) p)
+    (option_and_then (node_of plan) p.parent) false
 
 abbrev pub kind_by : Plan → Planned → Keyword → Kind
 kind_by plan p word.container_word = container (is_some (stated_in word.presence_word p))

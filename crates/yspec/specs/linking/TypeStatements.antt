@@ -1,8 +1,9 @@
--- The types that `type` statements mean, and where one breaks a rule of its own (RFC 7950, 7.4 and 9).
-use Rattle.std.specs.Prelude.{ℕ, ℤ, pos, ◌++◌, Bool, true, false, List, [], ◌∷◌, map, codes, Option, Some, None, find, option_map, option_and_then, unwrap_or, if◌then◌else◌}
-use Rattle.std.specs.List.{list_all}
+-- The types that `type` statements name and mean, and where one isn't found or breaks a rule of its own (RFC 7950, 7.4 and
+-- 9).
+use Rattle.std.specs.Prelude.{ℕ, ℤ, pos, ◌++◌, ◌&&◌, Bool, true, false, not, List, [], ◌∷◌, map, codes, Option, Some, None, find, is_some, option_map, option_and_then, unwrap_or, if◌then◌else◌}
+use Rattle.std.specs.List.{list_all, flat_map}
 use Rattle.std.specs.Option.{option_map_or}
-use Rattle.yspec.specs.Forest.{Forest, end, node, row}
+use Rattle.yspec.specs.Forest.{Forest, end, node, row, preorder}
 use Rattle.yspec.specs.text.Text.{Text, is_text}
 use Rattle.yspec.specs.types.Ranges.{Span}
 use Rattle.yspec.specs.types.Names.{Naming, Assigned, enum_names, bit_names}
@@ -12,7 +13,7 @@ use Rattle.yspec.specs.linking.Keyword.{Keyword}
 use Rattle.yspec.specs.linking.Keyword as word
 use Rattle.yspec.specs.linking.Arguments.{Name, spans_of, leafref_path_of, value_of, count_of, fraction_digits_of}
 use Rattle.yspec.specs.linking.Source.{Source, is_source_of, argument_in, argument_with, found_with}
-use Rattle.yspec.specs.schema.Breaks.{Break, broken}
+use Rattle.yspec.specs.schema.Breaks.{Break, broken, when}
 
 -- ---- built-in types
 
@@ -58,6 +59,21 @@ built_in_types = map named_so all_built_in
 
 unfoldable pub built_in_named : Text → Option BuiltIn
 built_in_named name = option_map (λ entry. entry.1) (find (λ entry. is_text name entry.0) built_in_types)
+
+-- the one that a `type` statement of a set of modules names
+abbrev pub built_in_meant : Forest Source → Source → Option BuiltIn
+built_in_meant modules s = built_in_named (argument_in s)
+
+-- ---- C8: types that are not found
+
+abbrev pub is_not_found : Forest Source → Source → Bool
+is_not_found modules s = is_source_of word.type_word s && not (is_some (built_in_meant modules s))
+
+abbrev pub type_name_break : Forest Source → Source → List Break
+type_name_break modules s = when (is_not_found modules s) (broken 8 s.home s.statement.line)
+
+abbrev pub type_name_breaks : Forest Source → List Break
+type_name_breaks modules = flat_map (type_name_break modules) (preorder modules)
 
 -- ---- what a `type` statement means
 
@@ -156,38 +172,34 @@ abbrev pub is_required : Forest Source → Bool
 is_required below = option_map_or (λ t. is_text t (codes "true")) (argument_with word.require_instance_word below) true
 
 -- a member of a union is no leafref
-abbrev pub leafref_verdict : Bool → ℕ → Forest Source → Verdict
-leafref_verdict true home below = wrong
-leafref_verdict false home below = option_map_or (λ steps. means (of_target home steps (is_required below)))
+abbrev pub leafref_verdict : Bool → Source → Forest Source → Verdict
+leafref_verdict true s below = wrong
+leafref_verdict false s below = option_map_or (λ steps. means (of_target s.home steps (is_required below)))
     (option_and_then leafref_path_of (argument_with word.path_word below)) wrong
 
-abbrev pub verdict_in_place : Bool → ℕ → BuiltIn → Forest Source → List Verdict → Verdict
-verdict_in_place is_member home union below members = union_verdict members
-verdict_in_place is_member home leafref below members = leafref_verdict is_member home below
-verdict_in_place is_member home type below members = option_map_or (λ t. means (own t)) (single_type type below) wrong
+abbrev pub verdict_in_place : Bool → Source → BuiltIn → Forest Source → List Verdict → Verdict
+verdict_in_place is_member s union below members = union_verdict members
+verdict_in_place is_member s leafref below members = leafref_verdict is_member s below
+verdict_in_place is_member s type below members = option_map_or (λ t. means (own t)) (single_type type below) wrong
 
--- `members` are the verdicts on the `type` statements below it
-abbrev pub verdict : Bool → Source → Forest Source → List Verdict → Verdict
-verdict is_member s below members = option_map_or (λ type. if are_in_place type below
-    then verdict_in_place is_member s.home type below members else wrong) (built_in_named (argument_in s)) unjudged
+-- on a `type` statement of a set of modules, a member of a union or not; `members` are the verdicts on those below it
+abbrev pub verdict : Forest Source → Bool → Source → Forest Source → List Verdict → Verdict
+verdict modules is_member s below members = option_map_or (λ type. if are_in_place type below
+    then verdict_in_place is_member s type below members else wrong) (built_in_meant modules s) unjudged
 
--- the verdicts on the `type` statements of a row, which are members of a union or not
-unfoldable pub verdicts : Bool → Forest Source → List Verdict
-verdicts is_member end = []
-verdicts is_member (node s below after) = if is_source_of word.type_word s
-    then verdict is_member s below (verdicts true below) ∷ verdicts is_member after else verdicts is_member after
+-- the verdicts on the `type` statements of a row, which are members of a union
+unfoldable pub verdicts : Forest Source → Forest Source → List Verdict
+verdicts modules end = []
+verdicts modules (node s below after) = if is_source_of word.type_word s
+    then verdict modules true s below (verdicts modules below) ∷ verdicts modules after else verdicts modules after
 
--- what the `type` statement of a row means
 abbrev pub meaning_of : Verdict → Option Meant
 meaning_of (means m) = Some m
 meaning_of _ = None
 
-abbrev pub first_meant : List Verdict → Option Meant
-first_meant [] = None
-first_meant (v ∷ vs) = meaning_of v
-
-abbrev pub type_meant : Forest Source → Option Meant
-type_meant below = first_meant (verdicts false below)
+-- what a `type` statement of a set of modules means that is no member of a union
+abbrev pub type_meant : Forest Source → Source → Forest Source → Option Meant
+type_meant modules s below = meaning_of (verdict modules false s below (verdicts modules below))
 
 -- ---- C10
 
@@ -195,15 +207,15 @@ abbrev pub told : Source → Verdict → List Break
 told s wrong = broken 10 s.home s.statement.line
 told s _ = []
 
-abbrev pub type_break : Bool → Source → Forest Source → List Break
-type_break is_member s below = if is_source_of word.type_word s
-    then told s (verdict is_member s below (verdicts true below)) else []
+abbrev pub type_break : Forest Source → Bool → Source → Forest Source → List Break
+type_break modules is_member s below = if is_source_of word.type_word s
+    then told s (verdict modules is_member s below (verdicts modules below)) else []
 
--- the `type` statements that break a rule of their own; one below a `type` is a member of a union
-abbrev pub type_breaks_in : Bool → Forest Source → List Break
-type_breaks_in is_member end = []
-type_breaks_in is_member (node s below after) = type_breaks_in (is_source_of word.type_word s) below
-    ++ (type_break is_member s below ++ type_breaks_in is_member after)
+-- the `type` statements of a row that break a rule of their own; one below a `type` is a member of a union
+abbrev pub type_breaks_in : Forest Source → Bool → Forest Source → List Break
+type_breaks_in modules is_member end = []
+type_breaks_in modules is_member (node s below after) = type_breaks_in modules (is_source_of word.type_word s) below
+    ++ (type_break modules is_member s below ++ type_breaks_in modules is_member after)
 
 abbrev pub type_breaks : Forest Source → List Break
-type_breaks sources = type_breaks_in false sources
+type_breaks modules = type_breaks_in modules false modules

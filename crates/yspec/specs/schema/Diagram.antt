@@ -1,5 +1,5 @@
 -- The tree diagram of a module (RFC 8340).
-use Rattle.std.specs.Prelude.{ℕ, ◌-◌, ◌==◌, ◌++◌, max, Bool, true, false, List, [], ◌∷◌, length, replicate, codes, Option, Some, None, if◌then◌else◌}
+use Rattle.std.specs.Prelude.{ℕ, ◌-◌, ◌==◌, ◌++◌, max, Bool, true, false, List, [], ◌∷◌, length, replicate, codes, Option, None, if◌then◌else◌}
 use Rattle.std.specs.List.{flat_map}
 use Rattle.std.specs.Option.{option_map_or}
 use Rattle.yspec.specs.Forest.{Forest, end, node}
