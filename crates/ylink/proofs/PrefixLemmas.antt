@@ -1,16 +1,16 @@
 -- Prefixes of modules one after another, and unknown ones among names.
-use Rattle.std.proofs.Common.{◌≡◌, ℕ, zero, suc, ◌+◌, ◌<◌, ◌≤◌, Bool, true, false, List, [], ◌∷◌, ◌++◌, length, get_or, drop, map, Option, Some, None, is_some, refl, sym, ap, ◌∙◌}
+use Rattle.std.proofs.Common.{◌≡◌, ℕ, zero, suc, ◌+◌, ◌<◌, ◌≤◌, Bool, true, false, cond, List, [], ◌∷◌, ◌++◌, length, get_or, drop, map, Option, Some, None, is_some, refl, sym, ap, ◌∙◌}
 use Rattle.std.specs.Prelude.{◌||◌, unwrap_or}
 use Rattle.std.specs.Borrow.{Bor}
 use Rattle.std.specs.List.{list_any, flat_map}
 use Rattle.std.proofs.lemmas.List.{at_drop_more, at_drop_all, append_assoc, append-nil}
 use Rattle.std.proofs.lemmas.List.Folds.{list_any-append}
 use Rattle.yspec.specs.Forest.{Forest, end, node}
-use Rattle.yspec.specs.text.Text.{Text}
+use Rattle.yspec.specs.text.Text.{Text, is_text}
 use Rattle.yspec.specs.types.Types.{int8, int16, int32, int64, uint8, uint16, uint32, uint64}
 use Rattle.yspec.specs.linking.Keyword.{prefix_word, type_word}
 use Rattle.yspec.specs.linking.Arguments.{Name, unique_of}
-use Rattle.yspec.specs.linking.Prefixes.{is_unknown_prefix, own_prefix, names_given}
+use Rattle.yspec.specs.linking.Prefixes.{is_unknown_prefix, own_prefix, module_meant, names_given}
 use Rattle.yspec.specs.linking.Source.{Source, argument_with}
 use Rattle.yspec.specs.linking.TypeStatements.{BuiltIn, integer, decimal64, string, boolean, empty, enumeration, bits, union, leafref, built_in_name, built_in_named}
 use Rattle.yspec.proofs.LinkingProofs.BuiltInLemmas.{name_of_named}
@@ -54,9 +54,11 @@ own_at (node s below after) zero (t ∷ texts) e = let same : t.now ≡ own_pref
 own_at (node s below after) (suc home) (t ∷ texts) e = let rest : texts_view texts ≡ own_prefixes after = cc in own_at after home texts rest
 
 pub all_prefixes : (texts : List (Bor Text)) (left modules : Forest Source) → left ≡ end
-    → texts_view texts ++ own_prefixes left ≡ own_prefixes modules → (home : ℕ) → text_at texts home ≡ own_prefix modules home
-all_prefixes texts left modules ended so_far home =
-    own_at modules home texts (sym (ap (λ f. texts_view texts ++ own_prefixes f) ended ∙ append-nil (texts_view texts)) ∙ so_far)
+    → texts_view texts ++ own_prefixes left ≡ own_prefixes modules
+    → (home : ℕ) (prefix : Text) → cond (is_text (text_at texts home) prefix) (Some home) None ≡ module_meant modules home prefix
+all_prefixes texts left modules ended so_far home prefix =
+    ap (λ own. cond (is_text own prefix) (Some home) None)
+    (own_at modules home texts (sym (ap (λ f. texts_view texts ++ own_prefixes f) ended ∙ append-nil (texts_view texts)) ∙ so_far))
 
 view_push : (texts : List (Bor Text)) (t : Bor Text) → texts_view (texts ++ t ∷ []) ≡ texts_view texts ++ t.now ∷ []
 view_push [] t = refl

@@ -8,7 +8,7 @@ use Rattle.yspec.specs.linking.Keyword.{Keyword}
 use Rattle.yspec.specs.linking.Arguments.{Name}
 use Rattle.yspec.specs.linking.Source.{Source, is_source_of, argument_in, first_with, found_with}
 use Rattle.yspec.specs.linking.TypeStatements as spec
-use Rattle.yspec.specs.linking.TypeStatements.{Meant, namings, verdicts, verdict, told, type_breaks_in, member_types, union_verdict, meaning_of, first_meant, single_type, type_meant}
+use Rattle.yspec.specs.linking.TypeStatements.{namings, verdicts, verdict, told, type_breaks_in, member_types, union_verdict, single_type}
 use Rattle.std.specs.Prelude.{◌==◌, ℕ, is_some, length, map, not, option_and_then, option_map}
 use Rattle.std.specs.Option.{option_map_or}
 use Rattle.yspec.specs.types.Types.{YangType}
@@ -62,66 +62,67 @@ told_wrong s (spec.means m) = refl
 told_wrong s spec.wrong = refl
 told_wrong s spec.unjudged = refl
 
-module _ (is_member : Bool) (s : Source) (below after before : Forest Source) (first : before ≡ node s below after) where
+module _ (modules : Forest Source) (s : Source) (below after before : Forest Source) (first : before ≡ node s below after) where
   pub no_verdict : (so_far whole : List spec.Verdict) → is_source_of type_word s ≡ false
-      → so_far ++ verdicts is_member before ≡ whole → so_far ++ verdicts is_member after ≡ whole
+      → so_far ++ verdicts modules before ≡ whole → so_far ++ verdicts modules after ≡ whole
   unfolding verdicts
   no_verdict so_far whole other made =
-      sym (ap (λ f. so_far ++ verdicts is_member f) first
-      ∙ ap (λ b. so_far ++ cond b (verdict is_member s below (verdicts true below) ∷ verdicts is_member after) (verdicts is_member after)) other) ∙ made
+      sym (ap (λ f. so_far ++ verdicts modules f) first
+      ∙ ap (λ b. so_far ++ cond b (verdict modules true s below (verdicts modules below) ∷ verdicts modules after) (verdicts modules after)) other) ∙ made
 
   pub next_verdict : (so_far more : List spec.Verdict) (v : spec.Verdict) (whole : List spec.Verdict) → is_source_of type_word s ≡ true
-      → more ≡ so_far ++ v ∷ [] → v ≡ verdict is_member s below (verdicts true below)
-      → so_far ++ verdicts is_member before ≡ whole → more ++ verdicts is_member after ≡ whole
+      → more ≡ so_far ++ v ∷ [] → v ≡ verdict modules true s below (verdicts modules below)
+      → so_far ++ verdicts modules before ≡ whole → more ++ verdicts modules after ≡ whole
   unfolding verdicts
   next_verdict so_far more v whole stands pushed is made =
-      ap (λ vs. vs ++ verdicts is_member after) pushed
-      ∙ (append_assoc so_far (v ∷ []) (verdicts is_member after)
-      ∙ (ap (λ x. so_far ++ x ∷ verdicts is_member after) is
-      ∙ (sym (ap (λ f. so_far ++ verdicts is_member f) first
-      ∙ ap (λ b. so_far ++ cond b (verdict is_member s below (verdicts true below) ∷ verdicts is_member after) (verdicts is_member after)) stands) ∙ made)))
+      ap (λ vs. vs ++ verdicts modules after) pushed
+      ∙ (append_assoc so_far (v ∷ []) (verdicts modules after)
+      ∙ (ap (λ x. so_far ++ x ∷ verdicts modules after) is
+      ∙ (sym (ap (λ f. so_far ++ verdicts modules f) first
+      ∙ ap (λ b. so_far ++ cond b (verdict modules true s below (verdicts modules below) ∷ verdicts modules after) (verdicts modules after)) stands) ∙ made)))
 
+module _ (modules : Forest Source) (is_member : Bool) (s : Source) (below after before : Forest Source) (first : before ≡ node s below after) where
   -- what is broken below, then at the statement, then behind it
   broken_parts : (so_far : Option Break) (own : List Break)
-      → spec.type_break is_member s below ≡ own
-      → least_from so_far (type_breaks_in is_member before)
-      ≡ least_from (least_from (least_from so_far (type_breaks_in (is_source_of type_word s) below)) own) (type_breaks_in is_member after)
+      → spec.type_break modules is_member s below ≡ own
+      → least_from so_far (type_breaks_in modules is_member before)
+      ≡ least_from (least_from (least_from so_far (type_breaks_in modules (is_source_of type_word s) below)) own) (type_breaks_in modules is_member after)
   broken_parts so_far own is =
-      let inner = type_breaks_in (is_source_of type_word s) below in
-      let rest = type_breaks_in is_member after in
-      ap (λ f. least_from so_far (type_breaks_in is_member f)) first
+      let inner = type_breaks_in modules (is_source_of type_word s) below in
+      let rest = type_breaks_in modules is_member after in
+      ap (λ f. least_from so_far (type_breaks_in modules is_member f)) first
       ∙ (ap (λ b. least_from so_far (inner ++ (b ++ rest))) is
       ∙ (least_of_both so_far inner (own ++ rest) ∙ least_of_both (least_from so_far inner) own rest))
 
   pub no_type : (so_far result whole : Option Break) → is_source_of type_word s ≡ false
-      → result ≡ least_from so_far (type_breaks_in (is_source_of type_word s) below)
-      → least_from so_far (type_breaks_in is_member before) ≡ whole → least_from result (type_breaks_in is_member after) ≡ whole
+      → result ≡ least_from so_far (type_breaks_in modules (is_source_of type_word s) below)
+      → least_from so_far (type_breaks_in modules is_member before) ≡ whole → least_from result (type_breaks_in modules is_member after) ≡ whole
   no_type so_far result whole other inner made =
-      ap (λ t. least_from t (type_breaks_in is_member after)) inner
-      ∙ (sym (broken_parts so_far [] (ap (λ b. cond b (told s (verdict is_member s below (verdicts true below))) []) other)) ∙ made)
+      ap (λ t. least_from t (type_breaks_in modules is_member after)) inner
+      ∙ (sym (broken_parts so_far [] (ap (λ b. cond b (told s (verdict modules is_member s below (verdicts modules below))) []) other)) ∙ made)
 
   pub next_type : (so_far mid result whole : Option Break) (v : spec.Verdict) → is_source_of type_word s ≡ true
-      → mid ≡ least_from so_far (type_breaks_in (is_source_of type_word s) below)
-      → v ≡ verdict is_member s below (verdicts true below)
+      → mid ≡ least_from so_far (type_breaks_in modules (is_source_of type_word s) below)
+      → v ≡ verdict modules is_member s below (verdicts modules below)
       → result ≡ least_from mid (when (is_wrong v) (broken 10 s.home s.statement.line))
-      → least_from so_far (type_breaks_in is_member before) ≡ whole → least_from result (type_breaks_in is_member after) ≡ whole
+      → least_from so_far (type_breaks_in modules is_member before) ≡ whole → least_from result (type_breaks_in modules is_member after) ≡ whole
   next_type so_far mid result whole v stands inner is judged made =
       let own = when (is_wrong v) (broken 10 s.home s.statement.line) in
-      let own_is : spec.type_break is_member s below ≡ own =
-      ap (λ b. cond b (told s (verdict is_member s below (verdicts true below))) []) stands
+      let own_is : spec.type_break modules is_member s below ≡ own =
+      ap (λ b. cond b (told s (verdict modules is_member s below (verdicts modules below))) []) stands
       ∙ (ap (told s) (sym is) ∙ told_wrong s v) in
-      ap (λ t. least_from t (type_breaks_in is_member after)) (judged ∙ ap (λ t. least_from t own) inner)
+      ap (λ t. least_from t (type_breaks_in modules is_member after)) (judged ∙ ap (λ t. least_from t own) inner)
       ∙ (sym (broken_parts so_far own own_is) ∙ made)
 
-pub no_more_verdicts : (is_member : Bool) (left : Forest Source) (so_far whole : List spec.Verdict) → left ≡ end
-    → so_far ++ verdicts is_member left ≡ whole → so_far ≡ whole
+pub no_more_verdicts : (modules left : Forest Source) (so_far whole : List spec.Verdict) → left ≡ end
+    → so_far ++ verdicts modules left ≡ whole → so_far ≡ whole
 unfolding verdicts
-no_more_verdicts is_member left so_far whole ended made =
-    sym (ap (λ f. so_far ++ verdicts is_member f) ended ∙ append-nil so_far) ∙ made
+no_more_verdicts modules left so_far whole ended made =
+    sym (ap (λ f. so_far ++ verdicts modules f) ended ∙ append-nil so_far) ∙ made
 
-pub no_more_types : (is_member : Bool) (left : Forest Source) (so_far whole : Option Break) → left ≡ end
-    → least_from so_far (type_breaks_in is_member left) ≡ whole → so_far ≡ whole
-no_more_types is_member left so_far whole ended made = sym (ap (λ f. least_from so_far (type_breaks_in is_member f)) ended) ∙ made
+pub no_more_types : (modules : Forest Source) (is_member : Bool) (left : Forest Source) (so_far whole : Option Break) → left ≡ end
+    → least_from so_far (type_breaks_in modules is_member left) ≡ whole → so_far ≡ whole
+no_more_types modules is_member left so_far whole ended made = sym (ap (λ f. least_from so_far (type_breaks_in modules is_member f)) ended) ∙ made
 
 -- ---- which are wrong
 
@@ -139,19 +140,19 @@ wrong_path home required None = refl
 wrong_path home required (Some steps) = refl
 
 -- a union without members
-pub wrong_union : (f : Forest Source) → is_wrong (union_verdict (verdicts true f)) ≡ not (is_some (first_with type_word f))
+pub wrong_union : (modules f : Forest Source) → is_wrong (union_verdict (verdicts modules f)) ≡ not (is_some (first_with type_word f))
 unfolding verdicts
-wrong_union end = refl
-wrong_union (node s below after) = by (is_source_of type_word s) (wrong_union after)
+wrong_union modules end = refl
+wrong_union modules (node s below after) = by (is_source_of type_word s) (wrong_union modules after)
   where
     some : (types : Option (List YangType)) → is_wrong (option_map_or (λ ts. spec.means (spec.own (union_type ts))) types spec.unjudged) ≡ false
     some None = refl
     some (Some ts) = refl
 
-    by : (b : Bool) → is_wrong (union_verdict (verdicts true after)) ≡ not (is_some (first_with type_word after))
-        → is_wrong (union_verdict (cond b (verdict true s below (verdicts true below) ∷ verdicts true after) (verdicts true after)))
+    by : (b : Bool) → is_wrong (union_verdict (verdicts modules after)) ≡ not (is_some (first_with type_word after))
+        → is_wrong (union_verdict (cond b (verdict modules true s below (verdicts modules below) ∷ verdicts modules after) (verdicts modules after)))
         ≡ not (is_some (cond b (Some s) (first_with type_word after)))
-    by true h = some (member_types (verdict true s below (verdicts true below) ∷ verdicts true after))
+    by true h = some (member_types (verdict modules true s below (verdicts modules below) ∷ verdicts modules after))
     by false h = h
 
 -- a plain type alone
@@ -166,19 +167,3 @@ made_plain spec.enumeration end plain none = absurd (let clash : false ≡ true 
 made_plain spec.bits end plain none = absurd (let clash : false ≡ true = plain in cc)
 made_plain spec.union end plain none = absurd (let clash : false ≡ true = plain in cc)
 made_plain spec.leafref end plain none = absurd (let clash : false ≡ true = plain in cc)
-
--- ---- what the `type` statement of a row means
-
-abbrev pub meant_by : Option (Source × Forest Source) → Option Meant
-meant_by found = option_and_then (λ s. meaning_of (verdict false s.0 s.1 (verdicts true s.1))) found
-
-pub meant_found : (f : Forest Source) → type_meant f ≡ meant_by (found_with type_word f)
-unfolding verdicts
-meant_found end = refl
-meant_found (node s below after) = by (is_source_of type_word s) (meant_found after)
-  where
-    by : (b : Bool) → type_meant after ≡ meant_by (found_with type_word after)
-        → first_meant (cond b (verdict false s below (verdicts true below) ∷ verdicts false after) (verdicts false after))
-        ≡ meant_by (cond b (Some (s, below)) (found_with type_word after))
-    by true h = refl
-    by false h = h

@@ -1,2 +1,3 @@
 pub mod PrefixView
 pub mod TypeView
+pub mod KindView

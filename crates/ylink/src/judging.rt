@@ -1,7 +1,7 @@
-//! Where a `type` statement breaks a rule of its own (RFC 7950, 7.4 and 9).
+//! Where a `type` statement names no type, or breaks a rule of its own (RFC 7950, 7.3, 7.4 and 9).
 
-ghost use Rattle.std.specs.Prelude.{◌≡◌, ◌==◌, IfOk, None, is_some, length, not, true};
-ghost use Rattle.yspec.specs.Forest.{row};
+ghost use Rattle.std.specs.Prelude.{◌≡◌, ◌==◌, IfOk, None, is_some, length, not};
+ghost use Rattle.yspec.specs.Forest.{Forest, row};
 ghost use Rattle.yspec.specs.schema.Breaks.{least_from};
 ghost use Rattle.yspec.specs.linking.Keyword.{type_word};
 ghost use Rattle.yspec.specs.linking.Source as sources;
@@ -13,13 +13,51 @@ ghost use Rattle.ygrammar.specs.SourceView.{source_view};
 ghost use Rattle.yword.specs.BuiltInView.{built_in_view};
 ghost use Rattle.ylink.specs.TypeView.{is_plain, is_wrong};
 
-use crate::types::{are_in_place, path_stated, single_type};
+use crate::types::{are_in_place, built_in_meant, path_stated, single_type};
 use std::alloc::{AllocError, Global};
 use ygrammar::{
-    BrokenRule, CompileCode, Source, Sources, broken, built_in_of, first_with, least_when,
+    BrokenRule, CompileCode, Source, Sources, broken, first_with, least, least_when,
 };
 use ypreorder::{Node, Nodes};
 use yword::{BuiltIn, Keyword};
+
+/// Whether a statement of a set, which has that number, names a type that isn't found.
+fn is_not_found(sources: &Sources<'_>, number: u32, statement: &Source<'_>) -> bool
+    ensures { result ≡ spec.is_not_found (view sources.now) (source_view number statement.now) }
+{
+    Keyword::Type.is(statement.keyword) && built_in_meant(sources, number, statement).is_none()
+}
+
+/// The lesser of one so far and of the rule that a statement breaks which names no type.
+fn judge_type_name(
+    sources: &Sources<'_>,
+    number: u32,
+    statement: &Source<'_>,
+    so_far: Option<BrokenRule>,
+) -> Option<BrokenRule>
+    ensures { seen result ≡ least_from (seen so_far)
+        (spec.type_name_break (view sources.now) (source_view number statement.now)) }
+{
+    let missing = is_not_found(sources, number, statement);
+    if !missing {
+        return so_far;
+    }
+    least(
+        so_far,
+        broken(CompileCode::C8, statement.home, statement.statement),
+    )
+}
+
+/// The least of the types that aren't found, by module and line.
+pub fn broken_type_name_rule(sources: &Sources<'_>) -> Option<BrokenRule>
+    ensures { seen result ≡ least_from None (spec.type_name_breaks (view sources.now)) }
+{
+    let mut told = None;
+    for (number, row) in sources.rows().iter().enumerate() {
+        told = judge_type_name(sources, number as u32, &row.label, told);
+    }
+    told
+}
 
 /// Whether a built-in type is one that needs no substatement.
 fn is_plain(type_name: BuiltIn) -> bool
@@ -63,8 +101,8 @@ fn is_wrong_leafref(
     is_member: bool,
     below: Nodes<'_, Source<'_>>,
 ) -> Result<bool, AllocError>
-    ensures { (home : _) → IfOk result (λ b. b
-        ≡ is_wrong (spec.leafref_verdict is_member home (row_by source_view below.entry))) }
+    ensures { (s : sources.Source) → IfOk result (λ b. b
+        ≡ is_wrong (spec.leafref_verdict is_member s (row_by source_view below.entry))) }
 {
     if is_member {
         return Ok(true);
@@ -79,9 +117,10 @@ fn is_wrong_in_place(
     type_name: BuiltIn,
     statement: Node<'_, Source<'_>>,
 ) -> Result<bool, AllocError>
-    ensures { let f = row_by source_view statement.entry.children in IfOk result (λ b. b
-        ≡ is_wrong (spec.verdict_in_place is_member (label_by source_view statement.entry).home
-        (built_in_view type_name) f (spec.verdicts true f))) }
+    ensures { let f = row_by source_view statement.entry.children in
+        (modules : Forest sources.Source) → IfOk result (λ b. b
+        ≡ is_wrong (spec.verdict_in_place is_member (label_by source_view statement.entry)
+        (built_in_view type_name) f (spec.verdicts modules f))) }
 {
     let below = statement.children();
     match type_name {
@@ -91,17 +130,18 @@ fn is_wrong_in_place(
     }
 }
 
-/// Whether a `type` statement, a member of a union or not, breaks a rule of its own.
+/// Whether a `type` statement of a set, a member of a union or not, breaks a rule of its own.
 fn is_wrong(
     alloc: Global,
+    sources: &Sources<'_>,
     is_member: bool,
     statement: Node<'_, Source<'_>>,
 ) -> Result<bool, AllocError>
-    ensures { let f = row_by source_view statement.entry.children in
-        IfOk result (λ b. b ≡ is_wrong
-        (spec.verdict is_member (label_by source_view statement.entry) f (spec.verdicts true f))) }
+    ensures { let f = row_by source_view statement.entry.children in let modules = view sources.now in
+        IfOk result (λ b. b ≡ is_wrong (spec.verdict modules is_member
+        (label_by source_view statement.entry) f (spec.verdicts modules f))) }
 {
-    let Some(type_name) = built_in_of(statement) else {
+    let Some(type_name) = built_in_meant(sources, statement.number(), statement.label()) else {
         return Ok(false);
     };
     if !are_in_place(type_name, statement.children()) {
@@ -110,25 +150,26 @@ fn is_wrong(
     is_wrong_in_place(alloc, is_member, type_name, statement)
 }
 
-/// The least rule that the `type` statements of a row, members of a union or not, and those below it break.
+/// The least rule that the `type` statements of a row of a set, members of a union or not, and those below it break.
 fn broken_type_rule_in(
     alloc: Global,
+    sources: &Sources<'_>,
     is_member: bool,
     statements: Nodes<'_, Source<'_>>,
     so_far: Option<BrokenRule>,
 ) -> Result<Option<BrokenRule>, AllocError>
     ensures { IfOk result (λ told. seen told ≡ least_from (seen so_far)
-        (spec.type_breaks_in is_member (row_by source_view statements.entry))) }
+        (spec.type_breaks_in (view sources.now) is_member (row_by source_view statements.entry))) }
 {
     let mut told = so_far;
     for statement in statements {
         let source = statement.label();
         let is_type = Keyword::Type.is(source.keyword);
-        told = broken_type_rule_in(alloc, is_type, statement.children(), told)?;
+        told = broken_type_rule_in(alloc, sources, is_type, statement.children(), told)?;
         if !is_type {
             continue;
         }
-        let wrong = is_wrong(alloc, is_member, statement)?;
+        let wrong = is_wrong(alloc, sources, is_member, statement)?;
         told = least_when(
             wrong,
             told,
@@ -146,5 +187,5 @@ pub fn broken_type_rule(
     ensures { IfOk result (λ told. seen told
         ≡ least_from None (spec.type_breaks (view sources.now))) }
 {
-    broken_type_rule_in(alloc, false, sources.modules(), None)
+    broken_type_rule_in(alloc, sources, false, sources.modules(), None)
 }

@@ -7,6 +7,6 @@ mod naming;
 mod prefix;
 mod types;
 
-pub use judging::broken_type_rule;
-pub use prefix::{NodeName, Prefixes, broken_prefix_rule, broken_type_name_rule};
-pub use types::{Meant, Verdict, type_meant};
+pub use judging::{broken_type_name_rule, broken_type_rule};
+pub use prefix::{NodeName, Prefixes, broken_prefix_rule};
+pub use types::{Meant, Verdict, built_in_meant, type_meant};

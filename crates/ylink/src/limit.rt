@@ -12,12 +12,49 @@ ghost use Rattle.ynumber.specs.View.{restriction_of, text_of};
 ghost use Rattle.ynumber.specs.Words.{narrow_refusal, same};
 ghost use Rattle.ypreorder.specs.View.{row_by, label_by};
 ghost use Rattle.ygrammar.specs.SourceView.{source_view};
+ghost use Rattle.ylink.specs.KindView.{word_of, restriction_by};
 
 use std::alloc::{AllocError, Global};
 use ygrammar::{Source, argument_of, argument_with, found_with, spans};
 use ypreorder::{Node, Nodes};
 use ytype::{NarrowFault, Restriction, Span, YType};
 use yword::Keyword;
+
+/// The restrictions that types have by spans of numbers.
+#[derive(Clone, Copy)]
+enum SpanRestriction {
+    /// Of the numbers themselves.
+    Range,
+    /// Of the numbers of characters.
+    Length,
+}
+
+impl SpanRestriction {
+    ghost use Rattle.std.specs.Prelude.{◌≡◌};
+    ghost use Rattle.ynumber.specs.View.{restriction_of, text_of};
+    ghost use Rattle.yword.specs.KeywordView.{keyword_view};
+    ghost use Rattle.ylink.specs.KindView.{word_of, restriction_by};
+
+    /// The keyword of the statement that states one.
+    fn keyword(self) -> Keyword
+        ensures { keyword_view result ≡ word_of self }
+    {
+        match self {
+            SpanRestriction::Range => Keyword::Range,
+            SpanRestriction::Length => Keyword::Length,
+        }
+    }
+
+    /// The restriction by these spans, with its error-app-tag.
+    fn restriction(self, spans: Vec<Span>, app_tag: Option<String>) -> Restriction
+        ensures { restriction_of result ≡ restriction_by self spans.items (text_of app_tag) }
+    {
+        match self {
+            SpanRestriction::Range => Restriction::Range { spans, app_tag },
+            SpanRestriction::Length => Restriction::Length { spans, app_tag },
+        }
+    }
+}
 
 fn app_tag(alloc: Global, below: Nodes<'_, Source<'_>>) -> Result<Option<String>, AllocError>
     ensures { IfOk result (λ tag. text_of tag
@@ -39,37 +76,20 @@ fn spans_stated(alloc: Global, statement: Node<'_, Source<'_>>) -> Result<Vec<Sp
     }
 }
 
-/// The range of a row, where it states one.
-fn range_stated(
+/// The restriction of a kind that a row states, where it states one.
+fn restriction_stated(
     alloc: Global,
+    kind: SpanRestriction,
     below: Nodes<'_, Source<'_>>,
 ) -> Result<Option<Restriction>, AllocError>
     ensures { IfOk result (λ r. option_map restriction_of r
-        ≡ spec.stated word.range_word restrictions.range (row_by source_view below.entry)) }
+        ≡ spec.stated (word_of kind) (restriction_by kind) (row_by source_view below.entry)) }
 {
-    match found_with(Keyword::Range, below) {
+    match found_with(kind.keyword(), below) {
         Some(statement) => {
             let spans = spans_stated(alloc, statement)?;
             let app_tag = app_tag(alloc, statement.children())?;
-            Ok(Some(Restriction::Range { spans, app_tag }))
-        }
-        None => Ok(None),
-    }
-}
-
-/// The length of a row, where it states one.
-fn length_stated(
-    alloc: Global,
-    below: Nodes<'_, Source<'_>>,
-) -> Result<Option<Restriction>, AllocError>
-    ensures { IfOk result (λ r. option_map restriction_of r
-        ≡ spec.stated word.length_word restrictions.length (row_by source_view below.entry)) }
-{
-    match found_with(Keyword::Length, below) {
-        Some(statement) => {
-            let spans = spans_stated(alloc, statement)?;
-            let app_tag = app_tag(alloc, statement.children())?;
-            Ok(Some(Restriction::Length { spans, app_tag }))
+            Ok(Some(kind.restriction(spans, app_tag)))
         }
         None => Ok(None),
     }
@@ -101,6 +121,23 @@ fn limited_type(
     }
 }
 
+/// What the restriction of a kind that a row states makes of a type.
+fn restricted_type(
+    alloc: Global,
+    kind: SpanRestriction,
+    below: Nodes<'_, Source<'_>>,
+    outer: Result<YType, NarrowFault>,
+) -> Result<Option<YType>, AllocError>
+    ensures { (type : YangType) → outer ≡ Ok type → IfOk result (λ t. t
+        ≡ spec.limited
+        (spec.stated (word_of kind) (restriction_by kind) (row_by source_view below.entry)) type) }
+{
+    match outer {
+        Ok(outer) => limited_type(alloc, restriction_stated(alloc, kind, below)?, outer),
+        Err(_) => Err(AllocError),
+    }
+}
+
 /// What the range of a row makes of a type.
 pub(crate) fn ranged_type(
     alloc: Global,
@@ -110,10 +147,7 @@ pub(crate) fn ranged_type(
     ensures { (type : YangType) → outer ≡ Ok type
         → IfOk result (λ t. t ≡ spec.limited_range (row_by source_view below.entry) type) }
 {
-    match outer {
-        Ok(outer) => limited_type(alloc, range_stated(alloc, below)?, outer),
-        Err(_) => Err(AllocError),
-    }
+    restricted_type(alloc, SpanRestriction::Range, below, outer)
 }
 
 /// What the length of a row makes of a type.
@@ -122,12 +156,8 @@ pub(crate) fn measured_type(
     below: Nodes<'_, Source<'_>>,
     outer: Result<YType, NarrowFault>,
 ) -> Result<Option<YType>, AllocError>
-    ensures { (type : YangType) → outer ≡ Ok type
-        → IfOk result (λ t. t ≡ spec.limited
+    ensures { (type : YangType) → outer ≡ Ok type → IfOk result (λ t. t ≡ spec.limited
         (spec.stated word.length_word restrictions.length (row_by source_view below.entry)) type) }
 {
-    match outer {
-        Ok(outer) => limited_type(alloc, length_stated(alloc, below)?, outer),
-        Err(_) => Err(AllocError),
-    }
+    restricted_type(alloc, SpanRestriction::Length, below, outer)
 }

@@ -8,6 +8,7 @@ ghost use Rattle.yspec.specs.linking.Source as sources;
 ghost use Rattle.yspec.specs.linking.TypeStatements as spec;
 ghost use Rattle.ypreorder.specs.View.{row_by, label_by};
 ghost use Rattle.ygrammar.specs.SourceView.{source_view};
+ghost use Rattle.ylink.specs.KindView.{naming_word, number_by};
 
 use crate::limit::accepted_type;
 use std::alloc::{AllocError, Global};
@@ -28,6 +29,41 @@ fn position_stated(below: Nodes<'_, Source<'_>>) -> Option<i64>
     Some(i64::from(count(argument_with(Keyword::Position, below)?)?))
 }
 
+/// The statements that give names with numbers.
+#[derive(Clone, Copy)]
+enum NamingKind {
+    Enum,
+    Bit,
+}
+
+impl NamingKind {
+    ghost use Rattle.std.specs.Prelude.{◌≡◌};
+    ghost use Rattle.ypreorder.specs.View.{row_by};
+    ghost use Rattle.yword.specs.KeywordView.{keyword_view};
+    ghost use Rattle.ygrammar.specs.SourceView.{source_view};
+    ghost use Rattle.ylink.specs.KindView.{naming_word, number_by};
+
+    /// Their keyword.
+    fn keyword(self) -> Keyword
+        ensures { keyword_view result ≡ naming_word self }
+    {
+        match self {
+            NamingKind::Enum => Keyword::Enum,
+            NamingKind::Bit => Keyword::Bit,
+        }
+    }
+
+    /// The number that one states, given what stands below it.
+    fn number_stated(self, below: Nodes<'_, Source<'_>>) -> Option<i64>
+        ensures { result ≡ number_by self (row_by source_view below.entry) }
+    {
+        match self {
+            NamingKind::Enum => value_stated(below),
+            NamingKind::Bit => position_stated(below),
+        }
+    }
+}
+
 fn naming(
     alloc: Global,
     statement: Node<'_, Source<'_>>,
@@ -43,32 +79,22 @@ fn naming(
     Ok(Naming::new(name, number))
 }
 
-fn enum_namings(alloc: Global, below: Nodes<'_, Source<'_>>) -> Result<Vec<Naming>, AllocError>
+/// The names that the statements of a kind in a row give, each with its number where one is stated.
+fn namings(
+    alloc: Global,
+    kind: NamingKind,
+    below: Nodes<'_, Source<'_>>,
+) -> Result<Vec<Naming>, AllocError>
     ensures { IfOk result (λ namings. namings.items
-        ≡ spec.namings word.enum_word spec.value_stated (row_by source_view below.entry)) }
+        ≡ spec.namings (naming_word kind) (number_by kind) (row_by source_view below.entry)) }
 {
+    let keyword = kind.keyword();
     let mut namings = Vec::new(alloc);
     for statement in below {
-        if !Keyword::Enum.is(statement.label().keyword) {
+        if !keyword.is(statement.label().keyword) {
             continue;
         }
-        let number = value_stated(statement.children());
-        let named = naming(alloc, statement, number)?;
-        namings.push(named)?;
-    }
-    Ok(namings)
-}
-
-fn bit_namings(alloc: Global, below: Nodes<'_, Source<'_>>) -> Result<Vec<Naming>, AllocError>
-    ensures { IfOk result (λ namings. namings.items
-        ≡ spec.namings word.bit_word spec.position_stated (row_by source_view below.entry)) }
-{
-    let mut namings = Vec::new(alloc);
-    for statement in below {
-        if !Keyword::Bit.is(statement.label().keyword) {
-            continue;
-        }
-        let number = position_stated(statement.children());
+        let number = kind.number_stated(statement.children());
         let named = naming(alloc, statement, number)?;
         namings.push(named)?;
     }
@@ -83,7 +109,7 @@ pub(crate) fn enumeration(
     ensures { IfOk result (λ type. type ≡ spec.of_names enumeration_base names.enum_names
         (spec.namings word.enum_word spec.value_stated (row_by source_view below.entry))) }
 {
-    let namings = enum_namings(alloc, below)?;
+    let namings = namings(alloc, NamingKind::Enum, below)?;
     if namings.is_empty() {
         return Ok(None);
     }
@@ -95,7 +121,7 @@ pub(crate) fn bits(alloc: Global, below: Nodes<'_, Source<'_>>) -> Result<Option
     ensures { IfOk result (λ type. type ≡ spec.of_names bits_base names.bit_names
         (spec.namings word.bit_word spec.position_stated (row_by source_view below.entry))) }
 {
-    let namings = bit_namings(alloc, below)?;
+    let namings = namings(alloc, NamingKind::Bit, below)?;
     if namings.is_empty() {
         return Ok(None);
     }

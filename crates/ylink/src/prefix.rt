@@ -224,35 +224,3 @@ pub fn broken_prefix_rule(
     }
     Ok(told)
 }
-
-/// Whether a statement names a type that isn't found.
-fn is_not_found(source: &Source<'_>) -> bool
-    ensures { (number : ℕ) → result ≡ spec.is_not_found (source_view number source.now) }
-{
-    Keyword::Type.is(source.keyword) && source.built_in().is_none()
-}
-
-fn judge_type_name(source: &Source<'_>, so_far: Option<BrokenRule>) -> Option<BrokenRule>
-    ensures { (number : ℕ) → seen result
-        ≡ least_from (seen so_far) (spec.type_name_break (source_view number source.now)) }
-{
-    let missing = is_not_found(source);
-    if !missing {
-        return so_far;
-    }
-    least(
-        so_far,
-        broken(CompileCode::C8, source.home, source.statement),
-    )
-}
-
-/// The least of the types that aren't found, by module and line.
-pub fn broken_type_name_rule(sources: &Sources<'_>) -> Option<BrokenRule>
-    ensures { seen result ≡ least_from None (spec.type_name_breaks (view sources.now)) }
-{
-    let mut told = None;
-    for row in sources.rows() {
-        told = judge_type_name(&row.label, told);
-    }
-    told
-}

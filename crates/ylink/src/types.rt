@@ -1,4 +1,4 @@
-//! What `type` statements mean, and where one breaks a rule of its own (RFC 7950, 7.4 and 9).
+//! What `type` statements name and mean (RFC 7950, 7.4 and 9).
 
 ghost use Rattle.std.specs.Prelude.{◌≡◌, ℕ, IfOk, [], false, true, None, map, option_map, option_and_then};
 ghost use Rattle.std.specs.List.{list_all};
@@ -22,8 +22,7 @@ use crate::limit::{accepted_type, measured_type, ranged_type};
 use crate::naming::{bits, enumeration};
 use std::alloc::{AllocError, Global};
 use ygrammar::{
-    BrokenRule, CompileCode, Name, Source, Sources, argument_with, broken, built_in_of, found_with,
-    fraction_digits, leafref_path, least_when,
+    Name, Source, Sources, argument_with, fraction_digits, leafref_path,
 };
 use ypreorder::{Node, Nodes};
 use ytype::{FractionDigits, YType};
@@ -73,6 +72,18 @@ fn may_bear(type_name: BuiltIn, keyword: Keyword) -> bool
         BuiltIn::Leafref => matches!(keyword, Keyword::Path | Keyword::RequireInstance),
         BuiltIn::Boolean | BuiltIn::Empty => false,
     }
+}
+
+/// The built-in type that a `type` statement of a set names, which has that number.
+pub fn built_in_meant(
+    sources: &Sources<'_>,
+    number: u32,
+    statement: &Source<'_>,
+) -> Option<BuiltIn>
+    ensures { option_map built_in_view result
+        ≡ spec.built_in_meant (view sources.now) (source_view number statement.now) }
+{
+    statement.built_in()
 }
 
 pub(crate) fn are_in_place(type_name: BuiltIn, below: Nodes<'_, Source<'_>>) -> bool
@@ -159,18 +170,19 @@ pub(crate) fn path_stated<'t>(
 fn leafref_verdict<'t>(
     alloc: Global,
     is_member: bool,
-    home: usize,
-    below: Nodes<'_, Source<'t>>,
+    statement: Node<'_, Source<'t>>,
 ) -> Result<Verdict<'t>, AllocError>
     ensures { IfOk result (λ verdict. verdict_view verdict
-        ≡ spec.leafref_verdict is_member home (row_by source_view below.entry)) }
+        ≡ spec.leafref_verdict is_member (label_by source_view statement.entry)
+        (row_by source_view statement.entry.children)) }
 {
     if is_member {
         return Ok(Verdict::Wrong);
     }
+    let below = statement.children();
     match path_stated(alloc, below)? {
         Some(steps) => Ok(Verdict::Means(Meant::OfTarget {
-            home,
+            home: statement.label().home,
             steps,
             required: is_required(below),
         })),
@@ -228,30 +240,33 @@ fn verdict_in_place<'t>(
     members: Vec<Verdict<'t>>,
 ) -> Result<Verdict<'t>, AllocError>
     ensures { IfOk result (λ verdict. verdict_view verdict
-        ≡ spec.verdict_in_place is_member (label_by source_view statement.entry).home
+        ≡ spec.verdict_in_place is_member (label_by source_view statement.entry)
         (built_in_view type_name) (row_by source_view statement.entry.children)
         (map verdict_view members.entry.items)) }
 {
-    let below = statement.children();
     match type_name {
         BuiltIn::Union => union_verdict(alloc, members),
-        BuiltIn::Leafref => leafref_verdict(alloc, is_member, statement.label().home, below),
-        _ => Ok(own_or(single_type(alloc, type_name, below)?, Verdict::Wrong)),
+        BuiltIn::Leafref => leafref_verdict(alloc, is_member, statement),
+        _ => Ok(own_or(
+            single_type(alloc, type_name, statement.children())?,
+            Verdict::Wrong,
+        )),
     }
 }
 
-/// The verdict on a `type` statement, given those on the `type` statements below it.
+/// The verdict on a `type` statement of a set, given those on the `type` statements below it.
 fn judge_type<'t>(
     alloc: Global,
+    sources: &Sources<'t>,
     is_member: bool,
     statement: Node<'_, Source<'t>>,
     members: Vec<Verdict<'t>>,
 ) -> Result<Verdict<'t>, AllocError>
     ensures { IfOk result (λ verdict. verdict_view verdict
-        ≡ spec.verdict is_member (label_by source_view statement.entry)
+        ≡ spec.verdict (view sources.now) is_member (label_by source_view statement.entry)
         (row_by source_view statement.entry.children) (map verdict_view members.entry.items)) }
 {
-    let Some(type_name) = built_in_of(statement) else {
+    let Some(type_name) = built_in_meant(sources, statement.number(), statement.label()) else {
         return Ok(Verdict::Unjudged);
     };
     if !are_in_place(type_name, statement.children()) {
@@ -260,39 +275,39 @@ fn judge_type<'t>(
     verdict_in_place(alloc, is_member, type_name, statement, members)
 }
 
-/// The verdicts on the members of a union that stand in a row.
+/// The verdicts on the members of a union that stand in a row of a set.
 fn member_verdicts<'t>(
     alloc: Global,
+    sources: &Sources<'t>,
     statements: Nodes<'_, Source<'t>>,
 ) -> Result<Vec<Verdict<'t>>, AllocError>
     ensures { IfOk result (λ found. map verdict_view found.items
-        ≡ spec.verdicts true (row_by source_view statements.entry)) }
+        ≡ spec.verdicts (view sources.now) (row_by source_view statements.entry)) }
 {
     let mut found = Vec::new(alloc);
     for statement in statements {
         if !Keyword::Type.is(statement.label().keyword) {
             continue;
         }
-        let members = member_verdicts(alloc, statement.children())?;
-        let judged = judge_type(alloc, true, statement, members)?;
+        let members = member_verdicts(alloc, sources, statement.children())?;
+        let judged = judge_type(alloc, sources, true, statement, members)?;
         found.push(judged)?;
     }
     Ok(found)
 }
 
-/// What the first `type` statement of a row means. It costs no walk through what else stands in the row.
+/// What a `type` statement of a set means that is no member of a union.
 pub fn type_meant<'t>(
     alloc: Global,
-    own: Nodes<'_, Source<'t>>,
+    sources: &Sources<'t>,
+    statement: Node<'_, Source<'t>>,
 ) -> Result<Option<Meant<'t>>, AllocError>
     ensures { IfOk result (λ meant. option_map meant_view meant
-        ≡ spec.type_meant (row_by source_view own.entry)) }
+        ≡ spec.type_meant (view sources.now) (label_by source_view statement.entry)
+        (row_by source_view statement.entry.children)) }
 {
-    let Some(statement) = found_with(Keyword::Type, own) else {
-        return Ok(None);
-    };
-    let members = member_verdicts(alloc, statement.children())?;
-    let judged = judge_type(alloc, false, statement, members)?;
+    let members = member_verdicts(alloc, sources, statement.children())?;
+    let judged = judge_type(alloc, sources, false, statement, members)?;
     Ok(judged.meaning())
 }
 

@@ -4,6 +4,7 @@ use Rattle.yspec.specs.schema.Breaks.{least_from}
 use Rattle.yspec.specs.linking.TypeStatements.{type_breaks_in}
 use Rattle.ypreorder.specs.View.{row_by, row_view}
 use Rattle.ygrammar.specs.BreakView.{seen}
+use Rattle.ygrammar.specs.LinkView.{view}
 use Rattle.ygrammar.specs.SourceView.{source_view}
 use Rattle.ylink.proofs.judging.+broken_type_rule_in.Given as goal
 
@@ -16,6 +17,6 @@ invariant-loop-statement l = record {
   more : (goal.iterator-loop-statement).can_next l.statement-iterator;
   ends : (goal.iterator-loop-statement).is_finite l.statement-iterator;
   smaller : size (row_view l.statement-iterator) ≤ size (row_view l.fn.statements);
-  told : least_from (seen l.told) (type_breaks_in l.is_member (row_by source_view l.statement-iterator))
-      ≡ least_from (seen l.fn.so_far) (type_breaks_in l.is_member (row_by source_view l.fn.statements));
+  told : least_from (seen l.told) (type_breaks_in (view l.sources) l.is_member (row_by source_view l.statement-iterator))
+      ≡ least_from (seen l.fn.so_far) (type_breaks_in (view l.sources) l.is_member (row_by source_view l.fn.statements));
 }

@@ -2,6 +2,7 @@ use Rattle.std.proofs.Common.{◌≡◌, ◌++◌, ◌≤◌, true, map}
 use Rattle.yspec.specs.Forest.{size}
 use Rattle.yspec.specs.linking.TypeStatements.{verdicts}
 use Rattle.ypreorder.specs.View.{row_by, row_view}
+use Rattle.ygrammar.specs.LinkView.{view}
 use Rattle.ygrammar.specs.SourceView.{source_view}
 use Rattle.ylink.specs.TypeView.{verdict_view}
 use Rattle.ylink.proofs.types.+member_verdicts.Given as goal
@@ -15,6 +16,6 @@ invariant-loop-statement l = record {
   more : (goal.iterator-loop-statement).can_next l.statement-iterator;
   ends : (goal.iterator-loop-statement).is_finite l.statement-iterator;
   smaller : size (row_view l.statement-iterator) ≤ size (row_view l.fn.statements);
-  verdicts : map verdict_view l.found.items ++ verdicts true (row_by source_view l.statement-iterator)
-      ≡ verdicts true (row_by source_view l.fn.statements);
+  verdicts : map verdict_view l.found.items ++ verdicts (view l.sources) (row_by source_view l.statement-iterator)
+      ≡ verdicts (view l.sources) (row_by source_view l.fn.statements);
 }

@@ -1,13 +1,14 @@
 use Rattle.std.proofs.Common.{◌≡◌, ◌++◌}
-use Rattle.yspec.specs.linking.Keyword.{enum_word}
-use Rattle.yspec.specs.linking.TypeStatements.{namings, value_stated}
+use Rattle.yspec.specs.linking.TypeStatements.{namings}
 use Rattle.ypreorder.specs.View.{row_by}
 use Rattle.ygrammar.specs.SourceView.{source_view}
-use Rattle.ylink.proofs.naming.enum_namings.Given as goal
+use Rattle.ylink.specs.KindView.{naming_word, number_by}
+use Rattle.ylink.proofs.naming.namings.Given as goal
 
 abbrev pub invariant-loop-statement : goal.invariant-loop-statement
 invariant-loop-statement l = record {
   more : (goal.iterator-loop-statement).can_next l.statement-iterator;
   ends : (goal.iterator-loop-statement).is_finite l.statement-iterator;
-  so_far : l.namings.items ++ namings enum_word value_stated (row_by source_view l.statement-iterator) ≡ namings enum_word value_stated (row_by source_view l.below);
+  so_far : l.namings.items ++ namings (naming_word l.kind) (number_by l.kind) (row_by source_view l.statement-iterator)
+      ≡ namings (naming_word l.kind) (number_by l.kind) (row_by source_view l.below);
 }
