@@ -4,3 +4,4 @@ pub mod Output
 pub mod Examples
 pub mod SchemaExamples
 pub mod DiagramExamples
+pub mod CornerExamples

@@ -7,6 +7,7 @@ pub mod changes;
 pub mod checking;
 pub mod commands;
 pub mod compiling;
+pub mod corners;
 pub mod diagrams;
 pub mod documents;
 pub mod dumping;

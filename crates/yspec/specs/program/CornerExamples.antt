@@ -1,0 +1,25 @@
+-- Worked examples of corners: schemas of several modules written out as values.
+use Rattle.std.specs.Prelude.{false, [], ◌∷◌, codes, None}
+use Rattle.yspec.specs.Forest.{end, node}
+use Rattle.yspec.specs.types.Types.{string_base}
+use Rattle.yspec.specs.schema.Schema.{Schema, container, leaf, choice, case, allowed}
+use Rattle.yspec.specs.program.SchemaExamples.{named_module, node_of, of_base}
+
+-- a container of m with a choice of a, in whose case a leaf of a stands
+abbrev pub other_choice_schema : Schema
+other_choice_schema = record {
+  modules = named_module (codes "a") ∷ named_module (codes "m") ∷ [];
+  nodes = node (record (node_of 0 (codes "c") (container false)) { module_number = 1 })
+      (node (node_of 1 (codes "h") (choice None false))
+      (node (node_of 2 (codes "k") case)
+      (node (node_of 3 (codes "x") (leaf (of_base (codes "string") string_base) allowed)) end end) end) end) end;
+}
+
+-- a container of m with a leaf of a, and behind it a leaf of m of the same name
+abbrev pub same_name_schema : Schema
+same_name_schema = record {
+  modules = named_module (codes "a") ∷ named_module (codes "m") ∷ [];
+  nodes = node (record (node_of 0 (codes "c") (container false)) { module_number = 1 })
+      (node (node_of 1 (codes "n") (leaf (of_base (codes "string") string_base) allowed)) end
+      (node (record (node_of 2 (codes "n") (leaf (of_base (codes "string") string_base) allowed)) { module_number = 1 }) end end)) end;
+}
