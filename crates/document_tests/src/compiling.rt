@@ -81,6 +81,7 @@ C1:4/leaf l { type instance-identifier; }
 C1:4/leaf l { type binary; }
 C2:4/leaf l;
 C2:4/list l { key k; key k;| leaf k { type string; } }
+C2:4/leaf a { type uint8; default 1;| default 2; }
 C3:4/container 1;
 C3:4/container;
 C3:5/leaf-list l { type string;| min-elements 01; }

@@ -119,6 +119,16 @@ create /v:e[3]/id 2 => 5 to 6 => {"v:e":[{"id":1,"in":{"x":"p"}},{"id":2,"in":{"
     assert_eq!(rt; first_wrong_history(rt.alloc(), ENTRIES, histories), None);
 }
 
+// No entry stands at a position of a list without any.
+#[test]
+fn absent_lists(rt: HostRuntime) {
+    let histories = r#"{}
+remove /v:e[1] => E5 => {} => none
+create /v:e[1]/id 1 => E5 => {} => none
+replace /v:e[1]/m[1] 1 => E5 => {} => none"#;
+    assert_eq!(rt; first_wrong_history(rt.alloc(), ENTRIES, histories), None);
+}
+
 // Whether edits of two entries of one key are decided so, and leave one of them.
 fn removes_one(alloc: Global) -> Option<bool> {
     let rows = "remove /ex-net:net/host[name='a'] => E6
@@ -129,7 +139,21 @@ remove /ex-net:net/host[2] => accepted";
     runs_under(alloc, NETWORK, document, rows, text)
 }
 
+// Whether a list of one edit is decided so, and leaves no faults.
+fn removes_itself(alloc: Global) -> Option<bool> {
+    let document = r#"{"ex-net:net":{"host":[{"name":"a","auto":[null]},{"name":"b"}]}}"#;
+    let text = r#"{"ex-net:net":{"host":[{"auto":[null],"name":"a"}]}}"#;
+    runs_under(
+        alloc,
+        NETWORK,
+        document,
+        "remove /ex-net:net/host[2] => accepted",
+        text,
+    )
+}
+
 #[test]
 fn lists_of_edits(rt: HostRuntime) {
     assert!(rt; removes_one(rt.alloc()) == Some(true));
+    assert!(rt; removes_itself(rt.alloc()) == Some(true));
 }

@@ -309,3 +309,72 @@ leaf a { type uint8 { range 1..5; } }";
         assert!(rt; is_accepted_module(rt.alloc(), row) == Some(true), "{row}");
     }
 }
+
+/// Whether a document prints so under a module: the row is the module's lines, a line `--`, and the document's row.
+fn is_told_under(alloc: Global, row: &str) -> Option<bool> {
+    let (lines, row) = row.split_once("--\n")?;
+    let text = module_of(alloc, lines).ok()?;
+    is_told(alloc, text.as_str(), row)
+}
+
+#[test]
+fn corners(rt: HostRuntime) {
+    let rows = r#"  list l { key k; leaf k { type string; mandatory true; } }
+--
+{"p:l":[{}]}
+1
+V2 missing-element - /p:l[1]/k -
+1 faults
+==
+  leaf-list a { config false; type uint8; }
+--
+{"p:a":[1,1]}
+0
+0 faults
+==
+  leaf-list a { type leafref { path /p:b; } }
+  leaf b { type string; }
+--
+{"p:a":["x","x"]}
+1
+V11 data-missing instance-required /p:a[1] -
+V10 operation-failed - /p:a[1] -
+V11 data-missing instance-required /p:a[2] -
+V10 operation-failed - /p:a[2] -
+4 faults
+==
+  list l {
+    key k; unique c/d;
+    leaf k { type uint8; }
+    container c { leaf d { type uint8; default 1; } }
+  }
+--
+{"p:l":[{"k":1},{"k":2,"c":{"d":1}}]}
+1
+V9 operation-failed data-not-unique /p:l[1] 1
+V9 operation-failed data-not-unique /p:l[2] 1
+2 faults
+==
+  choice h {
+    case a { leaf x { type uint8; } leaf y { type uint8; mandatory true; } }
+    case b { leaf z { type uint8; } leaf u { type uint8; mandatory true; } }
+  }
+--
+{"p:x":1,"p:z":1}
+1
+V5 bad-element - / h
+V3 data-missing - /p:y -
+V3 data-missing - /p:u -
+3 faults
+==
+  leaf a { type uint8 { range 1 { error-app-tag "a b c"; } } }
+--
+{"p:a":2}
+1
+V1 invalid-value a_b_c /p:a -
+1 faults
+"#;
+    for row in rows.split("==\n") {
+        assert!(rt; is_told_under(rt.alloc(), row) == Some(true), "{row}");
+    }
+}

@@ -16,7 +16,7 @@ fn lacks_key(planned: &Planned<'_, '_>) -> bool
         result ≡ (is_a list_word p && not (is_some (stated_in key_word p))) }
 {
     match planned.keyword() {
-        Keyword::List => planned.stated(Keyword::Key).is_none(),
+        Keyword::List => planned.own_argument(Keyword::Key).is_none(),
         _ => false,
     }
 }

@@ -156,7 +156,7 @@ fn is_wrong_choice<'a, 't>(plan: &Plan<'a, 't>, number: u32, planned: &Planned<'
         result ≡ (is_some (stated_in default_word p)
         && breaks.is_wrong_case (view plan.now) p (spec.default_case (view plan.now) p)) }
 {
-    planned.stated(Keyword::Default).is_some() && is_wrong_case(plan, number, planned)
+    planned.own_argument(Keyword::Default).is_some() && is_wrong_case(plan, number, planned)
 }
 
 /// Whether a node has a default that it can't have, given whether it is a key, and its type, if it has one.

@@ -13,7 +13,7 @@ returns-then-is_some c =
     let plan = view c.args.plan.now in
     let p = planned_view c.args.number c.args.planned.now in
     let stated : c.is_some.result ≡ is_some (stated_in default_word p) =
-    c.is_some.ensures ∙ (is_some_map (λ t. t.now) c.stated.result ∙ ap is_some (c.stated.ensures c.args.number)) in
+    c.is_some.ensures ∙ (is_some_map (λ t. t.now) c.own_argument.result ∙ ap is_some (c.own_argument.ensures c.args.number)) in
     c.is_wrong_case.ensures ∙ ap (λ b. b && is_wrong_case plan p (default_case plan p)) (sym c.if-is_some.true ∙ stated)
 
 pub returns-else-is_some : goal.returns-else-is_some
@@ -21,5 +21,5 @@ returns-else-is_some c =
     let plan = view c.args.plan.now in
     let p = planned_view c.args.number c.args.planned.now in
     let stated : c.is_some.result ≡ is_some (stated_in default_word p) =
-    c.is_some.ensures ∙ (is_some_map (λ t. t.now) c.stated.result ∙ ap is_some (c.stated.ensures c.args.number)) in
+    c.is_some.ensures ∙ (is_some_map (λ t. t.now) c.own_argument.result ∙ ap is_some (c.own_argument.ensures c.args.number)) in
     c.if-is_some.false ∙ ap (λ b. b && is_wrong_case plan p (default_case plan p)) (sym c.if-is_some.false ∙ stated)
