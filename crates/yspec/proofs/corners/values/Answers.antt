@@ -1,0 +1,12 @@
+use Rattle.std.proofs.Common.{refl}
+use Rattle.yspec.proofs.LiteralLemmas.{yspec_on_literals}
+use Rattle.yspec.proofs.corners.values.Goals as goal
+
+pub returns : goal.returns
+unfolding yspec_on_literals
+returns c = record {
+  hexadecimal = refl;
+  leading_zero = refl;
+  carriage_return = refl;
+  members = refl;
+}
