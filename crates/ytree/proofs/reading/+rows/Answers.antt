@@ -84,8 +84,8 @@ put_rows-returns t c =
     all_rows (schema_view.view c.args.schema.now) c.args.parent_module (schema_view.row_view c.loop-child.child-iterator) (json.members_view c.args.members.now.entries)
     (row_view c.loop-child.row.items) _ c.in-None.ensures.steps.0 c.loop-child.invariant.rows
 
-pub stored-returns-in_default : goal.stored-returns-in_default
-stored-returns-in_default t c =
+pub stored_node-returns-in_default : goal.stored_node-returns-in_default
+stored_node-returns-in_default t c =
     let d = json.view c.args.value.now in
     held_node (schema_view.view c.args.schema.now) (schema_view.node_view c.args.id.0 c.args.node.now) d (schema_view.row_view c.args.children) c.new-in_default-2.result
     c.args.id.0 (option_map raw_of c.in_ok-held.held) c.new-in_default-2.ensures.node (c.new-in_default-2.ensures.below ∙ ap row_view c.new-in_default.ensures.items)

@@ -23,8 +23,8 @@ decreases-put_items l = 6 * size (schema_view.below_of l.child) + 3
 abbrev pub decreases-put_instance : goal.decreases-put_instance
 decreases-put_instance l = 6 * size (schema_view.below_of l.child) + 2
 
-abbrev pub decreases-stored : goal.decreases-stored
-decreases-stored l = 6 * size (schema_view.row_view l.children) + 1
+abbrev pub decreases-stored_node : goal.decreases-stored_node
+decreases-stored_node l = 6 * size (schema_view.row_view l.children) + 1
 
 -- what is put in with what is left to put in
 abbrev pub invariant-put_rows-loop-child : goal.invariant-put_rows-loop-child
