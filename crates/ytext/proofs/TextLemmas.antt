@@ -11,7 +11,8 @@ use Rattle.std.proofs.lemmas.List.{drop_all, length-append}
 use Rattle.yspec.specs.text.Text.{begins, is_yang_char, line_after, line_behind, forbidden_line, line_feed, carriage_return}
 use Rattle.yspec.specs.text.Token.{tokens_of}
 use Rattle.yspec.specs.text.Statement.{slip, module_of, allowed_text, top_statement}
-use Rattle.ytext.specs.Characters.{pending}
+use Rattle.std.specs.Prelude.{not, is_some, None}
+use Rattle.ytext.specs.Characters.{is_allowed_text, pending}
 
 pub at_feed : (r : Bool) (line : ℕ) (cs : List ℕ) → pending r line (10 ∷ cs) ≡ pending false (line + 1) cs
 at_feed true line cs = refl
@@ -57,6 +58,12 @@ pub judged : (t text : List ℕ) (o : Option ℕ) → text ≡ t → length t �
 judged t text o is h u e =
     fits t h ∙ ap (λ (b : Bool). cond b (allowed_text t) (slip 1 (line_behind 1 (take (utf8_valid_len t) t)))) (is_utf8-from_IsUtf8 t u)
     ∙ ap (λ (p : Option ℕ). option_map_or (λ line. slip 2 line) p (top_statement (tokens_of t))) (sym (e ∙ ap (λ (v : List ℕ). forbidden_line 1 (chars v)) is))
+
+pub text_allowed : (t text : List ℕ) → text ≡ t → length t ≤ 4194304 → IsUtf8 t → None ≡ forbidden_line 1 (chars text) → is_allowed_text t ≡ true
+text_allowed t text is h u e =
+    ap (λ (b : Bool). not b && (is_utf8 t && not (is_some (forbidden_line 1 (chars t))))) (not_limit (length t) h)
+    ∙ ap (λ (b : Bool). b && not (is_some (forbidden_line 1 (chars t)))) (is_utf8-from_IsUtf8 t u)
+    ∙ ap (λ (o : Option ℕ). not (is_some o)) (sym (e ∙ ap (λ (v : List ℕ). forbidden_line 1 (chars v)) is))
 
 pub char_at : (cs : List ℕ) (n c : ℕ) → (n < length cs) × (c ≡ get_or cs n c) → drop n cs ≡ c ∷ drop (n + 1) cs
 char_at cs n c h =

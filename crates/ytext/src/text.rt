@@ -1,5 +1,5 @@
 //! Module text, as a whole.
-ghost use Rattle.std.specs.Prelude.{◌≡◌, ℕ, ◌+◌, ◌<◌, ◌≤◌, ◌^◌, List, [], ◌∷◌, true, Some, IfSome, IfNone, IfOk, IfErr, length};
+ghost use Rattle.std.specs.Prelude.{◌≡◌, ℕ, ◌+◌, ◌<◌, ◌≤◌, ◌^◌, List, [], ◌∷◌, true, Some, None, is_some, IfSome, IfNone, IfOk, IfErr, length};
 ghost use Rattle.std.specs.Str.{chars};
 ghost use Rattle.std.specs.Char.{len_utf8};
 ghost use Rattle.std.specs.List.{list_all};
@@ -11,7 +11,7 @@ ghost use Rattle.yspec.specs.text.Spelling.{Spells};
 ghost use Rattle.yspec.specs.text.Slips.{told_slip};
 ghost use Rattle.yspec.specs.text.Token.{tokens_of};
 ghost use Rattle.yspec.specs.text.Scanning.{forbidden_place, scan_of};
-ghost use Rattle.ytext.specs.Characters.{is_plain, pending, pending_place};
+ghost use Rattle.ytext.specs.Characters.{is_allowed_text, is_plain, pending, pending_place};
 ghost use Rattle.ytext.specs.Scanned.{tokens_left};
 ghost use Rattle.ytext.specs.View.{modules_view};
 
@@ -172,7 +172,9 @@ fn checked_text(bytes: &[u8]) -> Result<&str, TextFault>
     ensures text { IfOk result (λ text. text.now ≡ bytes.now) }
     ensures length { IfOk result (λ text. length text.now ≤ 4194304) }
     ensures ok { IfOk result (λ text. module_of bytes.now ≡ top_statement (tokens_of bytes.now)) }
+    ensures allowed { IfOk result (λ _. is_allowed_text bytes.now ≡ true) }
     ensures err { IfErr result (λ e. Fails (told_by e) (module_of bytes.now)) }
+    ensures told { IfErr result (λ e. is_some (told_by e) ≡ true) }
 {
     if bytes.len() > TEXT_LIMIT {
         return Err(TextFault::refused(TextCode::L7, 1));
@@ -190,19 +192,23 @@ fn checked_text(bytes: &[u8]) -> Result<&str, TextFault>
 }
 
 /// The statements of a module's text (RFC 7950, 6), or the first thing that is wrong with it: its length is judged
-/// first, then that it is UTF-8, then its characters, and then the rest from left to right.
+/// first, then that it is UTF-8, then its characters, all without taking memory, and then the rest from left to right.
 pub fn parse(alloc: Global, bytes: &[u8]) -> Result<Module, TextFault>
     ensures answer { Gives (λ read. modules_view (read ∷ [])) told_by result (module_of bytes.now) }
     ensures spells { IfOk result (λ read. Spells bytes.now (modules_view (read ∷ []))) }
     ensures told { IfErr result
         (λ fault. IfSome (told_by fault) (λ slip. told_slip bytes.now ≡ Some slip)) }
+    ensures memory { IfErr result
+        (λ fault. told_by fault ≡ None → is_allowed_text bytes.now ≡ true) }
 {
     read_module(alloc, bytes)
 }
 
 /// The same, as the definition by functions has it.
 fn read_module(alloc: Global, bytes: &[u8]) -> Result<Module, TextFault>
-    ensures { Gives (λ read. modules_view (read ∷ [])) told_by result (module_of bytes.now) }
+    ensures answer { Gives (λ read. modules_view (read ∷ [])) told_by result (module_of bytes.now) }
+    ensures memory { IfErr result
+        (λ fault. told_by fault ≡ None → is_allowed_text bytes.now ≡ true) }
 {
     match checked_text(bytes) {
         Ok(text) => Reader::new(alloc, text).module(),

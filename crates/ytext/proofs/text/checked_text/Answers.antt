@@ -3,7 +3,7 @@ use Rattle.yspec.specs.text.Statement.{module_of, slip}
 use Rattle.yspec.specs.Results.{Fails}
 use Rattle.ytext.specs.Told.{told_by}
 use Rattle.ytext.specs.declared.fault.TextFault.{TextFault}
-use Rattle.ytext.proofs.TextLemmas.{too_long, judged, no_text}
+use Rattle.ytext.proofs.TextLemmas.{too_long, judged, no_text, text_allowed}
 use Rattle.ytext.proofs.text.checked_text.Goals as goal
 
 pub returns-then-bytes-gt-TEXT_LIMIT-clause-err : goal.returns-then-bytes-gt-TEXT_LIMIT-clause-err
@@ -24,3 +24,7 @@ returns-in-Err-clause-err c =
     subst (λ (e : TextFault). Fails (told_by e) (module_of c.args.bytes.now)) (sym c.refused-in-Err.ensures)
     (no_text c.args.bytes.now c.split_at.result.0.now c.valid_up_to.result (omega (arith, c.if-bytes-gt-TEXT_LIMIT.false)) c.in-Err.ensures.cases.0
     (c.valid_up_to.ensures ∙ c.in-Err.ensures.valid_len) c.split_at.ensures.front ∙ ap (λ (n : ℕ). slip 1 n) (sym c.line_behind.ensures.line))
+
+pub returns-in-None-clause-allowed : goal.returns-in-None-clause-allowed
+returns-in-None-clause-allowed c =
+    text_allowed c.args.bytes.now c.in-Ok.text.now c.in-Ok.ensures.cases.0 (omega (arith, c.if-bytes-gt-TEXT_LIMIT.false)) c.in-Ok.ensures.cases.1 c.in-None.ensures.line

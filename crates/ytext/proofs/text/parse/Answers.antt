@@ -5,7 +5,7 @@ use Rattle.ytext.proofs.ParseLemmas.{spells_if_given, told_if_given}
 use Rattle.ytext.proofs.text.parse.Goals as goal
 
 pub returns-clause-spells : goal.returns-clause-spells
-returns-clause-spells c = spells_if_given (λ read. modules_view (read ∷ [])) told_by _ c.args.bytes.now c.read_module.ensures
+returns-clause-spells c = spells_if_given (λ read. modules_view (read ∷ [])) told_by _ c.args.bytes.now c.read_module.ensures.answer
 
 pub returns-clause-told : goal.returns-clause-told
-returns-clause-told c = told_if_given (λ read. modules_view (read ∷ [])) told_by _ c.args.bytes.now c.read_module.ensures
+returns-clause-told c = told_if_given (λ read. modules_view (read ∷ [])) told_by _ c.args.bytes.now c.read_module.ensures.answer
