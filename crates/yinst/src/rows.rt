@@ -72,7 +72,7 @@ fn place_behind(row: &[Stored], id: SchemaId) -> Option<usize>
 }
 
 /// A copy of a row with a change made in the row below these nodes, each of which is stored below the one before it.
-#[cycle(changed)]
+#[cycle(changed_row)]
 pub(crate) fn changed_row(
     alloc: Global,
     row: &[Stored],
@@ -89,7 +89,7 @@ pub(crate) fn changed_row(
 }
 
 /// A copy of a row with a change made below a node of it.
-#[cycle(changed)]
+#[cycle(changed_row)]
 fn changed_below(
     alloc: Global,
     row: &[Stored],
