@@ -8,7 +8,7 @@ use Rattle.yspec.specs.text.Text.{Text, is_text}
 use Rattle.yspec.specs.text.Statement.{Statement}
 use Rattle.yspec.specs.schema.Breaks.{module_breaks}
 use Rattle.yspec.specs.schema.Schema.{Schema, SchemaNode, SchemaModule, argument_text, is_data, data_row}
-use Rattle.yspec.specs.document.Writing.{IsPlain, IsNamed, HasItsName, RowIsNamed, AllAreNamed, AreNamed, ModulesDiffer, NamesDiffer}
+use Rattle.yspec.specs.document.Writing.{IsPlain, IsNamed, NodesAreNamed, HasItsName, RowIsNamed, AllAreNamed, AreNamed, ModulesDiffer, NamesDiffer}
 use Rattle.yspec.specs.linking.Keyword.{Keyword, same_keyword, choice_word, case_word}
 use Rattle.yspec.specs.linking.Source.{Source, sources_from, sources_of, argument_in}
 use Rattle.yspec.specs.linking.StatementBreaks.{top_breaks, breaks_from}
@@ -202,6 +202,16 @@ are_named modules none =
       all_named (schema_of modules) plan 0 at_top (parts_of_modules (sources_of modules)) right apart,
     )
 
+nodes_named : (schema : Schema) (plan : Plan) (next : ℕ) (around : Around) (f : Forest Part) → AreRight (length schema.modules) f
+    → NodesAreNamed schema (relabelled (schema_node plan) (planned next around f))
+unfolding planned
+nodes_named schema plan next around end right = tt
+nodes_named schema plan next around (node p below after) right = (
+  (identifier_plain (argument_in p.source) right.0.name, right.0.owner),
+  nodes_named schema plan (next + 1) (around_below next around p) below right.1,
+  nodes_named schema plan (next + suc (size below)) around after right.2,
+)
+
 -- ---- names of modules
 
 abbrev names_of : Forest Statement → List Text
@@ -280,3 +290,14 @@ pub linked_names : (modules : Forest Statement) (schema : Schema) → compiled m
 linked_names modules schema e =
     let i = compiles modules schema e in
     subst NamesDiffer i.is (names_differ (schema_of modules) (modules_differ modules i.none) (are_named modules i.none))
+
+pub linked_modules : (modules : Forest Statement) (schema : Schema) → compiled modules ≡ Ok schema → ModulesDiffer schema
+linked_modules modules schema e =
+    let i = compiles modules schema e in
+    subst ModulesDiffer i.is (modules_differ modules i.none)
+
+pub linked_nodes : (modules : Forest Statement) (schema : Schema) → compiled modules ≡ Ok schema → NodesAreNamed schema schema.nodes
+linked_nodes modules schema e =
+    let i = compiles modules schema e in
+    subst (λ (s : Schema). NodesAreNamed s s.nodes) i.is
+    (nodes_named (schema_of modules) (plan_in modules) 0 at_top (parts_of_modules (sources_of modules)) (right_plan modules i.none))

@@ -3,16 +3,16 @@ use Rattle.std.proofs.Common.{◌≡◌, ℕ, ◌≤◌, Option, Some, None, ref
 use mathlib.Core.Path.{path_j}
 use mathlib.Core.Logic.{∥∥₁_elim}
 use mathlib.Core.HLevel.{⊥_prop, ×₃_prop}
-use Rattle.std.specs.Coded.{×_prop, →_prop, Unit-prop, le_prop}
+use Rattle.std.specs.Coded.{Coded-set, coded_ℕ, coded_bool, ×_prop, Π_prop, →_prop, Unit-prop, le_prop}
 use Rattle.yspec.specs.Forest.{Forest, end, node, levels, size}
 use Rattle.yspec.specs.text.Text.{Text}
 use Rattle.yspec.specs.schema.Schema.{Schema, SchemaNode, Kind, data_row, written_name}
 use Rattle.yspec.specs.schema.Breaks.{level_limit, node_limit}
 use Rattle.yspec.specs.document.Fitting.{IsBare, LeafsAreBare}
-use Rattle.yspec.specs.document.Writing.{IsNew, RowDiffers, AllDiffer, NamesDiffer}
+use Rattle.yspec.specs.document.Writing.{IsNamed, NodesAreNamed, ModulesDiffer, IsNew, RowDiffers, AllDiffer, NamesDiffer}
 use Rattle.yspec.specs.linking.Compiling.{IsCompiled}
 use Rattle.yspec.proofs.LinkingProofs.LinkedLemmas.{linked_bare, linked_few, linked_within}
-use Rattle.yspec.proofs.LinkingProofs.LinkedNameLemmas.{linked_names}
+use Rattle.yspec.proofs.LinkingProofs.LinkedNameLemmas.{linked_names, linked_modules, linked_nodes}
 
 -- ---- each fact has one proof at most
 
@@ -54,6 +54,14 @@ all_differ-prop s (node n below after) =
 names_differ-prop : (s : Schema) → IsProp (NamesDiffer s)
 names_differ-prop s = ×_prop (row_differs-prop s None (data_row s.nodes)) (all_differ-prop s s.nodes)
 
+nodes_named-prop : (s : Schema) (f : Forest SchemaNode) → IsProp (NodesAreNamed s f)
+nodes_named-prop s end = Unit-prop
+nodes_named-prop s (node n below after) =
+    ×₃_prop (×_prop (Coded-set coded_bool _ _) le_prop) (nodes_named-prop s below) (nodes_named-prop s after)
+
+modules_differ-prop : (s : Schema) → IsProp (ModulesDiffer s)
+modules_differ-prop s = Π_prop (λ i. Π_prop (λ j. →_prop (→_prop (×_prop (Coded-set coded_bool _ _) (→_prop (Coded-set coded_ℕ _ _))))))
+
 -- ---- what every compiled schema has
 
 pub leafs_bare_of : (s : Schema) → ∥ IsCompiled s ∥₁ → LeafsAreBare s.nodes
@@ -61,6 +69,12 @@ leafs_bare_of s compiled = ∥∥₁_elim compiled (leafs_bare-prop s.nodes) (λ
 
 pub names_differ_of : (s : Schema) → ∥ IsCompiled s ∥₁ → NamesDiffer s
 names_differ_of s compiled = ∥∥₁_elim compiled (names_differ-prop s) (λ c. linked_names c.0 s c.1)
+
+pub modules_differ_of : (s : Schema) → ∥ IsCompiled s ∥₁ → ModulesDiffer s
+modules_differ_of s compiled = ∥∥₁_elim compiled (modules_differ-prop s) (λ c. linked_modules c.0 s c.1)
+
+pub nodes_named_of : (s : Schema) → ∥ IsCompiled s ∥₁ → NodesAreNamed s s.nodes
+nodes_named_of s compiled = ∥∥₁_elim compiled (nodes_named-prop s s.nodes) (λ c. linked_nodes c.0 s c.1)
 
 pub size_of : (s : Schema) → ∥ IsCompiled s ∥₁ → size s.nodes ≤ node_limit
 size_of s compiled = ∥∥₁_elim compiled le_prop (λ c. linked_few c.0 s c.1)

@@ -115,6 +115,11 @@ IsPlain t = list_any (λ c. c == colon) t ≡ false
 abbrev pub IsNamed : Schema → SchemaNode → Type 0
 IsNamed schema n = IsPlain n.name × (n.module_number < length schema.modules)
 
+-- so each node of a row, and all below it
+abbrev pub NodesAreNamed : Schema → Forest SchemaNode → Type 0
+NodesAreNamed schema end = Unit {0}
+NodesAreNamed schema (node n below after) = IsNamed schema n × NodesAreNamed schema below × NodesAreNamed schema after
+
 -- a node's siblings after it are of other modules or have other names
 abbrev pub HasItsName : SchemaNode → Forest SchemaNode → Type 0
 HasItsName n end = Unit {0}
