@@ -1,1 +1,2 @@
-pub mod BucketLemmas
+pub mod KeyLemmas
+pub mod NameLemmas
