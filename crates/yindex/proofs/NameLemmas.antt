@@ -1,5 +1,5 @@
 -- What an index holds, once a node is added.
-use Rattle.std.proofs.Common.{◌≡◌, ◌≢◌, ℕ, ◌+◌, ◌<◌, Bool, true, false, cond, ◌&&◌, [], Option, Some, None, refl, sym, ap, ap₂, ◌∙◌, arith}
+use Rattle.std.proofs.Common.{◌≡◌, ◌≢◌, ℕ, ◌+◌, ◌<◌, Bool, true, false, cond, ◌&&◌, [], Option, Some, None, refl, sym, ap, ap₂, subst, ◌∙◌, arith}
 use Rattle.std.specs.Prelude.{◌==◌, option_and_then, unwrap_or}
 use Rattle.std.specs.Borrow.{Bor}
 use Rattle.std.specs.BTreeMap.{BTreeMap}
@@ -173,3 +173,13 @@ module _ (node : IndexedNode) (name : Text) (among : Among) (above : Option ℕ)
           let none : new t ≡ None = one t ∙ ap₂ (λ (a : Option ℕ) (b : Bool). first_of a (cond b (Some node.number) None)) f e in
           ap (find_at after) none
           ∙ sym (ap₂ (λ (a : Option ℕ) (b : Bool). first_of (find_at before a) (cond b (Some node.number) None)) f (other_text_at t e))
+
+-- ---- what each number of a name has
+
+pub still_of : (P : Text → ℕ → Type 0) (old new : Numbers) (name : Text) (next : ℕ) → AreWith old new name next
+    → ((t : Text) (number : ℕ) → old t ≡ Some number → P t number) → P name next → (t : Text) (number : ℕ) → new t ≡ Some number → P t number
+still_of P old new name next one all own t number e = by (given old new name next one t number e)
+  where
+    by : Given old name next t number → P t number
+    by (was x) = all t number x
+    by (is_new same n none) = subst (λ (m : ℕ). P t m) (sym n) (subst (λ (s : Text). P s next) (sym same) own)

@@ -1,9 +1,10 @@
 -- Nodes found by their names.
-use Rattle.std.specs.Prelude.{ℕ, ◌==◌, ◌&&◌, Bool, Option, option_and_then}
+use Rattle.std.specs.Prelude.{ℕ, ◌==◌, ◌&&◌, Bool, true, List, [], ◌∷◌, find, Option, option_and_then}
 use Rattle.std.specs.Borrow.{Bor}
 use Rattle.std.specs.BTreeMap.{BTreeMap, get_by}
 use Rattle.std.specs.Cmp.Lexicographic.{slice_cmp}
-use Rattle.std.specs.Ordering.{nat_cmp}
+use Rattle.std.specs.List.{list_all}
+use Rattle.std.specs.Ordering.{is_lt, nat_cmp}
 use Rattle.yspec.specs.text.Text.{Text, is_text}
 use Rattle.yspec.specs.linking.Planned.{same_number}
 use Rattle.yindex.specs.Keys.{first_at, above_in, is_looked_for}
@@ -24,3 +25,15 @@ found_by number_of nodes among above m name =
 abbrev pub is_at : Among → Option ℕ → ℕ → Text → IndexedNode → Text → Bool
 is_at among above m name node own = is_looked_for among node
     && (same_number above (above_in among node) && (m == node.«module» && is_text name own))
+
+-- ---- names as the first nodes that have them
+
+-- the number of a name among some numbers of texts
+abbrev pub number_among : (ℕ → Text) → List ℕ → Text → Option ℕ
+number_among text_at numbers name = find (λ number. is_text name (text_at number)) numbers
+
+-- whether the texts of some numbers ascend
+abbrev pub ascends : (ℕ → Text) → List ℕ → Bool
+ascends text_at [] = true
+ascends text_at (number ∷ numbers) =
+    list_all (λ n. is_lt (slice_cmp nat_cmp (text_at number) (text_at n))) numbers && ascends text_at numbers

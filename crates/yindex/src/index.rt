@@ -39,11 +39,11 @@ fn number_of<'t>(
 }
 
 impl<'t> NodeIndex<'t> {
-    ghost use Rattle.std.specs.Prelude.{◌≡◌, ◌+◌, ◌<◌, ℕ, None, Some, false, if◌then◌else◌, IfOk, OnOk, OnErr};
+    ghost use Rattle.std.specs.Prelude.{◌≡◌, ◌+◌, ◌<◌, ℕ, None, Some, true, if◌then◌else◌, IfOk, OnOk, OnErr};
     ghost use Rattle.yspec.specs.Forest.{first_of};
-    ghost use Rattle.yspec.specs.text.Text.{is_text};
+    ghost use Rattle.yspec.specs.text.Text.{Text, is_text};
     ghost use Rattle.yindex.specs.Index.{named, found};
-    ghost use Rattle.yindex.specs.Names.{is_at};
+    ghost use Rattle.yindex.specs.Names.{found_by, is_at, number_among, ascends};
 
     /// No nodes, with room for some.
     pub fn with_capacity(alloc: Global, nodes: usize) -> Result<NodeIndex<'t>, AllocError>
@@ -81,5 +81,21 @@ impl<'t> NodeIndex<'t> {
     {
         let number = number_of(&mut self.names, name, node.number)?;
         self.nodes.add(node, number)
+    }
+
+    /// The first node of each name, in the order of the names, and the nodes by their keys.
+    pub fn into_parts(self, alloc: Global) -> Result<(Vec<u32>, FirstNodes), AllocError>
+        ensures ascend { IfOk result (λ parts. (text_at : ℕ → Text) → ((t : _) → (number : ℕ) → named self.entry t ≡ Some number → text_at number ≡ t)
+            → ascends text_at parts.0.items ≡ true) }
+        ensures names { IfOk result (λ parts. (text_at : ℕ → Text) → ((t : _) → (number : ℕ) → named self.entry t ≡ Some number → text_at number ≡ t)
+            → (t : _) → number_among text_at parts.0.items t ≡ named self.entry t) }
+        ensures nodes { IfOk result (λ parts. (among : _) → (above : _) → (m : _) → (t : _) → found_by (named self.entry) parts.1 among above m t ≡ found self.entry among above m t) }
+    {
+        let NodeIndex { names, nodes } = self;
+        let mut numbers = Vec::with_capacity(alloc, names.len())?;
+        for number in names.into_values() {
+            numbers.push(number)?;
+        }
+        Ok((numbers, nodes))
     }
 }
