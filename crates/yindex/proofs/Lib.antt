@@ -1,1 +1,3 @@
-pub mod BucketLemmas
+pub mod KeyLemmas
+pub mod NameLemmas
+pub mod OrderLemmas

@@ -1,2 +1,3 @@
-pub mod Buckets
-pub mod Hashes
+pub mod Index
+pub mod Keys
+pub mod Names

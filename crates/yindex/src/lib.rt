@@ -1,6 +1,8 @@
-//! How numbers are found by the names of what they stand for, below a node or at the top.
+//! How nodes are found by their names, below a node or at the top.
 #![tactic(auto)]
 
-mod buckets;
+mod index;
+mod keys;
 
-pub use buckets::{Buckets, Numbers, hash_of};
+pub use index::NodeIndex;
+pub use keys::{Among, FirstNodes, IndexedNode, Key};

@@ -5,6 +5,7 @@ pub mod RowLemmas
 pub mod WayLemmas
 pub mod ChildLemmas
 pub mod FindLemmas
+pub mod MeantLemmas
 pub mod CallerLemmas
 pub mod PassedLemmas
 pub mod NearestLemmas

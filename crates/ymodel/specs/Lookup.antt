@@ -1,13 +1,16 @@
 -- What the index of a schema finds.
-use Rattle.std.specs.Prelude.{◌≡◌, ℕ, ◌==◌, ◌&&◌, Bool, List, [], ◌∷◌, map, Option, Some, None, option_and_then, if◌then◌else◌}
+use Rattle.std.specs.Prelude.{◌≡◌, ℕ, ◌==◌, ◌&&◌, Bool, true, List, [], ◌∷◌, Option, Some, None, option_and_then, slice_get, string_bytes, if◌then◌else◌}
+use Rattle.std.specs.Option.{option_map_or}
 use Rattle.std.specs.Option.{option_eq}
 use Rattle.yspec.specs.text.Text.{Text}
 use Rattle.yspec.specs.schema.Schema as spec
-use Rattle.yspec.specs.schema.Schema.{is_data, is_called, is_written, module_at, node_at, written_name}
-use Rattle.yindex.specs.Hashes.{hash_of}
-use Rattle.yindex.specs.Buckets.{hashes_in}
+use Rattle.yspec.specs.schema.Schema.{is_data, is_called, is_written, node_at}
+use Rattle.yindex.specs.Names.{ascends, found_by, number_among}
+use Rattle.yindex.specs.declared.keys.Among.TheVariants.{Children, DataNodes}
+use Rattle.yindex.specs.declared.keys.IndexedNode.{IndexedNode}
+use Rattle.ymodel.specs.declared.children.Row.{Row}
 use Rattle.ymodel.specs.declared.index.Index.{Index}
-use Rattle.ymodel.specs.Layout.{Place}
+use Rattle.ymodel.specs.Layout.{Place, kind_view, laid, number_of}
 
 -- whether a place stands below a node, or at the top, and its label passes a test
 abbrev pub matches : Option ℕ → (spec.SchemaNode → Bool) → Place → Bool
@@ -19,21 +22,45 @@ first_below parent test [] = None
 first_below parent test (p ∷ ps) =
     if option_eq (λ a b. a == b) parent p.parent && test p.label then Some p.label.number else first_below parent test ps
 
--- The index has the nodes of some places by their names.
-abbrev pub FindsNamed : Index → List Place → Type 0
-FindsNamed x ps = hashes_in x.named ≡ map (λ p. hash_of p.parent p.label.name) ps
+-- the name of the node of a number; no text where there is none
+abbrev pub name_at : List Row → ℕ → Text
+name_at rows number = option_map_or (λ r. string_bytes r.node.name) (slice_get rows number) []
+
+-- the number of a name: that of the first node that has it
+abbrev pub number_among_names : Index → List Row → Text → Option ℕ
+number_among_names x rows = number_among (name_at rows) x.names.items
+
+abbrev pub names_ascend : Index → List Row → Bool
+names_ascend x rows = ascends (name_at rows) x.names.items
+
+-- a row's node, with the data node above it
+abbrev pub indexed : ℕ → Row → Option ℕ → IndexedNode
+indexed number r above = record {
+  number = number;
+  parent = number_of r.parent;
+  scope = above;
+  «module» = r.node.«module»;
+  is_data = is_data (kind_view r.node.kind);
+}
+
+-- The index finds the nodes of rows by their names.
+abbrev pub FindsNamed : Index → List Row → Type 0
+FindsNamed x rows = (names_ascend x rows ≡ true)
+    × ((parent : Option ℕ) (m : ℕ) (name : Text) → found_by (number_among_names x rows) x.nodes Children parent m name
+    ≡ first_below parent (is_called m name) (laid 0 rows))
+
+-- a data node of a module and a name
+abbrev pub is_data_called : ℕ → Text → spec.SchemaNode → Bool
+is_data_called m name n = is_data n.kind && is_called m name n
+
+-- It finds the data nodes of some places.
+abbrev pub FindsWritten : Index → List Row → List Place → Type 0
+FindsWritten x rows ps = (above : Option ℕ) (m : ℕ) (name : Text) → found_by (number_among_names x rows) x.nodes DataNodes above m name
+    ≡ first_below above (is_data_called m name) ps
 
 -- a data node that a document writes so below a node, or at the top
 abbrev pub is_stored_as : spec.Schema → Option ℕ → Text → spec.SchemaNode → Bool
 is_stored_as schema parent name n = is_data n.kind && is_written schema parent name n
-
--- the hash of a node by the name that a document writes
-abbrev pub written_hash : spec.Schema → Place → ℕ
-written_hash schema p = hash_of p.parent (written_name schema (module_at schema p.parent) p.label)
-
--- It has the nodes of some places by the names that a document writes, and the parent of each place.
-abbrev pub FindsWritten : Index → spec.Schema → List Place → Type 0
-FindsWritten x schema ps = (hashes_in x.written ≡ map (written_hash schema) ps) × (x.above.items ≡ map (λ p. p.parent) ps)
 
 -- the way to a node, where there is one
 abbrev pub way_above : spec.Schema → Option ℕ → List spec.SchemaNode

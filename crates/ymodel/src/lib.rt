@@ -3,6 +3,7 @@
 
 mod children;
 mod index;
+mod names;
 mod node;
 mod references;
 mod schema;

@@ -11,7 +11,7 @@ use crate::children::{Children, Row};
 use crate::index::{Index, id_of, index_of, parent_number};
 use crate::node::{SchemaId, SchemaNode};
 use crate::references::References;
-use crate::written::{first_written, other_name, written_name};
+use crate::written::{first_written, other_name, place_of, written_name};
 use std::alloc::{AllocError, Global};
 
 /// A module of a schema.
@@ -30,8 +30,8 @@ pub struct Schema {
     references: References,
     ghost numbered: { vec_len rows < 2 ^ 32 },
     ghost laid_out: { IsLaidOut rows.items },
-    ghost named: { FindsNamed index (laid 0 rows.items) },
-    ghost written: { FindsWritten index (schema_view modules.items rows.items) (data_places None (forest_of 0 rows.items)) },
+    ghost named: { FindsNamed index rows.items },
+    ghost written: { FindsWritten index rows.items (data_places None (forest_of 0 rows.items)) },
     ghost referred: { FindsReferences references (laid 0 rows.items) },
     ghost compiled: { ∥ IsCompiled (schema_view modules.items rows.items) ∥₁ },
 }
@@ -57,7 +57,7 @@ impl Schema {
         requires compiled { IsCompiled (schema_view modules.items rows.items) }
         ensures { IfOk result (λ schema. view schema ≡ schema_view modules.items rows.items) }
     {
-        let index = index_of(alloc, &modules, &rows)?;
+        let index = index_of(alloc, &rows)?;
         let references = References::of(alloc, &rows)?;
         Ok(Schema {
             modules,
@@ -217,13 +217,4 @@ impl Schema {
     {
         Some(self.modules.get(module)?.prefix.as_str())
     }
-}
-
-/// The place of the first of some modules that has a name.
-fn place_of(modules: &[SchemaModule], name: &str) -> Option<usize>
-    ensures { result ≡ position (λ m. is_text (string_bytes m.name) name.now) modules.now }
-{
-    modules
-        .iter()
-        .position(|module| module.name.as_str() == name)
 }

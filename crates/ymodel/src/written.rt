@@ -1,10 +1,12 @@
 //! Names as documents write them (RFC 7951, 4).
 
-ghost use Rattle.std.specs.Prelude.{◌≡◌, ◌++◌, [], Some, map, option_map, slice_get, unwrap_or, codes, IfOk, string_bytes};
+ghost use Rattle.std.specs.Prelude.{◌≡◌, ◌++◌, [], Some, map, option_map, slice_get, unwrap_or, codes, IfOk, string_bytes, position, false};
+ghost use Rattle.std.specs.Option.{option_map_or};
 ghost use Rattle.yspec.specs.Forest.{end, node};
 ghost use Rattle.yspec.specs.text.Text.{is_text};
 ghost use Rattle.yspec.specs.schema.Schema as spec;
-ghost use Rattle.yspec.specs.schema.Schema.{data_row, first_in_row};
+ghost use Rattle.yspec.specs.schema.Schema.{data_row, first_in_row, is_called};
+ghost use Rattle.yspec.specs.document.Writing.{IsNamed, ModulesDiffer};
 ghost use Rattle.ymodel.specs.Layout.{node_view, number_of, schema_view};
 ghost use Rattle.ymodel.specs.View.{row_view, label_of, below_of};
 
@@ -143,4 +145,42 @@ fn name_at(modules: &[SchemaModule], module: usize) -> &str
         Some(found) => found.name.as_str(),
         None => "",
     }
+}
+
+/// A name as it is meant: of a module, by its place.
+#[derive(Clone, Copy)]
+pub(crate) struct MeantName<'n> {
+    pub module: usize,
+    pub name: &'n str,
+}
+
+/// What a name means that a document writes below a node of a module, or at the top.
+pub(crate) fn meant_name<'n>(
+    modules: &[SchemaModule],
+    own: Option<usize>,
+    name: &'n str,
+) -> Option<MeantName<'n>>
+    ensures { let schema = schema_view modules.now [] in ModulesDiffer schema → (n : _) → IsNamed schema n
+        → is_text name.now (spec.written_name schema own n) ≡ option_map_or (λ m. is_called m.«module» m.name.now n) result false }
+{
+    let Some((module, behind)) = name.split_once(':') else {
+        return Some(MeantName { module: own?, name });
+    };
+    let module = place_of(modules, module)?;
+    if own == Some(module) {
+        return None;
+    }
+    Some(MeantName {
+        module,
+        name: behind,
+    })
+}
+
+/// The place of the first of some modules that has a name.
+pub(crate) fn place_of(modules: &[SchemaModule], name: &str) -> Option<usize>
+    ensures { result ≡ position (λ m. is_text (string_bytes m.name) name.now) modules.now }
+{
+    modules
+        .iter()
+        .position(|module| module.name.as_str() == name)
 }

@@ -22,14 +22,14 @@ rest_plain : (c : ℕ) (t : Text) → IsPlain (c ∷ t) → IsPlain t
 rest_plain c t plain = rest_plain_at (c == colon) t plain
 
 -- a text without a colon is none with one
-plain_other : (t a x : Text) → IsPlain t → t ≢ a ++ 58 ∷ x
+pub plain_other : (t a x : Text) → IsPlain t → t ≢ a ++ 58 ∷ x
 plain_other [] [] x plain h = let no : ⊥ = cc in no
 plain_other [] (d ∷ a) x plain h = let no : ⊥ = cc in no
 plain_other (c ∷ t) [] x plain h = first_plain c t plain (cons_parts c 58 t x h).0
 plain_other (c ∷ t) (d ∷ a) x plain h = plain_other t a x (rest_plain c t plain) (cons_parts c d t (a ++ 58 ∷ x) h).1
 
 -- what stands before and after the first colon
-same_parts : (a b x y : Text) → IsPlain a → IsPlain b → a ++ 58 ∷ x ≡ b ++ 58 ∷ y → (a ≡ b) × (x ≡ y)
+pub same_parts : (a b x y : Text) → IsPlain a → IsPlain b → a ++ 58 ∷ x ≡ b ++ 58 ∷ y → (a ≡ b) × (x ≡ y)
 same_parts [] [] x y first second h = (refl, (cons_parts 58 58 x y h).1)
 same_parts [] (d ∷ b) x y first second h = absurd (first_plain d b second (sym (cons_parts 58 d x (b ++ 58 ∷ y) h).0))
 same_parts (c ∷ a) [] x y first second h = absurd (first_plain c a first (cons_parts c 58 (a ++ 58 ∷ x) y h).0)
@@ -38,7 +38,7 @@ same_parts (c ∷ a) (d ∷ b) x y first second h =
     let inner = same_parts a b x y (rest_plain c a first) (rest_plain d b second) parts.1 in
     (ap (λ k. k ∷ a) parts.0 ∙ ap (λ t. d ∷ t) inner.0, inner.1)
 
-qualified_is : (s : Schema) (n : SchemaNode) → qualified_name s n ≡ module_name s n.module_number ++ 58 ∷ n.name
+pub qualified_is : (s : Schema) (n : SchemaNode) → qualified_name s n ≡ module_name s n.module_number ++ 58 ∷ n.name
 qualified_is s n = append_assoc (module_name s n.module_number) (58 ∷ []) n.name
 
 of_parent : (i j : ℕ) (parent : Option ℕ) → is_module i parent ≡ true → is_module j parent ≡ true → i ≡ j

@@ -1,16 +1,21 @@
-use Rattle.std.proofs.Common.{◌≡◌, [], map, take}
-use Rattle.yindex.specs.Hashes.{hash_of}
-use Rattle.ymodel.specs.Layout.{laid, schema_view}
-use Rattle.ymodel.specs.Lookup.{written_hash}
+use Rattle.std.proofs.Common.{◌≡◌, ◌<◌, ℕ, Option, Some, [], take}
+use Rattle.yspec.specs.text.Text.{Text}
+use Rattle.yspec.specs.schema.Schema.{is_called}
+use Rattle.yindex.specs.Index.{found, named}
+use Rattle.yindex.specs.declared.keys.Among.TheVariants.{Children, DataNodes}
+use Rattle.ymodel.specs.Layout.{laid}
+use Rattle.ymodel.specs.Lookup.{first_below, is_data_called, name_at}
 use Rattle.ymodel.proofs.NearestLemmas.{nearest_of, handed}
 use Rattle.ymodel.proofs.index.index_of.Given as goal
 
 abbrev pub invariant-loop-number : goal.invariant-loop-number
 invariant-loop-number l =
-    let places = handed [] (laid 0 (take l.number l.rows)) in
+    let done = laid 0 (take l.number l.rows) in
+    let places = handed [] done in
     record {
-      named : l.named.items ≡ map (λ p. hash_of p.parent p.label.name) (laid 0 (take l.number l.rows));
-      written : l.written.items ≡ map (written_hash (schema_view l.modules l.rows)) places;
-      above : l.above.items ≡ map (λ p. p.parent) places;
+      children : (parent : Option ℕ) (m : ℕ) (t : Text) → found l.index Children parent m t ≡ first_below parent (is_called m t) done;
+      data_nodes : (above : Option ℕ) (m : ℕ) (t : Text) → found l.index DataNodes above m t ≡ first_below above (is_data_called m t) places;
+      before : (t : Text) (number : ℕ) → named l.index t ≡ Some number → number < l.number;
+      own : (t : Text) (number : ℕ) → named l.index t ≡ Some number → name_at l.rows number ≡ t;
       nearest : l.nearest.items ≡ nearest_of places;
     }

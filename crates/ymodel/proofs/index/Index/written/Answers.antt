@@ -1,43 +1,29 @@
-use Rattle.std.proofs.Common.{◌∙◌, ℕ, Bool, None, false, sym, ap}
-use Rattle.std.specs.Prelude.{find, slice_get, unwrap_or}
+use Rattle.std.proofs.Common.{◌≡◌, None, Some, false, [], sym, ap, ◌∙◌}
 use Rattle.std.specs.Option.{option_map_or}
-use Rattle.yindex.specs.Buckets.{left, hashes_in}
-use Rattle.yindex.specs.Hashes.{candidates}
-use Rattle.yindex.proofs.BucketLemmas.{found_now, found_later}
-use Rattle.ymodel.specs.Layout.{data_place_of, schema_view}
-use Rattle.ymodel.specs.Lookup.{is_stored_as, matches}
-use Rattle.ymodel.proofs.FindLemmas.{written_found}
+use Rattle.yspec.specs.text.Text.{is_text}
+use Rattle.yspec.specs.schema.Schema.{SchemaNode, is_called, is_written, module_at, written_name}
+use Rattle.yspec.specs.document.Writing.{IsNamed}
+use Rattle.ymodel.specs.Layout.{data_places, forest_of, schema_view}
+use Rattle.ymodel.proofs.MeantLemmas.{first_alike, none_alike}
 use Rattle.ymodel.proofs.index.Index.written.Goals as goal
 
-pub loop-number-init : goal.loop-number-init
-loop-number-init c =
-    let above = c.args.above in
-    let name = c.args.name.now in
-    let rows = c.args.rows.now in
-    let index = c.args.self.now in
-    let schema = schema_view c.args.modules.now rows in
-    let passes : ℕ → Bool = λ n. option_map_or (λ r. matches above (is_stored_as schema above name) (data_place_of (unwrap_or (slice_get index.above.items n) None) n r)) (slice_get rows n) false in
-    ap (find passes) (ap left c.into_iter-number-iterator.ensures.into_iter_gives ∙ c.numbers-number-items.ensures ∙ ap (λ h. candidates h (hashes_in index.written)) c.hash_of.ensures)
-    ∙ written_found schema above name rows index.above.items (hashes_in index.written) c.requires.laid_out c.requires.written.0 c.requires.written.1
+pub returns-in_err-meant : goal.returns-in_err-meant
+returns-in_err-meant c =
+    let s = schema_view c.args.modules.now c.args.rows.now in
+    let t = c.args.name.now in
+    let never : (n : SchemaNode) → IsNamed s n → is_written s c.args.above t n ≡ false = λ n named.
+    ap (λ own. is_text t (written_name s own n)) (sym c.module_above.ensures)
+    ∙ (c.meant_name.ensures c.requires.modules_differ n named ∙ ap (λ o. option_map_or (λ m. is_called m.«module» m.name.now n) o false) c.in_err-meant.was) in
+    c.from_residual.ensures ∙ sym (none_alike c.args.above None (is_written s c.args.above t) s (forest_of 0 c.args.rows.now) c.requires.nodes_named never)
 
-pub loop-number-preserved : goal.loop-number-preserved
-loop-number-preserved c =
-    let above = c.args.above in
-    let name = c.args.name.now in
-    let rows = c.args.rows.now in
-    let index = c.args.self.now in
-    let schema = schema_view c.args.modules.now rows in
-    let passes : ℕ → Bool = λ n. option_map_or (λ r. matches above (is_stored_as schema above name) (data_place_of (unwrap_or (slice_get index.above.items n) None) n r)) (slice_get rows n) false in
-    sym (found_later passes (left c.loop-number.number-iterator) (left c.next.new.self) c.in-Some.number c.in-Some.ensures.steps (sym c.is_stored_as.ensures ∙ c.if-is_stored_as.false))
-    ∙ c.loop-number.invariant
-
-pub returns-then-is_stored_as : goal.returns-then-is_stored_as
-returns-then-is_stored_as c =
-    let above = c.args.above in
-    let name = c.args.name.now in
-    let rows = c.args.rows.now in
-    let index = c.args.self.now in
-    let schema = schema_view c.args.modules.now rows in
-    let passes : ℕ → Bool = λ n. option_map_or (λ r. matches above (is_stored_as schema above name) (data_place_of (unwrap_or (slice_get index.above.items n) None) n r)) (slice_get rows n) false in
-    sym (found_now passes (left c.loop-number.number-iterator) (left c.next.new.self) c.in-Some.number c.in-Some.ensures.steps (sym c.is_stored_as.ensures ∙ c.if-is_stored_as.true))
-    ∙ c.loop-number.invariant
+pub returns : goal.returns
+returns c =
+    let s = schema_view c.args.modules.now c.args.rows.now in
+    let t = c.args.name.now in
+    let meant = c.in_ok-meant.meant in
+    let same : (n : SchemaNode) → IsNamed s n → is_written s c.args.above t n ≡ is_called meant.«module» meant.name.now n = λ n named.
+    ap (λ own. is_text t (written_name s own n)) (sym c.module_above.ensures)
+    ∙ (c.meant_name.ensures c.requires.modules_differ n named ∙ ap (λ o. option_map_or (λ m. is_called m.«module» m.name.now n) o false) c.in_ok-meant.was) in
+    c.first.ensures
+    ∙ (c.requires.written c.args.above meant.«module» meant.name.now
+    ∙ sym (first_alike c.args.above None (is_written s c.args.above t) (is_called meant.«module» meant.name.now) s (forest_of 0 c.args.rows.now) c.requires.nodes_named same))

@@ -1,5 +1,7 @@
-use Rattle.std.proofs.Common.{None, sym, ap, ap₂, ◌∙◌}
+use Rattle.std.proofs.Common.{None, sym, ap, ap₂, subst, ◌∙◌}
 use Rattle.yspec.specs.schema.Schema.{is_written}
+use Rattle.yspec.specs.document.Writing.{ModulesDiffer, NodesAreNamed}
+use Rattle.yspec.proofs.LinkingProofs.LinkedSchemaLemmas.{modules_differ_of, nodes_named_of}
 use Rattle.ymodel.specs.Layout.{data_places, forest_of, number_of, schema_view}
 use Rattle.ymodel.specs.Lookup.{first_below, is_stored_as}
 use Rattle.ymodel.specs.View.{view}
@@ -16,3 +18,14 @@ returns-in-None c =
     ∙ (ap₂ (λ ms rs. first_below q (is_stored_as (schema_view ms rs) q t) (data_places None (forest_of 0 rs))) c.deref-in-None.ensures.value c.deref-in-None-2.ensures.value
     ∙ (ap (λ n. first_below n (is_stored_as (view schema) n t) (data_places None (forest_of 0 schema.rows.items))) c.parent_number.ensures
     ∙ first_data_child schema.modules.items schema.rows.items p (is_written (view schema) p t) schema.laid_out (sym c.module_passed.ensures ∙ c.in-None.is))))
+
+pub written-requires-clause-modules_differ : goal.written-requires-clause-modules_differ
+written-requires-clause-modules_differ c =
+    let schema = c.args.self.now in
+    subst (λ modules. ModulesDiffer (schema_view modules c.deref-in-None-2.result.now)) (sym c.deref-in-None.ensures.value) (modules_differ_of (view schema) schema.compiled)
+
+pub written-requires-clause-nodes_named : goal.written-requires-clause-nodes_named
+written-requires-clause-nodes_named c =
+    let schema = c.args.self.now in
+    subst (λ modules. NodesAreNamed (schema_view modules c.deref-in-None-2.result.now) (forest_of 0 c.deref-in-None-2.result.now)) (sym c.deref-in-None.ensures.value)
+    (subst (λ rows. NodesAreNamed (schema_view schema.modules.items rows) (forest_of 0 rows)) (sym c.deref-in-None-2.ensures.value) (nodes_named_of (view schema) schema.compiled))

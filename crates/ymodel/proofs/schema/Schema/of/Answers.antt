@@ -20,12 +20,12 @@ few modules rows legal =
 pub index_of-requires-clause-numbered : goal.index_of-requires-clause-numbered
 index_of-requires-clause-numbered c =
     let bound = few c.args.modules.items c.args.rows.items c.requires.compiled in
-    omega (arith, bound, ap length c.deref-2.ensures.value)
+    omega (arith, bound, ap length c.deref.ensures.value)
 
 pub of-requires : goal.of-requires
 of-requires c =
     let bound = few c.args.modules.items c.args.rows.items c.requires.compiled in
-    omega (arith, bound, ap length c.deref-3.ensures.value)
+    omega (arith, bound, ap length c.deref-2.ensures.value)
 
 pub invariant_of-result-clause-numbered : goal.invariant_of-result-clause-numbered
 invariant_of-result-clause-numbered c =
@@ -34,18 +34,12 @@ invariant_of-result-clause-numbered c =
 
 pub invariant_of-result-clause-named : goal.invariant_of-result-clause-named
 invariant_of-result-clause-named c =
-    subst (λ rows. FindsNamed c.in_ok-index.index (laid 0 rows)) c.deref-2.ensures.value c.in_ok-index.ensures.named
+    subst (FindsNamed c.in_ok-index.index) c.deref.ensures.value c.in_ok-index.ensures.named
 
 pub invariant_of-result-clause-written : goal.invariant_of-result-clause-written
 invariant_of-result-clause-written c =
-    let index = c.in_ok-index.index in
-    let rows = c.deref-2.result.now in
-    let of_modules : FindsWritten index (schema_view c.args.modules.items rows) (data_places None (forest_of 0 rows)) =
-    subst (λ modules. FindsWritten index (schema_view modules rows) (data_places None (forest_of 0 rows)))
-    c.deref.ensures.value c.in_ok-index.ensures.written in
-    subst (λ rows. FindsWritten index (schema_view c.args.modules.items rows) (data_places None (forest_of 0 rows)))
-    c.deref-2.ensures.value of_modules
+    subst (λ rows. FindsWritten c.in_ok-index.index rows (data_places None (forest_of 0 rows))) c.deref.ensures.value c.in_ok-index.ensures.written
 
 pub invariant_of-result-clause-referred : goal.invariant_of-result-clause-referred
 invariant_of-result-clause-referred c =
-    subst (λ rows. FindsReferences c.in_ok-references.references (laid 0 rows)) c.deref-3.ensures.value c.in_ok-references.ensures
+    subst (λ rows. FindsReferences c.in_ok-references.references (laid 0 rows)) c.deref-2.ensures.value c.in_ok-references.ensures

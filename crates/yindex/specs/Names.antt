@@ -1,0 +1,39 @@
+-- Nodes found by their names.
+use Rattle.std.specs.Prelude.{ℕ, ◌==◌, ◌&&◌, Bool, true, List, [], ◌∷◌, find, Option, option_and_then}
+use Rattle.std.specs.Borrow.{Bor}
+use Rattle.std.specs.BTreeMap.{BTreeMap, get_by}
+use Rattle.std.specs.Cmp.Lexicographic.{slice_cmp}
+use Rattle.std.specs.List.{list_all}
+use Rattle.std.specs.Ordering.{is_lt, nat_cmp}
+use Rattle.yspec.specs.text.Text.{Text, is_text}
+use Rattle.yspec.specs.linking.Planned.{same_number}
+use Rattle.yindex.specs.Keys.{first_at, above_in, is_looked_for}
+use Rattle.yindex.specs.declared.keys.Among.{Among}
+use Rattle.yindex.specs.declared.keys.FirstNodes.{FirstNodes}
+use Rattle.yindex.specs.declared.keys.IndexedNode.{IndexedNode}
+
+-- the number of a name
+abbrev pub number_in : BTreeMap (Bor Text) ℕ → Text → Option ℕ
+number_in names name = get_by (λ k. slice_cmp nat_cmp name k.now) names
+
+-- the first node of a module and a name, which is numbered, below one or at the top
+abbrev pub found_by : (Text → Option ℕ) → FirstNodes → Among → Option ℕ → ℕ → Text → Option ℕ
+found_by number_of nodes among above m name =
+    option_and_then (λ number. first_at nodes among (record { above = above; «module» = m; name = number })) (number_of name)
+
+-- whether a node of a name is looked for by this module and name, below a node or at the top
+abbrev pub is_at : Among → Option ℕ → ℕ → Text → IndexedNode → Text → Bool
+is_at among above m name node own = is_looked_for among node
+    && (same_number above (above_in among node) && (m == node.«module» && is_text name own))
+
+-- ---- names as the first nodes that have them
+
+-- the number of a name among some numbers of texts
+abbrev pub number_among : (ℕ → Text) → List ℕ → Text → Option ℕ
+number_among text_at numbers name = find (λ number. is_text name (text_at number)) numbers
+
+-- whether the texts of some numbers ascend
+abbrev pub ascends : (ℕ → Text) → List ℕ → Bool
+ascends text_at [] = true
+ascends text_at (number ∷ numbers) =
+    list_all (λ n. is_lt (slice_cmp nat_cmp (text_at number) (text_at n))) numbers && ascends text_at numbers
