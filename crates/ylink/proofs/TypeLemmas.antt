@@ -6,10 +6,10 @@ use Rattle.yspec.specs.Forest.{Forest, end, node, row}
 use Rattle.yspec.specs.types.Names.{Naming}
 use Rattle.yspec.specs.linking.Keyword.{Keyword}
 use Rattle.yspec.specs.linking.Arguments.{Name}
-use Rattle.yspec.specs.linking.Source.{Source, is_source_of, argument_in, first_with, found_with}
+use Rattle.yspec.specs.linking.Source.{Source, is_source_of, argument_in, first_with}
 use Rattle.yspec.specs.linking.TypeStatements as spec
 use Rattle.yspec.specs.linking.TypeStatements.{namings, verdicts, verdict, told, type_breaks_in, member_types, union_verdict, single_type}
-use Rattle.std.specs.Prelude.{◌==◌, ℕ, is_some, length, map, not, option_and_then, option_map}
+use Rattle.std.specs.Prelude.{◌==◌, ℕ, is_some, length, map, not, option_map}
 use Rattle.std.specs.Option.{option_map_or}
 use Rattle.yspec.specs.types.Types.{YangType}
 use Rattle.yspec.specs.types.Restriction.{union_type}

@@ -15,9 +15,7 @@ ghost use Rattle.ylink.specs.TypeView.{is_plain, is_wrong};
 
 use crate::types::{are_in_place, built_in_meant, path_stated, single_type};
 use std::alloc::{AllocError, Global};
-use ygrammar::{
-    BrokenRule, CompileCode, Source, Sources, broken, first_with, least, least_when,
-};
+use ygrammar::{BrokenRule, CompileCode, Source, Sources, broken, first_with, least, least_when};
 use ypreorder::{Node, Nodes};
 use yword::{BuiltIn, Keyword};
 

@@ -21,9 +21,7 @@ ghost use Rattle.ylink.specs.TypeView.{meant_view, verdict_view};
 use crate::limit::{accepted_type, measured_type, ranged_type};
 use crate::naming::{bits, enumeration};
 use std::alloc::{AllocError, Global};
-use ygrammar::{
-    Name, Source, Sources, argument_with, fraction_digits, leafref_path,
-};
+use ygrammar::{Name, Source, Sources, argument_with, fraction_digits, leafref_path};
 use ypreorder::{Node, Nodes};
 use ytype::{FractionDigits, YType};
 use yword::{BuiltIn, Keyword};
@@ -75,11 +73,7 @@ fn may_bear(type_name: BuiltIn, keyword: Keyword) -> bool
 }
 
 /// The built-in type that a `type` statement of a set names, which has that number.
-pub fn built_in_meant(
-    sources: &Sources<'_>,
-    number: u32,
-    statement: &Source<'_>,
-) -> Option<BuiltIn>
+pub fn built_in_meant(sources: &Sources<'_>, number: u32, statement: &Source<'_>) -> Option<BuiltIn>
     ensures { option_map built_in_view result
         ≡ spec.built_in_meant (view sources.now) (source_view number statement.now) }
 {

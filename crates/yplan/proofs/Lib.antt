@@ -1,4 +1,5 @@
 pub mod PartLemmas
+pub mod OwnLemmas
 pub mod PlanLemmas
 pub mod BelowLemmas
 pub mod FactLemmas

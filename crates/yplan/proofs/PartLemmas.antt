@@ -1,23 +1,21 @@
 -- Parts, one after another, as they come into the table.
-use Rattle.std.proofs.Common.{◌≡◌, ℕ, suc, ◌+◌, Bool, true, false, cond, ◌&&◌, List, [], ◌∷◌, ◌++◌, length, Some, refl, sym, ap, ap₂, ◌∙◌, append_assoc, arith, length-append, nat_le}
+use Rattle.std.proofs.Common.{◌≡◌, ℕ, suc, ◌+◌, Bool, true, false, cond, ◌&&◌, List, [], ◌∷◌, ◌++◌, length, Option, Some, refl, sym, ap, ap₂, ◌∙◌, append_assoc, arith, length-append, nat_le}
 use Rattle.std.specs.Prelude.{option_map}
-use Rattle.std.specs.Option.{option_map_or}
 use Rattle.std.proofs.lemmas.Bool.{eqb-true}
 use Rattle.std.proofs.lemmas.List.{append-nil}
 use Rattle.yspec.specs.Forest.{Forest, node, end, size, join, row}
 use Rattle.yspec.specs.linking.Keyword.{Keyword, keyword_number, same_keyword, case_word, choice_word, module_word, yang_version_word, namespace_word, prefix_word, import_word, revision_date_word, organization_word, contact_word, description_word, reference_word, revision_word, extension_word, typedef_word, grouping_word, augment_word, container_word, leaf_word, leaf_list_word, list_word, uses_word, refine_word, type_word, fraction_digits_word, range_word, length_word, enum_word, bit_word, path_word, require_instance_word, error_message_word, error_app_tag_word, value_word, position_word, units_word, default_word, config_word, mandatory_word, presence_word, min_elements_word, max_elements_word, ordered_by_word, status_word, key_word, unique_word}
 use Rattle.yspec.specs.linking.Source as spec
-use Rattle.yspec.specs.linking.Source.{first_with, argument_with, argument_in, is_source_of}
+use Rattle.yspec.specs.linking.Source.{first_with, all_with, found_with, argument_with, argument_in, is_source_of}
 use Rattle.yspec.specs.linking.Parts.{Part, defines_node, own_of, part_of, parts, as_cases, case_for, within}
 use Rattle.yspec.specs.linking.Planned as plan
-use Rattle.yspec.specs.linking.Planned.{Around, around_below, planned_node, planned, is_said, config_of}
+use Rattle.yspec.specs.linking.Planned.{Around, around_below, planned_node, planned}
 use Rattle.ypreorder.specs.Layout.{Place, places, laid, opened, closed}
-use Rattle.ypreorder.specs.View.{rows_in, row_by, label_by}
-use Rattle.ygrammar.specs.SourceView.{source_view}
+use Rattle.ypreorder.specs.View.{rows_in}
 use Rattle.ypreorder.specs.declared.table.Table.{Table}
 use Rattle.ypreorder.proofs.LayoutLemmas.{length-places, places-join, length-laid, length-seen, grown}
 use Rattle.yplan.specs.declared.planned.Planned.{Planned}
-use Rattle.yplan.specs.PlannedView.{implied_or, planned_view, seen_rows, listed}
+use Rattle.yplan.specs.PlannedView.{planned_view, seen_rows, listed}
 
 -- ---- what a part states
 
@@ -74,24 +72,38 @@ defines_same k j same =
     let numbers : keyword_number k ≡ keyword_number j = eqb-true (keyword_number k) (keyword_number j) same in
     defines_by_number k ∙ (ap (λ n. nat_le 15 n && nat_le n 20) numbers ∙ sym (defines_by_number j))
 
--- a question about a statement that defines no node needn't pass over those that do
-pub own-first : (k : Keyword) → defines_node k ≡ false → (f : Forest spec.Source) → first_with k (own_of f) ≡ first_with k f
-own-first k other end = refl
-own-first k other (node s below after) = by (defines_node s.keyword) refl (same_keyword k s.keyword) refl (own-first k other after)
-  where
-    by : (d : Bool) → defines_node s.keyword ≡ d → (e : Bool) → same_keyword k s.keyword ≡ e → first_with k (own_of after) ≡ first_with k after
-        → first_with k (cond d (own_of after) (node s below (own_of after))) ≡ cond e (Some s) (first_with k after)
-    by true d true e h = let same = sym other ∙ (defines_same k s.keyword e ∙ d) in absurd cc
-    by true d false e h = h
-    by false d true e h = ap (λ b. cond b (Some s) (first_with k (own_of after))) e
-    by false d false e h = ap (λ b. cond b (Some s) (first_with k (own_of after))) e ∙ h
+-- a question about the statements with a keyword that defines no node needn't pass over those that do
+module _ (k : Keyword) (other : defines_node k ≡ false) {R : Type 0} (told : Forest spec.Source → R) (more : spec.Source → Forest spec.Source → R → R)
+    (by_first : (s : spec.Source) (below after : Forest spec.Source) → told (node s below after) ≡ cond (is_source_of k s) (more s below (told after)) (told after)) where
+  own-same : (f : Forest spec.Source) → told (own_of f) ≡ told f
+  own-same end = refl
+  own-same (node s below after) = by (defines_node s.keyword) refl (is_source_of k s) refl (own-same after)
+    where
+      by : (d : Bool) → defines_node s.keyword ≡ d → (e : Bool) → is_source_of k s ≡ e → told (own_of after) ≡ told after
+          → told (cond d (own_of after) (node s below (own_of after))) ≡ told (node s below after)
+      by true d true e h = let same = sym other ∙ (defines_same k s.keyword e ∙ d) in absurd cc
+      by true d false e h = h ∙ sym (by_first s below after ∙ ap (λ b. cond b (more s below (told after)) (told after)) e)
+      by false d b e h = by_first s below (own_of after) ∙ (ap (λ r. cond (is_source_of k s) (more s below r) r) h ∙ sym (by_first s below after))
+
+pub own-found : (k : Keyword) → defines_node k ≡ false → (f : Forest spec.Source) → found_with k (own_of f) ≡ found_with k f
+own-found k other = own-same k other (found_with k) (λ s below rest. Some (s, below)) (λ s below after. refl)
+
+pub own-all : (k : Keyword) → defines_node k ≡ false → (f : Forest spec.Source) → all_with k (own_of f) ≡ all_with k f
+own-all k other = own-same k other (all_with k) (λ s below rest. s ∷ rest) (λ s below after. refl)
 
 pub own-argument : (k : Keyword) → defines_node k ≡ false → (f : Forest spec.Source) → argument_with k (own_of f) ≡ argument_with k f
-own-argument k other f = ap (option_map argument_in) (own-first k other f)
+own-argument k other f =
+    ap (option_map argument_in) (own-same k other (first_with k) (λ s below rest. Some s) (λ s below after. refl) f)
 
-pub config_is : (above : Bool) (p : Part) (f : Forest spec.Source) → p.own ≡ own_of f
-    → config_of above p ≡ option_map_or is_said (argument_with config_word f) above
-config_is above p f own = ap (λ o. option_map_or is_said o above) (ap (argument_with config_word) own ∙ own-argument config_word refl f)
+-- the first of a row, without what stands below it
+pub first_found : (k : Keyword) (f : Forest spec.Source) → option_map (λ s. s.0) (found_with k f) ≡ first_with k f
+first_found k end = refl
+first_found k (node s below after) = by (is_source_of k s) (first_found k after)
+  where
+    by : (b : Bool) → option_map (λ s. s.0) (found_with k after) ≡ first_with k after
+        → option_map (λ s. s.0) (cond b (Some (s, below)) (found_with k after)) ≡ cond b (Some s) (first_with k after)
+    by true h = refl
+    by false h = h
 
 -- ---- one after another
 
@@ -154,6 +166,10 @@ own_part true s below stands other =
     ap as_cases (one_part s below stands) ∙ ap (λ b. cond b (node p inside end) (node (case_for p) (node p inside end) end)) (other refl)
 
 -- ---- as they are planned
+
+-- a planned node, by whether it is configuration
+abbrev pub planned_so : ℕ → Option ℕ → Option ℕ → Part → Bool → plan.Planned
+planned_so number parent scope p config = record { number = number; parent = parent; scope = scope; config = config; part = p }
 
 pub size-planned : (k : ℕ) (a : Around) (f : Forest Part) → size (planned k a f) ≡ size f
 unfolding planned
@@ -246,10 +262,3 @@ pub all_added : (rows : Table Planned) (a : Around) (c : Bool) (f : Forest spec.
 unfolding parts
 all_added rows a true f whole none so = nothing_added rows a (as_cases (parts f)) (ap (λ g. as_cases (parts g)) none) ∙ so
 all_added rows a false f whole none so = nothing_added rows a (parts f) (ap parts none) ∙ so
-
--- what a planned node states, from the substatements of its statement
-pub stated_is : (p : Planned) (k : Keyword) (number : ℕ) → p.is_implied ≡ false → defines_node k ≡ false
-    → argument_with k (row_by source_view p.source.children) ≡ plan.stated_in k (planned_view number p)
-stated_is p k number own other =
-    sym (own-argument k other (row_by source_view p.source.children))
-    ∙ ap (λ b. argument_with k (implied_or b (part_of (label_by source_view p.source) (row_by source_view p.source.children))).own) (sym own)

@@ -1,4 +1,5 @@
 pub mod PlannedView
+pub mod OwnView
 pub mod Finding
 pub mod PlanView
 pub mod NodesView

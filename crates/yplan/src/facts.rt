@@ -1,22 +1,24 @@
 //! What planned nodes state.
 
-ghost use Rattle.std.specs.Prelude.{◌≡◌, map, IfOk};
-ghost use Rattle.yspec.specs.linking.Source.{argument_in, all_with};
+ghost use Rattle.std.specs.Prelude.{◌≡◌, map, IfOk, option_map, option_and_then};
+ghost use Rattle.yspec.specs.linking.Keyword.{type_word};
+ghost use Rattle.yspec.specs.linking.Source.{first_with};
+ghost use Rattle.yspec.specs.linking.TypeStatements.{built_in_meant};
 ghost use Rattle.yspec.specs.linking.SchemaNodes as spec;
 ghost use Rattle.yspec.specs.linking.NodeBreaks as breaks;
-ghost use Rattle.yword.specs.KeywordView.{keyword_view};
-ghost use Rattle.ygrammar.specs.SourceView.{source_view};
+ghost use Rattle.yword.specs.BuiltInView.{built_in_view};
 ghost use Rattle.yplan.specs.PlanView.{view};
 ghost use Rattle.ypreorder.specs.View.{row_by, label_by};
-ghost use Rattle.yplan.specs.PlannedView.{planned_view};
+ghost use Rattle.yplan.specs.PlannedView.{part_at, planned_view};
 
 use crate::plan::Plan;
 use crate::planned::Planned;
 use std::alloc::{AllocError, Global};
-use ygrammar::{Source, argument_of, count, most};
+use ygrammar::{argument_of, count, most};
+use ylink::built_in_meant;
 use ymodel::Amount;
 use ypreorder::{Node, Nodes};
-use yword::{Keyword, Status, status_of};
+use yword::{BuiltIn, Keyword, Status, status_of};
 
 impl<'a, 't> Planned<'a, 't> {
     ghost use Rattle.std.specs.Prelude.{◌≡◌, is_some};
@@ -117,22 +119,14 @@ fn must_be(node: Node<'_, Planned<'_, '_>>) -> bool
     }
 }
 
-/// The arguments of all statements of a row with a keyword, in order.
-fn arguments_with<'t>(
-    alloc: Global,
-    keyword: Keyword,
-    statements: Nodes<'_, Source<'t>>,
-) -> Result<Vec<&'t str>, AllocError>
-    ensures { IfOk result (λ texts. map (λ t. t.now) texts.items
-        ≡ map argument_in (all_with (keyword_view keyword) (row_by source_view statements.entry))) }
+/// The built-in type that the `type` statement of a node names.
+pub fn type_name(plan: &Plan<'_, '_>, planned: &Planned<'_, '_>) -> Option<BuiltIn>
+    ensures { option_map built_in_view result
+        ≡ option_and_then (built_in_meant (view plan.now).modules)
+        (first_with type_word (part_at planned.now).own) }
 {
-    let mut texts = Vec::new(alloc);
-    for statement in statements {
-        if keyword.is(statement.label().keyword) {
-            texts.push(argument_of(statement))?;
-        }
-    }
-    Ok(texts)
+    let statement = planned.first_own(Keyword::Type)?;
+    built_in_meant(plan.sources(), statement.number(), statement.label())
 }
 
 /// The texts of all its defaults, in order (RFC 7950, 7.6.4 and 7.7.4).
@@ -143,11 +137,11 @@ pub fn default_texts<'t>(
     ensures { (number : _) → IfOk result (λ texts. map (λ t. t.now) texts.items
         ≡ spec.default_texts (planned_view number planned.now)) }
 {
-    if planned.is_implied {
-        Ok(Vec::new(alloc))
-    } else {
-        arguments_with(alloc, Keyword::Default, planned.source.children())
+    let mut texts = Vec::new(alloc);
+    for statement in planned.own_with(Keyword::Default) {
+        texts.push(argument_of(statement))?;
     }
+    Ok(texts)
 }
 
 /// Whether the default case of a choice isn't there, or is needless, or holds what must be stored (RFC 7950, 7.9.3).

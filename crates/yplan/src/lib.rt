@@ -7,12 +7,14 @@ mod finding;
 mod levels;
 mod names;
 mod nodes;
+mod own;
 mod plan;
 mod planned;
 mod planning;
 
-pub use facts::{default_texts, is_wrong_case};
+pub use facts::{default_texts, is_wrong_case, type_name};
 pub use names::broken_name_rule;
 pub use nodes::{PlanNode, PlanNodes};
+pub use own::OwnStatements;
 pub use plan::Plan;
 pub use planned::Planned;

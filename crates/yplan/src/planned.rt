@@ -1,17 +1,17 @@
 //! Planned nodes.
 
-use ygrammar::{
-    BrokenRule, CompileCode, Source, argument_of, argument_with, broken, built_in_with,
-};
-use ypreorder::Node;
-use yword::{BuiltIn, Keyword};
+use crate::own::OwnStatements;
+use ygrammar::{BrokenRule, CompileCode, Source, argument_of, argument_with, broken, found_with};
+use ypreorder::{Node, Nodes};
+use yword::Keyword;
 
 /// A schema node that a statement defines, or the case that a single node of a choice stands for (RFC 7950, 7.9.2).
 #[derive(Clone, Copy)]
 pub struct Planned<'a, 't> {
-    pub source: Node<'a, Source<'t>>,
-    /// Whether it is the case that its statement stands for, and not the node itself.
-    pub is_implied: bool,
+    // Its statement. What it states of the node is read through `own` alone.
+    source: Node<'a, Source<'t>>,
+    // Whether it is the case that its statement stands for, and not the node itself.
+    is_implied: bool,
     /// The number of the node above it.
     pub parent: Option<u32>,
     /// The number of the node whose children share its name: the data node above it, choices and cases passed through; of
@@ -22,17 +22,69 @@ pub struct Planned<'a, 't> {
 }
 
 impl<'a, 't> Planned<'a, 't> {
-    ghost use Rattle.std.specs.Prelude.{◌≡◌, [], ◌∷◌, false, option_and_then, option_map};
-    ghost use Rattle.yspec.specs.linking.Keyword.{type_word};
+    ghost use Rattle.std.specs.Prelude.{◌≡◌, [], ◌∷◌, false, option_map};
     ghost use Rattle.yspec.specs.linking.NodeBreaks.{broken_at};
     ghost use Rattle.ygrammar.specs.BreakView.{break_view, code_number};
-    ghost use Rattle.yspec.specs.linking.Parts.{defines_node};
+    ghost use Rattle.yspec.specs.linking.Parts.{defines_node, own_of, part_of};
     ghost use Rattle.yspec.specs.linking.Planned as spec;
     ghost use Rattle.yspec.specs.linking.Source as sources;
-    ghost use Rattle.yspec.specs.linking.TypeStatements.{built_in_named};
+    ghost use Rattle.ypreorder.specs.View.{row_by, label_by};
     ghost use Rattle.yword.specs.KeywordView.{keyword_view};
-    ghost use Rattle.yword.specs.BuiltInView.{built_in_view};
-    ghost use Rattle.yplan.specs.PlannedView.{part_at, planned_view};
+    ghost use Rattle.ygrammar.specs.SourceView.{source_view, node_view};
+    ghost use Rattle.yplan.specs.PlannedView.{around_view, implied_or, part_at, planned_view};
+    ghost use Rattle.yplan.specs.OwnView.{left, row_in};
+
+    /// The node that a statement defines, or the case that it stands for, with what stands around it.
+    pub(crate) fn new(
+        source: Node<'a, Source<'t>>,
+        is_implied: bool,
+        around: Around,
+    ) -> Planned<'a, 't>
+        ensures { let s = label_by source_view source.entry in
+            let below = row_by source_view source.entry.children in
+            (number : _) → planned_view number result
+            ≡ spec.planned_node number (around_view around) (implied_or is_implied (part_of s below)) }
+    {
+        let mut planned = Planned {
+            source,
+            is_implied,
+            parent: around.parent,
+            scope: around.scope,
+            config: around.config,
+        };
+        if let Some(text) = planned.own_argument(Keyword::Config) {
+            planned.config = text == "true";
+        }
+        planned
+    }
+
+    /// The row in which its own statements stand, besides those that define nodes; a case that is implied has none.
+    fn own(&self) -> Option<Nodes<'a, Source<'t>>>
+        ensures { own_of (row_in result) ≡ (part_at self.now).own }
+    {
+        if self.is_implied {
+            None
+        } else {
+            Some(self.source.children())
+        }
+    }
+
+    /// The first of its own statements with a keyword, which is none of those that define nodes.
+    pub fn first_own(&self, keyword: Keyword) -> Option<Node<'a, Source<'t>>>
+        requires { defines_node (keyword_view keyword) ≡ false }
+        ensures { option_map node_view result
+            ≡ sources.found_with (keyword_view keyword) (part_at self.now).own }
+    {
+        found_with(keyword, self.own()?)
+    }
+
+    /// All of its own statements with a keyword, which is none of those that define nodes, in order.
+    pub fn own_with(&self, keyword: Keyword) -> OwnStatements<'a, 't>
+        requires { defines_node (keyword_view keyword) ≡ false }
+        ensures { left result ≡ sources.all_with (keyword_view keyword) (part_at self.now).own }
+    {
+        OwnStatements::new(keyword, self.own())
+    }
 
     /// The keyword of its statement; that of a case, where one is implied.
     pub fn keyword(&self) -> Keyword
@@ -59,30 +111,13 @@ impl<'a, 't> Planned<'a, 't> {
         argument_of(self.source)
     }
 
-    /// The argument of its first substatement with a keyword, which is none of those that define nodes.
+    /// The argument of the first of its own statements with a keyword, which is none of those that define nodes.
     pub fn own_argument(&self, keyword: Keyword) -> Option<&'t str>
         requires { defines_node (keyword_view keyword) ≡ false }
         ensures { (number : _) → option_map (λ text. text.now) result
             ≡ spec.stated_in (keyword_view keyword) (planned_view number self.now) }
     {
-        if self.is_implied {
-            None
-        } else {
-            argument_with(keyword, self.source.children())
-        }
-    }
-
-    /// The built-in type that its `type` statement names.
-    pub fn type_name(&self) -> Option<BuiltIn>
-        ensures { (number : _) → option_map built_in_view result
-            ≡ option_and_then built_in_named
-            (spec.stated_in type_word (planned_view number self.now)) }
-    {
-        if self.is_implied {
-            None
-        } else {
-            built_in_with(Keyword::Type, self.source.children())
-        }
+        argument_with(keyword, self.own()?)
     }
 
     /// A rule that it breaks, which is told at its statement.

@@ -2,12 +2,8 @@
 
 ghost use Rattle.std.specs.Prelude.{◌≡◌, ◌++◌, IfOk, OnOk, length, if◌then◌else◌};
 ghost use Rattle.yspec.specs.Forest.{end, node};
-ghost use Rattle.std.specs.Option.{option_map_or};
-ghost use Rattle.yspec.specs.linking.Keyword.{config_word};
-ghost use Rattle.yspec.specs.linking.Source.{argument_with};
 ghost use Rattle.yspec.specs.linking.Parts.{Part, part_of, parts, parts_of_modules, as_cases, case_for, within};
 ghost use Rattle.yspec.specs.linking.Planned as spec;
-ghost use Rattle.yspec.specs.linking.Planned.{is_said};
 ghost use Rattle.ypreorder.specs.View.{rows_in, row_by, label_by};
 ghost use Rattle.ygrammar.specs.LinkView as link;
 ghost use Rattle.yword.specs.KeywordView.{keyword_view};
@@ -16,7 +12,7 @@ ghost use Rattle.yplan.specs.PlannedView.{seen_rows, listed, around_view, shown_
 
 use crate::planned::{Around, Planned};
 use std::alloc::{AllocError, Global};
-use ygrammar::{Source, Sources, argument_with};
+use ygrammar::{Source, Sources};
 use ypreorder::{Node, Nodes, Table};
 use yword::Keyword;
 
@@ -39,17 +35,6 @@ pub(crate) fn planned<'a, 't>(
         add_nodes(&mut table, around, false, module.children())?;
     }
     Ok(table)
-}
-
-/// Whether a node with these substatements is configuration, below one that is or isn't.
-fn config_of(above: bool, own: Nodes<'_, Source<'_>>) -> bool
-    ensures { result ≡ option_map_or is_said
-        (argument_with config_word (row_by source_view own.entry)) above }
-{
-    match argument_with(Keyword::Config, own) {
-        Some(text) => text == "true",
-        None => above,
-    }
 }
 
 /// What stands around the nodes below one of a number.
@@ -137,20 +122,16 @@ fn add_node<'a, 't>(
         (node (part_of s below) (within s (parts below)) end)) }
 {
     let keyword = statement.label().keyword;
-    let own = statement.children();
-    let config = config_of(around.config, own);
-    let number = table.open(
-        around.parent,
-        Planned {
-            source: statement,
-            is_implied: false,
-            parent: around.parent,
-            scope: around.scope,
-            config,
-        },
-    )?;
+    let planned = Planned::new(statement, false, around);
+    let config = planned.config;
+    let number = table.open(around.parent, planned)?;
     let inside = around_below(number, around, keyword, false, config);
-    add_nodes(table, inside, Keyword::Choice.is(keyword), own)?;
+    add_nodes(
+        table,
+        inside,
+        Keyword::Choice.is(keyword),
+        statement.children(),
+    )?;
     table.close(number);
     Ok(())
 }
@@ -169,17 +150,10 @@ fn add_case<'a, 't>(
         (node (case_for part) (node part (within s (parts below)) end) end)) }
 {
     let keyword = statement.label().keyword;
-    let number = table.open(
-        around.parent,
-        Planned {
-            source: statement,
-            is_implied: true,
-            parent: around.parent,
-            scope: around.scope,
-            config: around.config,
-        },
-    )?;
-    let inside = around_below(number, around, keyword, true, around.config);
+    let planned = Planned::new(statement, true, around);
+    let config = planned.config;
+    let number = table.open(around.parent, planned)?;
+    let inside = around_below(number, around, keyword, true, config);
     add_node(table, inside, statement)?;
     table.close(number);
     Ok(())

@@ -1,4 +1,4 @@
-use Rattle.std.proofs.Common.{true, is_some, not, sym, ap, ◌∙◌}
+use Rattle.std.proofs.Common.{is_some, not, sym, ap, ◌∙◌}
 use Rattle.std.proofs.Math.Bool.{not-not}
 use Rattle.yspec.specs.linking.Keyword.{type_word}
 use Rattle.yspec.specs.linking.Source.{first_with}

@@ -1,4 +1,4 @@
-use Rattle.std.proofs.Common.{◌≡◌, ◌++◌, ◌≤◌, true, map}
+use Rattle.std.proofs.Common.{◌≡◌, ◌++◌, ◌≤◌, map}
 use Rattle.yspec.specs.Forest.{size}
 use Rattle.yspec.specs.linking.TypeStatements.{verdicts}
 use Rattle.ypreorder.specs.View.{row_by, row_view}

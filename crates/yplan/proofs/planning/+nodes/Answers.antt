@@ -2,14 +2,14 @@ use Rattle.std.proofs.Common.{rules, ◌≡◌, ◌++◌, true, false, cond, len
 use Rattle.std.proofs.lemmas.Result.{on_ok_weaker}
 use Rattle.yspec.specs.Forest.{end, node, size}
 use Rattle.yspec.specs.linking.Keyword.{same_keyword, choice_word, case_word}
-use Rattle.yspec.specs.linking.Parts.{defines_node, own_of, part_of, parts, case_for, within, as_cases}
-use Rattle.yspec.specs.linking.Planned.{config_of}
+use Rattle.yspec.specs.linking.Parts.{defines_node, part_of, parts, case_for, within, as_cases}
+use Rattle.yspec.specs.linking.Planned.{planned_node}
 use Rattle.ypreorder.specs.View.{rows_in, row_by, label_by}
 use Rattle.ypreorder.proofs.RowLemmas.{takes_by, takes_none_by}
 use Rattle.yword.specs.KeywordView.{keyword_view}
 use Rattle.ygrammar.specs.SourceView.{source_view}
-use Rattle.yplan.specs.PlannedView.{seen_rows, listed, around_view}
-use Rattle.yplan.proofs.PartLemmas.{chosen, added, config_is, no_part, implied_part, own_part, nothing_added, next_statement, all_added}
+use Rattle.yplan.specs.PlannedView.{planned_view, seen_rows, listed, around_view}
+use Rattle.yplan.proofs.PartLemmas.{chosen, added, no_part, implied_part, own_part, nothing_added, next_statement, all_added}
 use Rattle.yplan.proofs.planning.+nodes.Goals as goal
 use Rattle.yplan.proofs.planning.+nodes.Goals.{add_statement-else-in_choice-via-then-in_choice+else-not-is, add_statement-else-in_choice-via-else-in_choice}
 
@@ -19,9 +19,11 @@ add_case-returns t c =
     let below = row_by source_view c.args.statement.children in
     let p = part_of s below in
     let a = around_view c.args.around in
-    let inside = c.around_below-inside.ensures (case_for p) refl refl in
+    let k = length (rows_in c.args.table.now) in
+    let label : planned_view k c.new-planned.result ≡ planned_node k a (case_for p) = c.new-planned.ensures k in
+    let inside = c.around_below-inside.ensures (case_for p) refl (ap (λ q. q.config) label) in
     added c.args.table.now c.open.new.self c.add_node.new.table c.close.new.self _ c.in_ok-number.number a (around_view c.around_below-inside.result) (case_for p)
-    (node p (within s (parts below)) end) c.in_ok-number.ensures.laid c.in_ok-number.ensures.number inside c.in_ok-add_node.ensures c.close.ensures refl
+    (node p (within s (parts below)) end) c.in_ok-number.ensures.laid c.in_ok-number.ensures.number inside c.in_ok-add_node.ensures c.close.ensures label
 
 pub add_node-returns : goal.add_node-returns
 add_node-returns t c =
@@ -29,21 +31,21 @@ add_node-returns t c =
     let below = row_by source_view c.args.statement.children in
     let p = part_of s below in
     let a = around_view c.args.around in
-    let own = row_by source_view c.children-own.result in
-    let own_is : own ≡ below = ap (row_by source_view) c.children-own.ensures in
-    let config : c.config_of-config.result ≡ config_of a.config p = c.config_of-config.ensures ∙ sym (config_is a.config p own (ap own_of (sym own_is))) in
+    let k = length (rows_in c.args.table.now) in
+    let own = row_by source_view c.children.result in
+    let own_is : own ≡ below = ap (row_by source_view) c.children.ensures in
+    let label : planned_view k c.new-planned.result ≡ planned_node k a p = c.new-planned.ensures k in
     let n = c.in_ok-number.number in
     let mid = c.open.new.self in
     let keyword : keyword_view c.label.result.now.keyword ≡ s.keyword = ap (λ l. keyword_view l.keyword) c.label.ensures in
     let choice : c.is.result ≡ same_keyword choice_word s.keyword = c.is.ensures ∙ ap (same_keyword choice_word) keyword in
     let chosen_is : cond c.is.result (as_cases (parts own)) (parts own) ≡ within s (parts below) =
     ap₂ (λ b f. cond b (as_cases (parts f)) (parts f)) choice own_is in
-    let inside = c.around_below-inside.ensures p (sym keyword) config in
+    let inside = c.around_below-inside.ensures p (sym keyword) (ap (λ q. q.config) label) in
     added c.args.table.now mid c.add_nodes.new.table c.close.new.self _ n a (around_view c.around_below-inside.result) p (within s (parts below))
     c.in_ok-number.ensures.laid c.in_ok-number.ensures.number inside
     (c.in_ok-add_nodes.ensures ∙ ap (λ f. seen_rows mid ++ listed (length (rows_in mid)) (around_view c.around_below-inside.result) f) chosen_is)
-    c.close.ensures
-    (ap (λ b. record { number = length (rows_in c.args.table.now); parent = a.parent; scope = a.scope; config = b; part = p }) config)
+    c.close.ensures label
 
 pub add_nodes-loop-statement-preserved : goal.add_nodes-loop-statement-preserved
 add_nodes-loop-statement-preserved t c =
