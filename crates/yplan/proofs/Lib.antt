@@ -4,4 +4,4 @@ pub mod PlanLemmas
 pub mod BelowLemmas
 pub mod FactLemmas
 pub mod NodeLemmas
-pub mod BucketLemmas
+pub mod FindLemmas

@@ -2,14 +2,13 @@
 use Rattle.std.specs.Prelude.{ℕ, ◌&&◌, Bool, true, false, List, Option, Some, None, nat_lt}
 use Rattle.yspec.specs.text.Text.{Text}
 use Rattle.yspec.specs.linking.Planned.{Planned, is_data, same_number, is_called}
-use Rattle.yspec.specs.linking.Source.{argument_in}
 use Rattle.ypreorder.specs.Layout.{labels_by}
 use Rattle.ypreorder.specs.View.{rows_in}
 use Rattle.ypreorder.specs.declared.table.Table.{Table}
-use Rattle.yindex.specs.Hashes.{hash_of}
+use Rattle.yindex.specs.declared.keys.Among.{Among}
+use Rattle.yindex.specs.declared.keys.Among.TheVariants.{Children, Scope, DataNodes}
+use Rattle.yindex.specs.declared.keys.IndexedNode.{IndexedNode}
 use Rattle.yplan.specs.PlannedView.{planned_view}
-use Rattle.yplan.specs.declared.finding.Among.{Among}
-use Rattle.yplan.specs.declared.finding.Among.TheVariants.{Children, Scope, DataNodes}
 use Rattle.yplan.specs.declared.planned.Planned as code
 
 -- the nodes of a table, by number
@@ -32,9 +31,9 @@ abbrev pub is_found : Among → Option ℕ → ℕ → Text → Planned → Bool
 is_found among above m name p = is_looked_for among p
     && (same_number above (above_in among p) && is_called (record { module_number = Some m; name = name }) p)
 
--- the hash of a node by its name below what stands above it
-abbrev pub hash_among : Among → Planned → ℕ
-hash_among among p = hash_of (above_in among p) (argument_in p.part.source)
+-- a planned node as it is found
+abbrev pub indexed : Planned → IndexedNode
+indexed p = record { number = p.number; parent = p.parent; scope = p.scope; «module» = p.part.owner; is_data = is_data p }
 
 -- whether a number, if there is one, is less than another
 abbrev pub is_before : Option ℕ → ℕ → Bool

@@ -1,22 +1,22 @@
 //! The plan of a set of modules.
 
-ghost use Rattle.std.specs.Prelude.{◌≡◌, map};
-ghost use Rattle.yindex.specs.Buckets.{hashes_in};
+ghost use Rattle.std.specs.Prelude.{◌≡◌, ℕ, find, option_map};
+ghost use Rattle.yspec.specs.linking.SchemaNodes.{number_in};
+ghost use Rattle.yindex.specs.Index.{found};
 ghost use Rattle.ypreorder.specs.Layout.{IsLaidOut};
 ghost use Rattle.ypreorder.specs.View.{rows_in};
-ghost use Rattle.yplan.specs.Finding.{hash_among, list_of};
-ghost use Rattle.yplan.specs.declared.finding.Among.TheVariants as among;
+ghost use Rattle.yplan.specs.Finding.{is_found, list_of};
 ghost use Rattle.ygrammar.specs.LinkView as link;
 ghost use Rattle.ylink.specs.PrefixView.{IsOf};
 
-use crate::finding::{Among, hashes_of};
+use crate::finding::index_of;
 use crate::levels::levels_of;
 use crate::nodes::{PlanNode, PlanNodes};
 use crate::planned::Planned;
 use crate::planning::planned;
 use std::alloc::{AllocError, Global};
 use ygrammar::{Name, Sources};
-use yindex::{Buckets, hash_of};
+use yindex::{Among, NodeIndex};
 use ylink::{NodeName, Prefixes};
 use ypreorder::{Nodes, Row, Table};
 use yword::Keyword;
@@ -28,19 +28,18 @@ pub struct Plan<'a, 't> {
     prefixes: Prefixes<'t>,
     table: Table<Planned<'a, 't>>,
     // Its nodes by their names, below those right above them and below those where they share them.
-    children: Buckets,
-    scopes: Buckets,
+    index: NodeIndex<'t>,
     ghost prefixed: { IsOf prefixes (link.view sources.now) },
     ghost laid_out: { IsLaidOut (rows_in table) },
-    ghost by_parent: { hashes_in children ≡ map (hash_among among.Children) (list_of table) },
-    ghost by_scope: { hashes_in scopes ≡ map (hash_among among.Scope) (list_of table) },
+    ghost indexed: { (among : _) → (above : _) → (m : ℕ) → (name : _) → found index among above m name
+        ≡ option_map number_in (find (is_found among above m name) (list_of table)) },
 }
 
 impl<'a, 't> Plan<'a, 't> {
     ghost use Rattle.std.specs.Prelude.{◌≡◌, IfOk, Some, option_map, find, map, length, false, slice_get};
     ghost use Rattle.std.specs.Option.{option_map_or};
-    ghost use Rattle.yindex.specs.Buckets.{hashes_in};
-    ghost use Rattle.yplan.specs.Finding.{hash_among, is_before, is_found, list_of};
+    ghost use Rattle.yindex.specs.declared.keys.Among.TheVariants as among;
+    ghost use Rattle.yplan.specs.Finding.{is_before, is_found};
     ghost use Rattle.yspec.specs.linking.Source.{argument_in};
     ghost use Rattle.yspec.specs.linking.Compiling.{plan_of};
     ghost use Rattle.yspec.specs.linking.Planned as spec;
@@ -63,15 +62,12 @@ impl<'a, 't> Plan<'a, 't> {
     {
         let prefixes = Prefixes::of(alloc, sources)?;
         let table = planned(alloc, sources)?;
-        let hashes = hashes_of(alloc, &table)?;
-        let children = Buckets::of(alloc, hashes.children)?;
-        let scopes = Buckets::of(alloc, hashes.scopes)?;
+        let index = index_of(alloc, &table)?;
         Ok(Plan {
             sources,
             prefixes,
             table,
-            children,
-            scopes,
+            index,
         })
     }
 
@@ -165,52 +161,19 @@ impl<'a, 't> Plan<'a, 't> {
         ensures { result ≡ option_map number_in
             (find (is_found among above «module» name.now) (spec.nodes_of (view self.now))) }
     {
-        for number in self.buckets(among).numbers(hash_of(above, name)) {
-            if self.has(number, among, above, module, name) {
-                return Some(number);
-            }
-        }
-        None
+        self.index.first(among, above, module, name)
     }
 
     /// Whether a node before that of a number, among those that share their names with it, has its module and name.
     pub(crate) fn is_repeated(&self, number: u32, planned: &Planned<'_, '_>) -> bool
-        requires { slice_get (list_of self.now.table) number
-            ≡ Some (planned_view number planned.now) }
         ensures { let p = planned_view number planned.now in
             result ≡ is_before (option_map number_in
             (find (is_found among.Scope p.scope p.part.owner (argument_in p.part.source))
             (spec.nodes_of (view self.now)))) number }
     {
-        for candidate in self.scopes.numbers(self.scopes.hash_at(number)) {
-            if candidate >= number {
-                return false;
-            }
-            let (module, name) = (planned.owner(), planned.name());
-            if self.has(candidate, Among::Scope, planned.scope, module, name) {
-                return true;
-            }
-        }
-        false
-    }
-
-    /// The nodes by their names below those under which they are looked for.
-    fn buckets(&self, among: Among) -> &Buckets
-        ensures { hashes_in result.now ≡ map (hash_among among) (list_of self.now.table) }
-    {
-        match among {
-            Among::Children => &self.children,
-            Among::Scope | Among::DataNodes => &self.scopes,
-        }
-    }
-
-    /// Whether the node of a number is among some below one, or at the top, and has this module and name.
-    fn has(&self, number: u32, among: Among, above: Option<u32>, module: usize, name: &str) -> bool
-        ensures { result ≡ option_map_or (is_found among above «module» name.now)
-            (spec.node_of (view self.now) number) false }
-    {
-        match self.node(number) {
-            Some(planned) => among.has(planned, above, module, name),
+        let (module, name) = (planned.owner(), planned.name());
+        match self.first(Among::Scope, planned.scope, module, name) {
+            Some(first) => first < number,
             None => false,
         }
     }

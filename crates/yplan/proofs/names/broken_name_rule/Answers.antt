@@ -15,19 +15,6 @@ use Rattle.yplan.proofs.PlanLemmas.{nodes_are, labels_from, next_told, drop_past
 use Rattle.yplan.proofs.NodeLemmas.{earlier}
 use Rattle.yplan.proofs.names.broken_name_rule.Goals as goal
 
-pub is_repeated-is_repeated-requires : goal.is_repeated-is_repeated-requires
-is_repeated-is_repeated-requires c =
-    let rows = rows_in c.args.plan.now.table in
-    let i = c.loop-number.number in
-    let row = c.row-item.result in
-    let same = c.rows-row-items.ensures.rows in
-    let is = c.row-item.is ∙ ap (λ xs. get_or xs i row) same in
-    let within : suc i ≤ length rows = omega (arith, ap length same) in
-    let from_none : 0 + i ≡ i = omega arith in
-    label_at planned_view 0 rows i
-    ∙ (ap (option_map (λ r. planned_view (0 + i) r.label)) (slice_get-get_or rows i row (omega (arith, within)))
-    ∙ (ap (λ r. Some (planned_view (0 + i) r.label)) (sym is) ∙ ap (λ n. Some (planned_view n row.label)) from_none))
-
 pub loop-number-preserved : goal.loop-number-preserved
 loop-number-preserved c =
     let rows = rows_in c.args.plan.now.table in

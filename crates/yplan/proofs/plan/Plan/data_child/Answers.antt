@@ -3,7 +3,7 @@ use Rattle.std.specs.Prelude.{option_map}
 use Rattle.yspec.specs.linking.Planned.{Planned, data_child_called, data_nodes, is_called, is_data, nodes_of, same_number}
 use Rattle.yspec.specs.linking.SchemaNodes.{number_in}
 use Rattle.yplan.specs.Finding.{above_in}
-use Rattle.yplan.specs.declared.finding.Among.TheVariants as among
+use Rattle.yindex.specs.declared.keys.Among.TheVariants as among
 use Rattle.yplan.specs.PlanView.{view}
 use Rattle.yplan.proofs.NodeLemmas.{find-filter}
 use Rattle.yplan.proofs.PlanLemmas.{nameless}
