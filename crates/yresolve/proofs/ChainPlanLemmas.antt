@@ -4,8 +4,8 @@ use Rattle.std.specs.Prelude.{slice_get, option_and_then}
 use Rattle.std.specs.Option.{option_map_or}
 use Rattle.yspec.specs.Forest.{size}
 use Rattle.yspec.specs.types.Types.{YangType}
-use Rattle.yspec.specs.linking.TypeStatements.{Meant, own, of_target, type_meant}
-use Rattle.yspec.specs.linking.Planned.{Planned, Plan, nodes_of, target_of, target_meant, referring, type_by, type_within, type_of, leads_to}
+use Rattle.yspec.specs.linking.TypeStatements.{Meant, own, of_target}
+use Rattle.yspec.specs.linking.Planned.{Planned, Plan, nodes_of, meant_in, target_of, target_meant, referring, type_by, type_within, type_of, leads_to}
 use Rattle.yspec.specs.linking.Planned as plans
 use Rattle.yresolve.specs.ChainTypes.{own_type, as_meant}
 use Rattle.ygraph.specs.Chains.{next_of, end_within, end_of, leads, is_on_circle}
@@ -46,7 +46,7 @@ module _ (plan : Plan) (next : List (Option ℕ)) where
   unfolding type_within
   type_zero p = refl
 
-  type_suc : (s : ℕ) → (p : Planned) → type_within plan (suc s) p ≡ option_and_then (type_by plan (type_within plan s) p) (type_meant p.part.own)
+  type_suc : (s : ℕ) → (p : Planned) → type_within plan (suc s) p ≡ option_and_then (type_by plan (type_within plan s) p) (meant_in plan p)
   unfolding type_within
   type_suc s p = refl
 
@@ -88,22 +88,22 @@ module _ (plan : Plan) (next : List (Option ℕ)) where
 
     -- the type of a node is that of the end of its chain, with the node's own say
     pub type_at_end : (s : ℕ) → (p q : Planned) → Stands p → Stands q → end_within next s p.number ≡ Some q.number
-        → type_within plan s p ≡ option_map (as_meant (type_meant p.part.own)) (own_type (type_meant q.part.own))
+        → type_within plan s p ≡ option_map (as_meant (meant_in plan p)) (own_type (meant_in plan q))
     type_at_end zero p q a b h = absurd (some_none q.number (sym h ∙ end_none next p.number))
     type_at_end (suc s) p q a b h = by_target p
-        (type_within plan (suc s) p ≡ option_map (as_meant (type_meant p.part.own)) (own_type (type_meant q.part.own)))
+        (type_within plan (suc s) p ≡ option_map (as_meant (meant_in plan p)) (own_type (meant_in plan q)))
         (λ e. let same = same_node p q a b (some_same p.number q.number (sym (end_here next s p.number (no_next p a e)) ∙ h)) in
-        type_suc s p ∙ without_target plan p (type_within plan s) (type_meant p.part.own) e ∙ own_kept (type_meant p.part.own)
-        ∙ ap (λ (x : Planned). option_map (as_meant (type_meant p.part.own)) (own_type (type_meant x.part.own))) same)
-        (λ t e. type_suc s p ∙ with_target plan p (type_within plan s) (type_meant p.part.own) t e (type_meant t.part.own)
-        (own_type (type_meant q.part.own))
+        type_suc s p ∙ without_target plan p (type_within plan s) (meant_in plan p) e ∙ own_kept (meant_in plan p)
+        ∙ ap (λ (x : Planned). option_map (as_meant (meant_in plan p)) (own_type (meant_in plan x))) same)
+        (λ t e. type_suc s p ∙ with_target plan p (type_within plan s) (meant_in plan p) t e (meant_in plan t)
+        (own_type (meant_in plan q))
         (type_at_end s t q (found p t a e) b (sym (end_there next s p.number t.number (a_next p t a e)) ∙ h)))
 
     pub no_type_without_end : (s : ℕ) → (p : Planned) → Stands p → end_within next s p.number ≡ None → type_within plan s p ≡ None
     no_type_without_end zero p a h = type_zero p
     no_type_without_end (suc s) p a h = by_target p (type_within plan (suc s) p ≡ None)
         (λ e. absurd (some_none p.number (sym (end_here next s p.number (no_next p a e)) ∙ h)))
-        (λ t e. type_suc s p ∙ with_target plan p (type_within plan s) (type_meant p.part.own) t e None None
+        (λ t e. type_suc s p ∙ with_target plan p (type_within plan s) (meant_in plan p) t e None None
         (no_type_without_end s t (found p t a e) (sym (end_there next s p.number t.number (a_next p t a e)) ∙ h)))
 
     -- ---- with references for all nodes
@@ -113,7 +113,7 @@ module _ (plan : Plan) (next : List (Option ℕ)) where
       circles_same p a = leads_same (length next) p.number p a ∙ ap (λ n. leads_to plan n p.number p) count
 
       pub type_by_end : (p q : Planned) → Stands p → Stands q → end_of next p.number ≡ Some q.number
-          → type_of plan p ≡ option_map (as_meant (type_meant p.part.own)) (own_type (type_meant q.part.own))
+          → type_of plan p ≡ option_map (as_meant (meant_in plan p)) (own_type (meant_in plan q))
       type_by_end p q a b h = sym (ap (λ n. type_within plan (suc n) p) count) ∙ type_at_end (suc (length next)) p q a b h
 
       pub no_type : (p : Planned) → Stands p → end_of next p.number ≡ None → type_of plan p ≡ None

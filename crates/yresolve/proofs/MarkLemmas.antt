@@ -7,13 +7,14 @@ use Rattle.std.proofs.lemmas.Bool.{cases_eq, or_cases, or_left, or_right, and_pa
 use Rattle.std.proofs.lemmas.List.{length-append}
 use Rattle.std.proofs.lemmas.Option.{slice_get-map}
 use Rattle.yspec.specs.Forest.{Forest, end, node, size, preorder}
-use Rattle.yspec.specs.linking.Planned.{Planned, nodes_of, node_of, child_called, same_number, is_called}
+use Rattle.yspec.specs.linking.Keyword.{list_word}
+use Rattle.yspec.specs.linking.Planned.{Planned, nodes_of, node_of, child_called, same_number, is_called, is_a}
 use Rattle.yspec.specs.linking.Prefixes.{NodeName}
 use Rattle.yspec.specs.linking.SchemaNodes.{is_key, is_among, key_names, key_numbers, number_in}
 use Rattle.yplan.specs.PlanView.{view}
 use Rattle.yplan.specs.declared.plan.Plan.{Plan}
 use Rattle.yplan.proofs.NodeLemmas.{found_stands, stands_at}
-use Rattle.yresolve.specs.TuplesView.{marked, marked_by}
+use Rattle.yresolve.specs.TuplesView.{keys_of, marked, marked_by}
 
 -- ---- which marks are set
 
@@ -153,39 +154,62 @@ module _ (plan : Plan) where
             | inr later ↦ more later
           ]
 
-  key_below : (a p : Planned) → node_of (view plan) p.number ≡ Some p → is_among (key_numbers (view plan) a) p ≡ true → p.parent ≡ Some a.number
-  key_below a p there e = named_below a p there (key_names (view plan) a) e
+  -- lists alone have keys
+  among_keys : (a p : Planned) → is_among (keys_of (view plan) a) p ≡ (is_a list_word a && is_among (key_numbers (view plan) a) p)
+  among_keys a p = by (is_a list_word a)
+    where
+      by : (b : Bool) → is_among (cond b (key_numbers (view plan) a) []) p ≡ (b && is_among (key_numbers (view plan) a) p)
+      by true = refl
+      by false = refl
+
+  key_below : (a p : Planned) → node_of (view plan) p.number ≡ Some p → is_among (keys_of (view plan) a) p ≡ true → p.parent ≡ Some a.number
+  key_below a p there e =
+      named_below a p there (key_names (view plan) a)
+      (and_parts (is_a list_word a) (is_among (key_numbers (view plan) a) p) (sym (among_keys a p) ∙ e)).1
+
+  abbrev key_above : Planned → Option Planned → Bool
+  key_above p above = option_map_or (λ a. is_among (keys_of (view plan) a) p) above false
+
+  abbrev key_by : Planned → Bool
+  key_by p = key_above p (option_and_then (node_of (view plan)) p.parent)
+
+  key_same : (p : Planned) → key_by p ≡ is_key (view plan) p
+  key_same p = by (option_and_then (node_of (view plan)) p.parent)
+    where
+      by : (above : Option Planned) → key_above p above ≡ option_map_or (λ a. is_a list_word a && is_among (key_numbers (view plan) a) p) above false
+      by None = refl
+      by (Some a) = among_keys a p
 
   number_is : (n : ℕ) (p : Planned) → node_of (view plan) n ≡ Some p → p.number ≡ n
   number_is n p e = eqb-true p.number n (found_is (λ q. q.number == n) (nodes_of (view plan)) p e)
 
   key_of_one : (p : Planned) → node_of (view plan) p.number ≡ Some p
-      → list_any (λ a. is_among (key_numbers (view plan) a) p) (nodes_of (view plan)) ≡ is_key (view plan) p
-  key_of_one p there = same_bool (list_any (λ a. is_among (key_numbers (view plan) a) p) (nodes_of (view plan))) (is_key (view plan) p) up (down p.parent refl)
+      → list_any (λ a. is_among (keys_of (view plan) a) p) (nodes_of (view plan)) ≡ key_by p
+  key_of_one p there = same_bool (list_any (λ a. is_among (keys_of (view plan) a) p) (nodes_of (view plan))) (key_by p) up (down p.parent refl)
     where
-      up : list_any (λ a. is_among (key_numbers (view plan) a) p) (nodes_of (view plan)) ≡ true → is_key (view plan) p ≡ true
+      up : list_any (λ a. is_among (keys_of (view plan) a) p) (nodes_of (view plan)) ≡ true → key_by p ≡ true
       up e =
-          let one = placed (λ a. is_among (key_numbers (view plan) a) p) (nodes_of (view plan)) e in
+          let one = placed (λ a. is_among (keys_of (view plan) a) p) (nodes_of (view plan)) e in
           let a = one.item in
           let at : node_of (view plan) one.place ≡ Some a = stands_at plan one.place ∙ one.stands in
           let above : node_of (view plan) a.number ≡ Some a = ap (node_of (view plan)) (number_is one.place a at) ∙ at in
-          ap (λ o. option_map_or (λ b. is_among (key_numbers (view plan) b) p) (option_and_then (node_of (view plan)) o) false) (key_below a p there one.holds)
-          ∙ (ap (λ o. option_map_or (λ b. is_among (key_numbers (view plan) b) p) o false) above ∙ one.holds)
+          ap (λ o. option_map_or (λ b. is_among (keys_of (view plan) b) p) (option_and_then (node_of (view plan)) o) false) (key_below a p there one.holds)
+          ∙ (ap (λ o. option_map_or (λ b. is_among (keys_of (view plan) b) p) o false) above ∙ one.holds)
 
-      told : (o : Option Planned) (m : ℕ) → node_of (view plan) m ≡ o → option_map_or (λ b. is_among (key_numbers (view plan) b) p) o false ≡ true
-          → list_any (λ a. is_among (key_numbers (view plan) a) p) (nodes_of (view plan)) ≡ true
+      told : (o : Option Planned) (m : ℕ) → node_of (view plan) m ≡ o → option_map_or (λ b. is_among (keys_of (view plan) b) p) o false ≡ true
+          → list_any (λ a. is_among (keys_of (view plan) a) p) (nodes_of (view plan)) ≡ true
       told None m is e = absurd cc
-      told (Some a) m is e = any_found (λ q. q.number == m) (λ b. is_among (key_numbers (view plan) b) p) (nodes_of (view plan)) a is e
+      told (Some a) m is e = any_found (λ q. q.number == m) (λ b. is_among (keys_of (view plan) b) p) (nodes_of (view plan)) a is e
 
-      down : (o : Option ℕ) → p.parent ≡ o → is_key (view plan) p ≡ true → list_any (λ a. is_among (key_numbers (view plan) a) p) (nodes_of (view plan)) ≡ true
+      down : (o : Option ℕ) → p.parent ≡ o → key_by p ≡ true → list_any (λ a. is_among (keys_of (view plan) a) p) (nodes_of (view plan)) ≡ true
       down None is e =
-          let none : false ≡ true = sym (ap (λ o. option_map_or (λ b. is_among (key_numbers (view plan) b) p) (option_and_then (node_of (view plan)) o) false) is) ∙ e in absurd cc
+          let none : false ≡ true = sym (ap (λ o. option_map_or (λ b. is_among (keys_of (view plan) b) p) (option_and_then (node_of (view plan)) o) false) is) ∙ e in absurd cc
       down (Some m) is e =
-          told (node_of (view plan) m) m refl (sym (ap (λ o. option_map_or (λ b. is_among (key_numbers (view plan) b) p) (option_and_then (node_of (view plan)) o) false) is) ∙ e)
+          told (node_of (view plan) m) m refl (sym (ap (λ o. option_map_or (λ b. is_among (keys_of (view plan) b) p) (option_and_then (node_of (view plan)) o) false) is) ∙ e)
 
   -- the marks that all nodes set are those of the keys
-  pub all_marked : (n : ℕ) → n ≡ size (nodes_in plan) → marked_by (key_numbers (view plan)) (replicate n false) (nodes_of (view plan)) ≡ map (is_key (view plan)) (nodes_of (view plan))
-  all_marked n count = same_by_get (marked_by (key_numbers (view plan)) (replicate n false) nodes) (map (is_key (view plan)) nodes) each
+  pub all_marked : (n : ℕ) → n ≡ size (nodes_in plan) → marked_by (keys_of (view plan)) (replicate n false) (nodes_of (view plan)) ≡ map (is_key (view plan)) (nodes_of (view plan))
+  all_marked n count = same_by_get (marked_by (keys_of (view plan)) (replicate n false) nodes) (map (is_key (view plan)) nodes) each
     where
       nodes : List Planned
       nodes = nodes_of (view plan)
@@ -194,15 +218,15 @@ module _ (plan : Plan) where
       first i = ap (λ m. slice_get (replicate m false) i) (count ∙ sym (length-preorder (nodes_in plan))) ∙ none_set nodes i
 
       said : (i : ℕ) (o : Option Planned) → node_of (view plan) i ≡ o
-          → option_map (λ b. b || list_any (λ a. list_any (λ m. m == i) (key_numbers (view plan) a)) nodes) (option_map (λ p. false) o) ≡ option_map (is_key (view plan)) o
+          → option_map (λ b. b || list_any (λ a. list_any (λ m. m == i) (keys_of (view plan) a)) nodes) (option_map (λ p. false) o) ≡ option_map (is_key (view plan)) o
       said i None is = refl
       said i (Some p) is =
           let here = number_is i p is in
-          ap Some (ap (λ k. list_any (λ a. list_any (λ m. m == k) (key_numbers (view plan) a)) nodes) (sym here)
-          ∙ key_of_one p (ap (node_of (view plan)) here ∙ is))
+          ap Some (ap (λ k. list_any (λ a. list_any (λ m. m == k) (keys_of (view plan) a)) nodes) (sym here)
+          ∙ (key_of_one p (ap (node_of (view plan)) here ∙ is) ∙ key_same p))
 
-      each : (i : ℕ) → slice_get (marked_by (key_numbers (view plan)) (replicate n false) nodes) i ≡ slice_get (map (is_key (view plan)) nodes) i
+      each : (i : ℕ) → slice_get (marked_by (keys_of (view plan)) (replicate n false) nodes) i ≡ slice_get (map (is_key (view plan)) nodes) i
       each i =
-          marked_by_at (key_numbers (view plan)) (replicate n false) nodes i
-          ∙ (ap (option_map (λ b. b || list_any (λ a. list_any (λ m. m == i) (key_numbers (view plan) a)) nodes)) (first i)
+          marked_by_at (keys_of (view plan)) (replicate n false) nodes i
+          ∙ (ap (option_map (λ b. b || list_any (λ a. list_any (λ m. m == i) (keys_of (view plan) a)) nodes)) (first i)
           ∙ (said i (slice_get nodes i) (stands_at plan i) ∙ sym (slice_get-map (is_key (view plan)) nodes i)))

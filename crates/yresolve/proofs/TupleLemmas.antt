@@ -7,46 +7,26 @@ use Rattle.std.specs.Ordering.{is_eq, nat_cmp}
 use Rattle.std.specs.BTreeSet.{BTreeSet, Updates, contains}
 use Rattle.std.proofs.lemmas.Bool.Decides.{nat_tests}
 use Rattle.std.proofs.lemmas.List.{append_assoc, map-append}
-use Rattle.yspec.specs.linking.Keyword.{key_word, unique_word, leaf_word, container_word}
+use Rattle.yspec.specs.linking.Keyword.{key_word, leaf_word, container_word}
 use Rattle.yspec.specs.linking.Planned as spec
 use Rattle.yspec.specs.linking.Planned.{Planned, child_called, is_a}
-use Rattle.yspec.specs.linking.SchemaNodes.{key_names, key_numbers, unique_ways, nodes_named}
+use Rattle.yspec.specs.linking.SchemaNodes.{key_names, key_numbers, nodes_named}
 use Rattle.yspec.specs.linking.Arguments.{key_of}
 use Rattle.yspec.specs.linking.NodeBreaks.{has_twice, leaf_behind, is_key_leaf, is_wrong_key}
 use Rattle.yspec.specs.linking.Prefixes.{NodeName}
 use Rattle.yspec.specs.linking.Source.{argument_in, all_with}
-use Rattle.yspec.specs.linking.Parts.{part_of}
-use Rattle.ypreorder.specs.View.{row_by, label_by}
-use Rattle.ygrammar.specs.SourceView.{source_view}
-use Rattle.yplan.specs.PlannedView.{implied_or, planned_view}
-use Rattle.yplan.specs.declared.planned.Planned as code
 use Rattle.yplan.specs.NodesView.{node_view}
 use Rattle.yplan.specs.declared.nodes.PlanNode.{PlanNode}
-use Rattle.yplan.proofs.FactLemmas.{own-all}
-use Rattle.yresolve.specs.TuplesView.{children_named, children_by, ways_named, ways_by}
+use Rattle.yresolve.specs.TuplesView.{children_by}
 
 map-flat : {X A B : Type 0} (f : A → B) (g : X → List A) (xs : List X) → map f (flat_map g xs) ≡ flat_map (λ x. map f (g x)) xs
 map-flat f g [] = refl
 map-flat f g (x ∷ xs) = map-append f (g x) (flat_map g xs) ∙ ap (λ rest. map f (g x) ++ rest) (map-flat f g xs)
 
--- the statements of a node are the substatements of its own
-pub children_are : (plan : spec.Plan) (p : code.Planned) (number : ℕ) → p.is_implied ≡ false
-    → children_by plan (planned_view number p) (row_by source_view p.source.children)
-    ≡ map (child_called plan (Some number)) (key_names plan (planned_view number p))
-children_are plan p number own =
-    let q = planned_view number p in
-    let below = row_by source_view p.source.children in
-    ap (flat_map (children_named plan q)) (sym (own-all key_word refl below)
-    ∙ ap (λ b. let part = implied_or b (part_of (label_by source_view p.source) below) in all_with key_word part.own) (sym own))
-    ∙ sym (map-flat (child_called plan (Some number)) (λ s. nodes_named plan q s (unwrap_or (key_of (argument_in s)) [])) (all_with key_word q.part.own))
-
-pub ways_are : (plan : spec.Plan) (p : code.Planned) (number : ℕ) → p.is_implied ≡ false
-    → ways_by plan (planned_view number p) (row_by source_view p.source.children) ≡ unique_ways plan (planned_view number p)
-ways_are plan p number own =
-    let q = planned_view number p in
-    let below = row_by source_view p.source.children in
-    ap (map (ways_named plan q)) (sym (own-all unique_word refl below)
-    ∙ ap (λ b. let part = implied_or b (part_of (label_by source_view p.source) below) in all_with unique_word part.own) (sym own))
+-- each name of a key gives the child that it names
+pub children_are : (plan : spec.Plan) (p : Planned) → children_by plan p ≡ map (child_called plan (Some p.number)) (key_names plan p)
+children_are plan p =
+    sym (map-flat (child_called plan (Some p.number)) (λ s. nodes_named plan p s (unwrap_or (key_of (argument_in s)) [])) (all_with key_word p.part.own))
 
 -- ---- those that are found
 

@@ -7,9 +7,9 @@ use Rattle.yspec.specs.Forest.{size}
 use Rattle.yspec.specs.types.Types.{YangType}
 use Rattle.yspec.specs.linking.Prefixes.{NodeName, node_name}
 use Rattle.yspec.specs.linking.TypeStatements as stated
-use Rattle.yspec.specs.linking.TypeStatements.{own, of_target, type_meant}
+use Rattle.yspec.specs.linking.TypeStatements.{own, of_target}
 use Rattle.yspec.specs.linking.Planned as spec
-use Rattle.yspec.specs.linking.Planned.{nodes_of, node_of, is_data, same_number, is_called, data_child_called, data_node_at, leaf_found, is_leaf_or_leaf_list, target_meant, target_of, type_of, is_on_circle}
+use Rattle.yspec.specs.linking.Planned.{nodes_of, node_of, is_data, same_number, is_called, data_child_called, data_node_at, leaf_found, is_leaf_or_leaf_list, meant_in, target_meant, target_of, type_of, is_on_circle}
 use Rattle.yspec.specs.linking.SchemaNodes.{number_in}
 use Rattle.ypreorder.specs.View.{rows_in, forest_in}
 use Rattle.ypreorder.specs.declared.row.Row.{Row}
@@ -27,7 +27,7 @@ use Rattle.yplan.proofs.PlanLemmas.{nodes_are}
 use Rattle.yplan.proofs.NodeLemmas.{found_stands, find-filter, stands_at}
 use Rattle.yresolve.proofs.ChainPlanLemmas.{Stands, circles_same, type_by_end, no_type}
 use Rattle.ygraph.proofs.ChainLemmas.{some_same, some_none, end_here, end_there, end_none}
-use Rattle.yresolve.specs.TypesView.{meant_at, type_told, types_told, stated_in, target_number}
+use Rattle.yresolve.specs.TypesView.{meant_at, type_told, types_told, target_number}
 
 some_is : {X : Type 0} → (x y : X) → Some x ≡ Some y → x ≡ y
 some_is x y e = ap (λ o. unwrap_or o x) e
@@ -101,7 +101,7 @@ module _ (plan : Plan) where
       way_stands None names t (leaf_stands (data_node_at (view plan) None names) t e)
 
   pub target_stands : (next : List (Option ℕ)) (p t : spec.Planned) → target_of (view plan) p ≡ Some t → Stands (view plan) next t
-  target_stands next p t e = by (type_meant p.part.own) e
+  target_stands next p t e = by (meant_in (view plan) p) e
     where
       by : (o : Option stated.Meant) → option_and_then (target_meant (view plan) p) o ≡ Some t → slice_get (nodes_of (view plan)) t.number ≡ Some t
       by None h = absurd cc
@@ -136,15 +136,15 @@ module _ (plan : Plan) where
         by more (Some t) with_one =
             more t (found p t here with_one) (sym (end_there next s p.number t.number (refers_to p here ∙ ap (option_map number_in) with_one)) ∙ h)
 
-    meant_here : (p : spec.Planned) → Stands (view plan) next p → meant_at (map stated_in (nodes_of (view plan))) p.number ≡ stated_in p
+    meant_here : (p : spec.Planned) → Stands (view plan) next p → meant_at (map (meant_in (view plan)) (nodes_of (view plan))) p.number ≡ meant_in (view plan) p
     meant_here p here =
-        ap (λ o. unwrap_or o None) (slice_get-map stated_in (nodes_of (view plan)) p.number) ∙ ap (λ o. unwrap_or (option_map stated_in o) None) here
+        ap (λ o. unwrap_or o None) (slice_get-map (meant_in (view plan)) (nodes_of (view plan)) p.number) ∙ ap (λ o. unwrap_or (option_map (meant_in (view plan)) o) None) here
 
     told_here : (p : spec.Planned) → Stands (view plan) next p → (o : Option ℕ) → end_of next p.number ≡ o
-        → type_told (map stated_in (nodes_of (view plan))) p.number o ≡ type_of (view plan) p
+        → type_told (map (meant_in (view plan)) (nodes_of (view plan))) p.number o ≡ type_of (view plan) p
     told_here p here None h = sym (no_type (view plan) next refers_to found counted p here h)
     told_here p here (Some e) h =
-        let meants = map stated_in (nodes_of (view plan)) in
+        let meants = map (meant_in (view plan)) (nodes_of (view plan)) in
         let last = end_stands (suc (length next)) p e here h in
         let q = last.0 in
         ap₂ (λ m o. option_map (as_meant m) (own_type o)) (meant_here p here)
@@ -177,19 +177,19 @@ module _ (plan : Plan) where
           below (y ∷ ys) (suc n) x h = let more = below ys n x h in omega (arith, more)
 
       pub all_typed : ((i : ℕ) → i < length next → option_map (λ c. c.end) (slice_get told i) ≡ Some (end_of next i))
-          → types_told (map stated_in (nodes_of (view plan))) 0 told ≡ map (type_of (view plan)) (nodes_of (view plan))
-      all_typed ends = same_lists (types_told (map stated_in nodes) 0 told) (map (type_of (view plan)) nodes)
-          (length-types (map stated_in nodes) 0 told ∙ (count ∙ (ap length are ∙ (length-map nodes (target_number (view plan)) ∙ sym (length-map nodes (type_of (view plan)))))))
+          → types_told (map (meant_in (view plan)) (nodes_of (view plan))) 0 told ≡ map (type_of (view plan)) (nodes_of (view plan))
+      all_typed ends = same_lists (types_told (map (meant_in (view plan)) nodes) 0 told) (map (type_of (view plan)) nodes)
+          (length-types (map (meant_in (view plan)) nodes) 0 told ∙ (count ∙ (ap length are ∙ (length-map nodes (target_number (view plan)) ∙ sym (length-map nodes (type_of (view plan)))))))
           (λ i t there. at_place i t (slice_get nodes i) refl (sym (slice_get-map (type_of (view plan)) nodes i) ∙ there))
         where
           nodes : List spec.Planned
           nodes = nodes_of (view plan)
 
           at_place : (i : ℕ) (t : Option YangType) (o : Option spec.Planned) → slice_get nodes i ≡ o → option_map (type_of (view plan)) o ≡ Some t
-              → slice_get (types_told (map stated_in nodes) 0 told) i ≡ Some t
+              → slice_get (types_told (map (meant_in (view plan)) nodes) 0 told) i ≡ Some t
           at_place i t None e h = absurd cc
           at_place i t (Some p) e h =
-              let meants = map stated_in nodes in
+              let meants = map (meant_in (view plan)) nodes in
               let is = number_is i p e in
               let none : 0 + i ≡ p.number = omega (arith, is) in
               types_at meants 0 told i

@@ -1,13 +1,12 @@
 -- What the statements of a list name.
-use Rattle.std.specs.Prelude.{ℕ, Bool, true, List, [], ◌∷◌, map, Option, Some, option_map, slice_set, unwrap_or}
+use Rattle.std.specs.Prelude.{ℕ, Bool, true, List, [], ◌∷◌, map, Option, Some, option_map, slice_set, unwrap_or, if◌then◌else◌}
 use Rattle.std.specs.List.{flat_map}
 use Rattle.std.specs.Global.{Vec}
-use Rattle.yspec.specs.Forest.{Forest}
-use Rattle.yspec.specs.linking.Keyword.{key_word, unique_word}
+use Rattle.yspec.specs.linking.Keyword.{key_word, list_word}
 use Rattle.yspec.specs.linking.Arguments.{key_of, unique_of}
 use Rattle.yspec.specs.linking.Source.{Source, argument_in, all_with}
-use Rattle.yspec.specs.linking.Planned.{Planned, Plan, child_called, way}
-use Rattle.yspec.specs.linking.SchemaNodes.{nodes_named}
+use Rattle.yspec.specs.linking.Planned.{Planned, Plan, is_a, child_called, way}
+use Rattle.yspec.specs.linking.SchemaNodes.{nodes_named, key_numbers}
 use Rattle.yplan.specs.NodesView.{node_view}
 use Rattle.yplan.specs.declared.nodes.PlanNode.{PlanNode}
 
@@ -22,17 +21,17 @@ ways_view ways = map way_view ways.items
 abbrev pub children_named : Plan → Planned → Source → List (Option Planned)
 children_named plan p s = map (child_called plan (Some p.number)) (nodes_named plan p s (unwrap_or (key_of (argument_in s)) []))
 
--- of all the names that the `key`s of a row give
-abbrev pub children_by : Plan → Planned → Forest Source → List (Option Planned)
-children_by plan p statements = flat_map (children_named plan p) (all_with key_word statements)
+-- of all the names that the `key`s of a list give
+abbrev pub children_by : Plan → Planned → List (Option Planned)
+children_by plan p = flat_map (children_named plan p) (all_with key_word p.part.own)
 
 -- the ways that a `unique` gives
 abbrev pub ways_named : Plan → Planned → Source → List (Option (List Planned))
 ways_named plan p s = map (λ names. way plan (Some p.number) (nodes_named plan p s names)) (unwrap_or (unique_of (argument_in s)) [])
 
--- those of each `unique` of a row
-abbrev pub ways_by : Plan → Planned → Forest Source → List (List (Option (List Planned)))
-ways_by plan p statements = map (ways_named plan p) (all_with unique_word statements)
+-- the numbers of the keys that a node has, which only lists have
+abbrev pub keys_of : Plan → Planned → List ℕ
+keys_of plan p = if is_a list_word p then key_numbers plan p else []
 
 -- marks with those of some numbers set
 abbrev pub marked : List Bool → List ℕ → List Bool

@@ -2,8 +2,7 @@
 use Rattle.std.specs.Prelude.{◌≡◌, ℕ, ◌+◌, List, [], ◌∷◌, map, Option, None, slice_get, unwrap_or, option_map, option_and_then}
 use Rattle.yspec.specs.types.Types.{YangType}
 use Rattle.yspec.specs.linking.TypeStatements as spec
-use Rattle.yspec.specs.linking.TypeStatements.{type_meant}
-use Rattle.yspec.specs.linking.Planned.{Planned, Plan, nodes_of, target_of, type_of, is_on_circle}
+use Rattle.yspec.specs.linking.Planned.{Planned, Plan, nodes_of, meant_in, target_of, type_of, is_on_circle}
 use Rattle.yspec.specs.linking.SchemaNodes.{number_in}
 use Rattle.ylink.specs.TypeView.{meant_view}
 use Rattle.ylink.specs.declared.types.Meant.{Meant}
@@ -30,15 +29,12 @@ abbrev pub types_told : List (Option spec.Meant) → ℕ → List Chain → List
 types_told meants number [] = []
 types_told meants number (c ∷ cs) = type_told meants number c.end ∷ types_told meants (number + 1) cs
 
-abbrev pub stated_in : Planned → Option spec.Meant
-stated_in p = type_meant p.part.own
-
 abbrev pub target_number : Plan → Planned → Option ℕ
 target_number plan p = option_map number_in (target_of plan p)
 
 -- These are those of all nodes of a plan.
 pub record AreOf (told : Types) (plan : Plan) : Type 0 where
-  pub meant : meants_view told.meant.items ≡ map stated_in (nodes_of plan)
+  pub meant : meants_view told.meant.items ≡ map (meant_in plan) (nodes_of plan)
   pub targets : told.targets.items ≡ map (target_number plan) (nodes_of plan)
   pub circles : told.circles.items ≡ map (is_on_circle plan) (nodes_of plan)
   pub types : told.types.items ≡ map (type_of plan) (nodes_of plan)

@@ -2,10 +2,9 @@
 
 ghost use Rattle.std.specs.Prelude.{◌≡◌, map, option_map, None, IfOk};
 ghost use Rattle.yspec.specs.linking.Planned as spec;
-ghost use Rattle.yspec.specs.linking.Planned.{nodes_of};
+ghost use Rattle.yspec.specs.linking.Planned.{meant_in, nodes_of};
 ghost use Rattle.yspec.specs.linking.Prefixes.{node_name};
 ghost use Rattle.yspec.specs.linking.SchemaNodes.{number_in};
-ghost use Rattle.yspec.specs.linking.TypeStatements.{type_meant};
 ghost use Rattle.ygrammar.specs.NameView.{names_view};
 ghost use Rattle.ylink.specs.TypeView.{meant_view};
 ghost use Rattle.yplan.specs.NodesView.{node_view};
@@ -16,6 +15,7 @@ use std::alloc::{AllocError, Global};
 use ygrammar::Name;
 use ylink::{Meant, type_meant};
 use yplan::{Plan, PlanNode, Planned};
+use yword::Keyword;
 
 /// What the type of each node means, and the node to which it refers, by number.
 #[derive(Drop)]
@@ -24,15 +24,18 @@ pub(crate) struct Meanings<'t> {
     pub targets: Vec<Option<u32>>,
 }
 
-/// What the type of a node means; none of a node without a type that is right.
-fn meaning_of<'t>(alloc: Global, planned: &Planned<'_, 't>) -> Result<Option<Meant<'t>>, AllocError>
+/// What the `type` statement of a node means; nothing where it has none that is right.
+fn meaning_of<'t>(
+    alloc: Global,
+    plan: &Plan<'_, 't>,
+    planned: &Planned<'_, 't>,
+) -> Result<Option<Meant<'t>>, AllocError>
     ensures { (number : _) → IfOk result (λ meant. option_map meant_view meant
-        ≡ type_meant (planned_view number planned.now).part.own) }
+        ≡ meant_in (view plan.now) (planned_view number planned.now)) }
 {
-    if planned.is_implied {
-        Ok(None)
-    } else {
-        type_meant(alloc, planned.source.children())
+    match planned.first_own(Keyword::Type) {
+        Some(statement) => type_meant(alloc, plan.sources(), statement),
+        None => Ok(None),
     }
 }
 
@@ -104,7 +107,7 @@ fn target_of<'a, 't>(
     meant: &Option<Meant<'t>>,
 ) -> Option<u32>
     ensures { (number : _) → option_map meant_view meant.now
-        ≡ type_meant (planned_view number planned.now).part.own
+        ≡ meant_in (view plan.now) (planned_view number planned.now)
         → result ≡ option_map number_in
         (spec.target_of (view plan.now) (planned_view number planned.now)) }
 {
@@ -120,14 +123,14 @@ pub(crate) fn meanings_of<'t>(
     plan: &Plan<'_, 't>,
 ) -> Result<Meanings<'t>, AllocError>
     ensures meant { IfOk result (λ m. map (option_map meant_view) m.meant.items
-        ≡ map (λ p. type_meant p.part.own) (nodes_of (view plan.now))) }
+        ≡ map (meant_in (view plan.now)) (nodes_of (view plan.now))) }
     ensures targets { let p = view plan.now in IfOk result (λ m. m.targets.items
         ≡ map (λ q. option_map number_in (spec.target_of p q)) (nodes_of p)) }
 {
     let mut meant = Vec::with_capacity(alloc, plan.nodes())?;
     let mut targets = Vec::with_capacity(alloc, plan.nodes())?;
     for node in plan.iter() {
-        let meaning = meaning_of(alloc, &node.planned)?;
+        let meaning = meaning_of(alloc, plan, &node.planned)?;
         targets.push(target_of(plan, &node.planned, &meaning))?;
         meant.push(meaning)?;
     }

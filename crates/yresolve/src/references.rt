@@ -4,7 +4,6 @@ ghost use Rattle.std.specs.Prelude.{◌≡◌, ◌&&◌, Some, false, unwrap_or,
 ghost use Rattle.std.specs.Option.{option_map_or};
 ghost use Rattle.yspec.specs.linking.Planned as spec;
 ghost use Rattle.yspec.specs.linking.NodeBreaks as breaks;
-ghost use Rattle.yspec.specs.linking.TypeStatements.{type_meant};
 ghost use Rattle.ylink.specs.TypeView.{meant_view};
 ghost use Rattle.yplan.specs.NodesView.{node_view};
 ghost use Rattle.yplan.specs.PlannedView.{planned_view};
@@ -57,7 +56,7 @@ fn is_wrong_stated<'a, 't>(plan: &Plan<'a, 't>, types: &Types<'_>, node: PlanNod
         ≡ Some (node_view node) }
     ensures { let p = node_view node.entry in result
         ≡ option_map_or (breaks.is_wrong_reference (view plan.now) p)
-        (type_meant p.part.own) false }
+        (spec.meant_in (view plan.now) p) false }
 {
     match meant_at(types.meant.as_slice(), node.number as usize) {
         Some(meant) => {
@@ -79,7 +78,7 @@ pub(crate) fn is_wrong_reference<'a, 't>(
         ≡ Some (node_view node) }
     ensures { let p = node_view node.entry in result ≡ (spec.is_leaf_or_leaf_list p
         && option_map_or (breaks.is_wrong_reference (view plan.now) p)
-        (type_meant p.part.own) false) }
+        (spec.meant_in (view plan.now) p) false) }
 {
     if node.planned.is_leaf_or_leaf_list() {
         is_wrong_stated(plan, types, node)

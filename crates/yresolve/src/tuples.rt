@@ -12,20 +12,20 @@ ghost use Rattle.yspec.specs.linking.Prefixes.{node_name};
 ghost use Rattle.yspec.specs.linking.SchemaNodes as spec;
 ghost use Rattle.yspec.specs.linking.SchemaNodes.{number_in};
 ghost use Rattle.yspec.specs.linking.Source.{argument_in};
-ghost use Rattle.ypreorder.specs.View.{label_by, row_by};
+ghost use Rattle.ypreorder.specs.View.{label_by};
 ghost use Rattle.ygrammar.specs.NameView.{names_view};
 ghost use Rattle.ygrammar.specs.SourceView.{source_view};
 ghost use Rattle.yplan.specs.NodesView.{node_view};
 ghost use Rattle.yplan.specs.PlanView.{view};
 ghost use Rattle.ymodel.specs.Layout.{numbers_of, tuples_view};
-ghost use Rattle.yresolve.specs.TuplesView.{children_named, children_by, ways_named, ways_by, marked, way_view, ways_view};
+ghost use Rattle.yresolve.specs.TuplesView.{children_named, ways_named, marked, way_view, ways_view};
 
 use std::alloc::{AllocError, Global};
 use std::collections::BTreeSet;
 use ygrammar::{Name, Source, argument_of, key_names, unique_paths};
 use ymodel::{SchemaId, Tuples};
 use yplan::{Plan, PlanNode};
-use ypreorder::{Node, Nodes};
+use ypreorder::Node;
 use yword::Keyword;
 
 /// The nodes along a way down, where all are there.
@@ -96,40 +96,21 @@ fn children_of_key<'a, 't>(
     children_called(alloc, plan, list.number, home, list.planned.owner(), &names)
 }
 
-/// The same of all `key`s of a row.
-fn children_of_keys<'a, 't>(
-    alloc: Global,
-    plan: &Plan<'a, 't>,
-    list: PlanNode<'a, 't>,
-    statements: Nodes<'a, Source<'t>>,
-) -> Result<Vec<Option<PlanNode<'a, 't>>>, AllocError>
-    ensures { IfOk result (λ children. map (option_map node_view) children.items
-        ≡ children_by (view plan.now) (node_view list.entry)
-        (row_by source_view statements.entry)) }
-{
-    let mut children = Vec::new(alloc);
-    for statement in statements {
-        if Keyword::Key.is(statement.label().keyword) {
-            children.append(&mut children_of_key(alloc, plan, list, statement)?)?;
-        }
-    }
-    Ok(children)
-}
-
 /// Of each name that the key of a list gives the child that it names.
 fn key_children<'a, 't>(
     alloc: Global,
     plan: &Plan<'a, 't>,
     list: PlanNode<'a, 't>,
 ) -> Result<Vec<Option<PlanNode<'a, 't>>>, AllocError>
-    ensures { let p = node_view list.entry in
-        IfOk result (λ children. map (option_map node_view) children.items
+    ensures { let p = node_view list.entry in IfOk result
+        (λ children. map (option_map node_view) children.items
         ≡ map (child_called (view plan.now) (Some p.number)) (spec.key_names (view plan.now) p)) }
 {
-    if list.planned.is_implied {
-        return Ok(Vec::new(alloc));
+    let mut children = Vec::new(alloc);
+    for statement in list.planned.own_with(Keyword::Key) {
+        children.append(&mut children_of_key(alloc, plan, list, statement)?)?;
     }
-    children_of_keys(alloc, plan, list, list.planned.source.children())
+    Ok(children)
 }
 
 /// The numbers of those that are there.
@@ -211,25 +192,6 @@ fn ways_of_unique<'a, 't>(
     Ok(ways)
 }
 
-/// The same of each `unique` of a row.
-fn ways_of_uniques<'a, 't>(
-    alloc: Global,
-    plan: &Plan<'a, 't>,
-    list: PlanNode<'a, 't>,
-    statements: Nodes<'a, Source<'t>>,
-) -> Result<Vec<Vec<WayDown<'a, 't>>>, AllocError>
-    ensures { IfOk result (λ uniques. map ways_view uniques.items
-        ≡ ways_by (view plan.now) (node_view list.entry) (row_by source_view statements.entry)) }
-{
-    let mut uniques = Vec::new(alloc);
-    for statement in statements {
-        if Keyword::Unique.is(statement.label().keyword) {
-            uniques.push(ways_of_unique(alloc, plan, list, statement)?)?;
-        }
-    }
-    Ok(uniques)
-}
-
 /// The ways that each `unique` of a list gives.
 fn unique_ways<'a, 't>(
     alloc: Global,
@@ -239,10 +201,11 @@ fn unique_ways<'a, 't>(
     ensures { IfOk result (λ uniques. map ways_view uniques.items
         ≡ spec.unique_ways (view plan.now) (node_view list.entry)) }
 {
-    if list.planned.is_implied {
-        return Ok(Vec::new(alloc));
+    let mut uniques = Vec::new(alloc);
+    for statement in list.planned.own_with(Keyword::Unique) {
+        uniques.push(ways_of_unique(alloc, plan, list, statement)?)?;
     }
-    ways_of_uniques(alloc, plan, list, list.planned.source.children())
+    Ok(uniques)
 }
 
 /// The nodes along a way; none where it isn't found.
@@ -334,7 +297,9 @@ pub(crate) fn keys<'a, 't>(alloc: Global, plan: &Plan<'a, 't>) -> Result<Vec<boo
 {
     let mut marks = vec![in alloc; false; plan.nodes()]?;
     for node in plan.iter() {
-        mark_keys(alloc, plan, node, &mut marks)?;
+        if Keyword::List.is(node.planned.keyword()) {
+            mark_keys(alloc, plan, node, &mut marks)?;
+        }
     }
     Ok(marks)
 }

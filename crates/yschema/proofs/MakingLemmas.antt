@@ -9,9 +9,10 @@ use Rattle.yspec.specs.text.Text.{Text}
 use Rattle.yspec.specs.types.Types.{YangType, Val}
 use Rattle.yspec.specs.types.Values.{value_of_text}
 use Rattle.yspec.specs.schema.Schema.{SchemaNode, LeafType, Status, Kind, case, Absence, key, mandatory}
+use Rattle.yspec.specs.linking.Source.{Source}
 use Rattle.yspec.specs.linking.Planned as spec
 use Rattle.yspec.specs.linking.SchemaNodes.{schema_node, schema_nodes, kind_by, absent_by, first_value, type_named}
-use Rattle.yspec.specs.linking.TypeStatements.{string, built_in_name, built_in_named}
+use Rattle.yspec.specs.linking.TypeStatements.{string, built_in_name, built_in_meant}
 use Rattle.yspec.proofs.LinkingProofs.BuiltInLemmas.{name_or_text}
 use Rattle.yspec.proofs.LinkingProofs.LinkedLemmas.{relabelled-size}
 use Rattle.yword.specs.KeywordView.{keyword_view}
@@ -59,14 +60,14 @@ seen_or_text None = refl
 seen_or_text (Some b) = refl
 
 -- the name of the built-in type that is stated, or that of texts
-pub name_made : (found : Option BuiltIn) (name : BuiltIn) (stated : Option Text)
-    → option_map built_in_view found ≡ option_and_then built_in_named stated → name ≡ unwrap_or found types.String
-    → built_in_name (built_in_view name) ≡ unwrap_or (option_and_then type_named stated) (codes "string")
-name_made found name None named is =
+pub name_made : (modules : Forest Source) (found : Option BuiltIn) (name : BuiltIn) (stated : Option Source)
+    → option_map built_in_view found ≡ option_and_then (built_in_meant modules) stated → name ≡ unwrap_or found types.String
+    → built_in_name (built_in_view name) ≡ unwrap_or (option_and_then (type_named modules) stated) (codes "string")
+name_made modules found name None named is =
     ap (λ b. built_in_name (built_in_view b)) is ∙ (ap built_in_name (seen_or_text found) ∙ ap (λ o. built_in_name (unwrap_or o string)) named)
-name_made found name (Some t) named is =
+name_made modules found name (Some s) named is =
     ap (λ b. built_in_name (built_in_view b)) is
-    ∙ (ap built_in_name (seen_or_text found) ∙ name_or_text t (option_map built_in_view found) named)
+    ∙ (ap built_in_name (seen_or_text found) ∙ name_or_text modules s (option_map built_in_view found) named)
 
 -- ---- kinds
 

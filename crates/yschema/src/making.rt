@@ -15,7 +15,7 @@ ghost use Rattle.yschema.specs.Made.{place_made, planned_place};
 
 use std::alloc::{AllocError, Global};
 use ymodel::{Absence, Kind, LeafType, Row, SchemaNode, id_of};
-use yplan::{Plan, PlanNode, Planned};
+use yplan::{Plan, PlanNode, Planned, type_name};
 use yresolve::{Resolved, default_values, tuples_of};
 use ytype::{Val, YType};
 use yword::{BuiltIn, Keyword};
@@ -89,11 +89,11 @@ fn type_or_text(alloc: Global, value_type: Option<&YType>) -> Result<YType, Allo
 }
 
 /// The name of the type that a leaf or leaf-list states; that of texts where it states none.
-fn type_name_of(planned: &Planned<'_, '_>) -> BuiltIn
+fn type_name_of(plan: &Plan<'_, '_>, planned: &Planned<'_, '_>) -> BuiltIn
     ensures { (number : _) → built_in_name (built_in_view result)
-        ≡ spec.type_name (planned_view number planned.now) }
+        ≡ spec.type_name (plan_view.view plan.now) (planned_view number planned.now) }
 {
-    planned.type_name().unwrap_or(BuiltIn::String)
+    type_name(plan, planned).unwrap_or(BuiltIn::String)
 }
 
 /// The type of a leaf or of items, and to which node it refers.
@@ -111,7 +111,7 @@ fn leaf_type_of<'a, 't>(
 {
     let value_type = type_or_text(alloc, resolved.value_type(node.number))?;
     Ok(LeafType {
-        name: type_name_of(&node.planned),
+        name: type_name_of(plan, &node.planned),
         value_type,
         target: id_of(resolved.target(node.number)),
     })

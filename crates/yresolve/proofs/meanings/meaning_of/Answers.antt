@@ -1,14 +1,27 @@
-use Rattle.std.proofs.Common.{ap, ◌∙◌}
+use Rattle.std.proofs.Common.{◌≡◌, Option, Some, sym, ap, ◌∙◌}
+use Rattle.std.specs.Prelude.{option_map, option_and_then}
+use Rattle.yspec.specs.Forest.{Forest}
+use Rattle.yspec.specs.linking.Source.{Source}
+use Rattle.yspec.specs.linking.TypeStatements.{Meant, type_meant}
+use Rattle.ypreorder.specs.View.{row_by, label_by}
+use Rattle.ygrammar.specs.LinkView as link
+use Rattle.ygrammar.specs.SourceView.{source_view, node_view}
 use Rattle.ygrammar.proofs.GrammarLemmas.{if_ok_then}
-use Rattle.yspec.specs.linking.TypeStatements.{type_meant}
-use Rattle.ypreorder.specs.View.{row_by}
-use Rattle.ygrammar.specs.SourceView.{source_view}
-use Rattle.yresolve.proofs.MeaningLemmas.{meant_is, nothing_meant}
+use Rattle.yplan.specs.PlanView.{view}
 use Rattle.yresolve.proofs.meanings.meaning_of.Goals as goal
 
-pub returns-then-planned : goal.returns-then-planned
-returns-then-planned c = λ number. nothing_meant c.args.planned.now c.if-planned.true
+pub returns-in-Some : goal.returns-in-Some
+returns-in-Some c = λ number.
+    let plan = view c.args.plan.now in
+    let s = c.in-Some.statement in
+    if_ok_then _ _ c.type_meant.result
+    (λ meant e. e ∙ (ap (λ modules. type_meant modules (label_by source_view s) (row_by source_view s.children)) c.sources.ensures
+    ∙ ap (option_and_then (λ (x : Source × Forest Source). type_meant plan.modules x.0 x.1))
+    (ap (option_map node_view) (sym c.in-Some.is) ∙ c.first_own.ensures)))
+    c.type_meant.ensures
 
-pub returns-else-planned : goal.returns-else-planned
-returns-else-planned c = λ number. if_ok_then _ _ c.type_meant.result
-    (λ meant e. e ∙ (ap (λ nodes. type_meant (row_by source_view nodes)) c.children.ensures ∙ meant_is c.args.planned.now c.if-planned.false)) c.type_meant.ensures
+pub returns-in-None : goal.returns-in-None
+returns-in-None c = λ number.
+    let plan = view c.args.plan.now in
+    ap (option_and_then (λ (x : Source × Forest Source). type_meant plan.modules x.0 x.1))
+    (ap (option_map node_view) (sym c.in-None.is) ∙ c.first_own.ensures)

@@ -2,7 +2,6 @@ use Rattle.std.proofs.Common.{option_map}
 use Rattle.yspec.specs.linking.Planned as spec
 use Rattle.yspec.specs.linking.Planned.{nodes_of}
 use Rattle.yspec.specs.linking.SchemaNodes.{number_in}
-use Rattle.yspec.specs.linking.TypeStatements.{type_meant}
 use Rattle.ylink.specs.TypeView.{meant_view}
 use Rattle.yplan.specs.NodesView.{left, node_view}
 use Rattle.yplan.specs.PlanView.{view}
@@ -16,7 +15,7 @@ loop-node-preserved c =
     let before = left c.loop-node.node-iterator in
     let rest = left c.next.new.self in
     record {
-      meant = collected_as (λ (q : spec.Planned). type_meant q.part.own) (option_map meant_view) c.loop-node.meant.items c.push-in-loop-node.new.self.items
+      meant = collected_as (spec.meant_in p) (option_map meant_view) c.loop-node.meant.items c.push-in-loop-node.new.self.items
           (node_view node) c.in_ok-meaning.meaning before rest (nodes_of p) c.in-Some.ensures.steps c.in_ok-push-2.ensures.items
           (c.in_ok-meaning.ensures node.number) c.loop-node.invariant.meant;
       targets = collected (λ q. option_map number_in (spec.target_of p q)) c.loop-node.targets.items c.push.new.self.items

@@ -1,15 +1,14 @@
 use Rattle.std.proofs.Common.{◌≡◌, false, replicate}
 use Rattle.yspec.specs.Forest.{size}
 use Rattle.yspec.specs.linking.Planned.{nodes_of}
-use Rattle.yspec.specs.linking.SchemaNodes.{key_numbers}
 use Rattle.yplan.specs.NodesView.{left}
 use Rattle.yplan.specs.PlanView.{view}
-use Rattle.yresolve.specs.TuplesView.{marked_by}
+use Rattle.yresolve.specs.TuplesView.{keys_of, marked_by}
 use Rattle.yresolve.proofs.tuples.keys.Given as goal
 
 abbrev pub invariant-loop-node : goal.invariant-loop-node
 invariant-loop-node l = let plan = view l.plan in record {
   more : (goal.iterator-loop-node).can_next l.node-iterator;
   ends : (goal.iterator-loop-node).is_finite l.node-iterator;
-  marks : marked_by (key_numbers plan) l.marks.items (left l.node-iterator) ≡ marked_by (key_numbers plan) (replicate (size plan.nodes) false) (nodes_of plan);
+  marks : marked_by (keys_of plan) l.marks.items (left l.node-iterator) ≡ marked_by (keys_of plan) (replicate (size plan.nodes) false) (nodes_of plan);
 }

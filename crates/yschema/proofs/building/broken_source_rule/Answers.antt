@@ -1,8 +1,8 @@
 use Rattle.std.proofs.Common.{◌++◌, [], None, sym, ap, ◌∙◌}
 use Rattle.yspec.proofs.SchemaProofs.LeastLemmas.{least_of_both}
 use Rattle.yspec.specs.schema.Breaks.{least_from, module_breaks}
-use Rattle.yspec.specs.linking.Prefixes.{prefix_breaks, type_name_breaks}
-use Rattle.yspec.specs.linking.TypeStatements.{type_breaks}
+use Rattle.yspec.specs.linking.Prefixes.{prefix_breaks}
+use Rattle.yspec.specs.linking.TypeStatements.{type_name_breaks, type_breaks}
 use Rattle.ytext.specs.View.{modules_view}
 use Rattle.ygrammar.specs.LinkView as link
 use Rattle.ygrammar.proofs.GrammarLemmas.{if_ok_then}
