@@ -1,4 +1,5 @@
-//! Each request for memory may be refused: the answer is that, or the one with ample memory.
+//! One request for memory, whichever, may be refused: the answer is that, or the one with ample memory. Where an edit met
+//! it, the document is stale, and all that is asked of it afterwards is answered.
 
 use crate::building::{
     DEFAULT_CASE, ENTRIES, FIRST, MODULE, NETWORK, SECOND, live_under, schema_of,
@@ -46,20 +47,17 @@ fn is_shut(live: &mut Live, edits: &[Edit]) -> bool {
     live.is_stale() && is_unlisted && is_barred(live, edits) && is_stopped(live, edits)
 }
 
-// Whether a stale document is rebuilt to this state, or finds no memory and stays stale.
-fn is_made_anew(alloc: Global, live: &mut Live, edits: &[Edit], state: &str) -> Option<bool> {
-    match live.rebuild() {
-        Ok(()) => Some(!live.is_stale() && is_in(alloc, live, state)?),
-        Err(_) if is_shut(live, edits) => None,
-        Err(_) => Some(false),
-    }
+// Whether a stale document is rebuilt to this state.
+fn is_made_anew(alloc: Global, live: &mut Live, state: &str) -> bool {
+    live.rebuild().is_ok() && !live.is_stale() && is_in(alloc, live, state) == Some(true)
 }
 
-// Whether a document from which edits took memory away is stale, has the text of this state, and is rebuilt to it.
+// Whether a document from which an edit took memory away is stale, has the text of this state, and is rebuilt to it. The
+// one request that was refused is spent, so that no memory is wanting here.
 fn is_mended(alloc: Global, live: &mut Live, edits: &[Edit], state: &str) -> Option<bool> {
     let (text, _) = state.split_once(" => ")?;
-    let is_kept = is_shut(live, edits) && is_stored(alloc, live, text)?;
-    Some(is_kept && is_made_anew(alloc, live, edits, state)?)
+    let is_kept = is_shut(live, edits) && is_stored(alloc, live, text) == Some(true);
+    Some(is_kept && is_made_anew(alloc, live, state))
 }
 
 // `edit => what comes of it => text => faults`: whether the edit does so, or finds no memory and is mended.
