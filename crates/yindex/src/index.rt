@@ -25,7 +25,8 @@ fn number_of<'t>(
     name: &'t str,
     number: u32,
 ) -> Result<u32, AllocError>
-    ensures names { OnOk result ((t : _) → number_in names.new t ≡ first_of (number_in names.old t) (if is_text t name.now then Some number else None)) }
+    ensures names { OnOk result ((t : _) → number_in names.new t
+        ≡ first_of (number_in names.old t) (if is_text t name.now then Some number else None)) }
     ensures number { IfOk result (λ given. number_in names.new name.now ≡ Some given) }
     ensures err { OnErr result ((t : _) → number_in names.new t ≡ number_in names.old t) }
 {
@@ -48,7 +49,8 @@ impl<'t> NodeIndex<'t> {
     /// No nodes, with room for some.
     pub fn with_capacity(alloc: Global, nodes: usize) -> Result<NodeIndex<'t>, AllocError>
         ensures names { IfOk result (λ made. (name : _) → named made name ≡ None) }
-        ensures nodes { IfOk result (λ made. (among : _) → (above : _) → (m : _) → (name : _) → found made among above m name ≡ None) }
+        ensures nodes { IfOk result (λ made. (among : _) → (above : _) → (m : _) → (name : _)
+            → found made among above m name ≡ None) }
     {
         Ok(NodeIndex {
             names: BTreeMap::new(alloc),
@@ -74,10 +76,14 @@ impl<'t> NodeIndex<'t> {
     /// Adds a node behind those so far, which has a number of its own.
     pub fn add(&mut self, node: IndexedNode, name: &'t str) -> Result<(), AllocError>
         requires { (t : _) → (number : ℕ) → named self.old t ≡ Some number → number < node.number }
-        ensures names { OnOk result ((t : _) → named self.new t ≡ first_of (named self.old t) (if is_text t name.now then Some node.number else None)) }
-        ensures later { OnOk result ((t : _) → (number : ℕ) → named self.new t ≡ Some number → number < node.number + 1) }
-        ensures nodes { OnOk result ((among : _) → (above : _) → (m : _) → (t : _) → found self.new among above m t
-            ≡ first_of (found self.old among above m t) (if is_at among above m t node name.now then Some node.number else None)) }
+        ensures names { OnOk result ((t : _) → named self.new t
+            ≡ first_of (named self.old t) (if is_text t name.now then Some node.number else None)) }
+        ensures later { OnOk result ((t : _) → (number : ℕ) → named self.new t ≡ Some number
+            → number < node.number + 1) }
+        ensures nodes { OnOk result ((among : _) → (above : _) → (m : _) → (t : _)
+            → found self.new among above m t
+            ≡ first_of (found self.old among above m t)
+            (if is_at among above m t node name.now then Some node.number else None)) }
     {
         let number = number_of(&mut self.names, name, node.number)?;
         self.nodes.add(node, number)
@@ -85,11 +91,15 @@ impl<'t> NodeIndex<'t> {
 
     /// The first node of each name, in the order of the names, and the nodes by their keys.
     pub fn into_parts(self, alloc: Global) -> Result<(Vec<u32>, FirstNodes), AllocError>
-        ensures ascend { IfOk result (λ parts. (text_at : ℕ → Text) → ((t : _) → (number : ℕ) → named self.entry t ≡ Some number → text_at number ≡ t)
+        ensures ascend { IfOk result (λ parts. (text_at : ℕ → Text)
+            → ((t : _) → (number : ℕ) → named self.entry t ≡ Some number → text_at number ≡ t)
             → ascends text_at parts.0.items ≡ true) }
-        ensures names { IfOk result (λ parts. (text_at : ℕ → Text) → ((t : _) → (number : ℕ) → named self.entry t ≡ Some number → text_at number ≡ t)
+        ensures names { IfOk result (λ parts. (text_at : ℕ → Text)
+            → ((t : _) → (number : ℕ) → named self.entry t ≡ Some number → text_at number ≡ t)
             → (t : _) → number_among text_at parts.0.items t ≡ named self.entry t) }
-        ensures nodes { IfOk result (λ parts. (among : _) → (above : _) → (m : _) → (t : _) → found_by (named self.entry) parts.1 among above m t ≡ found self.entry among above m t) }
+        ensures nodes { IfOk result (λ parts. (among : _) → (above : _) → (m : _) → (t : _)
+            → found_by (named self.entry) parts.1 among above m t
+            ≡ found self.entry among above m t) }
     {
         let NodeIndex { names, nodes } = self;
         let mut numbers = Vec::with_capacity(alloc, names.len())?;

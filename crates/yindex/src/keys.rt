@@ -102,7 +102,8 @@ impl Firsts {
 
     /// With a node behind those so far.
     fn followed_by(self, asked: Asked, number: u32) -> Firsts
-        ensures { (among : _) → first_in among result ≡ first_of (first_in among self) (if asks_for among asked then Some number else None) }
+        ensures { (among : _) → first_in among result
+            ≡ first_of (first_in among self) (if asks_for among asked then Some number else None) }
     {
         Firsts {
             child: earlier(self.child, asked.child, number),
@@ -139,8 +140,10 @@ impl FirstNodes {
     /// Adds a node behind those so far.
     fn note(&mut self, key: Key, asked: Asked, number: u32) -> Result<(), AllocError>
         ensures noted { OnOk result ((among : _) → (k : _) → first_at self.new among k
-            ≡ first_of (first_at self.old among k) (if same_key key k && asks_for among asked then Some number else None)) }
-        ensures err { OnErr result ((among : _) → (k : _) → first_at self.new among k ≡ first_at self.old among k) }
+            ≡ first_of (first_at self.old among k) (if same_key key k
+            && asks_for among asked then Some number else None)) }
+        ensures err { OnErr result ((among : _) → (k : _) → first_at self.new among k
+            ≡ first_at self.old among k) }
     {
         let firsts = self.by_key.get(&key).copied().unwrap_or(Firsts::NONE);
         match self.by_key.insert(key, firsts.followed_by(asked, number)) {
@@ -152,8 +155,10 @@ impl FirstNodes {
     /// Adds a node behind those so far, whose name has a number.
     pub fn add(&mut self, node: IndexedNode, name: u32) -> Result<(), AllocError>
         ensures added { OnOk result ((among : _) → (key : _) → first_at self.new among key
-            ≡ first_of (first_at self.old among key) (if is_key among node name key then Some node.number else None)) }
-        ensures others { (among : _) → (key : _) → (key.name == name) ≡ false → first_at self.new among key ≡ first_at self.old among key }
+            ≡ first_of (first_at self.old among key)
+            (if is_key among node name key then Some node.number else None)) }
+        ensures others { (among : _) → (key : _) → (key.name == name) ≡ false
+            → first_at self.new among key ≡ first_at self.old among key }
     {
         let IndexedNode {
             number,

@@ -135,7 +135,8 @@ fn is_wrong(
     is_member: bool,
     statement: Node<'_, Source<'_>>,
 ) -> Result<bool, AllocError>
-    ensures { let f = row_by source_view statement.entry.children in let modules = view sources.now in
+    ensures { let f = row_by source_view statement.entry.children in
+        let modules = view sources.now in
         IfOk result (λ b. b ≡ is_wrong (spec.verdict modules is_member
         (label_by source_view statement.entry) f (spec.verdicts modules f))) }
 {

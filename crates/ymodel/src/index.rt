@@ -29,7 +29,8 @@ pub(crate) fn index_of(alloc: Global, rows: &[Row]) -> Result<Index, AllocError>
     requires numbered { length rows.now < 2 ^ 32 }
     requires laid_out { IsLaidOut rows.now }
     ensures named { IfOk result (λ index. FindsNamed index rows.now) }
-    ensures written { IfOk result (λ index. FindsWritten index rows.now (data_places None (forest_of 0 rows.now))) }
+    ensures written { IfOk result
+        (λ index. FindsWritten index rows.now (data_places None (forest_of 0 rows.now))) }
 {
     let mut index = NodeIndex::with_capacity(alloc, rows.len())?;
     let mut nearest = Vec::with_capacity(alloc, rows.len())?;
@@ -125,7 +126,8 @@ impl Index {
         name: &str,
     ) -> Option<u32>
         requires { names_ascend self.now rows.now ≡ true }
-        ensures { result ≡ found_by (number_among_names self.now rows.now) self.now.nodes among above «module» name.now }
+        ensures { result ≡ found_by
+            (number_among_names self.now rows.now) self.now.nodes among above «module» name.now }
     {
         let name = number_of(rows, &self.names, name)?;
         let key = Key {
@@ -160,9 +162,11 @@ impl Index {
     ) -> Option<u32>
         requires laid_out { IsLaidOut rows.now }
         requires named { FindsNamed self.now rows.now }
-        requires written { FindsWritten self.now rows.now (data_places None (forest_of 0 rows.now)) }
+        requires written { FindsWritten self.now rows.now
+            (data_places None (forest_of 0 rows.now)) }
         requires modules_differ { ModulesDiffer (schema_view modules.now rows.now) }
-        requires nodes_named { NodesAreNamed (schema_view modules.now rows.now) (forest_of 0 rows.now) }
+        requires nodes_named { NodesAreNamed (schema_view modules.now rows.now)
+            (forest_of 0 rows.now) }
         ensures { result ≡ first_below above (is_stored_as
             (schema_view modules.now rows.now) above name.now)
             (data_places None (forest_of 0 rows.now)) }

@@ -160,8 +160,10 @@ pub(crate) fn meant_name<'n>(
     own: Option<usize>,
     name: &'n str,
 ) -> Option<MeantName<'n>>
-    ensures { let schema = schema_view modules.now [] in ModulesDiffer schema → (n : _) → IsNamed schema n
-        → is_text name.now (spec.written_name schema own n) ≡ option_map_or (λ m. is_called m.«module» m.name.now n) result false }
+    ensures { let schema = schema_view modules.now [] in
+        ModulesDiffer schema → (n : _) → IsNamed schema n
+        → is_text name.now (spec.written_name schema own n)
+        ≡ option_map_or (λ m. is_called m.«module» m.name.now n) result false }
 {
     let Some((module, behind)) = name.split_once(':') else {
         return Some(MeantName { module: own?, name });

@@ -43,7 +43,8 @@ impl<'a, 't> Planned<'a, 't> {
         ensures { let s = label_by source_view source.entry in
             let below = row_by source_view source.entry.children in
             (number : _) → planned_view number result
-            ≡ spec.planned_node number (around_view around) (implied_or is_implied (part_of s below)) }
+            ≡ spec.planned_node number (around_view around)
+            (implied_or is_implied (part_of s below)) }
     {
         let mut planned = Planned {
             source,

@@ -64,7 +64,8 @@ pub fn refused_edits()
         ∷ codes "replace /ex-net:net/host[1]/name x" ∷ [])
         ≡ Some (
           (refused_edit 7 ∷ refused_value_of 5 ∷ refused_edit 3 ∷ refused_edit 5
-              ∷ refused_edit 2 ∷ refused_edit 3 ∷ refused_edit 3 ∷ refused_value_of 5 ∷ refused_edit 7
+              ∷ refused_edit 2 ∷ refused_edit 3 ∷ refused_edit 3 ∷ refused_value_of 5
+              ∷ refused_edit 7
               ∷ refused_edit 9 ∷ []),
           codes "0 faults\n",
         ) }

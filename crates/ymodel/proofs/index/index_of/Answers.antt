@@ -82,12 +82,11 @@ returns-clause-named c =
     let rows = c.args.rows.now in
     let i = c.loop-number.number in
     let all = take_all i rows (omega arith) in
-    let parts = c.in_ok-names.ensures in
-    (
+    let parts = c.in_ok-names.ensures in (
       parts.ascend (name_at rows) c.loop-number.invariant.own,
       λ parent m t. ap (λ o. option_and_then (λ n. first_at c.in_ok-names.nodes Children (record { above = parent; «module» = m; name = n })) o)
-      (parts.names (name_at rows) c.loop-number.invariant.own t)
-      ∙ (parts.nodes Children parent m t ∙ (c.loop-number.invariant.children parent m t ∙ ap (λ rs. first_below parent (is_called m t) (laid 0 rs)) all)),
+          (parts.names (name_at rows) c.loop-number.invariant.own t)
+          ∙ (parts.nodes Children parent m t ∙ (c.loop-number.invariant.children parent m t ∙ ap (λ rs. first_below parent (is_called m t) (laid 0 rs)) all)),
     )
 
 pub returns-clause-written : goal.returns-clause-written
