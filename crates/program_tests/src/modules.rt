@@ -1,7 +1,6 @@
 //! Modules of every kind of node: what is printed of documents under them, and which are refused. Rows are parted by
 //! lines `==`.
 
-use crate::running::validated;
 use crate::telling::{is_refused_pair, is_told};
 use std::alloc::{AllocError, Global};
 

@@ -1,6 +1,6 @@
 //! What the program prints. Where a row has lines of its own, the rows are parted by lines `==`.
 
-use crate::running::{BOTH_LINES, MODULE, Shown, TWO_FAULTS, file, shown_of, validated};
+use crate::running::{BOTH_LINES, MODULE, TWO_FAULTS, file, shown_of, validated};
 use std::alloc::Global;
 use ytext::Cut;
 

@@ -1,6 +1,6 @@
 //! From a request to what was found.
 
-ghost use Rattle.std.specs.Prelude.{◌≡◌, map, position};
+ghost use Rattle.std.specs.Prelude.{map, position};
 ghost use Rattle.yspec.specs.text.Text.{is_text};
 ghost use Rattle.yspec.specs.program.Output.{compilation, drawing, drawn, edition, performed, validation};
 ghost use Rattle.ymodel.specs.View as schema_view;

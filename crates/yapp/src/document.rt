@@ -1,15 +1,13 @@
 //! Documents: read, edited, and reported on.
 
-ghost use Rattle.std.specs.Prelude.{◌≡◌, ◌++◌, ◌∷◌, [], ℕ, List, IfOk, length, map, option_map, string_bytes, take, Option, Some, None, false, if◌then◌else◌};
+ghost use Rattle.std.specs.Prelude.{◌≡◌, [], ℕ, List, IfOk, map, option_map, string_bytes, Option, Some, None, if◌then◌else◌};
 ghost use Rattle.yspec.specs.document.Document as document_spec;
-ghost use Rattle.yspec.specs.document.Fitting.{Fits};
 ghost use Rattle.yspec.specs.document.Reading.{document_of};
 ghost use Rattle.yspec.specs.document.Writing.{written_text};
-ghost use Rattle.yspec.specs.program.Output.{Outcome, dump, edition, first_file, left, validation, with_document, with_tree};
+ghost use Rattle.yspec.specs.program.Output.{Outcome, first_file, left, with_document, with_tree};
 ghost use Rattle.yspec.specs.program.Script.{after_lines, lines_of, refused_lines};
 ghost use Rattle.yspec.specs.schema.Schema as schema_spec;
 ghost use Rattle.ymodel.specs.View as schema_view;
-ghost use Rattle.ytree.specs.View.{tree_view};
 ghost use Rattle.ylive.specs.View as live_view;
 ghost use Rattle.yapp.specs.Asked.{edits_in, kinds_in};
 ghost use Rattle.yapp.specs.Edited.{IsEdited, IsRun, IsSound, refused_of, schema_of, tree_of};

@@ -1,6 +1,6 @@
 //! From the contents of modules' files to their schema.
 
-ghost use Rattle.std.specs.Prelude.{◌≡◌, ◌∷◌, [], ℕ, List, map};
+ghost use Rattle.std.specs.Prelude.{◌∷◌, [], ℕ, List, map};
 ghost use Rattle.yspec.specs.Forest.{Forest};
 ghost use Rattle.yspec.specs.linking.Compiling.{compiled};
 ghost use Rattle.yspec.specs.program.Output as spec;

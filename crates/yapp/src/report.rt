@@ -1,6 +1,6 @@
 //! What a command found, and how it is printed.
 
-ghost use Rattle.std.specs.Prelude.{◌≡◌, ◌++◌, codes, decimal};
+ghost use Rattle.std.specs.Prelude.{◌≡◌, ◌++◌, decimal};
 ghost use Rattle.std.specs.List.{flat_map};
 ghost use Rattle.yspec.specs.document.Faults.{line_of};
 ghost use Rattle.yspec.specs.schema.Diagram.{diagram};

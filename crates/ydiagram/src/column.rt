@@ -1,16 +1,15 @@
 //! The column of types.
 
-ghost use Rattle.std.specs.Prelude.{◌≡◌, option_map};
-ghost use Rattle.yspec.specs.schema.Schema.{type_in};
+ghost use Rattle.std.specs.Prelude.{◌≡◌};
 ghost use Rattle.yspec.specs.schema.Diagram as spec;
 ghost use Rattle.youtput.specs.Writing.{Writes, side};
 ghost use Rattle.ymodel.specs.Layout.{leaf_type_view, number_of};
-ghost use Rattle.ymodel.specs.View.{kind_view, node_view, view};
+ghost use Rattle.ymodel.specs.View.{node_view, view};
 ghost use Rattle.ydiagram.specs.View.{step_text};
 
 use crate::fault::{DiagramFault, put};
 use crate::label::{label_width, write_prefixed};
-use ymodel::{Kind, LeafType, Schema, SchemaId, SchemaNode};
+use ymodel::{LeafType, Schema, SchemaId, SchemaNode};
 use youtput::Sink;
 use yword::BuiltIn;
 

@@ -1,7 +1,6 @@
 //! The label of a node: its name and its options.
 
 ghost use Rattle.std.specs.Prelude.{◌≡◌, ◌<◌, ◌^◌, length};
-ghost use Rattle.yspec.specs.schema.Schema.{keys_in};
 ghost use Rattle.yspec.specs.schema.Diagram as spec;
 ghost use Rattle.youtput.specs.Writing.{Writes, side};
 ghost use Rattle.ymodel.specs.Layout.{absence_view, numbers_of};

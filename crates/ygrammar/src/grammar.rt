@@ -1,25 +1,25 @@
 //! The rules of the table that statements break (RFC 7950, 7 and 14).
 
-ghost use Rattle.std.specs.Prelude.{◌≡◌, ◌&&◌, ◌++◌, ◌∷◌, [], false, true, not, map, None, IfOk, is_some, option_map, position};
+ghost use Rattle.std.specs.Prelude.{◌≡◌, ◌&&◌, ◌∷◌, [], false, true, not, map, None, IfOk, is_some, option_map};
 ghost use Rattle.std.specs.List.{list_any};
 ghost use Rattle.std.specs.Option.{option_map_or};
 ghost use Rattle.yspec.specs.Forest.{row};
-ghost use Rattle.yspec.specs.linking.Keyword.{keyword_named, same_keyword, type_word, module_word, yang_version_word};
+ghost use Rattle.yspec.specs.linking.Keyword.{keyword_named, same_keyword, type_word, module_word};
 ghost use Rattle.yspec.specs.linking.Arguments as arguments;
 ghost use Rattle.yspec.specs.linking.Table as table;
 ghost use Rattle.yspec.specs.linking.StatementBreaks as spec;
-ghost use Rattle.yspec.specs.schema.Breaks.{least_from, is_wrong_count};
+ghost use Rattle.yspec.specs.schema.Breaks.{least_from};
 ghost use Rattle.ytext.specs.View.{view, row_view, modules_view};
 ghost use Rattle.yword.specs.KeywordView.{keyword_view};
 ghost use Rattle.ygrammar.specs.FormView.{form_view};
-ghost use Rattle.ygrammar.specs.TableView.{count_view, allowed_view, allowed_views, rule_view};
+ghost use Rattle.ygrammar.specs.TableView.{allowed_view, allowed_views};
 ghost use Rattle.ygrammar.specs.Counts.{AreOf, allowed_word, are_apart, count_at, has_word, is_miscounted_by, lacks};
 ghost use Rattle.ygrammar.specs.BreakView.{break_view, seen};
 
 use crate::fault::{BrokenRule, CompileCode, least, least_when};
 use crate::form::{Form, fits};
 use crate::name::colon_place;
-use crate::table::{Allowed, Count, Rule, needs_of, rule_of};
+use crate::table::{Allowed, Count, needs_of, rule_of};
 use std::alloc::{AllocError, Global};
 use ytext::{Module, Stmt};
 use yword::{KEYWORDS, Keyword};

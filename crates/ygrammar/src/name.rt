@@ -1,10 +1,8 @@
 //! Names in arguments: alone, in paths, and in rows (RFC 7950, 6.4, 6.5, 7.8.2, 7.8.3 and 9.9.2).
 
-ghost use Rattle.std.specs.Prelude.{◌≡◌, ◌+◌, ◌<◌, ◌==◌, false, IfOk, IfSome, option_map, map, length, position, take, drop, slice_index};
-ghost use Rattle.std.specs.List.{slice_split};
+ghost use Rattle.std.specs.Prelude.{◌≡◌, ◌+◌, ◌<◌, ◌==◌, false, IfOk, IfSome, option_map, map, length, position, slice_index};
 ghost use Rattle.yspec.specs.text.Text.{colon};
 ghost use Rattle.yspec.specs.types.Names as names;
-ghost use Rattle.yspec.specs.edit.EditText.{all_or_none};
 ghost use Rattle.yspec.specs.linking.Arguments as spec;
 ghost use Rattle.ygrammar.specs.NameView.{name_view, names_view};
 

@@ -1,10 +1,9 @@
 //! Numbers in arguments (RFC 7950, 7.7.5, 7.7.6, 9.3.4, 9.6.4.2 and 9.7.4.2).
 
-ghost use Rattle.std.specs.Prelude.{◌≡◌, ◌≤◌, ◌<◌, ◌^◌, IfSome, option_map, option_and_then};
+ghost use Rattle.std.specs.Prelude.{◌≡◌, ◌≤◌, ◌<◌, ◌^◌, IfSome, option_and_then};
 ghost use Rattle.std.specs.Char.{digit_value};
 ghost use Rattle.ynumber.specs.Words.{capped};
 ghost use Rattle.yspec.specs.types.Numerals.{digits_from, is_negative, number_of_sign};
-ghost use Rattle.yspec.specs.types.Ranges.{Part, lies_in};
 ghost use Rattle.yspec.specs.linking.Arguments as spec;
 
 /// What stands for every magnitude from here on: no type has it.

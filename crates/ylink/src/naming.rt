@@ -1,6 +1,6 @@
 //! The names of enumerations and bits that statements give (RFC 7950, 9.6.4 and 9.7.4).
 
-ghost use Rattle.std.specs.Prelude.{◌≡◌, ℤ, List, Option, IfOk};
+ghost use Rattle.std.specs.Prelude.{◌≡◌, Option, IfOk};
 ghost use Rattle.yspec.specs.types.Names as names;
 ghost use Rattle.yspec.specs.types.Types.{enumeration_base, bits_base};
 ghost use Rattle.yspec.specs.linking.Keyword as word;

@@ -1,12 +1,11 @@
 //! What prefixes and prefixed names mean (RFC 7950, 5.1.3 and 6.4), and where one means nothing.
 
-ghost use Rattle.std.specs.Prelude.{◌≡◌, ◌&&◌, ℕ, IfOk, [], None, is_some, map, not, option_map, unwrap_or};
+ghost use Rattle.std.specs.Prelude.{◌≡◌, ℕ, IfOk, [], None, is_some, map, option_map, unwrap_or};
 ghost use Rattle.std.specs.List.{list_any};
 ghost use Rattle.yspec.specs.Forest.{Forest};
 ghost use Rattle.yspec.specs.linking.Prefixes as spec;
-ghost use Rattle.yspec.specs.linking.Keyword.{same_keyword, prefix_word, type_word};
+ghost use Rattle.yspec.specs.linking.Keyword.{prefix_word, type_word};
 ghost use Rattle.yspec.specs.linking.Source as sources;
-ghost use Rattle.yspec.specs.linking.TypeStatements.{built_in_named};
 ghost use Rattle.ypreorder.specs.View.{row_by};
 ghost use Rattle.yspec.specs.schema.Breaks.{least_from};
 ghost use Rattle.ygrammar.specs.BreakView.{seen};

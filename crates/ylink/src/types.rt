@@ -1,16 +1,13 @@
 //! What `type` statements name and mean (RFC 7950, 7.4 and 9).
 
-ghost use Rattle.std.specs.Prelude.{◌≡◌, ℕ, IfOk, [], false, true, None, map, option_map, option_and_then};
-ghost use Rattle.std.specs.List.{list_all};
+ghost use Rattle.std.specs.Prelude.{◌≡◌, IfOk, false, true, None, map, option_map, option_and_then};
 ghost use Rattle.std.specs.Option.{option_map_or};
 ghost use Rattle.yspec.specs.Forest.{row};
-ghost use Rattle.yspec.specs.schema.Breaks.{least_from};
 ghost use Rattle.yspec.specs.linking.Arguments.{fraction_digits_of, leafref_path_of};
 ghost use Rattle.yspec.specs.linking.Keyword as word;
 ghost use Rattle.yspec.specs.linking.Source as sources;
 ghost use Rattle.yspec.specs.linking.TypeStatements as spec;
 ghost use Rattle.ypreorder.specs.View.{row_by, label_by};
-ghost use Rattle.ygrammar.specs.BreakView.{seen};
 ghost use Rattle.yword.specs.KeywordView.{keyword_view};
 ghost use Rattle.ygrammar.specs.LinkView.{view};
 ghost use Rattle.ygrammar.specs.NameView.{names_view};

@@ -1,7 +1,6 @@
 //! The nodes that refer to a node by a leafref (RFC 7950, 9.9).
 
 ghost use Rattle.std.specs.Prelude.{◌≡◌, ◌<◌, ◌^◌, ◌++◌, ◌∷◌, ◌==◌, [], if◌then◌else◌, IfOk, OnOk, length};
-ghost use Rattle.yspec.specs.schema.Schema as spec;
 ghost use Rattle.ymodel.specs.Layout.{number_of, numbers_of, kind_view, laid, place_of};
 ghost use Rattle.yspec.specs.schema.References as words;
 

@@ -44,7 +44,7 @@ impl Schema {
     ghost use Rattle.yspec.specs.schema.References.{references_to};
     ghost use Rattle.ymodel.specs.Layout.{node_view, number_of, numbers_of};
     ghost use Rattle.ymodel.specs.Lookup.{alone, module_passed, way_above};
-    ghost use Rattle.ymodel.specs.View.{view, row_view, forest_of, module_view};
+    ghost use Rattle.ymodel.specs.View.{view, row_view, forest_of};
 
     /// The schema of some modules whose nodes lie in rows, each before those below it, once a compiler has found no broken
     /// rule.

@@ -1,6 +1,6 @@
 //! Names as documents write them (RFC 7951, 4).
 
-ghost use Rattle.std.specs.Prelude.{◌≡◌, ◌++◌, [], Some, map, option_map, slice_get, unwrap_or, codes, IfOk, string_bytes, position, false};
+ghost use Rattle.std.specs.Prelude.{◌≡◌, ◌++◌, [], Some, codes, IfOk, string_bytes, position, false};
 ghost use Rattle.std.specs.Option.{option_map_or};
 ghost use Rattle.yspec.specs.Forest.{end, node};
 ghost use Rattle.yspec.specs.text.Text.{is_text};

@@ -1,10 +1,9 @@
 //! Texts of bits (RFC 7950, 9.7.2).
 
 ghost use Rattle.std.specs.Prelude.{◌≡◌, option_map, map, filter, IfOk};
-ghost use Rattle.std.specs.List.{list_any, list_all, slice_split};
-ghost use Rattle.yspec.specs.text.Text.{is_text};
+ghost use Rattle.std.specs.List.{list_all, slice_split};
 ghost use Rattle.yspec.specs.types.Types.{bits_value, bits_taken};
-ghost use Rattle.yspec.specs.types.Names.{words_of, is_word, is_space, is_among, has_twice, are_bit_names, named_by, positions_of};
+ghost use Rattle.yspec.specs.types.Names.{words_of, is_word, is_space, is_among, positions_of};
 ghost use Rattle.ynumber.specs.Words.{words_in};
 ghost use Rattle.ynumber.specs.Sets.{holds_word, IsSetOf};
 

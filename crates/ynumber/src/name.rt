@@ -1,13 +1,11 @@
 //! The names of enumerations and bits as modules write them (RFC 7950, 9.6.4 and 9.7.4).
 
-ghost use Rattle.std.specs.Prelude.{◌≡◌, ◌||◌, [], ◌∷◌, option_and_then, ok_or};
-ghost use Rattle.std.specs.List.{list_all};
+ghost use Rattle.std.specs.Prelude.{◌≡◌, ◌||◌, [], ok_or};
 ghost use Rattle.std.specs.String.{string_bytes};
 ghost use Rattle.yspec.specs.text.Text.{is_white};
-ghost use Rattle.yspec.specs.types.Ranges.{lies_in};
-ghost use Rattle.yspec.specs.types.Names.{number_of, with_assigned, with_name, assigned_from, ends_white, is_enum_name, are_enum_names, enum_numbers, bit_positions, enum_names, bit_names};
+ghost use Rattle.yspec.specs.types.Names.{number_of, with_name, assigned_from, ends_white, is_enum_name, are_enum_names, enum_names, bit_names};
 ghost use Rattle.yspec.specs.Results.{Gives};
-ghost use Rattle.ynumber.specs.Words.{narrow_refusal, same, FitsWord, named};
+ghost use Rattle.ynumber.specs.Words.{narrow_refusal, same, FitsWord};
 
 use crate::fault::NarrowFault;
 use crate::names::Names;

@@ -3,8 +3,7 @@
 ghost use Rattle.std.specs.Prelude.{◌≡◌, ◌≤◌, ◌<◌, ◌^◌, ◌||◌, ◌==◌, ◌*◌, length, IfSome, option_map, position};
 ghost use Rattle.std.specs.Char.{digit_value};
 ghost use Rattle.std.specs.Option.{ForSome};
-ghost use Rattle.yspec.specs.types.Numerals.{number_in, is_negative, unsigned_part, number_of_sign, signed, integer_of, default_magnitude, default_integer_of, is_point, whole_units, fraction_units, added, decimal_magnitude, decimal_of};
-ghost use Rattle.yspec.specs.types.Ranges.{lies_in};
+ghost use Rattle.yspec.specs.types.Numerals.{number_in, is_negative, unsigned_part, number_of_sign, integer_of, default_magnitude, default_integer_of, is_point, whole_units, fraction_units, added, decimal_magnitude, decimal_of};
 ghost use Rattle.ynumber.specs.Words.{capped, kept_in, IsNarrow};
 
 use crate::digits::FractionDigits;

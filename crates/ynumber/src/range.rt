@@ -1,10 +1,9 @@
 //! Ranges and lengths: sets of whole numbers (RFC 7950, 9.2.4, 9.3.4 and 9.4.4).
 
-ghost use Rattle.std.specs.Prelude.{◌≡◌, ◌≤◌, ◌^◌, ◌&&◌, pos, ◌*ℤ◌, int_le, IfOk};
-ghost use Rattle.yspec.specs.types.Ranges.{lies_in, holds, is_near, bound_in, part_in, parts_in, is_ascending_from, is_covered, lies_within, ends_of, last_high, restricted, restricting};
+ghost use Rattle.std.specs.Prelude.{◌≡◌, ◌&&◌, IfOk};
+ghost use Rattle.yspec.specs.types.Ranges.{lies_in, holds};
 
-use crate::fault::NarrowFault;
-use std::alloc::{AllocError, Global};
+use std::alloc::AllocError;
 use std::marker::Model;
 
 /// The whole numbers from one to another, both included.

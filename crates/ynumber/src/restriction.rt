@@ -1,7 +1,7 @@
 //! Restrictions as a module writes them, and the sets of numbers that they leave.
 
-ghost use Rattle.std.specs.Prelude.{◌≡◌, ◌≤◌, ◌<◌, ◌^◌, pos, Some, None, ok_or};
-ghost use Rattle.yspec.specs.types.Ranges.{is_above, is_near, bound_in, part_in, parts_in, is_ascending_from, is_covered, lies_within, ends_of, last_high, is_restriction, restricted, restricting};
+ghost use Rattle.std.specs.Prelude.{◌≡◌, ◌≤◌, ◌<◌, ◌^◌, Some, None, ok_or};
+ghost use Rattle.yspec.specs.types.Ranges.{is_above, is_near, bound_in, part_in, parts_in, is_ascending_from, is_covered, lies_within, ends_of, restricted};
 ghost use Rattle.ynumber.specs.View.{bound_of};
 ghost use Rattle.yspec.specs.Results.{Gives};
 ghost use Rattle.ynumber.specs.Words.{narrow_refusal, same};

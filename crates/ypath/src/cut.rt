@@ -1,6 +1,6 @@
 //! Cutting texts at ASCII characters.
 
-ghost use Rattle.std.specs.Prelude.{◌≡◌, ◌+◌, ◌<◌, ◌≤◌, ℕ, IfSome, length, take, drop, slice_index, option_map, None, ◌==◌, ◌&&◌, not, is_some, position};
+ghost use Rattle.std.specs.Prelude.{◌≡◌, ◌+◌, ◌<◌, IfSome, length, take, drop, slice_index, option_map, None, ◌==◌, ◌&&◌, not, is_some};
 ghost use Rattle.yspec.specs.edit.EditText.{cut_at, quote_behind, behind, after_spaces};
 ghost use Rattle.ypath.specs.EditView.{sides};
 

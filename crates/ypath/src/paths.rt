@@ -1,6 +1,6 @@
 //! What the texts of paths and edits spell.
 
-ghost use Rattle.std.specs.Prelude.{◌≡◌, ◌+◌, ◌*◌, ◌≤◌, ◌<◌, IfOk, IfSome, option_map, None, Some, string_bytes, min, is_some};
+ghost use Rattle.std.specs.Prelude.{◌≡◌, ◌+◌, ◌*◌, ◌<◌, IfOk, option_map, None, Some, min, is_some};
 ghost use Rattle.std.specs.List.{list_all};
 ghost use Rattle.yspec.specs.text.Text.{is_digit, slash};
 ghost use Rattle.yspec.specs.edit.EditText as spec;

@@ -1,6 +1,6 @@
 //! Children of one name (RFC 7950, 6.2.1).
 
-ghost use Rattle.std.specs.Prelude.{◌≡◌, None, IfOk};
+ghost use Rattle.std.specs.Prelude.{◌≡◌, None};
 ghost use Rattle.yspec.specs.schema.Breaks.{least_from};
 ghost use Rattle.yspec.specs.linking.NodeBreaks.{name_breaks};
 ghost use Rattle.ygrammar.specs.BreakView.{seen};

@@ -36,8 +36,7 @@ pub struct Plan<'a, 't> {
 }
 
 impl<'a, 't> Plan<'a, 't> {
-    ghost use Rattle.std.specs.Prelude.{◌≡◌, IfOk, Some, option_map, find, map, length, false, slice_get};
-    ghost use Rattle.std.specs.Option.{option_map_or};
+    ghost use Rattle.std.specs.Prelude.{◌≡◌, IfOk, Some, option_map, find, false};
     ghost use Rattle.yindex.specs.declared.keys.Among.TheVariants as among;
     ghost use Rattle.yplan.specs.Finding.{is_before, is_found};
     ghost use Rattle.yspec.specs.linking.Source.{argument_in};

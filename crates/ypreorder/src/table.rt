@@ -1,6 +1,6 @@
 //! A table of rows, and how one grows.
 
-ghost use Rattle.std.specs.Prelude.{◌≡◌, ◌++◌, ◌∷◌, [], ◌<◌, ◌^◌, Some, IfOk, OnOk, OnErr, length, vec_len, slice_get, option_map};
+ghost use Rattle.std.specs.Prelude.{◌≡◌, ◌++◌, ◌∷◌, [], ◌<◌, ◌^◌, Some, IfOk, OnOk, length, vec_len};
 
 use crate::nodes::Nodes;
 use crate::row::Row;

@@ -1,6 +1,6 @@
 //! Leafrefs that lead nowhere, in a circle, or from configuration to state (RFC 7950, 9.9).
 
-ghost use Rattle.std.specs.Prelude.{◌≡◌, ◌&&◌, Some, false, unwrap_or, option_map, slice_get};
+ghost use Rattle.std.specs.Prelude.{◌≡◌, ◌&&◌, Some, false, option_map, slice_get};
 ghost use Rattle.std.specs.Option.{option_map_or};
 ghost use Rattle.yspec.specs.linking.Planned as spec;
 ghost use Rattle.yspec.specs.linking.NodeBreaks as breaks;

@@ -1,10 +1,9 @@
 //! The types of leafs and leaf-lists, leafrefs followed to where they lead (RFC 7950, 9.9).
 
 ghost use Rattle.std.specs.Prelude.{◌≡◌, Some, map, IfOk, option_map, slice_get, unwrap_or, None};
-ghost use Rattle.yspec.specs.linking.Planned as spec;
-ghost use Rattle.yspec.specs.linking.Planned.{nodes_of, is_on_circle, referring};
+ghost use Rattle.yspec.specs.linking.Planned.{is_on_circle, referring};
 ghost use Rattle.ylink.specs.TypeView.{meant_view};
-ghost use Rattle.yresolve.specs.ChainTypes.{own_type, as_meant};
+ghost use Rattle.yresolve.specs.ChainTypes.{as_meant};
 ghost use Rattle.yplan.specs.PlanView.{view};
 ghost use Rattle.yresolve.specs.TypesView.{AreOf, meants_view, meant_at, own_at, type_told, types_told};
 

@@ -1,11 +1,11 @@
 //! From modules to their schema.
 
-ghost use Rattle.std.specs.Prelude.{◌≡◌, ◌≤◌, ◌++◌, ◌∷◌, [], Some, None, IfOk, unwrap_or, map, nat_lt};
-ghost use Rattle.yspec.specs.Forest.{size, levels};
+ghost use Rattle.std.specs.Prelude.{◌≡◌, ◌≤◌, [], Some, None, IfOk, unwrap_or, map};
+ghost use Rattle.yspec.specs.Forest.{levels};
 ghost use Rattle.yspec.specs.Results.{Gives};
 ghost use Rattle.yspec.specs.document.Fitting.{LeafsAreBare};
 ghost use Rattle.yspec.specs.document.Writing.{NamesDiffer};
-ghost use Rattle.yspec.specs.schema.Breaks.{first_broken, least_from, level_limit, limit_breaks, module_breaks, node_limit};
+ghost use Rattle.yspec.specs.schema.Breaks.{first_broken, least_from, level_limit, limit_breaks};
 ghost use Rattle.yspec.specs.linking.Compiling as spec;
 ghost use Rattle.yspec.specs.linking.Compiling.{compiled, IsCompiled};
 ghost use Rattle.yschema.specs.Phases.{statement_part, source_part, plan_part, rule_part};

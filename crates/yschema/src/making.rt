@@ -1,6 +1,6 @@
 //! Schema nodes from planned ones (RFC 7950, 7.5 to 7.9).
 
-ghost use Rattle.std.specs.Prelude.{◌≡◌, Some, None, map, option_map, slice_get, unwrap_or, IfOk};
+ghost use Rattle.std.specs.Prelude.{◌≡◌, Some, None, option_map, slice_get, unwrap_or, IfOk};
 ghost use Rattle.yspec.specs.types.Types.{string_type};
 ghost use Rattle.yspec.specs.linking.Planned.{nodes_of};
 ghost use Rattle.yspec.specs.linking.SchemaNodes as spec;

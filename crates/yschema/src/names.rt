@@ -4,7 +4,7 @@ ghost use Rattle.std.specs.Prelude.{◌≡◌, [], IfOk};
 ghost use Rattle.yspec.specs.schema.Schema.{argument_text};
 ghost use Rattle.yspec.specs.schema.Breaks.{least_from, module_breaks};
 ghost use Rattle.ytext.specs.View.{view, modules_view};
-ghost use Rattle.ygrammar.specs.BreakView.{break_view, code_number, seen};
+ghost use Rattle.ygrammar.specs.BreakView.{seen};
 
 use indexmap::IndexSet;
 use std::alloc::{AllocError, Global};

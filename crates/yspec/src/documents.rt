@@ -1,6 +1,6 @@
 //! Worked examples of documents of every kind of node, under schemas written out as values: from bytes to the lines that are printed.
 
-ghost use Rattle.std.specs.Prelude.{◌≡◌, ◌++◌, [], ◌∷◌, codes, Some, None};
+ghost use Rattle.std.specs.Prelude.{◌≡◌, [], ◌∷◌, codes, Some, None};
 ghost use Rattle.yspec.specs.document.Document.{step_to, step_at};
 ghost use Rattle.yspec.specs.program.Output.{found, failed};
 ghost use Rattle.yspec.specs.program.SchemaExamples.{net_schema, k_schema, v_schema, y_schema, w_schema, t_schema, m_schema, shown_under, refused_within, hosts, one_host, two_hosts, entries};

@@ -1,10 +1,9 @@
 //! Worked examples of compiling: the schemas of modules' texts, and each refusal.
 
-ghost use Rattle.std.specs.Prelude.{◌≡◌, ◌++◌, [], ◌∷◌, codes, pos, true, false, Some, None, Ok, Err};
+ghost use Rattle.std.specs.Prelude.{◌≡◌, [], ◌∷◌, codes, true, false, Some, None, Ok};
 ghost use Rattle.yspec.specs.Forest.{end, node};
-ghost use Rattle.yspec.specs.program.Examples.{module_text};
 ghost use Rattle.yspec.specs.program.SchemaExamples.{net_schema, k_schema, v_schema, y_schema, t_schema, node_of, state_node, of_base, any_amount, number_value_of};
-ghost use Rattle.yspec.specs.schema.Schema.{leaf, leaf_list, list, choice, case, allowed, default_used, mandatory, key};
+ghost use Rattle.yspec.specs.schema.Schema.{leaf, list, choice, case, allowed, default_used, mandatory, key};
 ghost use Rattle.yspec.specs.types.Types.{integer_base, string_base, uint8};
 ghost use Rattle.yspec.specs.linking.CompilingSamples.{compiled_texts, compiled_lines, told_at, nodes_in, net_module, k_module, v_module, y_module, t_module};
 

@@ -1,6 +1,6 @@
 //! Worked examples of edits under schemas written out as values: from lines to what comes of each, and the faults or the text of the document after them.
 
-ghost use Rattle.std.specs.Prelude.{◌≡◌, ◌++◌, [], ◌∷◌, codes, Some};
+ghost use Rattle.std.specs.Prelude.{◌≡◌, [], ◌∷◌, codes, Some};
 ghost use Rattle.yspec.specs.program.SchemaExamples.{net_schema, k_schema, v_schema, w_schema, hosts, one_host, two_hosts, entries, edited_by, dumped, accepted_edit, refused_edit, refused_value_of};
 
 /// A target goes and comes back: as a default in use, as an entry, and within one replacement.

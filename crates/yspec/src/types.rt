@@ -1,12 +1,12 @@
 //! Worked examples of types: texts, numbers, restrictions, and what each makes of a value.
 
-ghost use Rattle.std.specs.Prelude.{◌≡◌, ◌++◌, ◌^◌, ◌-◌, [], ◌∷◌, pos, negsuc, true, false, codes, option_and_then, is_some};
+ghost use Rattle.std.specs.Prelude.{◌≡◌, ◌^◌, ◌-◌, [], ◌∷◌, pos, negsuc, true, false, codes, option_and_then, is_some};
 ghost use Rattle.yspec.specs.types.Names.{enum_names, bit_names};
 ghost use Rattle.yspec.specs.types.Ranges.{number};
-ghost use Rattle.yspec.specs.types.Types.{text, int, bool, empty, int8, int32, int64, uint8, uint16, uint64, text_value, number_value, bits_value, integer_type, uint8_type, string_type, value, taken, app_tag_of};
+ghost use Rattle.yspec.specs.types.Types.{text, int, bool, int8, int32, int64, uint8, uint16, uint64, text_value, number_value, integer_type, uint8_type, string_type, value, taken, app_tag_of};
 ghost use Rattle.yspec.specs.types.Order.{same_value, TellsValues};
 ghost use Rattle.yspec.specs.types.Restriction.{length, require_instance, narrowed, union_type, leafref_type};
-ghost use Rattle.yspec.specs.types.Values.{value_of_text, canonical};
+ghost use Rattle.yspec.specs.types.Values.{canonical};
 ghost use Rattle.yspec.specs.types.TypeExamples.{decimal, shown, number_is, default_of, from_to, one, at, tagged, untagged, gaps, twice_narrowed, is_taken, named, numbered, five_enums, enumeration, bits, three_bits, taken_by, shown_by};
 
 /// Numbers with a point, of two digits after it and of eighteen.

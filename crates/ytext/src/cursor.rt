@@ -1,5 +1,5 @@
 //! The tokens of a text, one after another (RFC 7950, 6.1).
-ghost use Rattle.std.specs.Prelude.{◌≡◌, ℕ, suc, ◌+◌, ◌-◌, ◌<◌, ◌≤◌, ◌∷◌, true, false, length, take, drop, slice_index, slice_range};
+ghost use Rattle.std.specs.Prelude.{◌≡◌, suc, ◌+◌, ◌-◌, ◌<◌, ◌≤◌, ◌∷◌, false, length, take, drop, slice_index, slice_range};
 ghost use Rattle.std.specs.Str.{IsCharBoundary};
 
 use crate::scan::{

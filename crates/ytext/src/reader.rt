@@ -1,5 +1,5 @@
 //! Statements, read from a text's tokens (RFC 7950, 6.3 and 14).
-ghost use Rattle.std.specs.Prelude.{◌≡◌, ℕ, ◌+◌, ◌<◌, ◌≤◌, ◌^◌, ◌++◌, [], ◌∷◌, true, false, length, Some, Ok, option_map, string_bytes, IsTrue, OnOk};
+ghost use Rattle.std.specs.Prelude.{◌≡◌, ℕ, ◌+◌, ◌<◌, ◌≤◌, ◌^◌, [], ◌∷◌, true, false, length, Some, Ok, option_map, string_bytes, IsTrue, OnOk};
 ghost use Rattle.ytext.specs.View.{extent, indent};
 
 use crate::cursor::{Cursor, Lexed, Lexeme};

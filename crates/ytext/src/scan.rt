@@ -1,5 +1,5 @@
 //! How far each piece of a text goes (RFC 7950, 6.1). Places are indices into the bytes of the whole text.
-ghost use Rattle.std.specs.Prelude.{◌≡◌, ℕ, ◌+◌, ◌≤◌, ◌<◌, length, drop, slice_index, false, IsTrue, not, ◌==◌, ◌&&◌, Option, Some, None, IfSome, option_map, ◌-◌};
+ghost use Rattle.std.specs.Prelude.{◌≡◌, ◌+◌, ◌≤◌, ◌<◌, length, drop, slice_index, false, IsTrue, not, ◌==◌, ◌&&◌, Option, Some, None, IfSome, option_map, ◌-◌};
 ghost use Rattle.std.specs.Str.{IsCharBoundary};
 ghost use Rattle.yspec.specs.text.Text.{begins, is_white, star, slash};
 ghost use Rattle.yspec.specs.text.Token.{is_delimiter, ends_word, word_length, line_comment_length, comment_rest_length, single_length, double_length};

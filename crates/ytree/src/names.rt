@@ -1,6 +1,6 @@
 //! Names of members (RFC 7951, 4).
 
-ghost use Rattle.std.specs.Prelude.{◌≡◌, IfOk, option_map, string_bytes};
+ghost use Rattle.std.specs.Prelude.{◌≡◌, IfOk, string_bytes};
 ghost use Rattle.std.specs.List.{list_any};
 ghost use Rattle.yspec.specs.Forest.{row, node, end};
 ghost use Rattle.yspec.specs.text.Text.{is_text};

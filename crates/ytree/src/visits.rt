@@ -1,7 +1,7 @@
 //! The walk over a document's values that finds the first refusal: depth first, members in byte order of their names, items
 //! by position.
 
-ghost use Rattle.std.specs.Prelude.{◌≡◌, ◌+◌, ◌++◌, IfSome, OnOk, Some, None, [], ◌∷◌};
+ghost use Rattle.std.specs.Prelude.{◌≡◌, ◌+◌, ◌++◌, OnOk, Some, None, [], ◌∷◌};
 ghost use Rattle.serde_json.specs.View as json;
 ghost use Rattle.yspec.specs.schema.Schema.{module_at, row_at};
 ghost use Rattle.yspec.specs.document.Reading.{right, named, at_named, leaf_visit, value_visit, member_visits, node_visits, item_visits, instance_visits};

@@ -1,6 +1,6 @@
 //! Built-in types, and what each takes (RFC 7950, 9; RFC 7951, 6).
 
-ghost use Rattle.std.specs.Prelude.{◌≡◌, ◌≤◌, length, option_map, IfOk};
+ghost use Rattle.std.specs.Prelude.{◌≡◌, length, option_map, IfOk};
 ghost use Rattle.std.specs.Str.{chars};
 ghost use Rattle.yspec.specs.types.Types.{numbers_of, is_written_as_text, is_string_char, is_string_value, number_value, bool_value, integer_taken, decimal_taken, enum_taken, bits_taken, string_taken, text_taken, base_taken, measure};
 ghost use Rattle.yspec.specs.types.Names.{words_of};

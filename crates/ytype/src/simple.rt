@@ -1,12 +1,12 @@
 //! Types that are no unions: a built-in type with its restrictions.
 
-ghost use Rattle.std.specs.Prelude.{◌≡◌, ◌++◌, ◌∷◌, [], option_map, option_and_then, ok_or, ◌≤◌, IfOk, IfSome};
+ghost use Rattle.std.specs.Prelude.{◌≡◌, ◌++◌, ◌∷◌, [], option_and_then, ok_or, ◌≤◌, IfOk, IfSome};
 ghost use Rattle.std.specs.Option.{ForSome};
 ghost use Rattle.std.specs.String.{string_bytes};
 ghost use Rattle.yspec.specs.types.Ranges.{holds};
-ghost use Rattle.yspec.specs.types.Types.{excluding, limited, simple_taken, simple_app_tag, base_taken};
+ghost use Rattle.yspec.specs.types.Types.{excluding, limited, simple_taken, simple_app_tag};
 ghost use Rattle.yspec.specs.types.Values.{simple_read, content_text};
-ghost use Rattle.yspec.specs.types.Restriction.{left_by, left_after, limited_by, with_limit, range_base, length_base, lengths, narrowed_simple};
+ghost use Rattle.yspec.specs.types.Restriction.{left_by, limited_by, with_limit, range_base, length_base, narrowed_simple};
 ghost use Rattle.ynumber.specs.View.{text_of, restriction_of};
 ghost use Rattle.yspec.specs.Results.{Gives};
 ghost use Rattle.ynumber.specs.Words.{narrow_refusal, same};

@@ -1,10 +1,10 @@
 //! Types.
 
-ghost use Rattle.std.specs.Prelude.{◌≡◌, ◌++◌, [], ◌∷◌, Ok, IfOk, OnOk, Some, None, option_map, ok_or};
-ghost use Rattle.yspec.specs.types.Types.{taken, app_tag_of, simple_taken, first_value, plain, integer_type, string_type, uint8_type, int8, int16, int32, int64, uint8, uint16, uint32, uint64, string_base, boolean_base, empty_base, decimal_base, enumeration_base, bits_base};
+ghost use Rattle.std.specs.Prelude.{◌≡◌, ◌++◌, Ok, IfOk, OnOk, Some, None, option_map, ok_or};
+ghost use Rattle.yspec.specs.types.Types.{taken, app_tag_of, simple_taken, first_value, plain, integer_type, string_type, uint8_type, int8, int16, int32, int64, uint8, uint16, uint32, uint64, boolean_base, empty_base, decimal_base, enumeration_base, bits_base};
 ghost use Rattle.yspec.specs.types.Values.{value_of_text, simple_read, taker};
 ghost use Rattle.yspec.specs.types.Names as names;
-ghost use Rattle.yspec.specs.types.Restriction.{members_of, all_members, union_type, leafref_type, narrowed};
+ghost use Rattle.yspec.specs.types.Restriction.{members_of, union_type, leafref_type, narrowed};
 ghost use Rattle.ynumber.specs.View.{restriction_of};
 ghost use Rattle.yspec.specs.Results.{Gives};
 ghost use Rattle.ynumber.specs.Words.{narrow_refusal, same};

@@ -1,6 +1,6 @@
 //! Identifiers, dates and words in arguments.
 
-ghost use Rattle.std.specs.Prelude.{◌≡◌, Bool, true, false, option_map, codes};
+ghost use Rattle.std.specs.Prelude.{◌≡◌, true, false, option_map, codes};
 ghost use Rattle.yspec.specs.linking.Arguments as spec;
 ghost use Rattle.yword.specs.WordView.{status_view, ordered_by_view};
 
