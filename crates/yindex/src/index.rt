@@ -15,8 +15,10 @@ use std::collections::BTreeMap;
 pub struct NodeIndex<'t> {
     names: BTreeMap<&'t str, u32>,
     nodes: FirstNodes,
-    ghost apart: { (a : _) → (b : _) → (number : ℕ) → number_in names a ≡ Some number → number_in names b ≡ Some number → a ≡ b },
-    ghost known: { (among : _) → (key : _) → ((name : _) → number_in names name ≢ Some key.name) → first_at nodes among key ≡ None },
+    ghost apart: { (a : _) → (b : _) → (number : ℕ) → number_in names a ≡ Some number
+        → number_in names b ≡ Some number → a ≡ b },
+    ghost known: { (among : _) → (key : _) → ((name : _) → number_in names name ≢ Some key.name)
+        → first_at nodes among key ≡ None },
 }
 
 /// The number of a name, which is given one where it has none.
@@ -43,7 +45,7 @@ impl<'t> NodeIndex<'t> {
     ghost use Rattle.std.specs.Prelude.{◌≡◌, ◌+◌, ◌<◌, ℕ, None, Some, true, if◌then◌else◌, IfOk, OnOk, OnErr};
     ghost use Rattle.yspec.specs.Forest.{first_of};
     ghost use Rattle.yspec.specs.text.Text.{Text, is_text};
-    ghost use Rattle.yindex.specs.Index.{named, found};
+    ghost use Rattle.yindex.specs.Index.{named, found, AreOf};
     ghost use Rattle.yindex.specs.Names.{found_by, is_at, number_among, ascends};
 
     /// No nodes, with room for some.
@@ -75,14 +77,14 @@ impl<'t> NodeIndex<'t> {
 
     /// Adds a node behind those so far, which has a number of its own.
     pub fn add(&mut self, node: IndexedNode, name: &'t str) -> Result<(), AllocError>
-        requires { (t : _) → (number : ℕ) → named self.old t ≡ Some number → number < node.number }
-        ensures names { OnOk result ((t : _) → named self.new t
-            ≡ first_of (named self.old t) (if is_text t name.now then Some node.number else None)) }
+        requires { (t : _) → (number : ℕ) → named self.old t ≡ Some number
+            → number < node.number }
+        ensures names { OnOk result ((t : _) → named self.new t ≡ first_of (named self.old t)
+            (if is_text t name.now then Some node.number else None)) }
         ensures later { OnOk result ((t : _) → (number : ℕ) → named self.new t ≡ Some number
             → number < node.number + 1) }
         ensures nodes { OnOk result ((among : _) → (above : _) → (m : _) → (t : _)
-            → found self.new among above m t
-            ≡ first_of (found self.old among above m t)
+            → found self.new among above m t ≡ first_of (found self.old among above m t)
             (if is_at among above m t node name.now then Some node.number else None)) }
     {
         let number = number_of(&mut self.names, name, node.number)?;
@@ -91,11 +93,9 @@ impl<'t> NodeIndex<'t> {
 
     /// The first node of each name, in the order of the names, and the nodes by their keys.
     pub fn into_parts(self, alloc: Global) -> Result<(Vec<u32>, FirstNodes), AllocError>
-        ensures ascend { IfOk result (λ parts. (text_at : ℕ → Text)
-            → ((t : _) → (number : ℕ) → named self.entry t ≡ Some number → text_at number ≡ t)
+        ensures ascend { IfOk result (λ parts. (text_at : ℕ → Text) → AreOf text_at self.entry
             → ascends text_at parts.0.items ≡ true) }
-        ensures names { IfOk result (λ parts. (text_at : ℕ → Text)
-            → ((t : _) → (number : ℕ) → named self.entry t ≡ Some number → text_at number ≡ t)
+        ensures names { IfOk result (λ parts. (text_at : ℕ → Text) → AreOf text_at self.entry
             → (t : _) → number_among text_at parts.0.items t ≡ named self.entry t) }
         ensures nodes { IfOk result (λ parts. (among : _) → (above : _) → (m : _) → (t : _)
             → found_by (named self.entry) parts.1 among above m t

@@ -140,10 +140,10 @@ impl FirstNodes {
     /// Adds a node behind those so far.
     fn note(&mut self, key: Key, asked: Asked, number: u32) -> Result<(), AllocError>
         ensures noted { OnOk result ((among : _) → (k : _) → first_at self.new among k
-            ≡ first_of (first_at self.old among k) (if same_key key k
-            && asks_for among asked then Some number else None)) }
-        ensures err { OnErr result ((among : _) → (k : _) → first_at self.new among k
-            ≡ first_at self.old among k) }
+            ≡ first_of (first_at self.old among k)
+            (if same_key key k && asks_for among asked then Some number else None)) }
+        ensures err { OnErr result ((among : _) → (k : _)
+            → first_at self.new among k ≡ first_at self.old among k) }
     {
         let firsts = self.by_key.get(&key).copied().unwrap_or(Firsts::NONE);
         match self.by_key.insert(key, firsts.followed_by(asked, number)) {

@@ -4,11 +4,11 @@ use Rattle.std.specs.Prelude.{◌==◌, string_bytes}
 use Rattle.yspec.specs.Forest.{first_of}
 use Rattle.yspec.specs.text.Text.{Text, is_text}
 use Rattle.yspec.specs.linking.Planned.{same_number}
-use Rattle.yspec.specs.schema.Schema.{SchemaNode, is_data, is_called}
+use Rattle.yspec.specs.schema.Schema.{is_data, is_called}
 use Rattle.yindex.specs.Names.{is_at}
 use Rattle.yindex.specs.declared.keys.Among.TheVariants.{Children, DataNodes}
 use Rattle.ymodel.specs.declared.children.Row.{Row}
-use Rattle.ymodel.specs.Layout.{Place, data_place_of, kind_view, number_of, place_of}
+use Rattle.ymodel.specs.Layout.{Place, data_place_of, kind_view, place_of}
 use Rattle.ymodel.specs.Lookup.{first_below, indexed, is_data_called}
 use Rattle.ymodel.proofs.ChildLemmas.{first_below-append}
 

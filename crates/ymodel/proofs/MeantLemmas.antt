@@ -1,7 +1,7 @@
 -- What a name means that a document writes.
 use Rattle.std.proofs.Common.{◌≡◌, ◌≢◌, ℕ, zero, suc, ◌<◌, ◌≤◌, Bool, true, false, cond, ◌&&◌, ◌||◌, List, [], ◌∷◌, ◌++◌, length, get_or, map, Option, Some, None, refl, sym, ap, ap₂, ◌∙◌, arith}
-use Rattle.std.specs.Prelude.{◌==◌, nat_lt, position, slice_get, string_bytes}
-use Rattle.std.specs.List.{list_any, position_or_len}
+use Rattle.std.specs.Prelude.{◌==◌, nat_lt, position, string_bytes}
+use Rattle.std.specs.List.{position_or_len}
 use Rattle.std.specs.Option.{option_map_or}
 use Rattle.std.proofs.lemmas.Bool.{eq-eqb, eqb-true, ltb-false, ne_eqb}
 use Rattle.std.proofs.lemmas.Bool.Decides.{nat_tests}
@@ -13,7 +13,7 @@ use Rattle.std.proofs.lemmas.Slice.Eq.{bytes_eq-Decides}
 use Rattle.yspec.specs.Forest.{Forest, node, end, first_of}
 use Rattle.yspec.specs.text.Text.{Text, is_text}
 use Rattle.yspec.specs.linking.Planned.{same_number}
-use Rattle.yspec.specs.schema.Schema.{Schema, SchemaNode, is_called, is_data, is_module, is_written, module_at, module_name, qualified_name, written_name}
+use Rattle.yspec.specs.schema.Schema.{Schema, SchemaNode, is_called, is_data, is_module, module_name, qualified_name, written_name}
 use Rattle.yspec.specs.document.Writing.{IsNamed, IsPlain, ModulesDiffer, NodesAreNamed}
 use Rattle.yspec.proofs.BasicLemmas.{other_text, same_text, texts_differ}
 use Rattle.yspec.proofs.DocumentProofs.WrittenNameLemmas.{plain_other, qualified_is, same_parts}

@@ -12,10 +12,6 @@ use Rattle.ymodel.specs.declared.children.Row.{Row}
 use Rattle.ymodel.specs.declared.index.Index.{Index}
 use Rattle.ymodel.specs.Layout.{Place, kind_view, laid, number_of}
 
--- whether a place stands below a node, or at the top, and its label passes a test
-abbrev pub matches : Option ℕ → (spec.SchemaNode → Bool) → Place → Bool
-matches parent test p = option_eq (λ a b. a == b) parent p.parent && test p.label
-
 -- the first of some places below a node, or at the top, whose label passes a test
 abbrev pub first_below : Option ℕ → (spec.SchemaNode → Bool) → List Place → Option ℕ
 first_below parent test [] = None

@@ -29,8 +29,8 @@ pub(crate) fn index_of(alloc: Global, rows: &[Row]) -> Result<Index, AllocError>
     requires numbered { length rows.now < 2 ^ 32 }
     requires laid_out { IsLaidOut rows.now }
     ensures named { IfOk result (λ index. FindsNamed index rows.now) }
-    ensures written { IfOk result
-        (λ index. FindsWritten index rows.now (data_places None (forest_of 0 rows.now))) }
+    ensures written { IfOk result (λ index. FindsWritten index rows.now
+        (data_places None (forest_of 0 rows.now))) }
 {
     let mut index = NodeIndex::with_capacity(alloc, rows.len())?;
     let mut nearest = Vec::with_capacity(alloc, rows.len())?;
@@ -126,8 +126,8 @@ impl Index {
         name: &str,
     ) -> Option<u32>
         requires { names_ascend self.now rows.now ≡ true }
-        ensures { result ≡ found_by
-            (number_among_names self.now rows.now) self.now.nodes among above «module» name.now }
+        ensures { result ≡ found_by (number_among_names self.now rows.now) self.now.nodes
+            among above «module» name.now }
     {
         let name = number_of(rows, &self.names, name)?;
         let key = Key {

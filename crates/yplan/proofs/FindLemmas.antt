@@ -1,5 +1,5 @@
 -- What an index finds of planned nodes, once one more is added.
-use Rattle.std.proofs.Common.{◌≡◌, ℕ, Bool, true, false, cond, ◌&&◌, List, [], ◌∷◌, ◌++◌, Option, Some, None, refl, sym, ap, ap₂, ◌∙◌}
+use Rattle.std.proofs.Common.{◌≡◌, ℕ, Bool, true, false, cond, List, [], ◌∷◌, ◌++◌, Option, Some, None, refl, sym, ap₂, ◌∙◌}
 use Rattle.std.specs.Prelude.{find, option_map}
 use Rattle.yspec.specs.Forest.{first_of}
 use Rattle.yspec.specs.text.Text.{Text}

@@ -30,8 +30,8 @@ pub(crate) fn index_of<'t>(
     table: &Table<Planned<'_, 't>>,
 ) -> Result<NodeIndex<'t>, AllocError>
     ensures { IfOk result (λ index. (among : _) → (above : _) → (m : ℕ) → (name : _)
-        → found index among above m name
-        ≡ option_map number_in (find (is_found among above m name) (list_of table.now))) }
+        → found index among above m name ≡ option_map number_in
+        (find (is_found among above m name) (list_of table.now))) }
 {
     let mut index = NodeIndex::with_capacity(alloc, table.len())?;
     for (number, row) in table.rows().iter().enumerate() {

@@ -31,8 +31,9 @@ pub struct Plan<'a, 't> {
     index: NodeIndex<'t>,
     ghost prefixed: { IsOf prefixes (link.view sources.now) },
     ghost laid_out: { IsLaidOut (rows_in table) },
-    ghost indexed: { (among : _) → (above : _) → (m : ℕ) → (name : _) → found index among above m name
-        ≡ option_map number_in (find (is_found among above m name) (list_of table)) },
+    ghost indexed: { (among : _) → (above : _) → (m : ℕ) → (name : _)
+        → found index among above m name ≡ option_map number_in
+        (find (is_found among above m name) (list_of table)) },
 }
 
 impl<'a, 't> Plan<'a, 't> {

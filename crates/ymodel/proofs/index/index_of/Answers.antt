@@ -1,5 +1,5 @@
-use Rattle.std.proofs.Common.{◌≡◌, ◌+◌, ◌<◌, ℕ, Some, None, [], ◌∷◌, ◌++◌, take, length, sym, ap, ap₂, ◌∙◌, arith, length-take}
-use Rattle.std.specs.Prelude.{false, if◌then◌else◌, option_and_then, string_bytes}
+use Rattle.std.proofs.Common.{◌≡◌, ◌+◌, ◌<◌, Some, None, [], ◌∷◌, ◌++◌, take, length, sym, ap, ap₂, ◌∙◌, arith, length-take}
+use Rattle.std.specs.Prelude.{if◌then◌else◌, option_and_then, string_bytes}
 use Rattle.std.specs.Option.{option_map_or}
 use Rattle.std.proofs.lemmas.List.{take_more, take_all}
 use Rattle.std.proofs.lemmas.Option.{slice_get-get_or}
@@ -10,8 +10,8 @@ use Rattle.yindex.specs.Keys.{first_at}
 use Rattle.yindex.specs.Names.{is_at}
 use Rattle.yindex.specs.declared.keys.Among.TheVariants.{Children, DataNodes}
 use Rattle.yindex.proofs.NameLemmas.{still_of}
-use Rattle.ymodel.specs.Layout.{Place, laid, place_of, number_of, node_view, data_at, data_above, data_place_of, data_places, forest_of}
-use Rattle.ymodel.specs.Lookup.{first_below, indexed, is_data_called, name_at, number_among_names}
+use Rattle.ymodel.specs.Layout.{Place, laid, place_of, number_of, data_at, data_above, data_place_of}
+use Rattle.ymodel.specs.Lookup.{first_below, is_data_called, name_at}
 use Rattle.ymodel.proofs.LayoutLemmas.{laid_push}
 use Rattle.ymodel.proofs.NearestLemmas.{nearest_of, handed_on, handed, handed-last, handed_laid, map-append}
 use Rattle.ymodel.proofs.FindLemmas.{child_added, data_added}

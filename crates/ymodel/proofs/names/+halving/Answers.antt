@@ -1,7 +1,6 @@
-use Rattle.std.proofs.Common.{◌≡◌, ◌++◌, ◌∷◌, [], None, length, take, drop, sym, ap, ap₂, ◌∙◌, rules}
+use Rattle.std.proofs.Common.{◌≡◌, ◌++◌, ◌∷◌, sym, ap, ◌∙◌, rules}
 use Rattle.std.specs.Cmp.Lexicographic.{slice_cmp}
 use Rattle.std.specs.Ordering.{nat_cmp}
-use Rattle.yindex.specs.Names.{number_among}
 use Rattle.yindex.proofs.OrderLemmas.{halved}
 use Rattle.ymodel.specs.Lookup.{name_at}
 use Rattle.ymodel.proofs.names.+halving.Goals as goal

@@ -1,4 +1,4 @@
-use Rattle.std.proofs.Common.{◌≡◌, ◌∷◌, ◌++◌, [], Some, None, false, sym, ap, ◌∙◌, arith}
+use Rattle.std.proofs.Common.{[], Some, None, false, sym, ap, ◌∙◌, arith}
 use Rattle.std.specs.Option.{option_map_or}
 use Rattle.std.proofs.lemmas.Str.Pattern.{split_parts}
 use Rattle.yspec.specs.schema.Schema.{is_called}

@@ -1,13 +1,12 @@
 use Rattle.std.proofs.Common.{◌≡◌, ◌+◌, ◌≤◌, suc, take, drop, length, get_or, sym, ap, ap₂, ◌∙◌, arith}
-use Rattle.std.specs.Prelude.{Some, find, option_map}
-use Rattle.std.proofs.lemmas.Option.{slice_get-get_or}
+use Rattle.std.specs.Prelude.{find, option_map}
 use Rattle.std.specs.List.{list_any}
 use Rattle.yspec.specs.linking.SchemaNodes.{number_in}
 use Rattle.yspec.specs.schema.Breaks.{least_from, when}
 use Rattle.yspec.specs.linking.NodeBreaks.{broken_at, is_like, doubled}
 use Rattle.ypreorder.specs.Layout.{labels_by}
 use Rattle.ypreorder.specs.View.{rows_in}
-use Rattle.ypreorder.proofs.LabelLemmas.{label_at, labels_more}
+use Rattle.ypreorder.proofs.LabelLemmas.{labels_more}
 use Rattle.ygrammar.specs.BreakView.{seen}
 use Rattle.yplan.specs.PlannedView.{planned_view}
 use Rattle.yplan.specs.Finding.{is_before}

@@ -1,4 +1,4 @@
-use Rattle.std.proofs.Common.{◌≡◌, true, sym, ap, ◌∙◌, rules}
+use Rattle.std.proofs.Common.{◌≡◌, ap, ◌∙◌, rules}
 use Rattle.std.specs.BTreeMap.{values}
 use Rattle.yindex.specs.Names.{ascends, number_among}
 use Rattle.yindex.proofs.OrderLemmas.{names_ascend, names_found}

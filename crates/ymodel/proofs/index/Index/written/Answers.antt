@@ -1,9 +1,9 @@
-use Rattle.std.proofs.Common.{◌≡◌, None, Some, false, [], sym, ap, ◌∙◌}
+use Rattle.std.proofs.Common.{◌≡◌, None, false, sym, ap, ◌∙◌}
 use Rattle.std.specs.Option.{option_map_or}
 use Rattle.yspec.specs.text.Text.{is_text}
-use Rattle.yspec.specs.schema.Schema.{SchemaNode, is_called, is_written, module_at, written_name}
+use Rattle.yspec.specs.schema.Schema.{SchemaNode, is_called, is_written, written_name}
 use Rattle.yspec.specs.document.Writing.{IsNamed}
-use Rattle.ymodel.specs.Layout.{data_places, forest_of, schema_view}
+use Rattle.ymodel.specs.Layout.{forest_of, schema_view}
 use Rattle.ymodel.proofs.MeantLemmas.{first_alike, none_alike}
 use Rattle.ymodel.proofs.index.Index.written.Goals as goal
 
