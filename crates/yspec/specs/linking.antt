@@ -13,3 +13,4 @@ pub mod NodeBreaks
 pub mod Compiling
 pub mod LinkingSamples
 pub mod CompilingSamples
+pub mod TableSamples

@@ -1,6 +1,7 @@
--- Worked examples of corners: schemas of several modules written out as values.
-use Rattle.std.specs.Prelude.{false, [], ◌∷◌, codes, None}
+-- Worked examples of corners: schemas of several modules written out as values, and deep statements.
+use Rattle.std.specs.Prelude.{ℕ, zero, suc, true, false, [], ◌∷◌, ◌++◌, codes, Some, None}
 use Rattle.yspec.specs.Forest.{end, node}
+use Rattle.yspec.specs.text.Text.{Text}
 use Rattle.yspec.specs.types.Types.{string_base}
 use Rattle.yspec.specs.schema.Schema.{Schema, container, leaf, choice, case, allowed}
 use Rattle.yspec.specs.program.SchemaExamples.{named_module, node_of, of_base}
@@ -23,3 +24,17 @@ same_name_schema = record {
       (node (node_of 1 (codes "n") (leaf (of_base (codes "string") string_base) allowed)) end
       (node (record (node_of 2 (codes "n") (leaf (of_base (codes "string") string_base) allowed)) { module_number = 1 }) end end)) end;
 }
+
+-- a container of m with one of a, in which a leaf of a stands
+abbrev pub other_container_schema : Schema
+other_container_schema = record {
+  modules = named_module (codes "a") ∷ named_module (codes "m") ∷ [];
+  nodes = node (record (node_of 0 (codes "c") (container false)) { module_number = 1 })
+      (node (node_of 1 (codes "d") (container false))
+      (node (node_of 2 (codes "e") (leaf (of_base (codes "string") string_base) allowed)) end end) end) end;
+}
+
+-- so many containers, each in the one before
+abbrev pub nested : ℕ → Text
+nested zero = []
+nested (suc n) = codes "container c {" ++ (nested n ++ codes "}")

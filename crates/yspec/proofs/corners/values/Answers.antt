@@ -5,6 +5,8 @@ use Rattle.yspec.proofs.corners.values.Goals as goal
 pub returns : goal.returns
 unfolding yspec_on_literals
 returns c = record {
+  least = refl;
+  less = refl;
   hexadecimal = refl;
   leading_zero = refl;
   carriage_return = refl;
