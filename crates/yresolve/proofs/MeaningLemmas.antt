@@ -1,21 +1,10 @@
 -- Where paths lead.
 use Rattle.std.proofs.Common.{◌≡◌, Bool, true, false, cond, List, [], ◌∷◌, Option, Some, None, refl, sym, ap, ◌∙◌}
 use Rattle.std.specs.Prelude.{option_map, option_and_then}
-use Rattle.yspec.specs.Forest.{Forest, end, node}
-use Rattle.yspec.specs.linking.Keyword.{type_word}
-use Rattle.yspec.specs.linking.Source as spec_source
-use Rattle.yspec.specs.linking.Source.{is_source_of}
-use Rattle.yspec.specs.linking.Parts.{own_of, defines_node, part_of}
 use Rattle.yspec.specs.linking.Prefixes.{NodeName}
 use Rattle.yspec.specs.linking.Planned as spec
 use Rattle.yspec.specs.linking.Planned.{Plan, data_node_at, data_child_called}
 use Rattle.yspec.specs.linking.SchemaNodes.{number_in}
-use Rattle.yspec.specs.linking.TypeStatements.{Verdict, verdict, verdicts, first_meant, type_meant}
-use Rattle.ypreorder.specs.View.{row_by, label_by}
-use Rattle.ygrammar.specs.SourceView.{source_view}
-use Rattle.yplan.specs.PlannedView.{implied_or, part_at}
-use Rattle.yplan.specs.declared.planned.Planned as code
-use Rattle.yplan.proofs.PartLemmas.{defines_same}
 
 -- where the rest of a path leads from the node found so far
 abbrev pub onwards : Plan → Option spec.Planned → List NodeName → Option spec.Planned
