@@ -2,9 +2,9 @@
 use Rattle.std.specs.Prelude.{ℕ, zero, suc, true, false, [], ◌∷◌, ◌++◌, codes, Some, None}
 use Rattle.yspec.specs.Forest.{end, node}
 use Rattle.yspec.specs.text.Text.{Text}
-use Rattle.yspec.specs.types.Types.{string_base}
+use Rattle.yspec.specs.types.Types.{string_base, string_type}
 use Rattle.yspec.specs.schema.Schema.{Schema, container, leaf, choice, case, allowed}
-use Rattle.yspec.specs.program.SchemaExamples.{named_module, node_of, of_base}
+use Rattle.yspec.specs.program.SchemaExamples.{named_module, node_of, of_base, referring}
 
 -- a container of m with a choice of a, in whose case a leaf of a stands
 abbrev pub other_choice_schema : Schema
@@ -32,6 +32,15 @@ other_container_schema = record {
   nodes = node (record (node_of 0 (codes "c") (container false)) { module_number = 1 })
       (node (node_of 1 (codes "d") (container false))
       (node (node_of 2 (codes "e") (leaf (of_base (codes "string") string_base) allowed)) end end) end) end;
+}
+
+-- a container of m with two leafs of a, of which the second refers to the first
+abbrev pub other_target_schema : Schema
+other_target_schema = record {
+  modules = named_module (codes "a") ∷ named_module (codes "m") ∷ [];
+  nodes = node (record (node_of 0 (codes "c") (container false)) { module_number = 1 })
+      (node (node_of 1 (codes "x") (leaf (of_base (codes "string") string_base) allowed)) end
+      (node (node_of 2 (codes "r") (leaf (referring string_type.shape 1) allowed)) end end)) end;
 }
 
 -- so many containers, each in the one before

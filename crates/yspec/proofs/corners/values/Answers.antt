@@ -11,4 +11,6 @@ returns c = record {
   leading_zero = refl;
   carriage_return = refl;
   members = refl;
+  one_value = refl;
+  no_text = refl;
 }
