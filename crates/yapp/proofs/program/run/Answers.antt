@@ -1,4 +1,4 @@
-use Rattle.std.proofs.Common.{inl, inr, refl, map, string_bytes, false, true}
+use Rattle.std.proofs.Common.{arith, inl, inr, refl, map, string_bytes, false, true}
 use Rattle.yspec.specs.program.Output.{found}
 use Rattle.yapp.specs.Files.{came_to}
 use Rattle.yapp.proofs.ContentsLemmas.{outcome_same}
