@@ -6,6 +6,11 @@ pub mod StatementBreaks
 pub mod Source
 pub mod TypeStatements
 pub mod Prefixes
+pub mod Imports
+pub mod Scopes
+pub mod Graph
+pub mod Circles
+pub mod DerivedTypes
 pub mod Parts
 pub mod Planned
 pub mod SchemaNodes
