@@ -1,2 +1,9 @@
 pub mod ChainLemmas
 mod ChainWalkLemmas
+mod ReachingLaws
+mod StepLaws
+mod EnterLemmas
+mod LeaveLemmas
+mod RankLemmas
+mod WorkLemmas
+mod EdgeLemmas

@@ -1,3 +1,6 @@
 pub mod Chains
 pub mod ChainWalks
 pub mod ChainSamples
+pub mod Reaching
+pub mod Search
+pub mod Edges

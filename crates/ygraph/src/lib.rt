@@ -1,7 +1,10 @@
-//! Graphs: where chains of references lead, and which of them are circles.
+//! Graphs: where chains of references lead, and which edges lie on circles.
 #![tactic(auto)]
 
 pub mod chain_examples;
 mod chains;
+mod circles;
+mod search;
 
 pub use chains::{Chain, chains_of};
+pub use circles::{Edge, on_circles};
