@@ -11,11 +11,13 @@ pub mod Scopes
 pub mod Graph
 pub mod Circles
 pub mod DerivedTypes
+pub mod Linking
 pub mod Parts
 pub mod Planned
 pub mod SchemaNodes
 pub mod NodeBreaks
 pub mod Compiling
 pub mod LinkingSamples
+pub mod ScopeSamples
 pub mod CompilingSamples
 pub mod TableSamples

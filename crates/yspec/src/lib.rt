@@ -16,6 +16,7 @@ pub mod examples;
 pub mod linking;
 pub mod modules;
 pub mod reading;
+pub mod scopes;
 pub mod scripts;
 pub mod spelling;
 pub mod text;
