@@ -2,6 +2,7 @@
 use Rattle.std.proofs.Common.{◌≡◌, ◌≢◌, ℕ, zero, suc, ◌+◌, ◌<◌, ◌≤◌, ◌==◌, ◌||◌, Bool, true, false, List, [], ◌∷◌, ◌++◌, length, get_or, take, map, Option, refl, sym, ap, ◌∙◌, subst, inl, inr, arith}
 use Rattle.std.specs.Prelude.{◌⊎◌}
 use Rattle.std.specs.List.{list_any}
+use Rattle.std.specs.List.Sorted.{IsNonDecreasingBy}
 use Rattle.std.specs.Option.{option_map_or}
 use Rattle.std.proofs.lemmas.Bool.{cases_lt, cases_eq, or_cases, or_left, or_right, and_from, eqb-true, eq-eqb, false≢true}
 use Rattle.std.proofs.lemmas.Option.{slice_get-get_or}
@@ -13,7 +14,7 @@ use Rattle.std.specs.declared.alloc.Global.{Global}
 use Rattle.std.specs.declared.vec.Vec.{Vec}
 use Rattle.yspec.specs.linking.Graph as spec
 use Rattle.yspec.specs.linking.Graph.{is_on_circle}
-use Rattle.ygraph.specs.Reaching.{Reaches, here, along, leads, has_edge, HasEdge}
+use Rattle.ygraph.specs.Reaching.{Reaches, here, along, leads, has_edge, HasEdge, StandsBefore}
 use Rattle.ygraph.specs.Search.{Rows, HasTarget, TargetsWithin, targets_of, IsRanking}
 use Rattle.ygraph.specs.Edges.{edge_view, IsEdgeWithin, AreWithin, HaveTargets, HaveNoTargets}
 use Rattle.ygraph.specs.declared.circles.Edge.{Edge}
@@ -75,6 +76,20 @@ module _ (n : ℕ) (edges : List Edge) (all : AreWithin n edges) (rows : Rows) (
         (tell.0 (mapped (HasEdge graph) (HasTarget rows) made.target e.target e.source (circle_leads graph (edge_view e) r))))
         (λ r. leads_circle graph (edge_view e)
         (mapped (HasTarget rows) (HasEdge graph) made.edge e.target e.source (tell.1 (eqb-true (get_or ranks e.source 0) (get_or ranks e.target 0) r))))
+
+    pub stands_before : (a b : ℕ) → has_edge graph a b ≡ true → is_on_circle graph (record { source = a; target = b }) ≡ false
+        → (nodes : List ℕ) → IsNonDecreasingBy (λ v. get_or ranks v 0) nodes → StandsBefore nodes b a
+    stands_before a b has off nodes rising i j low_i low_j at_i at_j = elim (cases_lt j i) [
+      | inl before ↦ before
+      | inr behind ↦
+          let up = rising i j 0 behind low_j in
+          let of_a : get_or ranks (get_or nodes i 0) 0 ≡ get_or ranks a 0 = ap (λ v. get_or ranks v 0) at_i in
+          let of_b : get_or ranks (get_or nodes j 0) 0 ≡ get_or ranks b 0 = ap (λ v. get_or ranks v 0) at_j in
+          let down = is.down a b (made.target a b has) in
+          let tell = ranks_tell rows ranks rows_within is a b (made.target a b has) in
+          absurd (false≢true (sym off ∙ leads_circle graph (record { source = a; target = b })
+          (mapped (HasTarget rows) (HasEdge graph) made.edge b a (tell.1 (omega (arith, up, of_a, of_b, down))))))
+    ]
 
     pub one_more : (i : ℕ) → (e d : Edge) → (flags flags' : List Bool) → (flag : Bool) → i < length edges → e ≡ get_or edges i d
         → flags ≡ map (λ k. is_on_circle graph (edge_view k)) (take i edges) → flags' ≡ flags ++ flag ∷ []

@@ -1,7 +1,6 @@
 -- The nodes that are reached step by step are those to which a node leads.
-use Rattle.std.proofs.Common.{◌≡◌, ℕ, zero, suc, ◌+◌, ◌≤◌, ◌<◌, ◌==◌, ◌&&◌, ◌||◌, not, Bool, true, false, List, [], ◌∷◌, ◌++◌, length, map, filter, refl, sym, ap, ◌∙◌, subst, inl, inr, arith}
+use Rattle.std.proofs.Common.{◌≡◌, ℕ, zero, suc, ◌+◌, ◌≤◌, ◌<◌, ◌==◌, ◌||◌, not, Bool, true, false, List, [], ◌∷◌, ◌++◌, length, map, filter, refl, sym, ap, ◌∙◌, subst, inl, inr, arith}
 use Rattle.std.specs.Prelude.{◌⊎◌, if◌then◌else◌}
-use Rattle.std.specs.List.{list_any}
 use Rattle.std.proofs.lemmas.Bool.{or_cases, or_left, or_right, and_from, and_parts, eqb-true, eq-eqb, false≢true}
 use Rattle.std.proofs.lemmas.List.Folds.{list_any-append}
 use Rattle.yspec.specs.linking.Graph.{Edge, is_among, leads_out, target_of, reached, is_on_circle}
@@ -41,10 +40,10 @@ added_from nodes (e ∷ es) x h = at_test (added_from nodes es x) (leads_out nod
         → (a : ℕ) × (is_among nodes a ≡ true) × (has_edge (e ∷ es) a x ≡ true)
     at_test later true is h = elim (or_cases (e.target == x) (is_among (added nodes es) x) h) [
       | inl first ↦ (
-          e.source,
-          (and_parts (is_among nodes e.source) (not (is_among nodes e.target)) is).0,
-          or_left (leads e.source x e) (has_edge es e.source x) (and_from (e.source == e.source) (e.target == x) (eq-eqb e.source e.source refl) first),
-        )
+        e.source,
+        (and_parts (is_among nodes e.source) (not (is_among nodes e.target)) is).0,
+        or_left (leads e.source x e) (has_edge es e.source x) (and_from (e.source == e.source) (e.target == x) (eq-eqb e.source e.source refl) first),
+      )
       | inr others ↦ let r = later others in (r.0, r.1, or_right (leads r.0 x e) (has_edge es r.0 x) r.2)
     ]
     at_test later false is h = let r = later h in (r.0, r.1, or_right (leads r.0 x e) (has_edge es r.0 x) r.2)

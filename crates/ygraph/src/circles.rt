@@ -57,7 +57,11 @@ fn has_one_rank(edge: &Edge, ranks: &[usize]) -> bool
 }
 
 /// For each node, those to which its edges lead.
-fn targets(alloc: Global, count: usize, edges: &[Edge]) -> Result<Vec<Vec<usize>>, AllocError>
+pub(crate) fn targets(
+    alloc: Global,
+    count: usize,
+    edges: &[Edge],
+) -> Result<Vec<Vec<usize>>, AllocError>
     requires { AreWithin count edges.now }
     ensures { IfOk result (λ rows. HaveTargets count edges.now rows.items) }
 {

@@ -4,7 +4,9 @@
 pub mod chain_examples;
 mod chains;
 mod circles;
+mod order;
 mod search;
 
 pub use chains::{Chain, chains_of};
 pub use circles::{Edge, on_circles};
+pub use order::in_order;

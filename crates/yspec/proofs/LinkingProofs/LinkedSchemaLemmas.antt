@@ -9,7 +9,7 @@ use Rattle.yspec.specs.text.Text.{Text}
 use Rattle.yspec.specs.schema.Schema.{Schema, SchemaNode, Kind, data_row, written_name}
 use Rattle.yspec.specs.schema.Breaks.{level_limit, node_limit}
 use Rattle.yspec.specs.document.Fitting.{IsBare, LeafsAreBare}
-use Rattle.yspec.specs.document.Writing.{IsNamed, NodesAreNamed, ModulesDiffer, IsNew, RowDiffers, AllDiffer, NamesDiffer}
+use Rattle.yspec.specs.document.Writing.{NodesAreNamed, ModulesDiffer, IsNew, RowDiffers, AllDiffer, NamesDiffer}
 use Rattle.yspec.specs.linking.Compiling.{IsCompiled}
 use Rattle.yspec.proofs.LinkingProofs.LinkedLemmas.{linked_bare, linked_few, linked_within}
 use Rattle.yspec.proofs.LinkingProofs.LinkedNameLemmas.{linked_names, linked_modules, linked_nodes}

@@ -1,5 +1,5 @@
 -- What refers to itself, C9: circles of imports, typedefs and groupings (RFC 7950, 5.1, 7.3 and 7.12).
-use Rattle.std.specs.Prelude.{ℕ, ◌++◌, Bool, false, List, find, Option, None, option_map, option_and_then, if◌then◌else◌}
+use Rattle.std.specs.Prelude.{ℕ, Bool, false, List, find, Option, None, option_map, option_and_then, if◌then◌else◌}
 use Rattle.std.specs.List.{flat_map, filter_map}
 use Rattle.std.specs.Option.{option_map_or}
 use Rattle.yspec.specs.Forest.{Forest, preorder}

@@ -1,5 +1,5 @@
 -- What `type` statements mean by way of typedefs: types, and defaults (RFC 7950, 7.3 and 9).
-use Rattle.std.specs.Prelude.{ℕ, zero, suc, ◌&&◌, ◌++◌, Bool, true, false, List, [], ◌∷◌, codes, Option, Some, None, option_map, option_and_then, if◌then◌else◌}
+use Rattle.std.specs.Prelude.{ℕ, zero, suc, ◌&&◌, Bool, true, false, List, [], ◌∷◌, codes, Option, Some, None, option_map, option_and_then, if◌then◌else◌}
 use Rattle.std.specs.List.{flat_map}
 use Rattle.std.specs.Option.{option_map_or}
 use Rattle.yspec.specs.Forest.{Forest, end, node, size, first_of}
@@ -61,7 +61,7 @@ unfoldable pub members_judged : Forest Source → (Placed → Verdict) → List 
 members_judged modules behind ancestors end = []
 members_judged modules behind ancestors (node s below after) = if is_source_of word.type_word s
     then judged modules behind true (record { source = s; below = below; ancestors = ancestors })
-        (members_judged modules behind ((s, below) ∷ ancestors) below) ∷ members_judged modules behind ancestors after
+    (members_judged modules behind ((s, below) ∷ ancestors) below) ∷ members_judged modules behind ancestors after
     else members_judged modules behind ancestors after
 
 abbrev pub judged_with : Forest Source → (Placed → Verdict) → Bool → Placed → Verdict

@@ -1,7 +1,7 @@
 -- What prefixes are declared to be, and imports: C5, and prefixes that are given twice, C6 (RFC 7950, 5.1, 5.1.1, 7.1.4 and
 -- 7.1.5).
 use Rattle.std.specs.Prelude.{ℕ, ◌++◌, ◌&&◌, Bool, true, false, not, List, [], ◌∷◌, map, find, Option, Some, None, option_map, unwrap_or, if◌then◌else◌}
-use Rattle.std.specs.List.{list_any, list_all, flat_map}
+use Rattle.std.specs.List.{list_any}
 use Rattle.std.specs.Option.{option_map_or}
 use Rattle.std.specs.Ordering.{nat_cmp}
 use Rattle.std.specs.Cmp.Lexicographic.{slice_cmp}

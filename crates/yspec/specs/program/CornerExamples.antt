@@ -1,5 +1,5 @@
 -- Worked examples of corners: schemas of several modules written out as values, and deep statements.
-use Rattle.std.specs.Prelude.{ℕ, zero, suc, true, false, [], ◌∷◌, ◌++◌, codes, Some, None}
+use Rattle.std.specs.Prelude.{ℕ, zero, suc, false, [], ◌∷◌, ◌++◌, codes, None}
 use Rattle.yspec.specs.Forest.{end, node}
 use Rattle.yspec.specs.text.Text.{Text}
 use Rattle.yspec.specs.types.Types.{string_base, string_type}

@@ -1,4 +1,4 @@
-use Rattle.std.proofs.Common.{◌≤◌, arith}
+use Rattle.std.proofs.Common.{arith}
 use Rattle.ygraph.proofs.EdgeLemmas.{within_more}
 use Rattle.ygraph.proofs.circles.node_count.Goals as goal
 

@@ -1,4 +1,4 @@
-use Rattle.std.proofs.Common.{◌<◌, length, get_or, ap, refl, arith}
+use Rattle.std.proofs.Common.{◌<◌, length, get_or, refl, arith}
 use Rattle.ygraph.specs.declared.circles.Edge.{Edge}
 use Rattle.ygraph.proofs.EdgeLemmas.{none_made, one_added}
 use Rattle.ygraph.proofs.circles.targets.Goals as goal
