@@ -1,12 +1,13 @@
 //! Which sets of modules are compiled, and how the others are refused.
 
-use crate::building::{FIRST, SECOND, module_text, modules_of, push_times, with_line_feeds};
+use crate::building::{module_text, modules_of, push_times, with_line_feeds};
 use crate::telling::{is_refusal_of_modules, number_of};
 use std::alloc::{AllocError, Global};
+use test_modules::{DEFAULT_CASE, ENTRIES, FIRST, NETWORK, SECOND};
 use yschema::compile;
 
-/// Whether modules are compiled to so many nodes, or refused at the one at a place. Nothing for want of memory.
-pub(crate) fn comes_of(alloc: Global, texts: &[&str], place: usize, told: &str) -> Option<bool> {
+// Whether modules are compiled to so many nodes, or refused at the one at a place. Nothing for want of memory.
+fn comes_of(alloc: Global, texts: &[&str], place: usize, told: &str) -> Option<bool> {
     let modules = modules_of(alloc, texts)?;
     match compile(alloc, &modules) {
         Ok(schema) => match told.split_once(' ') {
@@ -201,6 +202,19 @@ C17:3/|module b { yang-version 1.1; namespace 'urn:b'; prefix pb;| leaf l { type
     }
     let is_told = comes_of(rt.alloc(), &[FIRST, SECOND, FIRST], 2, "C7:1");
     assert!(rt; is_told == Some(true), "a module given twice");
+}
+
+/// Whether modules with lists and choices, and two at once, are compiled to so many nodes.
+pub(crate) fn are_compiled(alloc: Global) -> Option<bool> {
+    let are_lists = comes_of(alloc, &[NETWORK], 0, "12 nodes")?
+        && comes_of(alloc, &[ENTRIES], 0, "5 nodes")?;
+    let is_choice = comes_of(alloc, &[DEFAULT_CASE], 0, "6 nodes")?;
+    Some(are_lists && is_choice && comes_of(alloc, &[FIRST, SECOND], 0, "7 nodes")?)
+}
+
+#[test]
+fn numbers_of_kinds(rt: HostRuntime) {
+    assert!(rt; are_compiled(rt.alloc()) == Some(true));
 }
 
 #[test]

@@ -1,10 +1,10 @@
-//! Documents: the text that is written for each, and the lines of its faults.
+//! Documents: the text that is written for each.
 
-use crate::building::{MODULE, schema_of};
-use crate::telling::{have_lines, is_text};
+use crate::building::schema_of;
+use crate::telling::is_text;
 use std::alloc::Global;
-use ycheck::faults;
-use yinst::{DocFault, Tree, read, write};
+use test_modules::{MODULE, NETWORK};
+use yinst::{DocFault, read, write};
 use ymodel::Schema;
 
 fn is_text_of(alloc: Global, schema: &Schema, document: &str, text: &str) -> Option<bool> {
@@ -15,13 +15,8 @@ fn is_text_of(alloc: Global, schema: &Schema, document: &str, text: &str) -> Opt
     }
 }
 
-/// Whether a document under a module that is read is written as this text.
-pub(crate) fn is_rewritten_under(
-    alloc: Global,
-    module: &str,
-    document: &str,
-    text: &str,
-) -> Option<bool> {
+// Whether a document under a module that is read is written as this text.
+fn is_rewritten_under(alloc: Global, module: &str, document: &str, text: &str) -> Option<bool> {
     let schema = schema_of(alloc, &[module])?;
     is_text_of(alloc, &schema, document, text)
 }
@@ -30,20 +25,13 @@ pub(crate) fn is_rewritten(alloc: Global, document: &str, text: &str) -> Option<
     is_rewritten_under(alloc, MODULE, document, text)
 }
 
-fn are_lines_of(alloc: Global, schema: &Schema, tree: &Tree, lines: &str) -> Option<bool> {
-    match faults(alloc, schema, tree) {
-        Ok(faults) => have_lines(alloc, schema, &faults, lines),
-        Err(_) => None,
-    }
-}
-
-/// Whether the faults of a document have these lines.
-pub(crate) fn is_faulty(alloc: Global, document: &str, lines: &str) -> Option<bool> {
-    let schema = schema_of(alloc, &[MODULE])?;
-    match read(alloc, &schema, document.as_bytes()) {
-        Ok(tree) => are_lines_of(alloc, &schema, &tree, lines),
-        Err(_) => None,
-    }
+/// Whether a document with entries is written in the schema's order.
+pub(crate) fn is_network_rewritten(alloc: Global) -> Option<bool> {
+    let document =
+        r#"{"ex-net:net":{"host":[{"name":"a","auto":[null],"uplink":"b"},{"name":"b","auto":[null]}]}}"#;
+    let text =
+        r#"{"ex-net:net":{"host":[{"auto":[null],"name":"a","uplink":"b"},{"auto":[null],"name":"b"}]}}"#;
+    is_rewritten_under(alloc, NETWORK, document, text)
 }
 
 // `document => text`, and the text is written as it is.
@@ -62,17 +50,5 @@ fn written_documents(rt: HostRuntime) {
     for row in rows.lines() {
         assert!(rt; is_written(rt.alloc(), row) == Some(true), "{row:?}");
     }
-}
-
-// `document => lines`
-fn has_lines(alloc: Global, row: &str) -> Option<bool> {
-    let (document, lines) = row.split_once(" => ")?;
-    is_faulty(alloc, document, lines)
-}
-
-#[test]
-fn lines_of_faults(rt: HostRuntime) {
-    let row =
-        r#"{"p:c":{"id":256,"note":5}} => V1 invalid-value - /p:c/id -|V1 invalid-value - /p:c/note -|"#;
-    assert!(rt; has_lines(rt.alloc(), row) == Some(true));
+    assert!(rt; is_network_rewritten(rt.alloc()) == Some(true));
 }

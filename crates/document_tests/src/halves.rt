@@ -1,8 +1,9 @@
 //! The halves of an edit apart: what its path means, and what its value denotes.
 
-use crate::building::{MODULE, schema_of};
+use crate::building::schema_of;
 use crate::telling::{is_refusal, is_text, number_of};
 use std::alloc::{AllocError, Global};
+use test_modules::MODULE;
 use yinst::{Bound, Edit, part};
 use ymodel::{Schema, SchemaId};
 

@@ -1,8 +1,9 @@
 //! What a schema holds of nodes of every kind.
 
-use crate::building::{DEFAULT_CASE, ENTRIES, NETWORK, STATE, schema_of};
+use crate::building::schema_of;
 use crate::telling::is_text;
 use std::alloc::{AllocError, Global};
+use test_modules::{DEFAULT_CASE, ENTRIES, NETWORK, STATE};
 use ymodel::{Absence, Amount, Kind, LeafType, Schema, SchemaId, SchemaNode, Tuples};
 
 fn number_text(alloc: Global, word: &str, id: Option<SchemaId>) -> Result<String, AllocError> {

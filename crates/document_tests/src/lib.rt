@@ -1,4 +1,4 @@
-//! Tests of schemas, documents and edits of documents.
+//! Tests of schemas, of documents under them, and of the texts and values of edits.
 #![tactic(auto)]
 
 #[cfg(test)]
@@ -15,10 +15,6 @@ mod halves;
 mod kinds;
 #[cfg(test)]
 mod limits;
-#[cfg(test)]
-mod lists;
-#[cfg(test)]
-mod lives;
 #[cfg(test)]
 mod memory;
 #[cfg(test)]

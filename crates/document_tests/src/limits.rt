@@ -1,9 +1,9 @@
 //! Documents of nearly as many nodes as there may be.
 
-use crate::building::{STATE, push_times, schema_of};
-use crate::telling::{have_lines, is_refusal, is_refusal_of_document, number_of};
+use crate::building::{push_times, schema_of};
+use crate::telling::{is_refusal, is_refusal_of_document, number_of};
 use std::alloc::{AllocError, Global};
-use ycheck::{Fault, faults};
+use test_modules::STATE;
 use yinst::{Edit, EditFault, Tree, apply, read};
 use ymodel::Schema;
 
@@ -62,38 +62,4 @@ fn stored_nodes(rt: HostRuntime) {
     for row in rows.lines() {
         assert!(rt; is_told(rt.alloc(), row) == Some(true), "{row}");
     }
-}
-
-// Whether there are so many faults, and the last one has this line.
-fn end_so(
-    alloc: Global,
-    schema: &Schema,
-    faults: &[Fault],
-    count: usize,
-    line: &str,
-) -> Option<bool> {
-    let (_, last) = faults.split_at(faults.len().saturating_sub(1));
-    Some(faults.len() == count && have_lines(alloc, schema, last, line)?)
-}
-
-// `more/faults/line`: how many faults the document with so many more items has, and the line of the last one.
-fn is_faulty(alloc: Global, row: &str) -> Option<bool> {
-    let (more, row) = row.split_once('/')?;
-    let (count, line) = row.split_once('/')?;
-    let schema = schema_of(alloc, &[STATE])?;
-    let text = document(alloc, number_of(more)?).ok()?;
-    match read(alloc, &schema, text.as_str().as_bytes()) {
-        Ok(tree) => match faults(alloc, &schema, &tree) {
-            Ok(found) => end_so(alloc, &schema, &found, number_of(count)? as usize, line),
-            Err(_) => None,
-        },
-        Err(_) => None,
-    }
-}
-
-// Positions of more than two bytes.
-#[test]
-fn far_positions(rt: HostRuntime) {
-    let row = "69999/70000/V10 operation-failed - /w:c/tag[70000] -|";
-    assert!(rt; is_faulty(rt.alloc(), row) == Some(true));
 }

@@ -1,8 +1,9 @@
 //! Schemas: what is asked of one.
 
-use crate::building::{FIRST, SECOND, schema_of};
+use crate::building::schema_of;
 use crate::telling::number_of;
 use std::alloc::Global;
+use test_modules::{FIRST, SECOND};
 use ymodel::{Absence, Child, Children, Kind, Schema, SchemaId};
 
 // Whether that is the node of a number, or none for `-`.

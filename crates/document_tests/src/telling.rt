@@ -1,11 +1,8 @@
-//! Codes, counts and lines of faults, as the rows of the tables spell them.
+//! Codes and counts, as the rows of the tables spell them.
 
 use std::alloc::{AllocError, Global};
-use ycheck::{Fault, write_line};
 use yinst::{DocFault, EditFault};
-use ymodel::Schema;
 use yschema::CompileFault;
-use ytext::Cut;
 
 pub(crate) fn number_of(digits: &str) -> Option<u32> {
     digits.parse::<u32>().ok()
@@ -51,45 +48,5 @@ pub(crate) fn is_refusal(alloc: Global, fault: EditFault, told: &str) -> Option<
     match fault {
         EditFault::Memory => None,
         EditFault::Refused { .. } => is_text(format!(in alloc; "{fault}"), told),
-    }
-}
-
-fn are_written(schema: &Schema, faults: &[Fault], told: &mut Cut) -> bool {
-    for fault in faults {
-        if write_line(schema, fault, told).is_err() {
-            return false;
-        }
-    }
-    true
-}
-
-fn are_lines(told: &[u8], lines: &str) -> bool {
-    let mut rest = lines.bytes();
-    for byte in told {
-        match rest.next() {
-            Some(b'|') if *byte == b'\n' => {}
-            Some(wanted) if *byte == wanted => {}
-            _ => return false,
-        }
-    }
-    rest.next().is_none()
-}
-
-/// Whether faults have these lines, each with a `|` at its end; `none` for no line.
-pub(crate) fn have_lines(
-    alloc: Global,
-    schema: &Schema,
-    faults: &[Fault],
-    lines: &str,
-) -> Option<bool> {
-    if lines == "none" {
-        return Some(faults.is_empty());
-    }
-    match Cut::new(alloc, 4096, 4096, None) {
-        Ok(mut told) => {
-            let are_written = are_written(schema, faults, &mut told);
-            Some(are_written && are_lines(told.bytes(), lines))
-        }
-        Err(_) => None,
     }
 }

@@ -1,14 +1,14 @@
 //! Live documents: edits one after the other, lists of edits, and what is refused before any edit.
 
-use crate::building::{MODULE, live_of, live_under, module_text, modules_of};
-use crate::telling::{
-    have_lines, is_refusal, is_refusal_of_document, is_refusal_of_modules, is_text, number_of,
-};
+use crate::building::{live_of, live_under, modules_of};
+use crate::telling::{have_lines, is_refusal, is_text, number_of};
 use std::alloc::Global;
+use test_modules::MODULE;
 use ycheck::Fault;
 use yedits::{CheckFault, check_edits};
-use yinst::{Edit, EditFault, NamedStep, Path, Predicate, write};
+use yinst::{DocFault, Edit, EditFault, NamedStep, Path, Predicate, write};
 use ylive::{Applied, ListFault, Live, Outcome, Refused};
+use yschema::CompileFault;
 
 /// A document with one fault.
 pub(crate) const FAULTY: &str = r#"{"p:c":{"id":256,"note":"x"}}"#;
@@ -283,27 +283,42 @@ pub(crate) fn are_checked(alloc: Global) -> Option<bool> {
     are_checked_under(alloc, MODULE, FAULTY, EDITS)
 }
 
-// Whether edits of this document under a module are refused before the first, with `J2` for the document, or with the
-// code and line of the module.
+// The line of the first module where it is refused, and none for a document that is refused at its root.
+fn line_of(fault: &CheckFault) -> Option<u32> {
+    match fault {
+        CheckFault::Modules(
+            CompileFault::Refused {
+                module: 0,
+                line,
+                ..
+            },
+        ) => Some(*line),
+        CheckFault::Document(DocFault::Refused { place, .. }) if place.is_empty() => Some(0),
+        _ => None,
+    }
+}
+
+// Whether edits of this document under a module are refused before the first, with a code and a line as in `C16:4`.
 fn is_refused(alloc: Global, module: &str, told: &str) -> Option<bool> {
     let modules = modules_of(alloc, &[module])?;
     match check_edits(alloc, &modules, b"[]", &[]) {
-        Err(CheckFault::Modules(fault)) => is_refusal_of_modules(alloc, fault, 0, told),
-        Err(CheckFault::Document(fault)) => is_refusal_of_document(alloc, &fault, told),
-        Err(_) => None,
+        Err(fault) => {
+            let line = line_of(&fault)?;
+            is_text(format!(in alloc; "{fault}:{line}"), told)
+        }
         Ok(_) => Some(false),
     }
 }
 
 /// Whether a document is refused before its edits.
 pub(crate) fn is_document_refused(alloc: Global) -> Option<bool> {
-    is_refused(alloc, MODULE, "J2")
+    is_refused(alloc, MODULE, "J2:0")
 }
 
 /// Whether modules are refused before their document.
 pub(crate) fn are_modules_refused(alloc: Global) -> Option<bool> {
-    let module = module_text(alloc, " yang-version 1.1;\n list l;").ok()?;
-    is_refused(alloc, module.as_str(), "C16:4")
+    let module = "module m {\n namespace 'u';\n prefix p; yang-version 1.1;\n list l;}";
+    is_refused(alloc, module, "C16:4")
 }
 
 #[test]

@@ -1,8 +1,8 @@
 //! Live documents under modules with lists and choices: edits one after the other.
 
-use crate::building::{DEFAULT_CASE, ENTRIES, NETWORK, STATE};
-use crate::lives::{first_wrong, runs_under};
+use crate::lives::{are_checked_under, first_wrong, runs_under};
 use std::alloc::Global;
+use test_modules::{DEFAULT_CASE, ENTRIES, NETWORK, STATE};
 
 // The first of some histories that doesn't go as it says, or its first row that doesn't. A history is a document and the
 // rows of its edits; lines `==` stand between them.
@@ -152,8 +152,18 @@ fn removes_itself(alloc: Global) -> Option<bool> {
     )
 }
 
+/// Whether a list of edits of entries is checked from the module and the document on.
+pub(crate) fn are_entries_checked(alloc: Global) -> Option<bool> {
+    let rows = "remove /ex-net:net/host[name='a'] => E6
+remove /ex-net:net/host[2] => accepted";
+    let document =
+        r#"{"ex-net:net":{"host":[{"name":"a","auto":[null]},{"name":"a","auto":[null]}]}}"#;
+    are_checked_under(alloc, NETWORK, document, rows)
+}
+
 #[test]
 fn lists_of_edits(rt: HostRuntime) {
     assert!(rt; removes_one(rt.alloc()) == Some(true));
     assert!(rt; removes_itself(rt.alloc()) == Some(true));
+    assert!(rt; are_entries_checked(rt.alloc()) == Some(true));
 }

@@ -1,0 +1,15 @@
+//! Tests of faults and of live documents: edits one after the other, lists of edits, and want of memory.
+#![tactic(auto)]
+
+#[cfg(test)]
+mod building;
+#[cfg(test)]
+mod faults;
+#[cfg(test)]
+mod lists;
+#[cfg(test)]
+mod lives;
+#[cfg(test)]
+mod memory;
+#[cfg(test)]
+mod telling;
