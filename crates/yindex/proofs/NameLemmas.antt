@@ -1,13 +1,13 @@
 -- What an index holds, once a node is added.
-use Rattle.std.proofs.Common.{◌≡◌, ◌≢◌, ℕ, zero, suc, ◌+◌, ◌<◌, Bool, true, false, cond, ◌&&◌, List, [], ◌∷◌, ◌++◌, length, Option, Some, None, refl, sym, ap, ap₂, subst, ◌∙◌, arith}
-use Rattle.std.specs.Prelude.{◌==◌, option_and_then, slice_get, unwrap_or}
+use Rattle.std.proofs.Common.{◌≡◌, ◌≢◌, ℕ, Bool, true, false, cond, ◌&&◌, List, [], ◌∷◌, Option, Some, None, refl, sym, ap, ap₂, ◌∙◌, arith}
+use Rattle.std.specs.Prelude.{◌==◌, option_and_then, unwrap_or}
 use Rattle.std.proofs.lemmas.Bool.{eq-eqb, ne_eqb}
 use Rattle.std.proofs.lemmas.Bool.Decides.{nat_tests}
 use Rattle.std.proofs.lemmas.Slice.Eq.{bytes_eq-Decides}
 use Rattle.yspec.specs.Forest.{first_of}
 use Rattle.yspec.specs.text.Text.{Text, is_text}
 use Rattle.yspec.specs.linking.Planned.{same_number}
-use Rattle.yspec.proofs.BasicLemmas.{first_of_none, same_text, other_text, texts_differ}
+use Rattle.yspec.proofs.BasicLemmas.{texts_differ}
 use Rattle.yindex.specs.Keys.{above_in, first_at, is_key, is_looked_for}
 use Rattle.yindex.specs.Names.{found_by, is_at, number_among}
 use Rattle.yindex.specs.declared.keys.Among.{Among}

@@ -82,7 +82,7 @@ impl<'t> NodeIndex<'t> {
         ensures nodes { OnOk result ((among : _) → (above : _) → (m : _) → (t : _)
             → found self.new among above m t ≡ first_of (found self.old among above m t)
             (if is_at among above m t node (text_in (texts_of self.old) node.number)
-             then Some node.number else None)) }
+            then Some node.number else None)) }
     {
         let name = self.names.of_nodes[node.number as usize];
         self.nodes.add(node, name)

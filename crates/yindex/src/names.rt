@@ -94,11 +94,7 @@ pub(crate) fn names_of<'a, 't>(alloc: Global, texts: &'a [&'t str]) -> Result<Na
 
 /// The number of a name, of some that ascend.
 #[cycle(halving)]
-pub(crate) fn number_named<'a, 't>(
-    texts: &'a [&'t str],
-    ordered: &[u32],
-    name: &str,
-) -> Option<u32>
+pub(crate) fn number_named<'a, 't>(texts: &'a [&'t str], ordered: &[u32], name: &str) -> Option<u32>
     ensures { ascends (text_in (map (λ t. t.now) texts.now)) ordered.now ≡ true
         → result ≡ number_among (text_in (map (λ t. t.now) texts.now)) ordered.now name.now }
 {

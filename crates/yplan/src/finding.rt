@@ -25,10 +25,7 @@ fn indexed_node(planned: &Planned<'_, '_>, number: u32) -> IndexedNode
 }
 
 /// The names of nodes, in their order.
-fn names_of<'t>(
-    alloc: Global,
-    rows: &[Row<Planned<'_, 't>>],
-) -> Result<Vec<&'t str>, AllocError>
+fn names_of<'t>(alloc: Global, rows: &[Row<Planned<'_, 't>>]) -> Result<Vec<&'t str>, AllocError>
     ensures { IfOk result (λ names. map (λ t. t.now) names.items ≡ map row_name rows.now) }
 {
     let mut names = Vec::with_capacity(alloc, rows.len())?;

@@ -1,4 +1,4 @@
-use Rattle.std.proofs.Common.{◌≡◌, ℕ, ◌∷◌, ◌++◌, [], List, Some, sym, subst, ◌∙◌}
+use Rattle.std.proofs.Common.{◌≡◌, ℕ, List, Some, sym, subst, ◌∙◌}
 use Rattle.yindex.specs.Names.{number_among}
 use Rattle.yindex.specs.Sorted.{Stands}
 use Rattle.yindex.proofs.SortedLemmas.{kept_among, stands_more}

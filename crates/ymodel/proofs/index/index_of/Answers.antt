@@ -1,5 +1,5 @@
-use Rattle.std.proofs.Common.{◌≡◌, ℕ, ◌+◌, ◌<◌, Option, Some, None, true, [], ◌∷◌, ◌++◌, take, length, refl, sym, ap, ap₂, subst, ◌∙◌, arith, length-take}
-use Rattle.std.specs.Prelude.{if◌then◌else◌, option_and_then, slice_get, string_bytes}
+use Rattle.std.proofs.Common.{◌≡◌, ℕ, ◌+◌, ◌<◌, Some, None, true, [], ◌∷◌, ◌++◌, take, length, refl, sym, ap, ap₂, subst, ◌∙◌, arith, length-take}
+use Rattle.std.specs.Prelude.{if◌then◌else◌, slice_get, string_bytes}
 use Rattle.std.specs.Option.{option_map_or}
 use Rattle.std.proofs.lemmas.List.{take_more, take_all}
 use Rattle.std.proofs.lemmas.Option.{slice_get-get_or, slice_get_read}
@@ -10,7 +10,7 @@ use Rattle.yindex.specs.Names.{ascends, found_by, is_at, number_among}
 use Rattle.yindex.specs.declared.keys.Among.TheVariants.{Children, DataNodes}
 use Rattle.yindex.proofs.NameLemmas.{apart_among, found_after, none_found}
 use Rattle.ymodel.specs.Layout.{Place, laid, place_of, number_of, data_at, data_above, data_place_of}
-use Rattle.ymodel.specs.Lookup.{first_below, is_data_called, name_at, names_in}
+use Rattle.ymodel.specs.Lookup.{first_below, is_data_called, name_at}
 use Rattle.ymodel.proofs.LayoutLemmas.{laid_push}
 use Rattle.ymodel.proofs.NearestLemmas.{nearest_of, handed_on, handed, handed-last, handed_laid, map-append}
 use Rattle.ymodel.proofs.FindLemmas.{child_added, count_of_names, data_added, names_at}

@@ -1,4 +1,4 @@
-use Rattle.std.proofs.Common.{◌≡◌, ◌+◌, ◌≤◌, suc, ◌++◌, ◌∷◌, [], Some, None, if◌then◌else◌, take, length, map, get_or, arith, sym, ap, ap₂, ◌∙◌}
+use Rattle.std.proofs.Common.{◌≡◌, ◌+◌, ◌≤◌, suc, ◌++◌, ◌∷◌, [], Some, None, if◌then◌else◌, take, length, map, get_or, arith, sym, ap, ◌∙◌}
 use Rattle.std.specs.Prelude.{find, option_map}
 use Rattle.yspec.specs.Forest.{first_of}
 use Rattle.yspec.specs.linking.SchemaNodes.{number_in}
