@@ -1,3 +1,4 @@
 pub mod KeyLemmas
 pub mod NameLemmas
 pub mod OrderLemmas
+pub mod SortedLemmas

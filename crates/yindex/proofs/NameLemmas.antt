@@ -1,20 +1,15 @@
 -- What an index holds, once a node is added.
-use Rattle.std.proofs.Common.{◌≡◌, ◌≢◌, ℕ, ◌+◌, ◌<◌, Bool, true, false, cond, ◌&&◌, [], Option, Some, None, refl, sym, ap, ap₂, subst, ◌∙◌, arith}
+use Rattle.std.proofs.Common.{◌≡◌, ◌≢◌, ℕ, Bool, true, false, cond, ◌&&◌, List, [], ◌∷◌, Option, Some, None, refl, sym, ap, ap₂, ◌∙◌, arith}
 use Rattle.std.specs.Prelude.{◌==◌, option_and_then, unwrap_or}
-use Rattle.std.specs.Borrow.{Bor}
-use Rattle.std.specs.BTreeMap.{BTreeMap}
-use Rattle.std.specs.Map.{lookup}
-use Rattle.std.specs.Cmp.Lexicographic.{slice_cmp}
-use Rattle.std.specs.Ordering.{is_eq, nat_cmp}
 use Rattle.std.proofs.lemmas.Bool.{eq-eqb, ne_eqb}
 use Rattle.std.proofs.lemmas.Bool.Decides.{nat_tests}
 use Rattle.std.proofs.lemmas.Slice.Eq.{bytes_eq-Decides}
 use Rattle.yspec.specs.Forest.{first_of}
 use Rattle.yspec.specs.text.Text.{Text, is_text}
 use Rattle.yspec.specs.linking.Planned.{same_number}
-use Rattle.yspec.proofs.BasicLemmas.{first_of_none, same_text, other_text, texts_differ}
+use Rattle.yspec.proofs.BasicLemmas.{texts_differ}
 use Rattle.yindex.specs.Keys.{above_in, first_at, is_key, is_looked_for}
-use Rattle.yindex.specs.Names.{found_by, is_at, number_in}
+use Rattle.yindex.specs.Names.{found_by, is_at, number_among}
 use Rattle.yindex.specs.declared.keys.Among.{Among}
 use Rattle.yindex.specs.declared.keys.FirstNodes.{FirstNodes}
 use Rattle.yindex.specs.declared.keys.IndexedNode.{IndexedNode}
@@ -27,75 +22,8 @@ Numbers = Text → Option ℕ
 abbrev pub AreApart : Numbers → Type 0
 AreApart names = (a b : Text) (number : ℕ) → names a ≡ Some number → names b ≡ Some number → a ≡ b
 
-abbrev pub AreBefore : Numbers → ℕ → Type 0
-AreBefore names next = (t : Text) (number : ℕ) → names t ≡ Some number → number < next
-
--- with one more name
-abbrev pub AreWith : Numbers → Numbers → Text → ℕ → Type 0
-AreWith old new name number = (t : Text) → new t ≡ first_of (old t) (cond (is_text t name) (Some number) None)
-
 some_is : {X : Type 0} → (x y : X) → Some x ≡ Some y → x ≡ y
 some_is x y e = ap (λ o. unwrap_or o x) e
-
--- a number that a name has after it: it had it before, or it is the new one's
-data Given (old : Numbers) (name : Text) (next : ℕ) (t : Text) (number : ℕ) : Type 0 where
-  was : old t ≡ Some number → Given old name next t number
-  is_new : t ≡ name → number ≡ next → old t ≡ None → Given old name next t number
-
-given : (old new : Numbers) (name : Text) (next : ℕ) → AreWith old new name next → (t : Text) (number : ℕ) → new t ≡ Some number → Given old name next t number
-given old new name next one t number e = by (old t) refl (is_text t name) refl (sym (one t) ∙ e)
-  where
-    by : (o : Option ℕ) → old t ≡ o → (b : Bool) → is_text t name ≡ b → first_of o (cond b (Some next) None) ≡ Some number → Given old name next t number
-    by (Some x) is b same f = was (is ∙ f)
-    by None is true same f = is_new ((bytes_eq-Decides t name).0 same) (sym (some_is next number f)) is
-    by None is false same f = absurd cc
-
-pub still_apart : (old new : Numbers) (name : Text) (next : ℕ) → AreWith old new name next → AreBefore old next → AreApart old → AreApart new
-still_apart old new name next one before apart a b number first second =
-    by (given old new name next one a number first) (given old new name next one b number second)
-  where
-    by : Given old name next a number → Given old name next b number → a ≡ b
-    by (was x) (was y) = apart a b number x y
-    by (was x) (is_new y n none) = let less = before a number x in absurd (omega (arith, less, n))
-    by (is_new x n none) (was y) = let less = before b number y in absurd (omega (arith, less, n))
-    by (is_new x n none) (is_new y m other) = x ∙ sym y
-
-pub still_before : (old new : Numbers) (name : Text) (next : ℕ) → AreWith old new name next → AreBefore old next → AreBefore new (next + 1)
-still_before old new name next one before t number e = by (given old new name next one t number e)
-  where
-    by : Given old name next t number → number < next + 1
-    by (was x) = let less = before t number x in omega (arith, less)
-    by (is_new x n none) = omega (arith, n)
-
--- what has the number of no name isn't found
-abbrev pub AreKnown : Numbers → FirstNodes → Type 0
-AreKnown names nodes = (among : Among) (key : Key) → ((t : Text) → names t ≢ Some key.name) → first_at nodes among key ≡ None
-
-pub still_known : (old new : Numbers) (name : Text) (next : ℕ) (nodes : FirstNodes) → AreWith old new name next → AreKnown old nodes → AreKnown new nodes
-still_known old new name next nodes one known among key none =
-    known among key (λ t e. none t (one t ∙ ap (λ o. first_of o (cond (is_text t name) (Some next) None)) e))
-
--- once a node of a name is added
-pub known_after : (names : Numbers) (name : Text) (number : ℕ) (before after : FirstNodes) → names name ≡ Some number
-    → ((among : Among) (key : Key) → (key.name == number) ≡ false → first_at after among key ≡ first_at before among key)
-    → AreKnown names before → AreKnown names after
-known_after names name number before after is others known among key none =
-    others among key (ne_eqb key.name number (λ e. none name (is ∙ ap Some (sym e)))) ∙ known among key none
-
--- ---- names in a map
-
-pub none_numbered : (names : BTreeMap (Bor Text) ℕ) → names.entries ≡ [] → (t : Text) → number_in names t ≡ None
-none_numbered names empty t = ap (lookup (λ k. is_eq (slice_cmp nat_cmp t k.now))) empty
-
-pub inserted : (old new : Numbers) (name : Text) (number : ℕ) → old name ≡ None → ((t : Text) → new t ≡ cond (is_text name t) (Some number) (old t)) → AreWith old new name number
-inserted old new name number none put t = put t ∙ by (is_text name t) refl
-  where
-    by : (b : Bool) → is_text name t ≡ b → cond b (Some number) (old t) ≡ first_of (old t) (cond (is_text t name) (Some number) None)
-    by true e =
-        let same = (bytes_eq-Decides name t).0 e in
-        ap₂ (λ (o : Option ℕ) (b : Bool). first_of o (cond b (Some number) None)) (sym none ∙ ap old same) (sym (same_text t) ∙ ap (λ x. is_text t x) (sym same))
-    by false e =
-        sym (ap (λ (b : Bool). first_of (old t) (cond b (Some number) None)) (other_text t name (λ same. texts_differ name t e (sym same))) ∙ first_of_none (old t))
 
 -- ---- what is found
 
@@ -137,49 +65,48 @@ module _ (node : IndexedNode) (name : Text) (among : Among) (above : Option ℕ)
       ∙ (ap (λ (b : Bool). is_looked_for among node && (same_number above (above_in among node) && b)) (and_false (m == node.«module»))
       ∙ (ap (λ (b : Bool). is_looked_for among node && b) (and_false (same_number above (above_in among node))) ∙ and_false (is_looked_for among node)))
 
-  pub found_after : (old new : Numbers) (given : ℕ) (before after : FirstNodes)
-      → AreWith old new name node.number → AreApart new → AreKnown old before → new name ≡ Some given
+  -- once a node is added whose name has a number
+  pub found_after : (names : Numbers) (given : ℕ) (before after : FirstNodes) → AreApart names → names name ≡ Some given
       → ((key : Key) → first_at after among key ≡ first_of (first_at before among key) (cond (is_key among node given key) (Some node.number) None))
-      → (t : Text) → found_by new after among above m t ≡ first_of (found_by old before among above m t) (cond (is_at among above m t node name) (Some node.number) None)
-  found_after old new given before after one apart known is added t = by (is_text t name) refl (old t) refl
+      → (t : Text) → found_by names after among above m t ≡ first_of (found_by names before among above m t) (cond (is_at among above m t node name) (Some node.number) None)
+  found_after names given before after apart is added t = by (is_text t name) refl (names t) refl
     where
-      -- of the name itself: what was found before stands at its key
-      before_is : t ≡ name → (o : Option ℕ) → old t ≡ o → find_at before o ≡ first_at before among (key_at given)
-      before_is same (Some x) e =
-          let kept : new t ≡ Some x = one t ∙ ap (λ o. first_of o (cond (is_text t name) (Some node.number) None)) e in
-          ap (λ n. first_at before among (key_at n)) (some_is x given (sym kept ∙ (ap new same ∙ is)))
-      before_is same None e = sym (known among (key_at given)
-          (λ u f.
-          let kept : new u ≡ Some given = one u ∙ ap (λ o. first_of o (cond (is_text u name) (Some node.number) None)) f in
-          let own : u ≡ name = apart u name given kept is in
-          let none : None ≡ Some given = sym e ∙ (ap old (same ∙ sym own) ∙ f) in cc))
-
-      by : (b : Bool) → is_text t name ≡ b → (o : Option ℕ) → old t ≡ o
-          → find_at after (new t) ≡ first_of (find_at before (old t)) (cond (is_at among above m t node name) (Some node.number) None)
+      by : (b : Bool) → is_text t name ≡ b → (o : Option ℕ) → names t ≡ o
+          → find_at after (names t) ≡ first_of (find_at before (names t)) (cond (is_at among above m t node name) (Some node.number) None)
       by true e o f =
-          let same = (bytes_eq-Decides t name).0 e in
-          ap (find_at after) (ap new same ∙ is)
+          let own : names t ≡ Some given = ap names ((bytes_eq-Decides t name).0 e) ∙ is in
+          ap (find_at after) own
           ∙ (added (key_at given)
-          ∙ ap₂ (λ (a : Option ℕ) (b : Bool). first_of a (cond b (Some node.number) None))
-          (sym (ap (find_at before) f ∙ before_is same o f)) (own_key given t e))
+          ∙ ap₂ (λ (a : Option ℕ) (b : Bool). first_of a (cond b (Some node.number) None)) (sym (ap (find_at before) own)) (own_key given t e))
       by false e (Some x) f =
-          let kept : new t ≡ Some x = one t ∙ ap (λ o. first_of o (cond (is_text t name) (Some node.number) None)) f in
-          let other : given ≢ x = λ (h : given ≡ x). texts_differ t name e (apart t name x kept (is ∙ ap Some h)) in
-          ap (find_at after) kept
+          let other : given ≢ x = λ (h : given ≡ x). texts_differ t name e (apart t name x f (is ∙ ap Some h)) in
+          ap (find_at after) f
           ∙ (added (key_at x)
           ∙ ap₂ (λ (a : Option ℕ) (b : Bool). first_of a (cond b (Some node.number) None))
           (sym (ap (find_at before) f)) (other_key given x other ∙ sym (other_text_at t e)))
       by false e None f =
-          let none : new t ≡ None = one t ∙ ap₂ (λ (a : Option ℕ) (b : Bool). first_of a (cond b (Some node.number) None)) f e in
-          ap (find_at after) none
+          ap (find_at after) f
           ∙ sym (ap₂ (λ (a : Option ℕ) (b : Bool). first_of (find_at before a) (cond b (Some node.number) None)) f (other_text_at t e))
 
--- ---- what each number of a name has
-
-pub still_of : (P : Text → ℕ → Type 0) (old new : Numbers) (name : Text) (next : ℕ) → AreWith old new name next
-    → ((t : Text) (number : ℕ) → old t ≡ Some number → P t number) → P name next → (t : Text) (number : ℕ) → new t ≡ Some number → P t number
-still_of P old new name next one all own t number e = by (given old new name next one t number e)
+pub none_found : (names : Numbers) (nodes : FirstNodes) (among : Among) (above : Option ℕ) (m : ℕ) (t : Text)
+    → ((key : Key) → first_at nodes among key ≡ None) → found_by names nodes among above m t ≡ None
+none_found names nodes among above m t none = by (names t)
   where
-    by : Given old name next t number → P t number
-    by (was x) = all t number x
-    by (is_new same n none) = subst (λ (m : ℕ). P t m) (sym n) (subst (λ (s : Text). P s next) (sym same) own)
+    by : (o : Option ℕ) → option_and_then (λ number. first_at nodes among (record { above = above; «module» = m; name = number })) o ≡ None
+    by None = refl
+    by (Some number) = none (record { above = above; «module» = m; name = number })
+
+-- ---- names by their numbers
+
+named_text : (text_at : ℕ → Text) (numbers : List ℕ) (t : Text) (n : ℕ) → number_among text_at numbers t ≡ Some n → t ≡ text_at n
+named_text text_at [] t n e = absurd cc
+named_text text_at (m ∷ numbers) t n e = by (is_text t (text_at m)) refl e (named_text text_at numbers t n)
+  where
+    by : (b : Bool) → is_text t (text_at m) ≡ b → cond b (Some m) (number_among text_at numbers t) ≡ Some n
+        → (number_among text_at numbers t ≡ Some n → t ≡ text_at n) → t ≡ text_at n
+    by true is f rest = (bytes_eq-Decides t (text_at m)).0 is ∙ ap text_at (some_is m n f)
+    by false is f rest = rest f
+
+-- no two texts have one number
+pub apart_among : (text_at : ℕ → Text) (numbers : List ℕ) → AreApart (number_among text_at numbers)
+apart_among text_at numbers a b n first second = named_text text_at numbers a n first ∙ sym (named_text text_at numbers b n second)

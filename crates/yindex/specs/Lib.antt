@@ -1,3 +1,4 @@
 pub mod Index
 pub mod Keys
 pub mod Names
+pub mod Sorted

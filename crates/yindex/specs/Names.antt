@@ -1,7 +1,5 @@
 -- Nodes found by their names.
-use Rattle.std.specs.Prelude.{ℕ, ◌==◌, ◌&&◌, Bool, true, List, [], ◌∷◌, find, Option, option_and_then}
-use Rattle.std.specs.Borrow.{Bor}
-use Rattle.std.specs.BTreeMap.{BTreeMap, get_by}
+use Rattle.std.specs.Prelude.{◌≡◌, ℕ, ◌==◌, ◌&&◌, Bool, true, List, [], ◌∷◌, find, length, Option, Some, option_and_then, slice_get, unwrap_or}
 use Rattle.std.specs.Cmp.Lexicographic.{slice_cmp}
 use Rattle.std.specs.List.{list_all}
 use Rattle.std.specs.Ordering.{is_lt, nat_cmp}
@@ -11,10 +9,7 @@ use Rattle.yindex.specs.Keys.{first_at, above_in, is_looked_for}
 use Rattle.yindex.specs.declared.keys.Among.{Among}
 use Rattle.yindex.specs.declared.keys.FirstNodes.{FirstNodes}
 use Rattle.yindex.specs.declared.keys.IndexedNode.{IndexedNode}
-
--- the number of a name
-abbrev pub number_in : BTreeMap (Bor Text) ℕ → Text → Option ℕ
-number_in names name = get_by (λ k. slice_cmp nat_cmp name k.now) names
+use Rattle.yindex.specs.declared.names.Names.{Names}
 
 -- the first node of a module and a name, which is numbered, below one or at the top
 abbrev pub found_by : (Text → Option ℕ) → FirstNodes → Among → Option ℕ → ℕ → Text → Option ℕ
@@ -37,3 +32,15 @@ abbrev pub ascends : (ℕ → Text) → List ℕ → Bool
 ascends text_at [] = true
 ascends text_at (number ∷ numbers) =
     list_all (λ n. is_lt (slice_cmp nat_cmp (text_at number) (text_at n))) numbers && ascends text_at numbers
+
+-- the text of a number; no text where there is none
+abbrev pub text_in : List Text → ℕ → Text
+text_in texts number = unwrap_or (slice_get texts number) []
+
+-- The names are those of nodes that have these texts as their names, by number: each has a number, they ascend, and that
+-- of each node's name is kept.
+abbrev pub AreNamesOf : Names → List Text → Type 0
+AreNamesOf names texts = (length names.of_nodes.items ≡ length texts)
+    × (ascends (text_in texts) names.ordered.items ≡ true)
+    × ((node number : ℕ) → slice_get names.of_nodes.items node ≡ Some number
+    → number_among (text_in texts) names.ordered.items (text_in texts node) ≡ Some number)

@@ -1,62 +1,41 @@
 //! Nodes found by their names.
 
-ghost use Rattle.std.specs.Prelude.{◌≡◌, ◌≢◌, ℕ, None, Some, if◌then◌else◌, IfOk, OnOk, OnErr};
-ghost use Rattle.yspec.specs.Forest.{first_of};
-ghost use Rattle.yspec.specs.text.Text.{is_text};
-ghost use Rattle.yindex.specs.Keys.{first_at};
-ghost use Rattle.yindex.specs.Names.{number_in};
+ghost use Rattle.std.specs.Prelude.{◌<◌, ◌^◌, length, map};
+ghost use Rattle.yindex.specs.Names.{AreNamesOf};
 
 use crate::keys::{Among, FirstNodes, IndexedNode, Key};
+use crate::names::{Names, names_of, number_named};
 use std::alloc::{AllocError, Global};
-use std::collections::BTreeMap;
 
 /// Nodes by their names. A name has as its number that of the first node that has it.
 #[derive(Debug, Drop)]
 pub struct NodeIndex<'t> {
-    names: BTreeMap<&'t str, u32>,
+    // The name of each node.
+    texts: Vec<&'t str>,
+    names: Names,
     nodes: FirstNodes,
-    ghost apart: { (a : _) → (b : _) → (number : ℕ) → number_in names a ≡ Some number
-        → number_in names b ≡ Some number → a ≡ b },
-    ghost known: { (among : _) → (key : _) → ((name : _) → number_in names name ≢ Some key.name)
-        → first_at nodes among key ≡ None },
-}
-
-/// The number of a name, which is given one where it has none.
-fn number_of<'t>(
-    names: &mut BTreeMap<&'t str, u32>,
-    name: &'t str,
-    number: u32,
-) -> Result<u32, AllocError>
-    ensures names { OnOk result ((t : _) → number_in names.new t
-        ≡ first_of (number_in names.old t) (if is_text t name.now then Some number else None)) }
-    ensures number { IfOk result (λ given. number_in names.new name.now ≡ Some given) }
-    ensures err { OnErr result ((t : _) → number_in names.new t ≡ number_in names.old t) }
-{
-    if let Some(given) = names.get(name) {
-        return Ok(*given);
-    }
-    match names.insert(name, number) {
-        Ok(_) => Ok(number),
-        Err(_) => Err(AllocError),
-    }
+    ghost named: { AreNamesOf names (map (λ t. t.now) texts.items) },
 }
 
 impl<'t> NodeIndex<'t> {
-    ghost use Rattle.std.specs.Prelude.{◌≡◌, ◌+◌, ◌<◌, ℕ, None, Some, true, if◌then◌else◌, IfOk, OnOk, OnErr};
+    ghost use Rattle.std.specs.Prelude.{◌≡◌, ◌<◌, ◌^◌, ℕ, None, Some, if◌then◌else◌, length, map, IfOk, OnOk};
     ghost use Rattle.yspec.specs.Forest.{first_of};
-    ghost use Rattle.yspec.specs.text.Text.{Text, is_text};
-    ghost use Rattle.yindex.specs.Index.{named, found, AreOf};
-    ghost use Rattle.yindex.specs.Names.{found_by, is_at, number_among, ascends};
+    ghost use Rattle.yindex.specs.Index.{named, texts_of, found};
+    ghost use Rattle.yindex.specs.Names.{is_at, text_in, AreNamesOf};
 
-    /// No nodes, with room for some.
-    pub fn with_capacity(alloc: Global, nodes: usize) -> Result<NodeIndex<'t>, AllocError>
-        ensures names { IfOk result (λ made. (name : _) → named made name ≡ None) }
+    /// None of the nodes that have these names, by number, with room for all.
+    pub fn of(alloc: Global, texts: Vec<&'t str>) -> Result<NodeIndex<'t>, AllocError>
+        requires { length texts.items < 2 ^ 32 }
+        ensures texts { IfOk result (λ made. texts_of made ≡ map (λ t. t.now) texts.entry.items) }
         ensures nodes { IfOk result (λ made. (among : _) → (above : _) → (m : _) → (name : _)
             → found made among above m name ≡ None) }
     {
+        let names = names_of(alloc, &texts)?;
+        let nodes = FirstNodes::with_capacity(alloc, texts.len())?;
         Ok(NodeIndex {
-            names: BTreeMap::new(alloc),
-            nodes: FirstNodes::with_capacity(alloc, nodes)?,
+            texts,
+            names,
+            nodes,
         })
     }
 
@@ -64,48 +43,58 @@ impl<'t> NodeIndex<'t> {
     pub fn first(&self, among: Among, above: Option<u32>, module: usize, name: &str) -> Option<u32>
         ensures { result ≡ found self.now among above «module» name.now }
     {
-        let name = *self.names.get(name)?;
-        self.nodes.first(
-            among,
-            Key {
-                above,
-                module,
-                name,
-            },
-        )
+        let name = number_named(&self.texts, &self.names.ordered, name)?;
+        let key = Key {
+            above,
+            module,
+            name,
+        };
+        self.nodes.first(among, key)
     }
 
-    /// Adds a node behind those so far, which has a number of its own.
-    pub fn add(&mut self, node: IndexedNode, name: &'t str) -> Result<(), AllocError>
-        requires { (t : _) → (number : ℕ) → named self.old t ≡ Some number
-            → number < node.number }
-        ensures names { OnOk result ((t : _) → named self.new t ≡ first_of (named self.old t)
-            (if is_text t name.now then Some node.number else None)) }
-        ensures later { OnOk result ((t : _) → (number : ℕ) → named self.new t ≡ Some number
-            → number < node.number + 1) }
+    /// The first node of a module and of the name of a node; of no text where there is none of that number.
+    pub fn first_like(
+        &self,
+        among: Among,
+        above: Option<u32>,
+        module: usize,
+        node: u32,
+    ) -> Option<u32>
+        ensures { result ≡ found self.now among above «module» (text_in (texts_of self.now) node) }
+    {
+        match self.names.of_nodes.get(node as usize) {
+            Some(name) => {
+                let key = Key {
+                    above,
+                    module,
+                    name: *name,
+                };
+                self.nodes.first(among, key)
+            }
+            None => self.first(among, above, module, ""),
+        }
+    }
+
+    /// Adds a node behind those so far.
+    pub fn add(&mut self, node: IndexedNode) -> Result<(), AllocError>
+        requires { node.number < length (texts_of self.old) }
+        ensures texts { texts_of self.new ≡ texts_of self.old }
         ensures nodes { OnOk result ((among : _) → (above : _) → (m : _) → (t : _)
             → found self.new among above m t ≡ first_of (found self.old among above m t)
-            (if is_at among above m t node name.now then Some node.number else None)) }
+            (if is_at among above m t node (text_in (texts_of self.old) node.number)
+            then Some node.number else None)) }
     {
-        let number = number_of(&mut self.names, name, node.number)?;
-        self.nodes.add(node, number)
+        let name = self.names.of_nodes[node.number as usize];
+        self.nodes.add(node, name)
     }
 
-    /// The first node of each name, in the order of the names, and the nodes by their keys.
-    pub fn into_parts(self, alloc: Global) -> Result<(Vec<u32>, FirstNodes), AllocError>
-        ensures ascend { IfOk result (λ parts. (text_at : ℕ → Text) → AreOf text_at self.entry
-            → ascends text_at parts.0.items ≡ true) }
-        ensures names { IfOk result (λ parts. (text_at : ℕ → Text) → AreOf text_at self.entry
-            → (t : _) → number_among text_at parts.0.items t ≡ named self.entry t) }
-        ensures nodes { IfOk result (λ parts. (among : _) → (above : _) → (m : _) → (t : _)
-            → found_by (named self.entry) parts.1 among above m t
-            ≡ found self.entry among above m t) }
+    /// A copy of the names of its nodes.
+    pub fn names(&self, alloc: Global) -> Result<Names, AllocError>
+        ensures { IfOk result (λ names. AreNamesOf names (texts_of self.now)) }
     {
-        let NodeIndex { names, nodes } = self;
-        let mut numbers = Vec::with_capacity(alloc, names.len())?;
-        for number in names.into_values() {
-            numbers.push(number)?;
-        }
-        Ok((numbers, nodes))
+        Ok(Names {
+            ordered: Vec::from_slice(alloc, &self.names.ordered)?,
+            of_nodes: Vec::from_slice(alloc, &self.names.of_nodes)?,
+        })
     }
 }

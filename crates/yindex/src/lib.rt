@@ -3,6 +3,8 @@
 
 mod index;
 mod keys;
+mod names;
 
 pub use index::NodeIndex;
 pub use keys::{Among, FirstNodes, IndexedNode, Key};
+pub use names::Names;

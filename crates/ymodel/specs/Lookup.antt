@@ -1,5 +1,5 @@
 -- What the index of a schema finds.
-use Rattle.std.specs.Prelude.{◌≡◌, ℕ, ◌==◌, ◌&&◌, Bool, true, List, [], ◌∷◌, Option, Some, None, option_and_then, slice_get, string_bytes, if◌then◌else◌}
+use Rattle.std.specs.Prelude.{◌≡◌, ℕ, ◌==◌, ◌&&◌, Bool, true, List, [], ◌∷◌, Option, Some, None, option_and_then, map, slice_get, string_bytes, if◌then◌else◌}
 use Rattle.std.specs.Option.{option_map_or}
 use Rattle.std.specs.Option.{option_eq}
 use Rattle.yspec.specs.text.Text.{Text}
@@ -21,6 +21,10 @@ first_below parent test (p ∷ ps) =
 -- the name of the node of a number; no text where there is none
 abbrev pub name_at : List Row → ℕ → Text
 name_at rows number = option_map_or (λ r. string_bytes r.node.name) (slice_get rows number) []
+
+-- the names of the nodes, by number
+abbrev pub names_in : List Row → List Text
+names_in rows = map (λ r. string_bytes r.node.name) rows
 
 -- the number of a name: that of the first node that has it
 abbrev pub number_among_names : Index → List Row → Text → Option ℕ

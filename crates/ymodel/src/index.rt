@@ -3,9 +3,9 @@
 ghost use Rattle.std.specs.Prelude.{◌≡◌, ◌<◌, ◌^◌, [], IfOk, length, None};
 ghost use Rattle.yspec.specs.schema.Schema.{is_called, module_at};
 ghost use Rattle.yspec.specs.document.Writing.{ModulesDiffer, NodesAreNamed};
-ghost use Rattle.yindex.specs.Names.{found_by};
+ghost use Rattle.yindex.specs.Names.{found_by, AreNamesOf};
 ghost use Rattle.ymodel.specs.Layout.{number_of, node_view, data_at, data_above, data_places, laid, forest_of, schema_view, IsLaidOut};
-ghost use Rattle.ymodel.specs.Lookup.{indexed, FindsNamed, FindsWritten};
+ghost use Rattle.ymodel.specs.Lookup.{indexed, names_in, FindsNamed, FindsWritten};
 
 use crate::children::Row;
 use crate::names::number_of;
@@ -13,7 +13,7 @@ use crate::node::SchemaId;
 use crate::schema::SchemaModule;
 use crate::written::meant_name;
 use std::alloc::{AllocError, Global};
-use yindex::{Among, FirstNodes, IndexedNode, Key, NodeIndex};
+use yindex::{Among, FirstNodes, IndexedNode, Key, Names};
 
 /// How the nodes that lie in rows are found below a node, or at the top.
 #[derive(Drop)]
@@ -24,26 +24,28 @@ pub(crate) struct Index {
     nodes: FirstNodes,
 }
 
-/// The index of the nodes that lie in rows.
-pub(crate) fn index_of(alloc: Global, rows: &[Row]) -> Result<Index, AllocError>
+/// The index of the nodes that lie in rows, given their names.
+pub(crate) fn index_of(alloc: Global, rows: &[Row], names: Names) -> Result<Index, AllocError>
     requires numbered { length rows.now < 2 ^ 32 }
     requires laid_out { IsLaidOut rows.now }
+    requires names { AreNamesOf names (names_in rows.now) }
     ensures named { IfOk result (λ index. FindsNamed index rows.now) }
     ensures written { IfOk result (λ index. FindsWritten index rows.now
         (data_places None (forest_of 0 rows.now))) }
 {
-    let mut index = NodeIndex::with_capacity(alloc, rows.len())?;
+    let Names { ordered, of_nodes } = names;
+    let mut nodes = FirstNodes::with_capacity(alloc, rows.len())?;
     let mut nearest = Vec::with_capacity(alloc, rows.len())?;
     for (number, row) in rows.iter().enumerate() {
         let above = data_parent(&nearest, row.parent);
-        index.add(
-            indexed_node(row, number as u32, above),
-            row.node.name.as_str(),
-        )?;
+        let node = indexed_node(row, number as u32, above);
+        nodes.add(node, of_nodes[number])?;
         nearest.push(nearest_to(row, above, number as u32))?;
     }
-    let (names, nodes) = index.into_parts(alloc)?;
-    Ok(Index { names, nodes })
+    Ok(Index {
+        names: ordered,
+        nodes,
+    })
 }
 
 /// A node with the node above it and the data node above it.

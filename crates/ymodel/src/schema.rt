@@ -13,6 +13,7 @@ use crate::node::{SchemaId, SchemaNode};
 use crate::references::References;
 use crate::written::{first_written, other_name, place_of, written_name};
 use std::alloc::{AllocError, Global};
+use yindex::Names;
 
 /// A module of a schema.
 #[derive(Debug, Drop)]
@@ -43,21 +44,24 @@ impl Schema {
     ghost use Rattle.yspec.specs.schema.Schema.{node_at, children_of, child_named, child_written, way_to};
     ghost use Rattle.yspec.specs.schema.References.{references_to};
     ghost use Rattle.ymodel.specs.Layout.{node_view, number_of, numbers_of};
-    ghost use Rattle.ymodel.specs.Lookup.{alone, module_passed, way_above};
+    ghost use Rattle.ymodel.specs.Lookup.{alone, module_passed, names_in, way_above};
+    ghost use Rattle.yindex.specs.Names.{AreNamesOf};
     ghost use Rattle.ymodel.specs.View.{view, row_view, forest_of};
 
     /// The schema of some modules whose nodes lie in rows, each before those below it, once a compiler has found no broken
-    /// rule.
+    /// rule, and the names of these nodes.
     pub fn of(
         alloc: Global,
         modules: Vec<SchemaModule>,
         rows: Vec<Row>,
+        names: Names,
     ) -> Result<Schema, AllocError>
         requires laid_out { IsLaidOut rows.items }
+        requires named { AreNamesOf names (names_in rows.items) }
         requires compiled { IsCompiled (schema_view modules.items rows.items) }
         ensures { IfOk result (λ schema. view schema ≡ schema_view modules.items rows.items) }
     {
-        let index = index_of(alloc, &rows)?;
+        let index = index_of(alloc, &rows, names)?;
         let references = References::of(alloc, &rows)?;
         Ok(Schema {
             modules,

@@ -1,6 +1,7 @@
 -- What is found in a plan, by name and by number.
-use Rattle.std.proofs.Common.{◌≡◌, ◌≢◌, ℕ, zero, suc, ◌+◌, ◌≤◌, Bool, true, false, cond, ◌&&◌, List, [], ◌∷◌, ◌++◌, length, drop, get_or, Option, Some, None, refl, sym, ap, ap₂, ◌∙◌, arith}
-use Rattle.std.specs.Prelude.{◌==◌, find, option_map, slice_get}
+use Rattle.std.proofs.Common.{◌≡◌, ◌≢◌, ℕ, zero, suc, ◌+◌, ◌<◌, ◌≤◌, Bool, true, false, cond, ◌&&◌, List, [], ◌∷◌, ◌++◌, length, drop, get_or, map, Option, Some, None, refl, sym, ap, ap₂, ◌∙◌, arith}
+use Rattle.std.specs.Prelude.{◌==◌, find, option_map, slice_get, unwrap_or}
+use Rattle.std.proofs.lemmas.Option.{slice_get-get_or, slice_get-map}
 use Rattle.std.specs.List.{list_any}
 use Rattle.std.proofs.lemmas.Bool.{eq-eqb, ne_eqb}
 use Rattle.yspec.specs.text.Text.{Text}
@@ -8,13 +9,17 @@ use Rattle.yspec.specs.schema.Breaks.{Break, least_from, when}
 use Rattle.yspec.proofs.SchemaProofs.LeastLemmas.{least_of_both}
 use Rattle.yspec.specs.linking.Planned as spec
 use Rattle.yspec.specs.linking.Planned.{Planned, same_number, is_called, is_data, nodes_of, data_nodes}
+use Rattle.yspec.specs.linking.SchemaNodes.{number_in}
 use Rattle.yspec.specs.linking.NodeBreaks.{broken_at, is_like, doubled}
 use Rattle.ypreorder.specs.Layout.{labels_by}
 use Rattle.ypreorder.specs.View.{rows_in}
 use Rattle.ypreorder.specs.declared.row.Row.{Row}
-use Rattle.ypreorder.proofs.LabelLemmas.{preorder_by}
+use Rattle.ypreorder.proofs.LabelLemmas.{label_at, preorder_by}
+use Rattle.yindex.specs.Index.{found, texts_of}
+use Rattle.yindex.specs.Names.{text_in}
+use Rattle.yindex.specs.declared.keys.Among.TheVariants.{Scope}
 use Rattle.yplan.specs.PlannedView.{planned_view}
-use Rattle.yplan.specs.Finding.{list_of}
+use Rattle.yplan.specs.Finding.{is_found, list_of, name_of}
 use Rattle.yplan.specs.PlanView.{view}
 use Rattle.yplan.specs.declared.plan.Plan.{Plan}
 use Rattle.yplan.specs.declared.planned.Planned as code
@@ -90,3 +95,26 @@ drop_past [] zero past = refl
 drop_past [] (suc i) past = refl
 drop_past (x ∷ xs) zero past = absurd (omega arith)
 drop_past (x ∷ xs) (suc i) past = drop_past xs i (omega arith)
+
+-- the node of a row stands at its number
+pub row_stands : (plan : Plan) (rows : List (Row code.Planned)) (i : ℕ) (r : Row code.Planned) → rows ≡ rows_in plan.table → i < length rows → r ≡ get_or rows i r
+    → slice_get (nodes_of (view plan)) i ≡ Some (planned_view i r.label)
+row_stands plan rows i r are within is =
+    let from_start : 0 + i ≡ i = omega arith in
+    let there : slice_get rows i ≡ Some r = slice_get-get_or rows i r within ∙ ap Some (sym is) in
+    ap (λ nodes. slice_get nodes i) (nodes_are plan ∙ ap (labels_by planned_view 0) (sym are))
+    ∙ (label_at planned_view 0 rows i
+    ∙ (ap (option_map (λ x. planned_view (0 + i) x.label)) there ∙ ap (λ n. Some (planned_view n r.label)) from_start))
+
+-- the first node that shares its names with the node of a number, and has its module and name
+pub first_alike : (plan : Plan) (number m : ℕ) (p : Planned) → slice_get (nodes_of (view plan)) number ≡ Some p → m ≡ p.part.owner
+    → found plan.index Scope p.scope m (text_in (texts_of plan.index) number)
+    ≡ option_map number_in (find (is_found Scope p.scope p.part.owner (name_of p)) (nodes_of (view plan)))
+first_alike plan number m p stands owner =
+    let nodes = nodes_of (view plan) in
+    let named : text_in (texts_of plan.index) number ≡ name_of p =
+    ap (λ texts. text_in texts number) (plan.named ∙ ap (map name_of) (sym (nodes_are plan)))
+    ∙ ap (λ o. unwrap_or o []) (slice_get-map name_of nodes number ∙ ap (option_map name_of) stands) in
+    ap₂ (λ n t. found plan.index Scope p.scope n t) owner named
+    ∙ (plan.indexed Scope p.scope p.part.owner (name_of p)
+    ∙ ap (λ ps. option_map number_in (find (is_found Scope p.scope p.part.owner (name_of p)) ps)) (sym (nodes_are plan)))

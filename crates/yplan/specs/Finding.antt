@@ -1,19 +1,28 @@
 -- How nodes of a plan are found by their names.
 use Rattle.std.specs.Prelude.{ℕ, ◌&&◌, Bool, true, false, List, Option, Some, None, nat_lt}
 use Rattle.yspec.specs.text.Text.{Text}
+use Rattle.yspec.specs.linking.Source.{argument_in}
 use Rattle.yspec.specs.linking.Planned.{Planned, is_data, same_number, is_called}
 use Rattle.ypreorder.specs.Layout.{labels_by}
 use Rattle.ypreorder.specs.View.{rows_in}
+use Rattle.ypreorder.specs.declared.row.Row.{Row}
 use Rattle.ypreorder.specs.declared.table.Table.{Table}
 use Rattle.yindex.specs.declared.keys.Among.{Among}
 use Rattle.yindex.specs.declared.keys.Among.TheVariants.{Children, Scope, DataNodes}
 use Rattle.yindex.specs.declared.keys.IndexedNode.{IndexedNode}
-use Rattle.yplan.specs.PlannedView.{planned_view}
+use Rattle.yplan.specs.PlannedView.{part_at, planned_view}
 use Rattle.yplan.specs.declared.planned.Planned as code
 
 -- the nodes of a table, by number
 abbrev pub list_of : Table code.Planned → List Planned
 list_of t = labels_by planned_view 0 (rows_in t)
+
+-- the name of a node
+abbrev pub name_of : Planned → Text
+name_of p = argument_in p.part.source
+
+abbrev pub row_name : Row code.Planned → Text
+row_name r = argument_in (part_at r.label).source
 
 -- the node below which one is looked for
 abbrev pub above_in : Among → Planned → Option ℕ

@@ -1,15 +1,15 @@
 //! How planned nodes are found by their names.
 
-ghost use Rattle.std.specs.Prelude.{◌≡◌, ℕ, IfOk, option_map, find};
+ghost use Rattle.std.specs.Prelude.{◌≡◌, ℕ, IfOk, option_map, find, map};
 ghost use Rattle.yspec.specs.linking.SchemaNodes.{number_in};
 ghost use Rattle.yplan.specs.PlannedView.{planned_view};
-ghost use Rattle.yplan.specs.Finding.{indexed, is_found, list_of};
-ghost use Rattle.yindex.specs.Index.{found};
+ghost use Rattle.yplan.specs.Finding.{indexed, is_found, list_of, name_of, row_name};
+ghost use Rattle.yindex.specs.Index.{found, texts_of};
 
 use crate::planned::Planned;
 use std::alloc::{AllocError, Global};
 use yindex::{IndexedNode, NodeIndex};
-use ypreorder::Table;
+use ypreorder::{Row, Table};
 
 /// A planned node as it is found.
 fn indexed_node(planned: &Planned<'_, '_>, number: u32) -> IndexedNode
@@ -24,18 +24,31 @@ fn indexed_node(planned: &Planned<'_, '_>, number: u32) -> IndexedNode
     }
 }
 
+/// The names of nodes, in their order.
+fn names_of<'t>(alloc: Global, rows: &[Row<Planned<'_, 't>>]) -> Result<Vec<&'t str>, AllocError>
+    ensures { IfOk result (λ names. map (λ t. t.now) names.items ≡ map row_name rows.now) }
+{
+    let mut names = Vec::with_capacity(alloc, rows.len())?;
+    for row in rows {
+        names.push(row.label.name())?;
+    }
+    Ok(names)
+}
+
 /// All nodes, by their names.
 pub(crate) fn index_of<'t>(
     alloc: Global,
     table: &Table<Planned<'_, 't>>,
 ) -> Result<NodeIndex<'t>, AllocError>
-    ensures { IfOk result (λ index. (among : _) → (above : _) → (m : ℕ) → (name : _)
+    ensures texts { IfOk result (λ index. texts_of index ≡ map name_of (list_of table.now)) }
+    ensures nodes { IfOk result (λ index. (among : _) → (above : _) → (m : ℕ) → (name : _)
         → found index among above m name ≡ option_map number_in
         (find (is_found among above m name) (list_of table.now))) }
 {
-    let mut index = NodeIndex::with_capacity(alloc, table.len())?;
+    let names = names_of(alloc, table.rows())?;
+    let mut index = NodeIndex::of(alloc, names)?;
     for (number, row) in table.rows().iter().enumerate() {
-        index.add(indexed_node(&row.label, number as u32), row.label.name())?;
+        index.add(indexed_node(&row.label, number as u32))?;
     }
     Ok(index)
 }

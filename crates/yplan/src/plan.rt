@@ -1,11 +1,11 @@
 //! The plan of a set of modules.
 
-ghost use Rattle.std.specs.Prelude.{◌≡◌, ℕ, find, option_map};
+ghost use Rattle.std.specs.Prelude.{◌≡◌, ℕ, find, map, option_map};
 ghost use Rattle.yspec.specs.linking.SchemaNodes.{number_in};
-ghost use Rattle.yindex.specs.Index.{found};
+ghost use Rattle.yindex.specs.Index.{found, texts_of};
 ghost use Rattle.ypreorder.specs.Layout.{IsLaidOut};
 ghost use Rattle.ypreorder.specs.View.{rows_in};
-ghost use Rattle.yplan.specs.Finding.{is_found, list_of};
+ghost use Rattle.yplan.specs.Finding.{is_found, list_of, name_of};
 ghost use Rattle.ygrammar.specs.LinkView as link;
 ghost use Rattle.ylink.specs.PrefixView.{IsOf};
 
@@ -16,7 +16,7 @@ use crate::planned::Planned;
 use crate::planning::planned;
 use std::alloc::{AllocError, Global};
 use ygrammar::{Name, Sources};
-use yindex::{Among, NodeIndex};
+use yindex::{Among, Names, NodeIndex};
 use ylink::{NodeName, Prefixes};
 use ypreorder::{Nodes, Row, Table};
 use yword::Keyword;
@@ -31,16 +31,17 @@ pub struct Plan<'a, 't> {
     index: NodeIndex<'t>,
     ghost prefixed: { IsOf prefixes (link.view sources.now) },
     ghost laid_out: { IsLaidOut (rows_in table) },
+    ghost named: { texts_of index ≡ map name_of (list_of table) },
     ghost indexed: { (among : _) → (above : _) → (m : ℕ) → (name : _)
         → found index among above m name ≡ option_map number_in
         (find (is_found among above m name) (list_of table)) },
 }
 
 impl<'a, 't> Plan<'a, 't> {
-    ghost use Rattle.std.specs.Prelude.{◌≡◌, IfOk, Some, option_map, find, false};
+    ghost use Rattle.std.specs.Prelude.{◌≡◌, IfOk, Some, option_map, slice_get, find, false, map};
     ghost use Rattle.yindex.specs.declared.keys.Among.TheVariants as among;
-    ghost use Rattle.yplan.specs.Finding.{is_before, is_found};
-    ghost use Rattle.yspec.specs.linking.Source.{argument_in};
+    ghost use Rattle.yindex.specs.Names.{AreNamesOf};
+    ghost use Rattle.yplan.specs.Finding.{is_before, is_found, name_of};
     ghost use Rattle.yspec.specs.linking.Compiling.{plan_of};
     ghost use Rattle.yspec.specs.linking.Planned as spec;
     ghost use Rattle.ygrammar.specs.LinkView as link;
@@ -166,16 +167,26 @@ impl<'a, 't> Plan<'a, 't> {
 
     /// Whether a node before that of a number, among those that share their names with it, has its module and name.
     pub(crate) fn is_repeated(&self, number: u32, planned: &Planned<'_, '_>) -> bool
+        requires { slice_get (spec.nodes_of (view self.now)) number
+            ≡ Some (planned_view number planned.now) }
         ensures { let p = planned_view number planned.now in
             result ≡ is_before (option_map number_in
-            (find (is_found among.Scope p.scope p.part.owner (argument_in p.part.source))
+            (find (is_found among.Scope p.scope p.part.owner (name_of p))
             (spec.nodes_of (view self.now)))) number }
     {
-        let (module, name) = (planned.owner(), planned.name());
-        match self.first(Among::Scope, planned.scope, module, name) {
+        let (scope, module) = (planned.scope, planned.owner());
+        match self.index.first_like(Among::Scope, scope, module, number) {
             Some(first) => first < number,
             None => false,
         }
+    }
+
+    /// A copy of the names of its nodes.
+    pub fn names(&self, alloc: Global) -> Result<Names, AllocError>
+        ensures { IfOk result (λ names. AreNamesOf names
+            (map name_of (spec.nodes_of (view self.now)))) }
+    {
+        self.index.names(alloc)
     }
 
     /// The node of a number.

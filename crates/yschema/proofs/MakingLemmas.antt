@@ -1,6 +1,6 @@
 -- Schema nodes made from planned ones, and how they lie in rows.
 use Rattle.std.proofs.Common.{◌≡◌, ◌≢◌, ℕ, suc, Bool, ◌+◌, ◌<◌, ◌≤◌, List, [], ◌∷◌, ◌++◌, length, drop, get_or, map, Option, Some, None, refl, sym, ap, ap₂, ◌∙◌, subst, length-append, arith, append_assoc}
-use Rattle.std.specs.Prelude.{codes, option_map, option_and_then, slice_get, unwrap_or, if◌then◌else◌}
+use Rattle.std.specs.Prelude.{codes, option_map, option_and_then, slice_get, string_bytes, unwrap_or, if◌then◌else◌}
 use Rattle.std.specs.List.{filter_map}
 use Rattle.std.proofs.lemmas.Option.{slice_get-get_or}
 use Rattle.std.proofs.lemmas.List.{map-append, at_drop_more, at_drop_all, append-nil}
@@ -28,6 +28,7 @@ use Rattle.ypreorder.specs.declared.row.Row as plan_rows
 use Rattle.ypreorder.proofs.LayoutLemmas.{seen-append}
 use Rattle.ypreorder.proofs.LayoutLemmas as lying
 use Rattle.ypreorder.proofs.LabelLemmas.{size-by, label_at}
+use Rattle.yplan.specs.Finding.{name_of}
 use Rattle.yplan.specs.PlannedView.{planned_view}
 use Rattle.yplan.specs.PlanView.{view}
 use Rattle.yplan.specs.declared.plan.Plan.{Plan}
@@ -35,6 +36,7 @@ use Rattle.yplan.specs.declared.planned.Planned as code
 use Rattle.yplan.proofs.PlanLemmas.{nodes_are}
 use Rattle.ymodel.specs.declared.children.Row.{Row}
 use Rattle.ymodel.specs.Layout.{Place, place_of, places, laid}
+use Rattle.ymodel.specs.Lookup.{names_in}
 use Rattle.yschema.specs.Made.{place_made, planned_place}
 use Rattle.ymodel.proofs.LayoutLemmas.{laid_push}
 
@@ -184,13 +186,40 @@ row_stands plan rows i r are within is =
     ∙ (ap (option_map (λ x. planned_view (0 + i) x.label)) there ∙ ap (λ n. Some (planned_view n r.label)) from_start))
 
 -- what is laid in the end
+all_laid : (plan : Plan) (shown : List (plan_rows.Row code.Planned)) (i : ℕ) (made : List Row) → shown ≡ rows_in plan.table → length shown ≤ i
+    → laid 0 made ++ ahead (schema_node (view plan)) i (drop i (rows_in plan.table)) ≡ ahead (schema_node (view plan)) 0 (rows_in plan.table)
+    → laid 0 made ≡ ahead (schema_node (view plan)) 0 (rows_in plan.table)
+all_laid plan shown i made are past so =
+    let rows = rows_in plan.table in
+    let ended : length rows ≤ i = subst (λ xs. length xs ≤ i) are past in
+    sym (append-nil (laid 0 made)) ∙ (ap (λ ps. laid 0 made ++ ps) (sym (at_drop_all (ahead (schema_node (view plan)) i) rows i ended)) ∙ so)
+
 pub all_made : (plan : Plan) (shown : List (plan_rows.Row code.Planned)) (i : ℕ) (made : List Row) → shown ≡ rows_in plan.table → length shown ≤ i
     → laid 0 made ++ ahead (schema_node (view plan)) i (drop i (rows_in plan.table)) ≡ ahead (schema_node (view plan)) 0 (rows_in plan.table)
     → laid 0 made ≡ places None (schema_nodes (view plan))
 all_made plan shown i made are past so =
     let make = schema_node (view plan) in
-    let rows = rows_in plan.table in
-    let ended : length rows ≤ i = subst (λ xs. length xs ≤ i) are past in
-    let whole : ahead make 0 rows ≡ places None (schema_nodes (view plan)) =
+    let whole : ahead make 0 (rows_in plan.table) ≡ places None (schema_nodes (view plan)) =
     ap (λ ps. map (place_made make) (seen planned_view 0 ps)) plan.laid_out ∙ rows_made (view plan) None 0 (forest_in plan.table) in
-    sym (append-nil (laid 0 made)) ∙ (ap (λ ps. laid 0 made ++ ps) (sym (at_drop_all (ahead make i) rows i ended)) ∙ (so ∙ whole))
+    all_laid plan shown i made are past so ∙ whole
+
+-- ---- names
+
+abbrev place_name : Place → Text
+place_name p = p.label.name
+
+names_laid : (k : ℕ) (rows : List Row) → map place_name (laid k rows) ≡ names_in rows
+names_laid k [] = refl
+names_laid k (r ∷ rows) = ap (λ names. string_bytes r.node.name ∷ names) (names_laid (k + 1) rows)
+
+names_ahead : (plan : spec.Plan) (k : ℕ) (rows : List (plan_rows.Row code.Planned)) → map place_name (ahead (schema_node plan) k rows) ≡ map name_of (labels_by planned_view k rows)
+names_ahead plan k [] = refl
+names_ahead plan k (r ∷ rows) = ap (λ names. name_of (planned_view k r.label) ∷ names) (names_ahead plan (k + 1) rows)
+
+pub all_named : (plan : Plan) (shown : List (plan_rows.Row code.Planned)) (i : ℕ) (made : List Row) → shown ≡ rows_in plan.table → length shown ≤ i
+    → laid 0 made ++ ahead (schema_node (view plan)) i (drop i (rows_in plan.table)) ≡ ahead (schema_node (view plan)) 0 (rows_in plan.table)
+    → names_in made ≡ map name_of (spec.nodes_of (view plan))
+all_named plan shown i made are past so =
+    sym (names_laid 0 made)
+    ∙ (ap (map place_name) (all_laid plan shown i made are past so)
+    ∙ (names_ahead (view plan) 0 (rows_in plan.table) ∙ ap (map name_of) (sym (nodes_are plan))))

@@ -212,5 +212,6 @@ fn build<'t>(
 {
     let modules = modules_of(alloc, plan.sources())?;
     let rows = rows_of(alloc, plan, resolved)?;
-    Schema::of(alloc, modules, rows)
+    let names = plan.names(alloc)?;
+    Schema::of(alloc, modules, rows, names)
 }

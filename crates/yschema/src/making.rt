@@ -1,16 +1,18 @@
 //! Schema nodes from planned ones (RFC 7950, 7.5 to 7.9).
 
-ghost use Rattle.std.specs.Prelude.{◌≡◌, Some, None, option_map, slice_get, unwrap_or, IfOk};
+ghost use Rattle.std.specs.Prelude.{◌≡◌, Some, None, map, option_map, slice_get, unwrap_or, IfOk};
 ghost use Rattle.yspec.specs.types.Types.{string_type};
 ghost use Rattle.yspec.specs.linking.Planned.{nodes_of};
 ghost use Rattle.yspec.specs.linking.SchemaNodes as spec;
 ghost use Rattle.yspec.specs.linking.TypeStatements.{built_in_name};
 ghost use Rattle.yword.specs.BuiltInView.{built_in_view};
+ghost use Rattle.yplan.specs.Finding.{name_of};
 ghost use Rattle.yplan.specs.NodesView as plans;
 ghost use Rattle.yplan.specs.PlannedView.{planned_view};
 ghost use Rattle.yplan.specs.PlanView as plan_view;
 ghost use Rattle.yresolve.specs.ResolvedView.{IsOf};
 ghost use Rattle.ymodel.specs.Layout.{absence_view, kind_view, laid, leaf_type_view, node_view, place_of, places};
+ghost use Rattle.ymodel.specs.Lookup.{names_in};
 ghost use Rattle.yschema.specs.Made.{place_made, planned_place};
 
 use std::alloc::{AllocError, Global};
@@ -212,8 +214,10 @@ pub(crate) fn rows_of<'t>(
     resolved: &Resolved<'t>,
 ) -> Result<Vec<Row>, AllocError>
     requires { IsOf resolved.now (plan_view.view plan.now) }
-    ensures { IfOk result (λ rows. laid 0 rows.items
+    ensures laid { IfOk result (λ rows. laid 0 rows.items
         ≡ places None (spec.schema_nodes (plan_view.view plan.now))) }
+    ensures names { IfOk result (λ rows. names_in rows.items
+        ≡ map name_of (nodes_of (plan_view.view plan.now))) }
 {
     let mut rows = Vec::with_capacity(alloc, plan.nodes())?;
     for (number, row) in plan.rows().iter().enumerate() {

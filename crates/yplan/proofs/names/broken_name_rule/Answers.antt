@@ -10,9 +10,13 @@ use Rattle.ypreorder.proofs.LabelLemmas.{labels_more}
 use Rattle.ygrammar.specs.BreakView.{seen}
 use Rattle.yplan.specs.PlannedView.{planned_view}
 use Rattle.yplan.specs.Finding.{is_before}
-use Rattle.yplan.proofs.PlanLemmas.{nodes_are, labels_from, next_told, drop_past}
+use Rattle.yplan.proofs.PlanLemmas.{nodes_are, labels_from, next_told, drop_past, row_stands}
 use Rattle.yplan.proofs.NodeLemmas.{earlier}
 use Rattle.yplan.proofs.names.broken_name_rule.Goals as goal
+
+pub is_repeated-is_repeated-requires : goal.is_repeated-is_repeated-requires
+is_repeated-is_repeated-requires c =
+    row_stands c.args.plan.now c.rows-row-items.result.now c.loop-number.number c.row-item.result c.rows-row-items.ensures.rows c.loop-number-test.true c.row-item.is
 
 pub loop-number-preserved : goal.loop-number-preserved
 loop-number-preserved c =

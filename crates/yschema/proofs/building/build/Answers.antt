@@ -2,19 +2,23 @@ use Rattle.std.proofs.Common.{◌≡◌, IfOk, None, Ok, sym, subst, ap, ap₂, 
 use Rattle.yspec.specs.linking.Compiling.{schema_modules}
 use Rattle.yspec.specs.linking.SchemaNodes.{schema_nodes}
 use Rattle.yplan.specs.PlanView as plans
+use Rattle.yindex.specs.Names.{AreNamesOf}
 use Rattle.ymodel.specs.View.{view}
 use Rattle.ymodel.proofs.LayoutLemmas.{forest_of-laid, laid_as}
 use Rattle.yschema.proofs.building.build.Goals as goal
 
 pub of-requires-clause-laid_out : goal.of-requires-clause-laid_out
-of-requires-clause-laid_out c = laid_as (schema_nodes (plans.view c.args.plan.now)) c.in_ok-rows.rows.items c.in_ok-rows.ensures
+of-requires-clause-laid_out c = laid_as (schema_nodes (plans.view c.args.plan.now)) c.in_ok-rows.rows.items c.in_ok-rows.ensures.laid
+
+pub of-requires-clause-named : goal.of-requires-clause-named
+of-requires-clause-named c = subst (AreNamesOf c.in_ok-names.names) (sym c.in_ok-rows.ensures.names) c.in_ok-names.ensures
 
 pub of-requires-clause-compiled : goal.of-requires-clause-compiled
 of-requires-clause-compiled c =
     let p = plans.view c.args.plan.now in (
       c.requires.legal.0,
       c.requires.legal.1 ∙ ap Ok (sym (ap₂ (λ set nodes. record { modules = set; nodes = nodes })
-          (c.in_ok-modules.ensures ∙ ap schema_modules c.sources.ensures) (forest_of-laid (schema_nodes p) None 0 c.in_ok-rows.rows.items c.in_ok-rows.ensures))),
+          (c.in_ok-modules.ensures ∙ ap schema_modules c.sources.ensures) (forest_of-laid (schema_nodes p) None 0 c.in_ok-rows.rows.items c.in_ok-rows.ensures.laid))),
     )
 
 pub returns : goal.returns
@@ -22,5 +26,5 @@ returns c =
     let p = plans.view c.args.plan.now in
     subst (λ whole. IfOk c.of.result (λ schema. view schema ≡ whole))
     (ap₂ (λ set nodes. record { modules = set; nodes = nodes })
-    (c.in_ok-modules.ensures ∙ ap schema_modules c.sources.ensures) (forest_of-laid (schema_nodes p) None 0 c.in_ok-rows.rows.items c.in_ok-rows.ensures))
+    (c.in_ok-modules.ensures ∙ ap schema_modules c.sources.ensures) (forest_of-laid (schema_nodes p) None 0 c.in_ok-rows.rows.items c.in_ok-rows.ensures.laid))
     c.of.ensures

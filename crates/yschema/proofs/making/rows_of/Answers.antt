@@ -2,7 +2,7 @@ use Rattle.std.proofs.Common.{arith}
 use Rattle.yspec.specs.linking.SchemaNodes.{schema_node}
 use Rattle.ypreorder.specs.View.{rows_in}
 use Rattle.yplan.specs.PlanView.{view}
-use Rattle.yschema.proofs.MakingLemmas.{ahead, row_stands, row_more, count_more, all_made}
+use Rattle.yschema.proofs.MakingLemmas.{ahead, row_stands, row_more, count_more, all_made, all_named}
 use Rattle.yschema.proofs.making.rows_of.Goals as goal
 
 pub row_of-requires-clause-stands : goal.row_of-requires-clause-stands
@@ -21,7 +21,12 @@ loop-number-preserved c =
           c.loop-number.invariant.counted c.in_ok-row_of.ensures c.in_ok-push.ensures.items c.loop-number.invariant.laid;
     }
 
-pub returns : goal.returns
-returns c =
+pub returns-clause-laid : goal.returns-clause-laid
+returns-clause-laid c =
     all_made c.args.plan.now c.rows-row-items.result.now c.loop-number.number c.loop-number.rows.items c.rows-row-items.ensures.rows
+    (omega (arith, c.loop-number-test.false)) c.loop-number.invariant.laid
+
+pub returns-clause-names : goal.returns-clause-names
+returns-clause-names c =
+    all_named c.args.plan.now c.rows-row-items.result.now c.loop-number.number c.loop-number.rows.items c.rows-row-items.ensures.rows
     (omega (arith, c.loop-number-test.false)) c.loop-number.invariant.laid

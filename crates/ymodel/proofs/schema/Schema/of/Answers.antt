@@ -1,12 +1,13 @@
-use Rattle.std.proofs.Common.{◌≡◌, ◌<◌, ◌≤◌, ◌^◌, List, None, length, ap, subst, arith}
+use Rattle.std.proofs.Common.{◌≡◌, ◌<◌, ◌≤◌, ◌^◌, List, None, length, ap, subst, sym, arith}
 use Rattle.yspec.specs.Forest.{size}
 use Rattle.yspec.specs.schema.Breaks.{node_limit}
 use Rattle.yspec.specs.linking.Compiling.{IsCompiled}
 use Rattle.yspec.proofs.LinkingProofs.LinkedLemmas.{linked_few}
+use Rattle.yindex.specs.Names.{AreNamesOf}
 use Rattle.ymodel.specs.declared.children.Row.{Row}
 use Rattle.ymodel.specs.declared.schema.SchemaModule.{SchemaModule}
 use Rattle.ymodel.specs.Layout.{data_places, forest_of, laid, schema_view}
-use Rattle.ymodel.specs.Lookup.{FindsNamed, FindsWritten}
+use Rattle.ymodel.specs.Lookup.{names_in, FindsNamed, FindsWritten}
 use Rattle.ymodel.specs.References.{FindsReferences}
 use Rattle.ymodel.proofs.QueryLemmas.{size_of_forest}
 use Rattle.ymodel.proofs.schema.Schema.of.Goals as goal
@@ -21,6 +22,9 @@ pub index_of-requires-clause-numbered : goal.index_of-requires-clause-numbered
 index_of-requires-clause-numbered c =
     let bound = few c.args.modules.items c.args.rows.items c.requires.compiled in
     omega (arith, bound, ap length c.deref.ensures.value)
+
+pub index_of-requires-clause-names : goal.index_of-requires-clause-names
+index_of-requires-clause-names c = subst (λ rows. AreNamesOf c.args.names (names_in rows)) (sym c.deref.ensures.value) c.requires.named
 
 pub of-requires : goal.of-requires
 of-requires c =
