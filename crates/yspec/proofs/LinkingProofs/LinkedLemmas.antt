@@ -10,13 +10,14 @@ use Rattle.yspec.specs.schema.Schema.{Schema}
 use Rattle.yspec.specs.document.Fitting.{IsNumbered, LeafsAreBare}
 use Rattle.yspec.specs.linking.Source.{sources_from, sources_of}
 use Rattle.yspec.specs.linking.StatementBreaks.{statement_phase}
+use Rattle.yspec.specs.linking.Imports.{repeated_prefixes}
 use Rattle.yspec.specs.linking.Prefixes.{prefix_breaks}
-use Rattle.yspec.specs.linking.TypeStatements.{type_name_breaks, type_breaks}
+use Rattle.yspec.specs.linking.TypeStatements.{type_breaks}
 use Rattle.yspec.specs.linking.Parts.{Part, parts_of_modules}
 use Rattle.yspec.specs.linking.Planned.{Plan, Around, around_below, planned}
 use Rattle.yspec.specs.linking.SchemaNodes.{schema_node}
 use Rattle.yspec.specs.linking.NodeBreaks.{name_breaks, node_breaks}
-use Rattle.yspec.specs.linking.Compiling.{plan_of, schema_of, is_too_deep, phases, compiled}
+use Rattle.yspec.specs.linking.Compiling.{plan_of, schema_of, is_too_deep, names_phase, meanings_phase, phases, compiled}
 use Rattle.yspec.proofs.LinkingProofs.BreakLemmas.{none_second, none_told}
 use Rattle.yspec.proofs.LinkingProofs.LegalLemmas.{are_modules}
 use Rattle.yspec.proofs.LinkingProofs.RightPartLemmas.{AreRight, right_all, bare_of}
@@ -60,11 +61,11 @@ breaks_nothing modules e =
     let of_names = name_breaks plan ∷ of_nodes in
     let of_sizes = limit_breaks (nat_lt node_limit (size plan.nodes)) modules ∷ of_names in
     let of_types = type_breaks sources ∷ of_sizes in
-    let of_type_names = type_name_breaks sources ∷ of_types in
-    let of_modules = (prefix_breaks sources ++ module_breaks 0 [] modules) ∷ of_type_names in
+    let of_meanings = meanings_phase sources ∷ of_types in
+    let of_modules = names_phase modules sources ∷ of_meanings in
     let first = none_told (statement_phase modules) (first_broken of_modules) e in
-    let second = none_told (prefix_breaks sources ++ module_breaks 0 [] modules) (first_broken of_type_names) first.1 in
-    let third = none_told (type_name_breaks sources) (first_broken of_types) second.1 in
+    let second = none_told (names_phase modules sources) (first_broken of_meanings) first.1 in
+    let third = none_told (meanings_phase sources) (first_broken of_types) second.1 in
     let fourth = none_told (type_breaks sources) (first_broken of_sizes) third.1 in
     let fifth = none_told (limit_breaks (nat_lt node_limit (size plan.nodes)) modules) (first_broken of_names) fourth.1 in
     let sixth = none_told (name_breaks plan) (first_broken of_nodes) fifth.1 in
@@ -74,7 +75,8 @@ breaks_nothing modules e =
     (not_passed (λ m. is_too_deep (plan_in m).nodes) none_deep modules (is_too_deep plan.nodes) refl eighth.0) in
     record {
       statements = first.0;
-      module_names = none_second (prefix_breaks sources) (module_breaks 0 [] modules) second.0;
+      module_names = none_second (repeated_prefixes sources) (module_breaks 0 [] modules)
+          (none_second (prefix_breaks sources) (repeated_prefixes sources ++ module_breaks 0 [] modules) second.0);
       names = sixth.0;
       few = ltb-false node_limit (size plan.nodes) limits.0;
       within = ltb-false level_limit (levels plan.nodes) limits.1;

@@ -1,18 +1,21 @@
 -- What prefixes are declared to be, and imports: C5, and prefixes that are given twice, C6 (RFC 7950, 5.1, 5.1.1, 7.1.4 and
 -- 7.1.5).
-use Rattle.std.specs.Prelude.{ℕ, ◌++◌, ◌&&◌, Bool, true, false, not, List, [], ◌∷◌, map, find, Option, Some, None, option_map, unwrap_or, if◌then◌else◌}
+use Rattle.std.specs.Prelude.{ℕ, zero, suc, ◌++◌, ◌&&◌, Bool, true, false, not, List, [], ◌∷◌, map, find, Option, Some, None, option_map, unwrap_or, if◌then◌else◌}
 use Rattle.std.specs.List.{list_any}
 use Rattle.std.specs.Option.{option_map_or}
-use Rattle.std.specs.Ordering.{nat_cmp}
+use Rattle.std.specs.Ordering.{nat_cmp, is_lt}
 use Rattle.std.specs.Cmp.Lexicographic.{slice_cmp}
-use Rattle.std.specs.declared.cmp.Ordering.{Ordering}
-use Rattle.std.specs.declared.cmp.Ordering.TheVariants.{Less}
 use Rattle.yspec.specs.Forest.{Forest, end, node, row}
 use Rattle.yspec.specs.text.Text.{Text, is_text}
 use Rattle.yspec.specs.linking.Keyword as word
 use Rattle.yspec.specs.linking.Source.{Source, is_source_of, argument_in, argument_with, all_with}
-use Rattle.yspec.specs.linking.Prefixes.{body_at, own_prefix}
 use Rattle.yspec.specs.schema.Breaks.{Break, broken, when}
+
+-- what stands below the `module` statement at a place of the set
+abbrev pub body_at : Forest Source → ℕ → Forest Source
+body_at end home = end
+body_at (node s below after) zero = below
+body_at (node s below after) (suc home) = body_at after home
 
 -- the place of the first module of a name
 abbrev pub module_called : Forest Source → Text → Option ℕ
@@ -20,6 +23,7 @@ module_called modules name = option_map (λ s. s.home) (find (λ s. is_text (arg
 
 -- ---- prefixes
 
+-- whether the `prefix` statement of a row, of a module or of an import, gives a prefix
 abbrev pub has_prefix : Text → Forest Source → Bool
 has_prefix prefix below = option_map_or (is_text prefix) (argument_with word.prefix_word below) false
 
@@ -32,7 +36,7 @@ imported_as prefix (node s below after) =
 -- What a module declares a prefix to stand for: the place of the module itself, or of one that it imports, of which the set
 -- may have none; nothing where it declares no such prefix.
 abbrev pub prefix_declared : Forest Source → ℕ → Text → Option (Option ℕ)
-prefix_declared modules home prefix = if is_text (own_prefix modules home) prefix then Some (Some home)
+prefix_declared modules home prefix = if has_prefix prefix (body_at modules home) then Some (Some home)
     else option_map (module_called modules) (imported_as prefix (body_at modules home))
 
 -- the place of the module that a prefix names in a module; wherever a prefix stands, it means what is said here
@@ -59,11 +63,7 @@ repeated_prefixes (node s below after) = repeated [] (prefix_statements below) +
 -- ---- C5: imports of what isn't in the set
 
 abbrev pub is_later : Text → Text → Bool
-is_later date other = is_less (slice_cmp nat_cmp date other)
-  where
-    is_less : Ordering → Bool
-    is_less Less = true
-    is_less _ = false
+is_later date other = is_lt (slice_cmp nat_cmp date other)
 
 -- whether a date is that of the newest revision of a module
 abbrev pub is_newest : Text → Forest Source → Bool

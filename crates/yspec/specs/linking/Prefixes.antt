@@ -1,27 +1,15 @@
--- What prefixes and prefixed names mean (RFC 7950, 5.1.3 and 6.4), and where one means nothing.
-use Rattle.std.specs.Prelude.{ℕ, zero, suc, Bool, false, not, List, [], ◌∷◌, Option, Some, None, is_some, unwrap_or, if◌then◌else◌}
+-- What prefixed names of schema nodes mean (RFC 7950, 5.1.3 and 6.4), and prefixes that no module declares.
+use Rattle.std.specs.Prelude.{ℕ, Bool, false, not, List, [], ◌∷◌, Option, Some, is_some, unwrap_or}
 use Rattle.std.specs.List.{list_any, flat_map}
 use Rattle.std.specs.Option.{option_map_or}
-use Rattle.yspec.specs.Forest.{Forest, end, node, preorder}
-use Rattle.yspec.specs.text.Text.{Text, is_text}
+use Rattle.yspec.specs.Forest.{Forest, preorder}
+use Rattle.yspec.specs.text.Text.{Text}
 use Rattle.yspec.specs.linking.Keyword.{Keyword}
 use Rattle.yspec.specs.linking.Keyword as word
 use Rattle.yspec.specs.linking.Arguments.{Name, name_of, key_of, unique_of, leafref_path_of}
-use Rattle.yspec.specs.linking.Source.{Source, argument_in, argument_with}
+use Rattle.yspec.specs.linking.Source.{Source, argument_in}
+use Rattle.yspec.specs.linking.Imports.{prefix_declared, module_meant}
 use Rattle.yspec.specs.schema.Breaks.{Break, broken, when}
-
--- what stands below the `module` statement at a place of the set
-abbrev pub body_at : Forest Source → ℕ → Forest Source
-body_at end home = end
-body_at (node s below after) zero = below
-body_at (node s below after) (suc home) = body_at after home
-
-abbrev pub own_prefix : Forest Source → ℕ → Text
-own_prefix modules home = unwrap_or (argument_with word.prefix_word (body_at modules home)) []
-
--- the place of the module that a prefix names in a module; wherever a prefix stands, it means what is said here
-abbrev pub module_meant : Forest Source → ℕ → Text → Option ℕ
-module_meant modules home prefix = if is_text (own_prefix modules home) prefix then Some home else None
 
 -- the name of a schema node: the place of its module, where the prefix names one, and its identifier
 pub record NodeName : Type 0 where
@@ -35,10 +23,10 @@ node_name modules home plain n = record {
   name = n.identifier;
 }
 
--- ---- C6: prefixes that name nothing
+-- ---- C6: prefixes that are declared nowhere in the module
 
 abbrev pub is_unknown_prefix : Forest Source → ℕ → Name → Bool
-is_unknown_prefix modules home n = option_map_or (λ prefix. not (is_some (module_meant modules home prefix))) n.prefix false
+is_unknown_prefix modules home n = option_map_or (λ prefix. not (is_some (prefix_declared modules home prefix))) n.prefix false
 
 -- the names that a statement has as its argument
 abbrev pub names_given : Keyword → Text → List Name

@@ -11,8 +11,7 @@ use Rattle.yspec.specs.linking.Arguments.{Name, name_of}
 use Rattle.yspec.specs.linking.Source.{Source, is_source_of, argument_in}
 use Rattle.yspec.specs.linking.StatementBreaks.{is_type_outside}
 use Rattle.yspec.specs.linking.TypeStatements.{built_in_named}
-use Rattle.yspec.specs.linking.Prefixes.{body_at}
-use Rattle.yspec.specs.linking.Imports.{module_meant}
+use Rattle.yspec.specs.linking.Imports.{body_at, module_meant}
 use Rattle.yspec.specs.schema.Breaks.{Break, broken, when}
 
 -- ---- where statements stand
