@@ -44,6 +44,10 @@ const IN_MODULE: &[Allowed] = &[
         count: Count::One,
     },
     Allowed {
+        keyword: Keyword::Import,
+        count: Count::Any,
+    },
+    Allowed {
         keyword: Keyword::Organization,
         count: Count::AtMostOne,
     },

@@ -1,3 +1,4 @@
 pub mod PrefixView
 pub mod TypeView
 pub mod KindView
+pub mod FirstNamedView

@@ -1,6 +1,7 @@
 //! What names in statements mean: prefixes, modules, and types.
 #![tactic(auto)]
 
+mod first_named;
 mod judging;
 mod limit;
 mod naming;
