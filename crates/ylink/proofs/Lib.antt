@@ -1,2 +1,4 @@
 pub mod PrefixLemmas
+pub mod FirstNamedLemmas
+pub mod DeclaredLemmas
 pub mod TypeLemmas

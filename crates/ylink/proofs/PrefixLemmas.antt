@@ -10,14 +10,13 @@ use Rattle.yspec.specs.text.Text.{Text, is_text}
 use Rattle.yspec.specs.types.Types.{int8, int16, int32, int64, uint8, uint16, uint32, uint64}
 use Rattle.yspec.specs.linking.Keyword.{prefix_word, type_word}
 use Rattle.yspec.specs.linking.Arguments.{Name, unique_of}
-use Rattle.yspec.specs.linking.Prefixes.{is_unknown_prefix, own_prefix, module_meant, names_given}
+use Rattle.yspec.specs.linking.Prefixes.{is_unknown_prefix, names_given}
 use Rattle.yspec.specs.linking.Source.{Source, argument_with}
 use Rattle.yspec.specs.linking.TypeStatements.{BuiltIn, integer, decimal64, string, boolean, empty, enumeration, bits, union, leafref, built_in_name, built_in_named}
 use Rattle.yspec.proofs.LinkingProofs.BuiltInLemmas.{name_of_named}
 use Rattle.yword.specs.declared.keyword.Keyword.{Keyword}
 use Rattle.yword.specs.declared.keyword.Keyword.TheVariants as words
 use Rattle.yword.specs.KeywordView.{keyword_view}
-use Rattle.ylink.specs.PrefixView.{text_at, texts_view, own_prefixes}
 
 -- ---- one of a list, of which what is left is looked at
 
@@ -42,37 +41,6 @@ module _ {A B : Type 0} (see : A → B) (p : B → Bool) where
 pub any_of_all : {A : Type 0} (p : A → Bool) (xss : List (List A)) → list_any (list_any p) xss ≡ list_any p (flat_map (λ xs. xs) xss)
 any_of_all p [] = refl
 any_of_all p (xs ∷ xss) = ap (λ b. list_any p xs || b) (any_of_all p xss) ∙ sym (list_any-append p xs (flat_map (λ xs. xs) xss))
-
--- ---- own prefixes
-
-own_at : (modules : Forest Source) (home : ℕ) (texts : List (Bor Text)) → texts_view texts ≡ own_prefixes modules
-    → text_at texts home ≡ own_prefix modules home
-own_at end home [] e = refl
-own_at end home (t ∷ texts) e = absurd cc
-own_at (node s below after) home [] e = absurd cc
-own_at (node s below after) zero (t ∷ texts) e = let same : t.now ≡ own_prefix (node s below after) 0 = cc in same
-own_at (node s below after) (suc home) (t ∷ texts) e = let rest : texts_view texts ≡ own_prefixes after = cc in own_at after home texts rest
-
-pub all_prefixes : (texts : List (Bor Text)) (left modules : Forest Source) → left ≡ end
-    → texts_view texts ++ own_prefixes left ≡ own_prefixes modules
-    → (home : ℕ) (prefix : Text) → cond (is_text (text_at texts home) prefix) (Some home) None ≡ module_meant modules home prefix
-all_prefixes texts left modules ended so_far home prefix =
-    ap (λ own. cond (is_text own prefix) (Some home) None)
-    (own_at modules home texts (sym (ap (λ f. texts_view texts ++ own_prefixes f) ended ∙ append-nil (texts_view texts)) ∙ so_far))
-
-view_push : (texts : List (Bor Text)) (t : Bor Text) → texts_view (texts ++ t ∷ []) ≡ texts_view texts ++ t.now ∷ []
-view_push [] t = refl
-view_push (x ∷ texts) t = ap (λ ts. x.now ∷ ts) (view_push texts t)
-
-pub next_prefix : (texts more : List (Bor Text)) (t : Bor Text) (s : Source) (below after before : Forest Source) (whole : List Text)
-    → before ≡ node s below after → more ≡ texts ++ t ∷ [] → t.now ≡ unwrap_or (argument_with prefix_word below) []
-    → texts_view texts ++ own_prefixes before ≡ whole → texts_view more ++ own_prefixes after ≡ whole
-next_prefix texts more t s below after before whole first pushed is so_far =
-    ap (λ ts. texts_view ts ++ own_prefixes after) pushed
-    ∙ (ap (λ ts. ts ++ own_prefixes after) (view_push texts t)
-    ∙ (append_assoc (texts_view texts) (t.now ∷ []) (own_prefixes after)
-    ∙ (ap (λ x. texts_view texts ++ (x ∷ own_prefixes after)) is
-    ∙ (ap (λ f. texts_view texts ++ own_prefixes f) (sym first) ∙ so_far))))
 
 -- ---- the names in an argument
 

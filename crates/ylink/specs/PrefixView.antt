@@ -1,36 +1,40 @@
--- Prefixes of modules, and names of schema nodes, as the specification's.
-use Rattle.std.specs.Prelude.{◌≡◌, ℕ, List, [], ◌∷◌, Option, Some, None, map, slice_get, if◌then◌else◌}
-use Rattle.std.specs.Borrow.{Bor}
-use Rattle.std.specs.Option.{option_map_or}
-use Rattle.yspec.specs.Forest.{Forest, end, node}
-use Rattle.yspec.specs.text.Text.{Text, is_text}
+-- What prefixes stand for, and names of schema nodes, as the specification's.
+use Rattle.std.specs.Prelude.{◌≡◌, ℕ, ◌&&◌, List, Option, Some, None, option_map, option_and_then, slice_get, if◌then◌else◌}
+use Rattle.yspec.specs.Forest.{Forest}
+use Rattle.yspec.specs.text.Text.{Text}
+use Rattle.yspec.specs.linking.Keyword.{import_word}
 use Rattle.yspec.specs.linking.Prefixes as spec
-use Rattle.yspec.specs.linking.Prefixes.{own_prefix, module_meant}
-use Rattle.yspec.specs.linking.Source.{Source}
+use Rattle.yspec.specs.linking.Imports.{has_prefix, imported_as, module_called, prefix_declared}
+use Rattle.yspec.specs.linking.Source.{Source, is_source_of, argument_in}
+use Rattle.ylink.specs.FirstNamedView.{named}
+use Rattle.ylink.specs.declared.first_named.FirstNamed.{FirstNamed}
 use Rattle.ylink.specs.declared.prefix.Prefixes.{Prefixes}
 use Rattle.ylink.specs.declared.prefix.NodeName.{NodeName}
 
-abbrev pub text_at : List (Bor Text) → ℕ → Text
-text_at texts home = option_map_or (λ t. t.now) (slice_get texts home) []
+-- each name has the place of the module that it names
+abbrev pub ArePlacesOf : FirstNamed ℕ → Forest Source → Type 0
+ArePlacesOf places modules = (name : Text) → named places name ≡ module_called modules name
 
-abbrev pub own_in : Prefixes → ℕ → Text
-own_in prefixes home = text_at prefixes.own.items home
+-- what an import declares a prefix to stand for
+abbrev pub imported_by : Forest Source → Text → Source → Forest Source → Option (Option ℕ)
+imported_by modules prefix s below =
+    if is_source_of import_word s && has_prefix prefix below then Some (module_called modules (argument_in s)) else None
 
--- the place of the module that a prefix names in a module, by the prefixes that are held
-abbrev pub module_in : Prefixes → ℕ → Text → Option ℕ
-module_in prefixes home prefix = if is_text (own_in prefixes home) prefix then Some home else None
+-- what the row of a module declares a prefix to stand for
+abbrev pub declared_by : Forest Source → ℕ → Text → Forest Source → Option (Option ℕ)
+declared_by modules home prefix body = if has_prefix prefix body then Some (Some home)
+    else option_map (module_called modules) (imported_as prefix body)
 
--- each prefix names in each of some modules what it means there
+-- what a prefix stands for in a module, by the prefixes that are held
+abbrev pub declared_at : List (FirstNamed (Option ℕ)) → ℕ → Text → Option (Option ℕ)
+declared_at declared home prefix = option_and_then (λ table. named table prefix) (slice_get declared home)
+
+abbrev pub declared_in : Prefixes → ℕ → Text → Option (Option ℕ)
+declared_in prefixes home prefix = declared_at prefixes.declared.items home prefix
+
+-- each prefix stands in each of some modules for what it is declared to be there
 abbrev pub IsOf : Prefixes → Forest Source → Type 0
-IsOf prefixes modules = (home : ℕ) (prefix : Text) → module_in prefixes home prefix ≡ module_meant modules home prefix
-
--- the own prefixes of the modules of a row, one after another
-abbrev pub own_prefixes : Forest Source → List Text
-own_prefixes end = []
-own_prefixes (node s below after) = own_prefix (node s below after) 0 ∷ own_prefixes after
-
-abbrev pub texts_view : List (Bor Text) → List Text
-texts_view texts = map (λ t. t.now) texts
+IsOf prefixes modules = (home : ℕ) (prefix : Text) → declared_in prefixes home prefix ≡ prefix_declared modules home prefix
 
 abbrev pub node_name_view : NodeName → spec.NodeName
 node_name_view n = record { module_number = n.«module»; name = n.name.now }

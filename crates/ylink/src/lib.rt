@@ -6,6 +6,7 @@ mod judging;
 mod limit;
 mod naming;
 mod prefix;
+mod repeated;
 mod types;
 
 pub use judging::{broken_type_name_rule, broken_type_rule};

@@ -1,12 +1,12 @@
 //! What prefixes and prefixed names mean (RFC 7950, 5.1.3 and 6.4), and where one means nothing.
 
-ghost use Rattle.std.specs.Prelude.{◌≡◌, ℕ, IfOk, [], None, is_some, map, option_map, unwrap_or};
+ghost use Rattle.std.specs.Prelude.{◌≡◌, ℕ, IfOk, OnOk, [], None, map, option_map, unwrap_or};
 ghost use Rattle.std.specs.List.{list_any};
-ghost use Rattle.yspec.specs.Forest.{Forest};
+ghost use Rattle.yspec.specs.Forest.{Forest, first_of};
 ghost use Rattle.yspec.specs.linking.Prefixes as spec;
-ghost use Rattle.yspec.specs.linking.Keyword.{prefix_word, type_word};
+ghost use Rattle.yspec.specs.linking.Keyword.{type_word};
 ghost use Rattle.yspec.specs.linking.Source as sources;
-ghost use Rattle.ypreorder.specs.View.{row_by};
+ghost use Rattle.ypreorder.specs.View.{row_by, label_by};
 ghost use Rattle.yspec.specs.schema.Breaks.{least_from};
 ghost use Rattle.ygrammar.specs.BreakView.{seen};
 ghost use Rattle.yword.specs.KeywordView.{keyword_view};
@@ -14,21 +14,23 @@ ghost use Rattle.ygrammar.specs.LinkView.{view};
 ghost use Rattle.ytext.specs.View as text;
 ghost use Rattle.ygrammar.specs.NameView.{name_view, names_view};
 ghost use Rattle.ygrammar.specs.NamedType.{argument_text};
-ghost use Rattle.ylink.specs.PrefixView.{IsOf};
+ghost use Rattle.ylink.specs.FirstNamedView.{named};
+ghost use Rattle.ylink.specs.PrefixView.{ArePlacesOf, IsOf, declared_by, imported_by};
 ghost use Rattle.ygrammar.specs.SourceView.{source_view};
 
+use crate::first_named::FirstNamed;
 use std::alloc::{AllocError, Global};
 use ygrammar::{
-    BrokenRule, CompileCode, Name, Source, Sources, argument_with, broken, key_names, leafref_path,
-    least, name_of, unique_paths,
+    BrokenRule, CompileCode, Name, Source, Sources, argument_of, argument_with, broken, key_names,
+    leafref_path, least, name_of, unique_paths,
 };
-use ypreorder::Node;
+use ypreorder::{Node, Nodes};
 use yword::Keyword;
 
-/// The own prefix of each module, by its place in the set.
+/// What the prefixes of each module stand for, by its place in the set: the place of a module, where the set has it.
 #[derive(Drop)]
 pub struct Prefixes<'t> {
-    own: Vec<&'t str>,
+    declared: Vec<FirstNamed<'t, Option<usize>>>,
 }
 
 /// The name of a schema node: the place of its module, where the prefix names one, and its identifier.
@@ -38,49 +40,97 @@ pub struct NodeName<'t> {
     pub name: &'t str,
 }
 
-fn prefix_of<'a, 't>(module: Node<'a, Source<'t>>) -> &'t str
-    ensures { result.now ≡ unwrap_or
-        (sources.argument_with prefix_word (row_by source_view module.entry.children)) [] }
+/// The places of a set's modules, by their names.
+pub(crate) fn places_of<'t>(
+    alloc: Global,
+    sources: &Sources<'t>,
+) -> Result<FirstNamed<'t, usize>, AllocError>
+    ensures { IfOk result (λ places. ArePlacesOf places (view sources.now)) }
 {
-    argument_with(Keyword::Prefix, module.children()).unwrap_or("")
+    let mut places = FirstNamed::new(alloc);
+    for top in sources.modules() {
+        places.add(argument_of(top), top.label().home)?;
+    }
+    Ok(places)
+}
+
+/// Adds the prefix of an import, where a statement is one, behind those so far.
+fn add_import<'t>(
+    declared: &mut FirstNamed<'t, Option<usize>>,
+    places: &FirstNamed<'t, usize>,
+    statement: Node<'_, Source<'t>>,
+) -> Result<(), AllocError>
+    ensures { OnOk result ((modules : Forest sources.Source) → ArePlacesOf places.now modules
+        → (prefix : _) → named declared.new prefix ≡ first_of (named declared.old prefix)
+        (imported_by modules prefix (label_by source_view statement.entry)
+        (row_by source_view statement.entry.children))) }
+{
+    if !Keyword::Import.is(statement.label().keyword) {
+        return Ok(());
+    }
+    match argument_with(Keyword::Prefix, statement.children()) {
+        Some(prefix) => declared.add(prefix, places.get(argument_of(statement))),
+        None => Ok(()),
+    }
+}
+
+/// What prefixes stand for in a module, which is at a place of the set.
+fn prefixes_of<'t>(
+    alloc: Global,
+    places: &FirstNamed<'t, usize>,
+    home: usize,
+    body: Nodes<'_, Source<'t>>,
+) -> Result<FirstNamed<'t, Option<usize>>, AllocError>
+    ensures { IfOk result (λ declared. (modules : Forest sources.Source)
+        → ArePlacesOf places.now modules → (prefix : _) → named declared prefix
+        ≡ declared_by modules home prefix (row_by source_view body.entry)) }
+{
+    let mut declared = FirstNamed::new(alloc);
+    if let Some(prefix) = argument_with(Keyword::Prefix, body) {
+        declared.add(prefix, Some(home))?;
+    }
+    for statement in body {
+        add_import(&mut declared, places, statement)?;
+    }
+    Ok(declared)
 }
 
 impl<'t> Prefixes<'t> {
     ghost use Rattle.std.specs.Prelude.{◌≡◌, IfOk};
     ghost use Rattle.yspec.specs.Forest.{Forest};
     ghost use Rattle.yspec.specs.linking.Source as sources;
+    ghost use Rattle.yspec.specs.linking.Imports as imports;
     ghost use Rattle.yspec.specs.linking.Prefixes as spec;
     ghost use Rattle.ygrammar.specs.LinkView.{view};
     ghost use Rattle.ygrammar.specs.NameView.{name_view};
-    ghost use Rattle.ylink.specs.PrefixView.{IsOf, own_in, node_name_view};
+    ghost use Rattle.ylink.specs.PrefixView.{IsOf, declared_in, node_name_view};
 
-    /// The own prefixes of a set's modules.
+    /// The prefixes of a set's modules.
     pub fn of(alloc: Global, sources: &Sources<'t>) -> Result<Prefixes<'t>, AllocError>
         ensures { IfOk result (λ prefixes. IsOf prefixes (view sources.now)) }
     {
-        let mut own = Vec::new(alloc);
-        for module in sources.modules() {
-            own.push(prefix_of(module))?;
+        let places = places_of(alloc, sources)?;
+        let mut declared = Vec::new(alloc);
+        for top in sources.modules() {
+            let home = declared.len();
+            declared.push(prefixes_of(alloc, &places, home, top.children())?)?;
         }
-        Ok(Prefixes { own })
+        Ok(Prefixes { declared })
     }
 
-    fn own_prefix(&self, home: usize) -> &'t str
-        ensures { result.now ≡ own_in self.now home }
+    /// What a module declares a prefix to stand for.
+    fn declared(&self, home: usize, prefix: &str) -> Option<Option<usize>>
+        ensures { result ≡ declared_in self.now home prefix.now }
     {
-        self.own.get(home).copied().unwrap_or("")
+        self.declared.get(home)?.get(prefix)
     }
 
     /// The place of the module that a prefix names in a module.
     pub fn module_meant(&self, home: usize, prefix: &str) -> Option<usize>
         ensures { (modules : Forest sources.Source) → IsOf self.now modules → result
-            ≡ spec.module_meant modules home prefix.now }
+            ≡ imports.module_meant modules home prefix.now }
     {
-        if self.own_prefix(home) == prefix {
-            Some(home)
-        } else {
-            None
-        }
+        self.declared(home, prefix)?
     }
 
     /// What a name names that stands in a module; one without a prefix is of a module that is given.
@@ -103,7 +153,7 @@ impl<'t> Prefixes<'t> {
             → result ≡ spec.is_unknown_prefix modules home (name_view name.now) }
     {
         match name.prefix {
-            Some(prefix) => self.module_meant(home, prefix).is_none(),
+            Some(prefix) => self.declared(home, prefix).is_none(),
             None => false,
         }
     }

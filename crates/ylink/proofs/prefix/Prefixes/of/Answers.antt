@@ -1,25 +1,37 @@
-use Rattle.std.proofs.Common.{rules}
+use Rattle.std.proofs.Common.{◌≡◌, ap₂, ◌∙◌, length, arith}
+use Rattle.std.specs.Prelude.{vec_len}
 use Rattle.ypreorder.specs.View.{row_by, label_by}
 use Rattle.ypreorder.proofs.RowLemmas.{takes_by, takes_none_by}
 use Rattle.ygrammar.specs.LinkView.{view}
 use Rattle.ygrammar.specs.SourceView.{source_view}
-use Rattle.ylink.proofs.PrefixLemmas.{next_prefix, all_prefixes}
+use Rattle.ylink.specs.PrefixView.{declared_by}
+use Rattle.ylink.proofs.DeclaredLemmas.{next_left, next_done, all_done}
 use Rattle.ylink.proofs.prefix.Prefixes.of.Goals as goal
 
-pub loop-module-preserved : goal.loop-module-preserved
-loop-module-preserved c =
-    let before = c.loop-module.module-iterator in
+pub loop-top-preserved : goal.loop-top-preserved
+loop-top-preserved c =
+    let before = c.loop-top.top-iterator in
     let after = c.next.new.self in
-    let m = c.in-Some.module in
+    let top = c.in-Some.top in
+    let first = takes_by source_view before after top c.in-Some.ensures.steps in
+    let modules = view c.args.sources.now in
+    let tables = c.loop-top.declared.items in
+    let more = c.push.new.self.items in
+    let table = c.in_ok-prefixes_of.field-0 in
+    let count : vec_len c.loop-top.declared ≡ length tables = omega arith in
+    let pushed = c.in_ok-push.ensures.items in
+    let body = row_by source_view top.children in
+    let label = label_by source_view top in
     record {
       more = tt;
       ends = tt;
-      so_far = next_prefix c.loop-module.own.items _ c.prefix_of.result (label_by source_view m) (row_by source_view m.children) (row_by source_view after)
-          (row_by source_view before) _ (takes_by source_view before after m c.in-Some.ensures.steps) (search rules) c.prefix_of.ensures c.loop-module.invariant.so_far;
+      left = next_left modules tables more table (row_by source_view before) (row_by source_view after) body label pushed first c.loop-top.invariant.left;
+      done = next_done modules tables more table (row_by source_view before) (row_by source_view after) body label pushed first c.loop-top.invariant.left
+          (λ prefix. c.in_ok-prefixes_of.ensures modules c.in_ok-places.ensures prefix ∙ ap₂ (λ h f. declared_by modules h prefix (row_by source_view f)) (c.len-home.ensures ∙ count) c.children.ensures) c.loop-top.invariant.done;
     }
 
 pub returns : goal.returns
 returns c =
-    let before = c.loop-module.module-iterator in
-    all_prefixes c.loop-module.own.items (row_by source_view before) (view c.args.sources.now)
-    (takes_none_by source_view before c.next.new.self c.in-None.ensures.steps).0 c.loop-module.invariant.so_far
+    let before = c.loop-top.top-iterator in
+    all_done (view c.args.sources.now) c.loop-top.declared.items (row_by source_view before)
+    (takes_none_by source_view before c.next.new.self c.in-None.ensures.steps).0 c.loop-top.invariant.left c.loop-top.invariant.done
