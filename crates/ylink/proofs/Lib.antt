@@ -1,4 +1,5 @@
 pub mod PrefixLemmas
 pub mod FirstNamedLemmas
 pub mod DeclaredLemmas
+pub mod RepeatedLemmas
 pub mod TypeLemmas
