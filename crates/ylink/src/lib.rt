@@ -2,6 +2,7 @@
 #![tactic(auto)]
 
 mod first_named;
+mod imports;
 mod judging;
 mod limit;
 mod naming;

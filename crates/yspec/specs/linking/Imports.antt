@@ -62,15 +62,23 @@ repeated_prefixes (node s below after) = repeated [] (prefix_statements below) +
 
 -- ---- C5: imports of what isn't in the set
 
-abbrev pub is_later : Text → Text → Bool
-is_later date other = is_lt (slice_cmp nat_cmp date other)
+-- the later of a date so far and another
+abbrev pub later : Option Text → Text → Text
+later None date = date
+later (Some other) date = if is_lt (slice_cmp nat_cmp other date) then date else other
 
--- whether a date is that of the newest revision of a module
-abbrev pub is_newest : Text → Forest Source → Bool
-is_newest date body = let dates = map argument_in (all_with word.revision_word body) in
-    list_any (is_text date) dates && not (list_any (is_later date) dates)
+abbrev pub newest_from : Option Text → List Text → Option Text
+newest_from so_far [] = so_far
+newest_from so_far (date ∷ dates) = newest_from (Some (later so_far date)) dates
+
+-- the date of the newest revision in a module's row
+abbrev pub newest_revision : Forest Source → Option Text
+newest_revision body = newest_from None (map argument_in (all_with word.revision_word body))
 
 -- an import that names a date wants the newest revision to be of that date
+abbrev pub is_newest : Text → Forest Source → Bool
+is_newest date body = option_map_or (is_text date) (newest_revision body) false
+
 abbrev pub is_met_by : Forest Source → Forest Source → ℕ → Bool
 is_met_by modules below m =
     option_map_or (λ date. is_newest date (body_at modules m)) (argument_with word.revision_date_word below) true
