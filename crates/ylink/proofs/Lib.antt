@@ -1,2 +1,4 @@
+pub mod DefinitionLemmas
 pub mod PrefixLemmas
+pub mod ScopeLemmas
 pub mod TypeLemmas

@@ -1,3 +1,5 @@
-pub mod PrefixView
-pub mod TypeView
+pub mod DefinitionView
 pub mod KindView
+pub mod PrefixView
+pub mod ScopeView
+pub mod TypeView
