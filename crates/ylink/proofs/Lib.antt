@@ -1,4 +1,5 @@
 pub mod DefinitionLemmas
+pub mod MeaningLemmas
 pub mod PrefixLemmas
 pub mod ScopeLemmas
 pub mod TypeLemmas

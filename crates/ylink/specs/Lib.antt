@@ -1,5 +1,7 @@
+pub mod DeclaredView
 pub mod DefinitionView
 pub mod KindView
+pub mod MeaningView
 pub mod PrefixView
 pub mod ScopeView
 pub mod TypeView

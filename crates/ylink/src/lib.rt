@@ -1,15 +1,19 @@
 //! What names in statements mean: prefixes, modules, and types.
 #![tactic(auto)]
 
+mod declared;
 mod definitions;
 mod judging;
 mod limit;
+mod meanings;
 mod naming;
 mod prefix;
 mod taken;
 mod types;
 
+pub use declared::DeclaredPrefixes;
 pub use judging::{broken_type_name_rule, broken_type_rule};
+pub use meanings::meanings_of;
 pub use prefix::{NodeName, Prefixes, broken_prefix_rule};
 pub use taken::broken_taken_rule;
 pub use types::{Meant, Verdict, built_in_meant, type_meant};
