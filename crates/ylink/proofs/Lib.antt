@@ -1,5 +1,6 @@
 pub mod DefinitionLemmas
 pub mod MeaningLemmas
+pub mod NumberedLemmas
 pub mod PrefixLemmas
 pub mod ScopeLemmas
 pub mod TypeLemmas

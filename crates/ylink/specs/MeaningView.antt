@@ -1,11 +1,12 @@
 -- What names of types and groupings mean, by numbers.
-use Rattle.std.specs.Prelude.{◌≡◌, ℕ, ⊤, List, [], ◌∷◌, Option, None, option_map, option_and_then, slice_get}
+use Rattle.std.specs.Prelude.{◌≡◌, ℕ, ⊤, ◌&&◌, Bool, not, is_some, map, List, [], ◌∷◌, Option, None, option_map, option_and_then, slice_get}
 use Rattle.yspec.specs.Forest.{Forest, end, node}
 use Rattle.yspec.specs.text.Text.{Text}
 use Rattle.yspec.specs.linking.Arguments.{name_of}
 use Rattle.yspec.specs.linking.Keyword.{Keyword}
 use Rattle.yspec.specs.linking.Source.{Source, argument_in}
-use Rattle.yspec.specs.linking.Scopes.{Placed, definition_named, meaning}
+use Rattle.yspec.specs.linking.Scopes.{Placed, statements_of, kind_named, names_built_in, definition_named, meaning}
+use Rattle.yspec.specs.schema.Breaks.{Break, broken, when}
 use Rattle.ylink.specs.declared.definitions.Definitions.{Definitions}
 use Rattle.ylink.specs.declared.definitions.DefinitionKind.{DefinitionKind}
 use Rattle.ylink.specs.declared.meanings.NamedModules.{NamedModules}
@@ -38,3 +39,18 @@ top_in tops home kind name = option_and_then (λ d. first_in kind d name) (slice
 -- they are the modules of a set
 abbrev pub AreModules : NamedModules → Forest Source → Type 0
 AreModules m modules = AreDeclared m.prefixes.now modules × AreTopsOf m.tops.items modules
+
+-- what the table holds of a statement, by its number
+abbrev pub meaning_at : List (Option ℕ) → ℕ → Option ℕ
+meaning_at meanings number = option_and_then (λ m. m) (slice_get meanings number)
+
+-- whether the name is lost of a statement that means that
+abbrev pub is_lost_by : Source → Option ℕ → Bool
+is_lost_by s m = is_some (kind_named s.keyword) && (not (names_built_in s) && not (is_some m))
+
+abbrev pub lost_by : Source → Option ℕ → List Break
+lost_by s m = when (is_lost_by s m) (broken 8 s.home s.statement.line)
+
+-- the table holds what each statement of a set means
+abbrev pub AreMeanings : List (Option ℕ) → Forest Source → Type 0
+AreMeanings meanings modules = meanings ≡ map (number_meant modules) (statements_of modules)

@@ -5,6 +5,7 @@ mod declared;
 mod definitions;
 mod judging;
 mod limit;
+mod lost;
 mod meanings;
 mod naming;
 mod prefix;
@@ -13,6 +14,7 @@ mod types;
 
 pub use declared::DeclaredPrefixes;
 pub use judging::{broken_type_name_rule, broken_type_rule};
+pub use lost::broken_lost_rule;
 pub use meanings::meanings_of;
 pub use prefix::{NodeName, Prefixes, broken_prefix_rule};
 pub use taken::broken_taken_rule;

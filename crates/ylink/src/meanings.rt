@@ -9,7 +9,7 @@ ghost use Rattle.ygrammar.specs.LinkView.{view};
 ghost use Rattle.ygrammar.specs.SourceView.{source_view};
 ghost use Rattle.ylink.specs.DeclaredView.{AreDeclared};
 ghost use Rattle.ylink.specs.DefinitionView.{IsAround};
-ghost use Rattle.ylink.specs.MeaningView.{number_meant, AreTopsOf, AreModules};
+ghost use Rattle.ylink.specs.MeaningView.{number_meant, AreMeanings, AreModules, AreTopsOf};
 
 use crate::declared::DeclaredPrefixes;
 use crate::definitions::{DefinitionKind, Definitions, Scope};
@@ -168,8 +168,8 @@ pub fn meanings_of<'t>(
     sources: &Sources<'t>,
     prefixes: &DeclaredPrefixes<'t>,
 ) -> Result<Vec<Option<u32>>, AllocError>
-    ensures { AreDeclared prefixes.now (view sources.now) → IfOk result (λ made. made.items
-        ≡ map (number_meant (view sources.now)) (spec.statements_of (view sources.now))) }
+    ensures { AreDeclared prefixes.now (view sources.now)
+        → IfOk result (λ made. AreMeanings made.items (view sources.now)) }
 {
     let tops = tops_of(alloc, sources)?;
     let modules = NamedModules { prefixes, tops };
