@@ -2,5 +2,6 @@ pub mod DefinitionLemmas
 pub mod MeaningLemmas
 pub mod NumberedLemmas
 pub mod PrefixLemmas
+pub mod ReferringLemmas
 pub mod ScopeLemmas
 pub mod TypeLemmas

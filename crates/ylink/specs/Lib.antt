@@ -3,5 +3,6 @@ pub mod DefinitionView
 pub mod KindView
 pub mod MeaningView
 pub mod PrefixView
+pub mod ReferringView
 pub mod ScopeView
 pub mod TypeView

@@ -9,6 +9,7 @@ mod lost;
 mod meanings;
 mod naming;
 mod prefix;
+mod referring;
 mod taken;
 mod types;
 
@@ -17,5 +18,6 @@ pub use judging::{broken_type_name_rule, broken_type_rule};
 pub use lost::broken_lost_rule;
 pub use meanings::meanings_of;
 pub use prefix::{NodeName, Prefixes, broken_prefix_rule};
+pub use referring::holders_of;
 pub use taken::broken_taken_rule;
 pub use types::{Meant, Verdict, built_in_meant, type_meant};
