@@ -1,4 +1,5 @@
 pub mod DefinitionLemmas
+pub mod EdgeLemmas
 pub mod MeaningLemmas
 pub mod NumberedLemmas
 pub mod PrefixLemmas

@@ -1,5 +1,6 @@
 pub mod DeclaredView
 pub mod DefinitionView
+pub mod EdgeView
 pub mod KindView
 pub mod MeaningView
 pub mod PrefixView

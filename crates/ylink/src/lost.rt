@@ -13,7 +13,7 @@ use ygrammar::{BrokenRule, CompileCode, Source, Sources, broken, least_when};
 use yword::Keyword;
 
 /// What a table of meanings holds of the statement of a number.
-fn meaning_at(meanings: &[Option<u32>], number: usize) -> Option<u32>
+pub(crate) fn meaning_at(meanings: &[Option<u32>], number: usize) -> Option<u32>
     ensures { result ≡ meaning_at meanings.now number }
 {
     match meanings.get(number) {
