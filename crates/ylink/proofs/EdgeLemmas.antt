@@ -1,11 +1,13 @@
 -- Edges of definitions, one statement after another.
-use Rattle.std.proofs.Common.{◌≡◌, ℕ, zero, suc, ◌+◌, ◌<◌, ◌≤◌, List, [], ◌∷◌, ◌++◌, length, get_or, drop, map, Option, Some, None, refl, sym, ap, ap₂, ◌∙◌, arith}
+use Rattle.std.proofs.Common.{◌≡◌, ℕ, zero, suc, ◌+◌, ◌<◌, ◌≤◌, false, List, [], ◌∷◌, ◌++◌, length, get_or, drop, map, Option, Some, None, refl, sym, ap, ap₂, ◌∙◌, arith}
 use Rattle.std.specs.Prelude.{slice_get, option_map, option_and_then, IfOk, Result, Ok, Err}
 use Rattle.std.specs.List.{filter_map, cons_option}
+use Rattle.std.specs.Option.{option_map_or}
 use Rattle.std.proofs.lemmas.List.{append_assoc, append-nil, at_drop_more, at_drop_all, length-append}
 use Rattle.yspec.specs.Forest.{Forest}
-use Rattle.yspec.specs.linking.Circles.{referring, definition_edge, definition_edges}
+use Rattle.yspec.specs.linking.Circles.{referring, definition_edge, definition_edges, is_circular}
 use Rattle.yspec.specs.linking.Graph as spec
+use Rattle.yspec.specs.linking.Graph.{is_on_circle}
 use Rattle.yspec.specs.linking.Scopes.{Placed, meaning, statements_of}
 use Rattle.yspec.specs.linking.Source.{Source}
 use Rattle.ygraph.specs.Edges.{edge_view}
@@ -84,6 +86,30 @@ pub all_present : (modules : Forest Source) (holders meanings : List (Option ℕ
 all_present modules holders meanings table made held meant is made_is =
     ap (map edge_view) made_is ∙ (present_view table ∙ (ap (filter_map (λ e. e)) (is ∙ by_statement modules holders meanings held meant)
     ∙ filter_mapped (definition_edge modules) (statements_of modules)))
+
+-- ---- which lie on circles
+
+seen_flags : (all : List spec.Edge) (es : List (Option Edge))
+    → map (λ e. option_map_or (λ x. is_on_circle all (edge_view x)) e false) es ≡ map (is_circular all) (map (option_map edge_view) es)
+seen_flags all [] = refl
+seen_flags all (None ∷ es) = ap (λ l. false ∷ l) (seen_flags all es)
+seen_flags all (Some e ∷ es) = ap (λ l. is_on_circle all (edge_view e) ∷ l) (seen_flags all es)
+
+map_both : {A B C : Type 0} (f : B → C) (g : A → B) (xs : List A) → map f (map g xs) ≡ map (λ x. f (g x)) xs
+map_both f g [] = refl
+map_both f g (x ∷ xs) = ap (λ l. f (g x) ∷ l) (map_both f g xs)
+
+pub circular_flags : (modules : Forest Source) (holders meanings : List (Option ℕ)) (table : List (Option Edge)) (found : List Edge)
+    → AreReferring holders modules → AreMeanings meanings modules
+    → map (option_map edge_view) table ≡ edges_from holders 0 meanings → found ≡ filter_map (λ e. e) table
+    → map (λ e. option_map_or (λ x. is_on_circle (map edge_view found) (edge_view x)) e false) table
+    ≡ map (λ p. is_circular (definition_edges modules) (definition_edge modules p)) (statements_of modules)
+circular_flags modules holders meanings table found held meant is found_is =
+    let all = map edge_view found in
+    let statements = statements_of modules in
+    seen_flags all table ∙ (ap (map (is_circular all)) (is ∙ by_statement modules holders meanings held meant)
+    ∙ (map_both (is_circular all) (definition_edge modules) statements
+    ∙ ap (λ edges. map (λ p. is_circular edges (definition_edge modules p)) statements) (all_present modules holders meanings table found held meant is found_is)))
 
 pub if_ok : {A E : Type 0} (P Q : A → Type 0) (r : Result A E) → ((x : A) → P x → Q x) → IfOk r P → IfOk r Q
 if_ok P Q (Ok x) next holds = next x holds

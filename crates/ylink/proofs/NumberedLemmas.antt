@@ -1,6 +1,6 @@
 -- What a table by statement number holds of the statements of a set, where it holds one thing of each.
 use Rattle.std.proofs.Common.{◌≡◌, ℕ, zero, suc, ◌+◌, Bool, true, false, not, List, [], ◌∷◌, ◌++◌, length, map, Option, Some, None, is_some, refl, sym, ap, ap₂, ◌∙◌, arith}
-use Rattle.std.specs.Prelude.{slice_get, option_map, ◌&&◌}
+use Rattle.std.specs.Prelude.{slice_get, option_map, option_and_then, unwrap_or, ◌&&◌}
 use Rattle.std.specs.List.{flat_map}
 use Rattle.std.proofs.lemmas.List.{append_assoc, append-nil, length-append, length-map}
 use Rattle.yspec.specs.Forest.{Forest, end, node, size, preorder}
@@ -10,6 +10,7 @@ use Rattle.yspec.specs.schema.Breaks.{when, broken, Break}
 use Rattle.ypreorder.specs.Layout.{numbered_by}
 use Rattle.ygrammar.specs.declared.source.Source as held
 use Rattle.ygrammar.specs.SourceView.{source_view}
+use Rattle.ylink.specs.EdgeView.{circle_by, flag_at}
 use Rattle.ylink.specs.MeaningView.{number_meant, numbered, meaning_at, lost_by, AreMeanings}
 use Rattle.ylink.specs.ScopeView.{placed_at}
 use Rattle.ylink.proofs.ScopeLemmas.{flat_append}
@@ -33,11 +34,11 @@ length_placed see ancestors k (node l below after) =
     let behind = placed ancestors (numbered_by see (k + suc (size below)) after) in
     ap suc (length-append under behind ∙ ap₂ (λ a b. a + b) (length_placed see ((s, inner) ∷ ancestors) (k + 1) below) (length_placed see ancestors (k + suc (size below)) after))
 
-module _ {B : Type 0} (m : Placed → Option ℕ) (g : Source → Option ℕ → List B) (meanings : List (Option ℕ)) where
-  pub by_number_from : (ancestors : List (Source × Forest Source)) (k : ℕ) (f : Forest held.Source) (before after : List (Option ℕ))
-      → length before ≡ k → meanings ≡ before ++ (map m (placed ancestors (numbered_by source_view k f)) ++ after)
-      → flat_map (λ s. g s (meaning_at meanings s.number)) (preorder (numbered_by source_view k f))
-      ≡ flat_map (λ p. g p.source (m p)) (placed ancestors (numbered_by source_view k f))
+module _ {A B : Type 0} (m : Placed → A) (g : Source → Option A → List B) (table : List A) where
+  pub by_number_from : (ancestors : List (Source × Forest Source)) (k : ℕ) (f : Forest held.Source) (before after : List A)
+      → length before ≡ k → table ≡ before ++ (map m (placed ancestors (numbered_by source_view k f)) ++ after)
+      → flat_map (λ s. g s (slice_get table s.number)) (preorder (numbered_by source_view k f))
+      ≡ flat_map (λ p. g p.source (Some (m p))) (placed ancestors (numbered_by source_view k f))
   unfolding placed
   by_number_from ancestors k end before after count held_is = refl
   by_number_from ancestors k (node l below behind) before after count held_is =
@@ -49,11 +50,11 @@ module _ {B : Type 0} (m : Placed → Option ℕ) (g : Source → Option ℕ →
       let others = placed ancestors outer in
       let all_under = map m under in
       let all_others = map m others in
-      let look : Source → List B = λ s. g s (meaning_at meanings s.number) in
-      let parted : meanings ≡ before ++ (m p ∷ (all_under ++ (all_others ++ after))) =
+      let look : Source → List B = λ s. g s (slice_get table s.number) in
+      let parted : table ≡ before ++ (m p ∷ (all_under ++ (all_others ++ after))) =
       held_is ∙ ap (λ l. before ++ (m p ∷ l)) (ap (λ l. l ++ after) (map_append m under others) ∙ append_assoc all_under all_others after) in
-      let here : meaning_at meanings k ≡ m p =
-      ap (λ ms. meaning_at ms k) parted ∙ ap (option_joined) (get_behind before (all_under ++ (all_others ++ after)) (m p) k count) in
+      let here : slice_get table k ≡ Some (m p) =
+      ap (λ ms. slice_get ms k) parted ∙ (get_behind before (all_under ++ (all_others ++ after)) (m p) k count) in
       let one : length (before ++ m p ∷ []) ≡ k + 1 = length-append before (m p ∷ []) ∙ omega (arith, count) in
       let first = by_number_from ((s, inner) ∷ ancestors) (k + 1) below (before ++ m p ∷ []) (all_others ++ after) one
       (parted ∙ sym (append_assoc before (m p ∷ []) (all_under ++ (all_others ++ after)))) in
@@ -64,11 +65,7 @@ module _ {B : Type 0} (m : Placed → Option ℕ) (g : Source → Option ℕ →
       ∙ sym (append_assoc (before ++ m p ∷ []) all_under (all_others ++ after)))) in
       ap₂ (λ o l. g s o ++ l) here
       (flat_append look (preorder inner) (preorder outer) ∙ (ap₂ (λ a b. a ++ b) first rest
-      ∙ sym (flat_append (λ p. g p.source (m p)) under others)))
-    where
-      option_joined : Option (Option ℕ) → Option ℕ
-      option_joined None = None
-      option_joined (Some o) = o
+      ∙ sym (flat_append (λ p. g p.source (Some (m p))) under others)))
 
 -- ---- names that are lost
 
@@ -88,5 +85,14 @@ pub all_lost : (f : Forest held.Source) (meanings : List (Option ℕ)) → AreMe
     ≡ flat_map (lost_break (numbered_by source_view 0 f)) (statements_of (numbered_by source_view 0 f))
 all_lost f meanings are =
     let modules = numbered_by source_view 0 f in
-    by_number_from (number_meant modules) lost_by meanings [] 0 f [] [] refl (are ∙ sym (append-nil (map (number_meant modules) (statements_of modules))))
+    by_number_from (number_meant modules) (λ s m. lost_by s (option_and_then (λ o. o) m)) meanings [] 0 f [] [] refl (are ∙ sym (append-nil (map (number_meant modules) (statements_of modules))))
     ∙ lost_of modules (statements_of modules)
+
+-- ---- what is circular
+
+pub all_circular : (f : Forest held.Source) (circular : List Bool) (flag : Placed → Bool) → circular ≡ map flag (statements_of (numbered_by source_view 0 f))
+    → flat_map (λ s. circle_by s (flag_at circular s.number)) (preorder (numbered_by source_view 0 f))
+    ≡ flat_map (λ p. circle_by p.source (flag p)) (statements_of (numbered_by source_view 0 f))
+all_circular f circular flag are =
+    let modules = numbered_by source_view 0 f in
+    by_number_from flag (λ s b. circle_by s (unwrap_or b false)) circular [] 0 f [] [] refl (are ∙ sym (append-nil (map flag (statements_of modules))))

@@ -1,6 +1,7 @@
 //! What names in statements mean: prefixes, modules, and types.
 #![tactic(auto)]
 
+mod circular;
 mod declared;
 mod definitions;
 mod judging;
@@ -14,6 +15,7 @@ mod referring;
 mod taken;
 mod types;
 
+pub use circular::broken_circle_rule;
 pub use declared::DeclaredPrefixes;
 pub use judging::{broken_type_name_rule, broken_type_rule};
 pub use lost::broken_lost_rule;

@@ -28,7 +28,7 @@ fn edge_of(holder: Option<u32>, meaning: Option<u32>) -> Option<Edge>
 }
 
 /// The edge of each statement, by its number, given what holds each and what each means.
-fn edges_by_number(
+pub(crate) fn edges_by_number(
     alloc: Global,
     holders: &[Option<u32>],
     meanings: &[Option<u32>],
@@ -45,7 +45,7 @@ fn edges_by_number(
 }
 
 /// The edges that there are.
-fn present(alloc: Global, edges: &[Option<Edge>]) -> Result<Vec<Edge>, AllocError>
+pub(crate) fn present(alloc: Global, edges: &[Option<Edge>]) -> Result<Vec<Edge>, AllocError>
     ensures { IfOk result (λ made. made.items ≡ filter_map (λ e. e) edges.now) }
 {
     let mut made = Vec::new(alloc);
