@@ -1,7 +1,6 @@
 -- The first definitions of rows by their names, and of the rows around a statement.
-use Rattle.std.proofs.Common.{◌≡◌, ℕ, Bool, true, false, cond, List, [], ◌∷◌, ◌++◌, Option, Some, None, is_some, refl, sym, ap, ap₂, ◌∙◌}
-use Rattle.std.specs.Prelude.{find, option_map, reverse, ◌&&◌}
-use Rattle.std.specs.List.{flat_map}
+use Rattle.std.proofs.Common.{◌≡◌, ℕ, Bool, true, false, cond, List, [], ◌∷◌, ◌++◌, Option, Some, None, is_some, refl, sym, ap, ◌∙◌}
+use Rattle.std.specs.Prelude.{find, option_map, ◌&&◌}
 use Rattle.std.specs.BTreeMap.{UpdatesBy}
 use Rattle.std.specs.Cmp.Lexicographic.{slice_cmp}
 use Rattle.std.specs.Ordering.{nat_cmp}
@@ -12,7 +11,7 @@ use Rattle.yspec.specs.Forest.{Forest, end, node, row, first_of}
 use Rattle.yspec.specs.text.Text.{Text, is_text}
 use Rattle.yspec.specs.linking.Keyword.{Keyword}
 use Rattle.yspec.specs.linking.Source.{Source, is_source_of, argument_in}
-use Rattle.yspec.specs.linking.Scopes.{defines, around}
+use Rattle.yspec.specs.linking.Scopes.{defines}
 use Rattle.ylink.specs.declared.definitions.FirstNamed.{FirstNamed}
 use Rattle.ylink.specs.DefinitionView.{number_in, first_number}
 

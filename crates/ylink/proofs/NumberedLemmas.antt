@@ -1,17 +1,17 @@
 -- What a table by statement number holds of the statements of a set, where it holds one thing of each.
-use Rattle.std.proofs.Common.{◌≡◌, ℕ, zero, suc, ◌+◌, Bool, true, false, not, List, [], ◌∷◌, ◌++◌, length, map, Option, Some, None, is_some, refl, sym, ap, ap₂, ◌∙◌, arith}
+use Rattle.std.proofs.Common.{◌≡◌, ℕ, zero, suc, ◌+◌, Bool, false, not, List, [], ◌∷◌, ◌++◌, length, map, Option, Some, None, is_some, refl, sym, ap, ap₂, ◌∙◌, arith}
 use Rattle.std.specs.Prelude.{slice_get, option_map, option_and_then, unwrap_or, ◌&&◌}
 use Rattle.std.specs.List.{flat_map}
 use Rattle.std.proofs.lemmas.List.{append_assoc, append-nil, length-append, length-map}
 use Rattle.yspec.specs.Forest.{Forest, end, node, size, preorder}
 use Rattle.yspec.specs.linking.Source.{Source}
 use Rattle.yspec.specs.linking.Scopes.{Placed, placed, statements_of, meaning, kind_named, names_built_in, lost_break}
-use Rattle.yspec.specs.schema.Breaks.{when, broken, Break}
+use Rattle.yspec.specs.schema.Breaks.{when, broken}
 use Rattle.ypreorder.specs.Layout.{numbered_by}
 use Rattle.ygrammar.specs.declared.source.Source as held
 use Rattle.ygrammar.specs.SourceView.{source_view}
 use Rattle.ylink.specs.EdgeView.{circle_by, flag_at}
-use Rattle.ylink.specs.MeaningView.{number_meant, numbered, meaning_at, lost_by, AreMeanings}
+use Rattle.ylink.specs.MeaningView.{number_meant, meaning_at, lost_by, AreMeanings}
 use Rattle.ylink.specs.ScopeView.{placed_at}
 use Rattle.ylink.proofs.ScopeLemmas.{flat_append}
 use Rattle.ylink.proofs.MeaningLemmas.{map_append}

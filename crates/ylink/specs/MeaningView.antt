@@ -1,5 +1,5 @@
 -- What names of types and groupings mean, by numbers.
-use Rattle.std.specs.Prelude.{◌≡◌, ℕ, ⊤, ◌&&◌, Bool, not, is_some, map, List, [], ◌∷◌, Option, None, option_map, option_and_then, slice_get}
+use Rattle.std.specs.Prelude.{◌≡◌, ℕ, ⊤, ◌&&◌, Bool, not, is_some, map, List, [], ◌∷◌, Option, option_map, option_and_then, slice_get}
 use Rattle.yspec.specs.Forest.{Forest, end, node}
 use Rattle.yspec.specs.text.Text.{Text}
 use Rattle.yspec.specs.linking.Arguments.{name_of}

@@ -45,8 +45,9 @@ fn flags_by_number(
             made.push(false)?;
             continue;
         }
+        // There is a flag for each edge.
         let Some((flag, others)) = left.split_first() else {
-            return Err(AllocError);
+            break;
         };
         made.push(*flag)?;
         left = others;

@@ -1,4 +1,4 @@
-use Rattle.std.proofs.Common.{◌≡◌, ◌∷◌, [], ◌++◌, ap, ◌∙◌, arith, map}
+use Rattle.std.proofs.Common.{◌≡◌, ◌∷◌, ◌++◌, ap, ◌∙◌, arith, map}
 use Rattle.yspec.specs.Forest.{size, row}
 use Rattle.yspec.specs.linking.Scopes.{placed}
 use Rattle.ypreorder.specs.View.{row_by, label_by}

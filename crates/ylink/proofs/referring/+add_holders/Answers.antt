@@ -1,4 +1,4 @@
-use Rattle.std.proofs.Common.{◌≡◌, ◌∷◌, ◌++◌, ap, ◌∙◌, arith, map, Some, cond}
+use Rattle.std.proofs.Common.{◌≡◌, ◌∷◌, ◌++◌, ap, ◌∙◌, arith, map}
 use Rattle.std.specs.Prelude.{option_and_then}
 use Rattle.yspec.specs.Forest.{size}
 use Rattle.yspec.specs.linking.Circles.{referring}

@@ -1,4 +1,4 @@
-use Rattle.std.proofs.Common.{◌≡◌, ◌∷◌, [], ap, sym, ◌∙◌, arith}
+use Rattle.std.proofs.Common.{◌≡◌, ◌∷◌, [], ap, ◌∙◌, arith}
 use Rattle.std.specs.List.{flat_map}
 use Rattle.yspec.specs.Forest.{size}
 use Rattle.yspec.specs.linking.Scopes.{placed, taken_break, is_taken}
