@@ -30,7 +30,7 @@ module _ {V : Type 0} where
 -- ---- one so far, and the first of what is left
 
 module _ {V : Type 0} where
-  first_of_both : (a b c : Option V) → first_of (first_of a b) c ≡ first_of a (first_of b c)
+  pub first_of_both : (a b c : Option V) → first_of (first_of a b) c ≡ first_of a (first_of b c)
   first_of_both (Some x) b c = refl
   first_of_both None b c = refl
 

@@ -1,5 +1,10 @@
-pub mod PrefixView
-pub mod TypeView
-pub mod KindView
+pub mod DefinitionView
+pub mod EdgeView
 pub mod FirstNamedView
+pub mod KindView
+pub mod MeaningView
+pub mod PrefixView
+pub mod ReferringView
 pub mod RevisionView
+pub mod ScopeView
+pub mod TypeView
