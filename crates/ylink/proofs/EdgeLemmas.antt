@@ -46,7 +46,7 @@ module _ (holders meanings : List (Option ℕ)) (i : ℕ) (so_far : List (Option
 
 -- ---- the edges that there are
 
-present_view : (es : List (Option Edge)) → map edge_view (filter_map (λ e. e) es) ≡ filter_map (λ e. e) (map (option_map edge_view) es)
+pub present_view : (es : List (Option Edge)) → map edge_view (filter_map (λ e. e) es) ≡ filter_map (λ e. e) (map (option_map edge_view) es)
 present_view [] = refl
 present_view (None ∷ es) = present_view es
 present_view (Some e ∷ es) = ap (λ l. edge_view e ∷ l) (present_view es)
@@ -75,7 +75,7 @@ pub by_statement : (modules : Forest Source) (holders meanings : List (Option �
 by_statement modules holders meanings held meant =
     ap₂ (λ hs ms. edges_from hs 0 ms) held meant ∙ from_both modules (statements_of modules) [] 0 refl
 
-filter_mapped : {A B : Type 0} (f : A → Option B) (xs : List A) → filter_map (λ e. e) (map f xs) ≡ filter_map f xs
+pub filter_mapped : {A B : Type 0} (f : A → Option B) (xs : List A) → filter_map (λ e. e) (map f xs) ≡ filter_map f xs
 filter_mapped f [] = refl
 filter_mapped f (x ∷ xs) = ap (cons_option (f x)) (filter_mapped f xs)
 
@@ -89,13 +89,13 @@ all_present modules holders meanings table made held meant is made_is =
 
 -- ---- which lie on circles
 
-seen_flags : (all : List spec.Edge) (es : List (Option Edge))
+pub seen_flags : (all : List spec.Edge) (es : List (Option Edge))
     → map (λ e. option_map_or (λ x. is_on_circle all (edge_view x)) e false) es ≡ map (is_circular all) (map (option_map edge_view) es)
 seen_flags all [] = refl
 seen_flags all (None ∷ es) = ap (λ l. false ∷ l) (seen_flags all es)
 seen_flags all (Some e ∷ es) = ap (λ l. is_on_circle all (edge_view e) ∷ l) (seen_flags all es)
 
-map_both : {A B C : Type 0} (f : B → C) (g : A → B) (xs : List A) → map f (map g xs) ≡ map (λ x. f (g x)) xs
+pub map_both : {A B C : Type 0} (f : B → C) (g : A → B) (xs : List A) → map f (map g xs) ≡ map (λ x. f (g x)) xs
 map_both f g [] = refl
 map_both f g (x ∷ xs) = ap (λ l. f (g x) ∷ l) (map_both f g xs)
 

@@ -2,6 +2,7 @@ pub mod DeclaredLemmas
 pub mod DefinitionLemmas
 pub mod EdgeLemmas
 pub mod FirstNamedLemmas
+pub mod ImportingLemmas
 pub mod MeaningLemmas
 pub mod NumberedLemmas
 pub mod PrefixLemmas

@@ -30,7 +30,7 @@ fn flag_at(circular: &[bool], number: usize) -> bool
 }
 
 /// Of each statement, by its number, what is said of its edge, given that of the edges that there are.
-fn flags_by_number(
+pub(crate) fn flags_by_number(
     alloc: Global,
     edges: &[Option<Edge>],
     flags: &[bool],
@@ -71,12 +71,16 @@ fn judge_circle(
     )
 }
 
-/// The least of the statements that lie on circles, by module and line.
-fn least_circle(sources: &Sources<'_>, circular: &[bool]) -> Option<BrokenRule>
+/// The lesser of one so far and of the statements that lie on circles, by module and line.
+pub(crate) fn least_circle(
+    sources: &Sources<'_>,
+    circular: &[bool],
+    so_far: Option<BrokenRule>,
+) -> Option<BrokenRule>
     ensures { (flag : Placed → Bool) → circular.now ≡ map flag (statements_of (view sources.now))
-        → seen result ≡ least_from None (circles_by flag (view sources.now)) }
+        → seen result ≡ least_from (seen so_far) (circles_by flag (view sources.now)) }
 {
-    let mut told = None;
+    let mut told = so_far;
     for (number, row) in sources.rows().iter().enumerate() {
         told = judge_circle(&row.label, flag_at(circular, number), told);
     }
@@ -99,5 +103,5 @@ pub fn broken_circle_rule(
     let found = present(alloc, &edges)?;
     let flags = on_circles(alloc, &found)?;
     let circular = flags_by_number(alloc, &edges, &flags)?;
-    Ok(least_circle(sources, &circular))
+    Ok(least_circle(sources, &circular, None))
 }

@@ -4,6 +4,7 @@
 mod circular;
 mod definitions;
 mod first_named;
+mod importing;
 mod imports;
 mod judging;
 mod limit;
