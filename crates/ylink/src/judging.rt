@@ -45,11 +45,11 @@ fn judge_type_name(
     )
 }
 
-/// The least of the types that aren't found, by module and line.
-pub fn broken_type_name_rule(sources: &Sources<'_>) -> Option<BrokenRule>
-    ensures { seen result ≡ least_from None (spec.type_name_breaks (view sources.now)) }
+/// The lesser of one so far and of the types that aren't found, by module and line.
+pub(crate) fn lost_type(sources: &Sources<'_>, so_far: Option<BrokenRule>) -> Option<BrokenRule>
+    ensures { seen result ≡ least_from (seen so_far) (spec.type_name_breaks (view sources.now)) }
 {
-    let mut told = None;
+    let mut told = so_far;
     for (number, row) in sources.rows().iter().enumerate() {
         told = judge_type_name(sources, number as u32, &row.label, told);
     }

@@ -8,6 +8,7 @@ mod importing;
 mod imports;
 mod judging;
 mod limit;
+mod linking;
 mod lost;
 mod meanings;
 mod naming;
@@ -19,7 +20,8 @@ mod taken;
 mod types;
 
 pub use circular::broken_circle_rule;
-pub use judging::{broken_type_name_rule, broken_type_rule};
+pub use judging::broken_type_rule;
+pub use linking::broken_meaning_rule;
 pub use lost::broken_lost_rule;
 pub use meanings::meanings_of;
 pub use prefix::{NodeName, Prefixes, broken_prefix_rule};

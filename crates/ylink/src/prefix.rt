@@ -1,9 +1,10 @@
 //! What prefixes and prefixed names mean (RFC 7950, 5.1.3 and 6.4), and where one means nothing.
 
-ghost use Rattle.std.specs.Prelude.{◌≡◌, ℕ, IfOk, OnOk, [], None, map, option_map, unwrap_or};
+ghost use Rattle.std.specs.Prelude.{◌≡◌, ◌++◌, ℕ, IfOk, OnOk, [], None, map, option_map, unwrap_or};
 ghost use Rattle.std.specs.List.{list_any};
 ghost use Rattle.yspec.specs.Forest.{Forest, first_of};
 ghost use Rattle.yspec.specs.linking.Prefixes as spec;
+ghost use Rattle.yspec.specs.linking.Imports.{repeated_prefixes};
 ghost use Rattle.yspec.specs.linking.Keyword.{type_word};
 ghost use Rattle.yspec.specs.linking.Source as sources;
 ghost use Rattle.ypreorder.specs.View.{row_by, label_by};
@@ -19,6 +20,7 @@ ghost use Rattle.ylink.specs.PrefixView.{ArePlacesOf, IsOf, declared_by, importe
 ghost use Rattle.ygrammar.specs.SourceView.{source_view};
 
 use crate::first_named::FirstNamed;
+use crate::repeated::repeated_prefix;
 use std::alloc::{AllocError, Global};
 use ygrammar::{
     BrokenRule, CompileCode, Name, Source, Sources, argument_of, argument_with, broken, key_names,
@@ -258,8 +260,8 @@ fn judge_prefixes(
     ))
 }
 
-/// The least of the prefixes that name nothing, by module and line.
-pub fn broken_prefix_rule(
+/// The least of the prefixes that their modules don't declare, by module and line.
+fn undeclared_prefix(
     alloc: Global,
     sources: &Sources<'_>,
 ) -> Result<Option<BrokenRule>, AllocError>
@@ -272,4 +274,16 @@ pub fn broken_prefix_rule(
         told = judge_prefixes(alloc, &prefixes, &row.label, told)?;
     }
     Ok(told)
+}
+
+/// The least of the prefixes that their modules don't declare, or give twice, by module and line.
+pub fn broken_prefix_rule(
+    alloc: Global,
+    sources: &Sources<'_>,
+) -> Result<Option<BrokenRule>, AllocError>
+    ensures { let s = view sources.now in IfOk result (λ told. seen told
+        ≡ least_from None (spec.prefix_breaks s ++ repeated_prefixes s)) }
+{
+    let told = undeclared_prefix(alloc, sources)?;
+    repeated_prefix(alloc, sources, told)
 }

@@ -1,11 +1,11 @@
-use Rattle.std.proofs.Common.{◌<◌, ◌≤◌, ap, ◌∙◌, arith, length, get_or, None}
+use Rattle.std.proofs.Common.{◌<◌, ◌≤◌, ap, ◌∙◌, arith, length, get_or}
 use Rattle.yspec.specs.schema.Breaks.{least_from}
 use Rattle.yspec.specs.linking.TypeStatements.{type_name_break}
 use Rattle.ypreorder.specs.View.{rows_in}
 use Rattle.ygrammar.specs.BreakView.{seen}
 use Rattle.ygrammar.specs.LinkView.{view}
 use Rattle.ygrammar.proofs.BreakLemmas.{next_row, all_rows, in_preorder}
-use Rattle.ylink.proofs.judging.broken_type_name_rule.Goals as goal
+use Rattle.ylink.proofs.judging.lost_type.Goals as goal
 
 pub loop-number-preserved : goal.loop-number-preserved
 loop-number-preserved c =
@@ -22,4 +22,4 @@ returns c =
     let rows = rows_in c.args.sources.now.table in
     let ended : length rows ≤ c.loop-number.number = omega (arith, ap length c.rows-row-items.ensures) in
     let breaks = type_name_break (view c.args.sources.now) in
-    all_rows breaks rows c.loop-number.number (seen c.loop-number.told) _ ended c.loop-number.invariant ∙ ap (least_from None) (in_preorder breaks rows)
+    all_rows breaks rows c.loop-number.number (seen c.loop-number.told) _ ended c.loop-number.invariant ∙ ap (least_from (seen c.args.so_far)) (in_preorder breaks rows)

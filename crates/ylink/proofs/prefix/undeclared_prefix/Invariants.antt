@@ -5,7 +5,7 @@ use Rattle.ypreorder.specs.View.{rows_in}
 use Rattle.ygrammar.specs.BreakView.{seen}
 use Rattle.ygrammar.specs.LinkView.{view}
 use Rattle.ygrammar.proofs.BreakLemmas.{broken_from}
-use Rattle.ylink.proofs.prefix.broken_prefix_rule.Given as goal
+use Rattle.ylink.proofs.prefix.undeclared_prefix.Given as goal
 
 abbrev pub invariant-loop-row : goal.invariant-loop-row
 invariant-loop-row l = let rows = rows_in l.sources.table in
