@@ -15,7 +15,7 @@ count_view counts.AtMostOne = at_most_one
 count_view counts.Any = any_number
 
 abbrev pub allowed_view : Allowed → spec.Allowed
-allowed_view a = record { keyword = keyword_view a.keyword; count = count_view a.count }
+allowed_view a = record { keyword = keyword_view a.0; count = count_view a.1 }
 
 abbrev pub allowed_views : List Allowed → List spec.Allowed
 allowed_views = map allowed_view

@@ -79,15 +79,15 @@ fn count_of(keyword: Keyword, counts: &[usize]) -> usize
 fn has_wrong_count(allowed: &Allowed, counts: &[usize]) -> bool
     ensures { result ≡ is_miscounted_by counts.now (allowed_view allowed.now) }
 {
-    match allowed.count {
+    match allowed.1 {
         // A missing `yang-version` is told by its own code.
         Count::One => {
-            let count = count_of(allowed.keyword, counts);
-            count != 1 && !(allowed.keyword.is(Keyword::YangVersion) && count == 0)
+            let count = count_of(allowed.0, counts);
+            count != 1 && !(allowed.0.is(Keyword::YangVersion) && count == 0)
         }
         Count::AtMostOne => {
-            let count = count_of(allowed.keyword, counts);
-            count > 1 && !(allowed.keyword.is(Keyword::YangVersion) && count == 0)
+            let count = count_of(allowed.0, counts);
+            count > 1 && !(allowed.0.is(Keyword::YangVersion) && count == 0)
         }
         Count::Any => false,
     }
@@ -168,7 +168,7 @@ fn is_allowed(keyword: Keyword, allowed: &[Allowed]) -> bool
     ensures { result ≡ spec.is_allowed (keyword_view keyword) (allowed_views allowed.now) }
 {
     for a in allowed {
-        if a.keyword.is(keyword) {
+        if a.0.is(keyword) {
             return true;
         }
     }

@@ -17,11 +17,9 @@ pub(crate) enum Count {
     Any,
 }
 
+/// A substatement that there may be, and how many of it.
 #[derive(Clone, Copy)]
-pub(crate) struct Allowed {
-    pub keyword: Keyword,
-    pub count: Count,
-}
+pub(crate) struct Allowed(pub Keyword, pub Count);
 
 /// What a statement may have.
 #[derive(Clone, Copy)]
@@ -31,570 +29,183 @@ pub(crate) struct Rule {
 }
 
 const IN_MODULE: &[Allowed] = &[
-    Allowed {
-        keyword: Keyword::YangVersion,
-        count: Count::One,
-    },
-    Allowed {
-        keyword: Keyword::Namespace,
-        count: Count::One,
-    },
-    Allowed {
-        keyword: Keyword::Prefix,
-        count: Count::One,
-    },
-    Allowed {
-        keyword: Keyword::Import,
-        count: Count::Any,
-    },
-    Allowed {
-        keyword: Keyword::Organization,
-        count: Count::AtMostOne,
-    },
-    Allowed {
-        keyword: Keyword::Contact,
-        count: Count::AtMostOne,
-    },
-    Allowed {
-        keyword: Keyword::Revision,
-        count: Count::Any,
-    },
-    Allowed {
-        keyword: Keyword::Extension,
-        count: Count::Any,
-    },
-    Allowed {
-        keyword: Keyword::Description,
-        count: Count::AtMostOne,
-    },
-    Allowed {
-        keyword: Keyword::Reference,
-        count: Count::AtMostOne,
-    },
-    Allowed {
-        keyword: Keyword::Container,
-        count: Count::Any,
-    },
-    Allowed {
-        keyword: Keyword::Leaf,
-        count: Count::Any,
-    },
-    Allowed {
-        keyword: Keyword::LeafList,
-        count: Count::Any,
-    },
-    Allowed {
-        keyword: Keyword::List,
-        count: Count::Any,
-    },
-    Allowed {
-        keyword: Keyword::Choice,
-        count: Count::Any,
-    },
+    Allowed(Keyword::YangVersion, Count::One),
+    Allowed(Keyword::Namespace, Count::One),
+    Allowed(Keyword::Prefix, Count::One),
+    Allowed(Keyword::Import, Count::Any),
+    Allowed(Keyword::Organization, Count::AtMostOne),
+    Allowed(Keyword::Contact, Count::AtMostOne),
+    Allowed(Keyword::Revision, Count::Any),
+    Allowed(Keyword::Extension, Count::Any),
+    Allowed(Keyword::Description, Count::AtMostOne),
+    Allowed(Keyword::Reference, Count::AtMostOne),
+    Allowed(Keyword::Container, Count::Any),
+    Allowed(Keyword::Leaf, Count::Any),
+    Allowed(Keyword::LeafList, Count::Any),
+    Allowed(Keyword::List, Count::Any),
+    Allowed(Keyword::Choice, Count::Any),
 ];
 
 const IN_IMPORT: &[Allowed] = &[
-    Allowed {
-        keyword: Keyword::Prefix,
-        count: Count::One,
-    },
-    Allowed {
-        keyword: Keyword::RevisionDate,
-        count: Count::AtMostOne,
-    },
-    Allowed {
-        keyword: Keyword::Description,
-        count: Count::AtMostOne,
-    },
-    Allowed {
-        keyword: Keyword::Reference,
-        count: Count::AtMostOne,
-    },
+    Allowed(Keyword::Prefix, Count::One),
+    Allowed(Keyword::RevisionDate, Count::AtMostOne),
+    Allowed(Keyword::Description, Count::AtMostOne),
+    Allowed(Keyword::Reference, Count::AtMostOne),
 ];
 
 const IN_REVISION: &[Allowed] = &[
-    Allowed {
-        keyword: Keyword::Description,
-        count: Count::AtMostOne,
-    },
-    Allowed {
-        keyword: Keyword::Reference,
-        count: Count::AtMostOne,
-    },
+    Allowed(Keyword::Description, Count::AtMostOne),
+    Allowed(Keyword::Reference, Count::AtMostOne),
 ];
 
 const IN_TYPEDEF: &[Allowed] = &[
-    Allowed {
-        keyword: Keyword::Type,
-        count: Count::One,
-    },
-    Allowed {
-        keyword: Keyword::Units,
-        count: Count::AtMostOne,
-    },
-    Allowed {
-        keyword: Keyword::Default,
-        count: Count::AtMostOne,
-    },
-    Allowed {
-        keyword: Keyword::Status,
-        count: Count::AtMostOne,
-    },
-    Allowed {
-        keyword: Keyword::Description,
-        count: Count::AtMostOne,
-    },
-    Allowed {
-        keyword: Keyword::Reference,
-        count: Count::AtMostOne,
-    },
+    Allowed(Keyword::Type, Count::One),
+    Allowed(Keyword::Units, Count::AtMostOne),
+    Allowed(Keyword::Default, Count::AtMostOne),
+    Allowed(Keyword::Status, Count::AtMostOne),
+    Allowed(Keyword::Description, Count::AtMostOne),
+    Allowed(Keyword::Reference, Count::AtMostOne),
 ];
 
 const IN_GROUPING: &[Allowed] = &[
-    Allowed {
-        keyword: Keyword::Container,
-        count: Count::Any,
-    },
-    Allowed {
-        keyword: Keyword::Leaf,
-        count: Count::Any,
-    },
-    Allowed {
-        keyword: Keyword::LeafList,
-        count: Count::Any,
-    },
-    Allowed {
-        keyword: Keyword::List,
-        count: Count::Any,
-    },
-    Allowed {
-        keyword: Keyword::Choice,
-        count: Count::Any,
-    },
-    Allowed {
-        keyword: Keyword::Status,
-        count: Count::AtMostOne,
-    },
-    Allowed {
-        keyword: Keyword::Description,
-        count: Count::AtMostOne,
-    },
-    Allowed {
-        keyword: Keyword::Reference,
-        count: Count::AtMostOne,
-    },
+    Allowed(Keyword::Container, Count::Any),
+    Allowed(Keyword::Leaf, Count::Any),
+    Allowed(Keyword::LeafList, Count::Any),
+    Allowed(Keyword::List, Count::Any),
+    Allowed(Keyword::Choice, Count::Any),
+    Allowed(Keyword::Status, Count::AtMostOne),
+    Allowed(Keyword::Description, Count::AtMostOne),
+    Allowed(Keyword::Reference, Count::AtMostOne),
 ];
 
 const IN_AUGMENT: &[Allowed] = &[
-    Allowed {
-        keyword: Keyword::Case,
-        count: Count::Any,
-    },
-    Allowed {
-        keyword: Keyword::Container,
-        count: Count::Any,
-    },
-    Allowed {
-        keyword: Keyword::Leaf,
-        count: Count::Any,
-    },
-    Allowed {
-        keyword: Keyword::LeafList,
-        count: Count::Any,
-    },
-    Allowed {
-        keyword: Keyword::List,
-        count: Count::Any,
-    },
-    Allowed {
-        keyword: Keyword::Choice,
-        count: Count::Any,
-    },
-    Allowed {
-        keyword: Keyword::Status,
-        count: Count::AtMostOne,
-    },
-    Allowed {
-        keyword: Keyword::Description,
-        count: Count::AtMostOne,
-    },
-    Allowed {
-        keyword: Keyword::Reference,
-        count: Count::AtMostOne,
-    },
+    Allowed(Keyword::Case, Count::Any),
+    Allowed(Keyword::Container, Count::Any),
+    Allowed(Keyword::Leaf, Count::Any),
+    Allowed(Keyword::LeafList, Count::Any),
+    Allowed(Keyword::List, Count::Any),
+    Allowed(Keyword::Choice, Count::Any),
+    Allowed(Keyword::Status, Count::AtMostOne),
+    Allowed(Keyword::Description, Count::AtMostOne),
+    Allowed(Keyword::Reference, Count::AtMostOne),
 ];
 
 const IN_CONTAINER: &[Allowed] = &[
-    Allowed {
-        keyword: Keyword::Presence,
-        count: Count::AtMostOne,
-    },
-    Allowed {
-        keyword: Keyword::Config,
-        count: Count::AtMostOne,
-    },
-    Allowed {
-        keyword: Keyword::Container,
-        count: Count::Any,
-    },
-    Allowed {
-        keyword: Keyword::Leaf,
-        count: Count::Any,
-    },
-    Allowed {
-        keyword: Keyword::LeafList,
-        count: Count::Any,
-    },
-    Allowed {
-        keyword: Keyword::List,
-        count: Count::Any,
-    },
-    Allowed {
-        keyword: Keyword::Choice,
-        count: Count::Any,
-    },
-    Allowed {
-        keyword: Keyword::Status,
-        count: Count::AtMostOne,
-    },
-    Allowed {
-        keyword: Keyword::Description,
-        count: Count::AtMostOne,
-    },
-    Allowed {
-        keyword: Keyword::Reference,
-        count: Count::AtMostOne,
-    },
+    Allowed(Keyword::Presence, Count::AtMostOne),
+    Allowed(Keyword::Config, Count::AtMostOne),
+    Allowed(Keyword::Container, Count::Any),
+    Allowed(Keyword::Leaf, Count::Any),
+    Allowed(Keyword::LeafList, Count::Any),
+    Allowed(Keyword::List, Count::Any),
+    Allowed(Keyword::Choice, Count::Any),
+    Allowed(Keyword::Status, Count::AtMostOne),
+    Allowed(Keyword::Description, Count::AtMostOne),
+    Allowed(Keyword::Reference, Count::AtMostOne),
 ];
 
 const IN_LEAF: &[Allowed] = &[
-    Allowed {
-        keyword: Keyword::Type,
-        count: Count::One,
-    },
-    Allowed {
-        keyword: Keyword::Units,
-        count: Count::AtMostOne,
-    },
-    Allowed {
-        keyword: Keyword::Default,
-        count: Count::AtMostOne,
-    },
-    Allowed {
-        keyword: Keyword::Config,
-        count: Count::AtMostOne,
-    },
-    Allowed {
-        keyword: Keyword::Mandatory,
-        count: Count::AtMostOne,
-    },
-    Allowed {
-        keyword: Keyword::Status,
-        count: Count::AtMostOne,
-    },
-    Allowed {
-        keyword: Keyword::Description,
-        count: Count::AtMostOne,
-    },
-    Allowed {
-        keyword: Keyword::Reference,
-        count: Count::AtMostOne,
-    },
+    Allowed(Keyword::Type, Count::One),
+    Allowed(Keyword::Units, Count::AtMostOne),
+    Allowed(Keyword::Default, Count::AtMostOne),
+    Allowed(Keyword::Config, Count::AtMostOne),
+    Allowed(Keyword::Mandatory, Count::AtMostOne),
+    Allowed(Keyword::Status, Count::AtMostOne),
+    Allowed(Keyword::Description, Count::AtMostOne),
+    Allowed(Keyword::Reference, Count::AtMostOne),
 ];
 
 const IN_LEAF_LIST: &[Allowed] = &[
-    Allowed {
-        keyword: Keyword::Type,
-        count: Count::One,
-    },
-    Allowed {
-        keyword: Keyword::Units,
-        count: Count::AtMostOne,
-    },
-    Allowed {
-        keyword: Keyword::Default,
-        count: Count::Any,
-    },
-    Allowed {
-        keyword: Keyword::Config,
-        count: Count::AtMostOne,
-    },
-    Allowed {
-        keyword: Keyword::OrderedBy,
-        count: Count::AtMostOne,
-    },
-    Allowed {
-        keyword: Keyword::MinElements,
-        count: Count::AtMostOne,
-    },
-    Allowed {
-        keyword: Keyword::MaxElements,
-        count: Count::AtMostOne,
-    },
-    Allowed {
-        keyword: Keyword::Status,
-        count: Count::AtMostOne,
-    },
-    Allowed {
-        keyword: Keyword::Description,
-        count: Count::AtMostOne,
-    },
-    Allowed {
-        keyword: Keyword::Reference,
-        count: Count::AtMostOne,
-    },
+    Allowed(Keyword::Type, Count::One),
+    Allowed(Keyword::Units, Count::AtMostOne),
+    Allowed(Keyword::Default, Count::Any),
+    Allowed(Keyword::Config, Count::AtMostOne),
+    Allowed(Keyword::OrderedBy, Count::AtMostOne),
+    Allowed(Keyword::MinElements, Count::AtMostOne),
+    Allowed(Keyword::MaxElements, Count::AtMostOne),
+    Allowed(Keyword::Status, Count::AtMostOne),
+    Allowed(Keyword::Description, Count::AtMostOne),
+    Allowed(Keyword::Reference, Count::AtMostOne),
 ];
 
 const IN_LIST: &[Allowed] = &[
-    Allowed {
-        keyword: Keyword::Key,
-        count: Count::AtMostOne,
-    },
-    Allowed {
-        keyword: Keyword::Unique,
-        count: Count::Any,
-    },
-    Allowed {
-        keyword: Keyword::Config,
-        count: Count::AtMostOne,
-    },
-    Allowed {
-        keyword: Keyword::OrderedBy,
-        count: Count::AtMostOne,
-    },
-    Allowed {
-        keyword: Keyword::MinElements,
-        count: Count::AtMostOne,
-    },
-    Allowed {
-        keyword: Keyword::MaxElements,
-        count: Count::AtMostOne,
-    },
-    Allowed {
-        keyword: Keyword::Container,
-        count: Count::Any,
-    },
-    Allowed {
-        keyword: Keyword::Leaf,
-        count: Count::Any,
-    },
-    Allowed {
-        keyword: Keyword::LeafList,
-        count: Count::Any,
-    },
-    Allowed {
-        keyword: Keyword::List,
-        count: Count::Any,
-    },
-    Allowed {
-        keyword: Keyword::Choice,
-        count: Count::Any,
-    },
-    Allowed {
-        keyword: Keyword::Status,
-        count: Count::AtMostOne,
-    },
-    Allowed {
-        keyword: Keyword::Description,
-        count: Count::AtMostOne,
-    },
-    Allowed {
-        keyword: Keyword::Reference,
-        count: Count::AtMostOne,
-    },
+    Allowed(Keyword::Key, Count::AtMostOne),
+    Allowed(Keyword::Unique, Count::Any),
+    Allowed(Keyword::Config, Count::AtMostOne),
+    Allowed(Keyword::OrderedBy, Count::AtMostOne),
+    Allowed(Keyword::MinElements, Count::AtMostOne),
+    Allowed(Keyword::MaxElements, Count::AtMostOne),
+    Allowed(Keyword::Container, Count::Any),
+    Allowed(Keyword::Leaf, Count::Any),
+    Allowed(Keyword::LeafList, Count::Any),
+    Allowed(Keyword::List, Count::Any),
+    Allowed(Keyword::Choice, Count::Any),
+    Allowed(Keyword::Status, Count::AtMostOne),
+    Allowed(Keyword::Description, Count::AtMostOne),
+    Allowed(Keyword::Reference, Count::AtMostOne),
 ];
 
 const IN_CHOICE: &[Allowed] = &[
-    Allowed {
-        keyword: Keyword::Default,
-        count: Count::AtMostOne,
-    },
-    Allowed {
-        keyword: Keyword::Config,
-        count: Count::AtMostOne,
-    },
-    Allowed {
-        keyword: Keyword::Mandatory,
-        count: Count::AtMostOne,
-    },
-    Allowed {
-        keyword: Keyword::Case,
-        count: Count::Any,
-    },
-    Allowed {
-        keyword: Keyword::Container,
-        count: Count::Any,
-    },
-    Allowed {
-        keyword: Keyword::Leaf,
-        count: Count::Any,
-    },
-    Allowed {
-        keyword: Keyword::LeafList,
-        count: Count::Any,
-    },
-    Allowed {
-        keyword: Keyword::List,
-        count: Count::Any,
-    },
-    Allowed {
-        keyword: Keyword::Choice,
-        count: Count::Any,
-    },
-    Allowed {
-        keyword: Keyword::Status,
-        count: Count::AtMostOne,
-    },
-    Allowed {
-        keyword: Keyword::Description,
-        count: Count::AtMostOne,
-    },
-    Allowed {
-        keyword: Keyword::Reference,
-        count: Count::AtMostOne,
-    },
+    Allowed(Keyword::Default, Count::AtMostOne),
+    Allowed(Keyword::Config, Count::AtMostOne),
+    Allowed(Keyword::Mandatory, Count::AtMostOne),
+    Allowed(Keyword::Case, Count::Any),
+    Allowed(Keyword::Container, Count::Any),
+    Allowed(Keyword::Leaf, Count::Any),
+    Allowed(Keyword::LeafList, Count::Any),
+    Allowed(Keyword::List, Count::Any),
+    Allowed(Keyword::Choice, Count::Any),
+    Allowed(Keyword::Status, Count::AtMostOne),
+    Allowed(Keyword::Description, Count::AtMostOne),
+    Allowed(Keyword::Reference, Count::AtMostOne),
 ];
 
 const IN_USES: &[Allowed] = &[
-    Allowed {
-        keyword: Keyword::Status,
-        count: Count::AtMostOne,
-    },
-    Allowed {
-        keyword: Keyword::Description,
-        count: Count::AtMostOne,
-    },
-    Allowed {
-        keyword: Keyword::Reference,
-        count: Count::AtMostOne,
-    },
+    Allowed(Keyword::Status, Count::AtMostOne),
+    Allowed(Keyword::Description, Count::AtMostOne),
+    Allowed(Keyword::Reference, Count::AtMostOne),
 ];
 
 const IN_REFINE: &[Allowed] = &[
-    Allowed {
-        keyword: Keyword::Default,
-        count: Count::Any,
-    },
-    Allowed {
-        keyword: Keyword::Mandatory,
-        count: Count::AtMostOne,
-    },
-    Allowed {
-        keyword: Keyword::Presence,
-        count: Count::AtMostOne,
-    },
-    Allowed {
-        keyword: Keyword::Config,
-        count: Count::AtMostOne,
-    },
-    Allowed {
-        keyword: Keyword::MinElements,
-        count: Count::AtMostOne,
-    },
-    Allowed {
-        keyword: Keyword::MaxElements,
-        count: Count::AtMostOne,
-    },
-    Allowed {
-        keyword: Keyword::Description,
-        count: Count::AtMostOne,
-    },
-    Allowed {
-        keyword: Keyword::Reference,
-        count: Count::AtMostOne,
-    },
+    Allowed(Keyword::Default, Count::Any),
+    Allowed(Keyword::Mandatory, Count::AtMostOne),
+    Allowed(Keyword::Presence, Count::AtMostOne),
+    Allowed(Keyword::Config, Count::AtMostOne),
+    Allowed(Keyword::MinElements, Count::AtMostOne),
+    Allowed(Keyword::MaxElements, Count::AtMostOne),
+    Allowed(Keyword::Description, Count::AtMostOne),
+    Allowed(Keyword::Reference, Count::AtMostOne),
 ];
 
 const IN_TYPE: &[Allowed] = &[
-    Allowed {
-        keyword: Keyword::FractionDigits,
-        count: Count::AtMostOne,
-    },
-    Allowed {
-        keyword: Keyword::Range,
-        count: Count::AtMostOne,
-    },
-    Allowed {
-        keyword: Keyword::Length,
-        count: Count::AtMostOne,
-    },
-    Allowed {
-        keyword: Keyword::Enum,
-        count: Count::Any,
-    },
-    Allowed {
-        keyword: Keyword::Bit,
-        count: Count::Any,
-    },
-    Allowed {
-        keyword: Keyword::Path,
-        count: Count::AtMostOne,
-    },
-    Allowed {
-        keyword: Keyword::RequireInstance,
-        count: Count::AtMostOne,
-    },
-    Allowed {
-        keyword: Keyword::Type,
-        count: Count::Any,
-    },
+    Allowed(Keyword::FractionDigits, Count::AtMostOne),
+    Allowed(Keyword::Range, Count::AtMostOne),
+    Allowed(Keyword::Length, Count::AtMostOne),
+    Allowed(Keyword::Enum, Count::Any),
+    Allowed(Keyword::Bit, Count::Any),
+    Allowed(Keyword::Path, Count::AtMostOne),
+    Allowed(Keyword::RequireInstance, Count::AtMostOne),
+    Allowed(Keyword::Type, Count::Any),
 ];
 
 const IN_RANGE: &[Allowed] = &[
-    Allowed {
-        keyword: Keyword::ErrorMessage,
-        count: Count::AtMostOne,
-    },
-    Allowed {
-        keyword: Keyword::ErrorAppTag,
-        count: Count::AtMostOne,
-    },
-    Allowed {
-        keyword: Keyword::Description,
-        count: Count::AtMostOne,
-    },
-    Allowed {
-        keyword: Keyword::Reference,
-        count: Count::AtMostOne,
-    },
+    Allowed(Keyword::ErrorMessage, Count::AtMostOne),
+    Allowed(Keyword::ErrorAppTag, Count::AtMostOne),
+    Allowed(Keyword::Description, Count::AtMostOne),
+    Allowed(Keyword::Reference, Count::AtMostOne),
 ];
 
 const IN_ENUM: &[Allowed] = &[
-    Allowed {
-        keyword: Keyword::Value,
-        count: Count::AtMostOne,
-    },
-    Allowed {
-        keyword: Keyword::Status,
-        count: Count::AtMostOne,
-    },
-    Allowed {
-        keyword: Keyword::Description,
-        count: Count::AtMostOne,
-    },
-    Allowed {
-        keyword: Keyword::Reference,
-        count: Count::AtMostOne,
-    },
+    Allowed(Keyword::Value, Count::AtMostOne),
+    Allowed(Keyword::Status, Count::AtMostOne),
+    Allowed(Keyword::Description, Count::AtMostOne),
+    Allowed(Keyword::Reference, Count::AtMostOne),
 ];
 
 const IN_BIT: &[Allowed] = &[
-    Allowed {
-        keyword: Keyword::Position,
-        count: Count::AtMostOne,
-    },
-    Allowed {
-        keyword: Keyword::Status,
-        count: Count::AtMostOne,
-    },
-    Allowed {
-        keyword: Keyword::Description,
-        count: Count::AtMostOne,
-    },
-    Allowed {
-        keyword: Keyword::Reference,
-        count: Count::AtMostOne,
-    },
+    Allowed(Keyword::Position, Count::AtMostOne),
+    Allowed(Keyword::Status, Count::AtMostOne),
+    Allowed(Keyword::Description, Count::AtMostOne),
+    Allowed(Keyword::Reference, Count::AtMostOne),
 ];
 
 /// The row of the table of a keyword.

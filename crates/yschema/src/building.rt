@@ -30,7 +30,7 @@ use ygrammar::{
     BrokenRule, CompileCode, Source, Sources, argument_of, argument_with, broken,
     broken_statement_rule,
 };
-use ylink::{broken_prefix_rule, broken_type_name_rule, broken_type_rule};
+use ylink::{broken_meaning_rule, broken_prefix_rule, broken_type_rule};
 use ymodel::{Schema, SchemaModule};
 use yplan::{Plan, broken_name_rule};
 use ypreorder::Node;
@@ -39,8 +39,8 @@ use ytext::Module;
 use yword::Keyword;
 
 /// The schema of a set of modules, or the least broken rule, by module, line and number, of the first phase that has one.
-/// Phases: the table of statements; prefixes and names of modules; names of types; types; the number of nodes; names of
-/// siblings; what nodes state and refer to; levels. Of no modules it is a schema without nodes.
+/// Phases: the table of statements; prefixes and names of modules; imports and names of types; types; the number of nodes;
+/// names of siblings; what nodes state and refer to; levels. Of no modules it is a schema without nodes.
 pub fn compile(alloc: Global, modules: &[Module]) -> Result<Schema, CompileFault>
     ensures exact { Gives view told_by result (compiled (modules_view modules.now)) }
     ensures names { IfOk result (λ schema. NamesDiffer (view schema)) }
@@ -112,7 +112,7 @@ fn compile_rules<'t>(
     Ok(build(alloc, plan, resolved)?)
 }
 
-/// The rule that is told of prefixes and names of modules, of names of types, or of types.
+/// The rule that is told of prefixes and names of modules, of imports and names of types, or of types.
 fn broken_source_rule(
     alloc: Global,
     modules: &[Module],
@@ -125,7 +125,7 @@ fn broken_source_rule(
     if let Some(found) = repeated_module(alloc, modules, prefix)? {
         return Ok(Some(found));
     }
-    if let Some(found) = broken_type_name_rule(sources) {
+    if let Some(found) = broken_meaning_rule(alloc, sources)? {
         return Ok(Some(found));
     }
     broken_type_rule(alloc, sources)
@@ -176,15 +176,15 @@ fn broken_rule<'t>(
     Ok(at_last(modules, is_too_deep(plan)))
 }
 
-fn module_of(alloc: Global, module: Node<'_, Source<'_>>) -> Result<SchemaModule, AllocError>
+fn module_of(alloc: Global, top: Node<'_, Source<'_>>) -> Result<SchemaModule, AllocError>
     ensures { IfOk result (λ made. module_view made ≡ record {
-      name = sources.argument_in (label_by source_view module.entry);
-      prefix = unwrap_or (sources.argument_with prefix_word (row_by source_view module.entry.children)) [];
+      name = sources.argument_in (label_by source_view top.entry);
+      prefix = unwrap_or (sources.argument_with prefix_word (row_by source_view top.entry.children)) [];
     }) }
 {
-    let prefix = argument_with(Keyword::Prefix, module.children()).unwrap_or("");
+    let prefix = argument_with(Keyword::Prefix, top.children()).unwrap_or("");
     Ok(SchemaModule {
-        name: String::from_str(alloc, argument_of(module))?,
+        name: String::from_str(alloc, argument_of(top))?,
         prefix: String::from_str(alloc, prefix)?,
     })
 }
