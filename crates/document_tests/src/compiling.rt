@@ -217,6 +217,67 @@ fn numbers_of_kinds(rt: HostRuntime) {
     assert!(rt; are_compiled(rt.alloc()) == Some(true));
 }
 
+// The same of statements behind a version, from the fourth line on, before and behind the first module.
+fn is_told_beside(alloc: Global, row: &str) -> Option<bool> {
+    let (told, statements) = row.split_once('/')?;
+    let mut lines = String::from_str(alloc, " yang-version 1.1;\n").ok()?;
+    let statements = with_line_feeds(alloc, statements).ok()?;
+    lines.push_str(statements.as_str()).ok()?;
+    let text = module_text(alloc, lines.as_str()).ok()?;
+    let is_before = comes_of(alloc, &[text.as_str(), FIRST], 0, told)?;
+    Some(is_before && comes_of(alloc, &[FIRST, text.as_str()], 1, told)?)
+}
+
+#[test]
+fn imports(rt: HostRuntime) {
+    let rows = "5 nodes/import a { prefix pa; }
+6 nodes/import a { prefix q; }|leaf b { type leafref { path '/q:y'; } }
+6 nodes/import a { prefix q; }|import a { prefix r; }|leaf b { type leafref { path '/r:c/q:x'; } }
+C5:4/import zz { prefix q; }
+C5:5/|import a { prefix q; revision-date 2020-01-01; }
+C6:5/import a { prefix q; }|leaf b { type leafref { path '/pa:y'; } }
+C6:4/import a { prefix p; }
+C6:5/import a { prefix q; }|import a { prefix q; }
+C6:5/import zz { prefix q; }|leaf b { type zz:t; }
+C8:5/import a { prefix q; }|leaf b { type q:t; }
+C9:4/import m { prefix q; }";
+    for row in rows.lines() {
+        assert!(rt; is_told_beside(rt.alloc(), row) == Some(true), "{row:?}");
+    }
+}
+
+const EARLIER: &str = "module b {
+  yang-version 1.1; namespace \"urn:b\"; prefix b;
+  import a { prefix a; }
+  revision 2020-01-02; revision 2020-01-03; revision 2020-01-01;
+}
+";
+
+// Whether this comes of a module that imports one of several revisions, which imports the first module.
+fn is_told_of_revisions(alloc: Global, row: &str) -> Option<bool> {
+    let (told, date) = row.split_once('/')?;
+    let mut lines = String::from_str(alloc, " yang-version 1.1;\n").ok()?;
+    lines.push_str("import b { prefix b; revision-date ").ok()?;
+    lines.push_str(date).ok()?;
+    lines.push_str("; }").ok()?;
+    let text = module_text(alloc, lines.as_str()).ok()?;
+    comes_of(alloc, &[EARLIER, text.as_str(), FIRST], 1, told)
+}
+
+#[test]
+fn revisions(rt: HostRuntime) {
+    let rows = "5 nodes/2020-01-03
+C5:4/2020-01-02
+C5:4/2020-01-01
+C5:4/2020-01-04";
+    for row in rows.lines() {
+        assert!(rt;
+            is_told_of_revisions(rt.alloc(), row) == Some(true),
+            "{row:?}"
+        );
+    }
+}
+
 #[test]
 fn no_modules(rt: HostRuntime) {
     assert!(rt; comes_of(rt.alloc(), &[], 0, "0 nodes") == Some(true));
