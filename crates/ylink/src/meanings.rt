@@ -11,8 +11,8 @@ ghost use Rattle.ylink.specs.PrefixView.{IsOf};
 ghost use Rattle.ylink.specs.DefinitionView.{IsAround};
 ghost use Rattle.ylink.specs.MeaningView.{number_meant, AreMeanings, AreModules, AreTopsOf};
 
-use crate::prefix::Prefixes;
 use crate::definitions::{DefinitionKind, Definitions, Scope};
+use crate::prefix::Prefixes;
 use crate::taken::is_built_in;
 use std::alloc::{AllocError, Global};
 use ygrammar::{Name, Source, Sources, name_of};

@@ -261,10 +261,7 @@ fn judge_prefixes(
 }
 
 /// The least of the prefixes that their modules don't declare, by module and line.
-fn undeclared_prefix(
-    alloc: Global,
-    sources: &Sources<'_>,
-) -> Result<Option<BrokenRule>, AllocError>
+fn undeclared_prefix(alloc: Global, sources: &Sources<'_>) -> Result<Option<BrokenRule>, AllocError>
     ensures { IfOk result (λ told. seen told
         ≡ least_from None (spec.prefix_breaks (view sources.now))) }
 {
