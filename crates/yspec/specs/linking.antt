@@ -11,7 +11,6 @@ pub mod Scopes
 pub mod Graph
 pub mod Circles
 pub mod DerivedTypes
-pub mod Linking
 pub mod Parts
 pub mod Planned
 pub mod SchemaNodes

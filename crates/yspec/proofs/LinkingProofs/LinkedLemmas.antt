@@ -12,13 +12,14 @@ use Rattle.yspec.specs.linking.Source.{sources_from, sources_of}
 use Rattle.yspec.specs.linking.StatementBreaks.{statement_phase}
 use Rattle.yspec.specs.linking.Imports.{repeated_prefixes}
 use Rattle.yspec.specs.linking.Prefixes.{prefix_breaks}
-use Rattle.yspec.specs.linking.TypeStatements.{type_breaks}
+use Rattle.yspec.specs.linking.DerivedTypes.{type_breaks}
+use Rattle.yspec.specs.linking.Scopes.{taken_breaks}
 use Rattle.yspec.specs.linking.Parts.{Part, parts_of_modules}
 use Rattle.yspec.specs.linking.Planned.{Plan, Around, around_below, planned}
 use Rattle.yspec.specs.linking.SchemaNodes.{schema_node}
 use Rattle.yspec.specs.linking.NodeBreaks.{name_breaks, node_breaks}
 use Rattle.yspec.specs.linking.Compiling.{plan_of, schema_of, is_too_deep, names_phase, meanings_phase, phases, compiled}
-use Rattle.yspec.proofs.LinkingProofs.BreakLemmas.{none_second, none_told}
+use Rattle.yspec.proofs.LinkingProofs.BreakLemmas.{none_first, none_second, none_told}
 use Rattle.yspec.proofs.LinkingProofs.LegalLemmas.{are_modules}
 use Rattle.yspec.proofs.LinkingProofs.RightPartLemmas.{AreRight, right_all, bare_of}
 use Rattle.yspec.proofs.BasicLemmas.{or_parts}
@@ -75,8 +76,9 @@ breaks_nothing modules e =
     (not_passed (λ m. is_too_deep (plan_in m).nodes) none_deep modules (is_too_deep plan.nodes) refl eighth.0) in
     record {
       statements = first.0;
-      module_names = none_second (repeated_prefixes sources) (module_breaks 0 [] modules)
-          (none_second (prefix_breaks sources) (repeated_prefixes sources ++ module_breaks 0 [] modules) second.0);
+      module_names = none_first (module_breaks 0 [] modules) (taken_breaks sources)
+          (none_second (repeated_prefixes sources) (module_breaks 0 [] modules ++ taken_breaks sources)
+          (none_second (prefix_breaks sources) (repeated_prefixes sources ++ (module_breaks 0 [] modules ++ taken_breaks sources)) second.0));
       names = sixth.0;
       few = ltb-false node_limit (size plan.nodes) limits.0;
       within = ltb-false level_limit (levels plan.nodes) limits.1;

@@ -6,10 +6,11 @@ use Rattle.yspec.specs.text.Statement.{Statement}
 use Rattle.yspec.specs.linking.Keyword as word
 use Rattle.yspec.specs.linking.Source.{Source, sources_of, argument_in, argument_with}
 use Rattle.yspec.specs.linking.StatementBreaks.{statement_phase}
-use Rattle.yspec.specs.linking.TypeStatements.{type_name_breaks, type_breaks}
 use Rattle.yspec.specs.linking.Imports.{repeated_prefixes, import_breaks}
 use Rattle.yspec.specs.linking.Prefixes.{prefix_breaks}
-use Rattle.yspec.specs.linking.Circles.{import_circles}
+use Rattle.yspec.specs.linking.Scopes.{taken_breaks, lost_breaks}
+use Rattle.yspec.specs.linking.Circles.{import_circles, definition_circles}
+use Rattle.yspec.specs.linking.DerivedTypes.{type_breaks}
 use Rattle.yspec.specs.linking.Parts.{parts_of_modules}
 use Rattle.yspec.specs.linking.Planned.{Planned, Plan, at_top, planned}
 use Rattle.yspec.specs.linking.SchemaNodes.{schema_nodes}
@@ -46,11 +47,13 @@ phases_of_plan modules plan = limit_breaks (nat_lt node_limit (size plan.nodes))
 
 -- prefixes that no module declares, and names that are given twice
 abbrev pub names_phase : Forest Statement → Forest Source → List Break
-names_phase modules sources = prefix_breaks sources ++ (repeated_prefixes sources ++ module_breaks 0 [] modules)
+names_phase modules sources =
+    prefix_breaks sources ++ (repeated_prefixes sources ++ (module_breaks 0 [] modules ++ taken_breaks sources))
 
--- imports and types that are not found, and modules that import themselves by way of others
+-- imports, types and groupings that are not found, and what refers to itself by way of others
 abbrev pub meanings_phase : Forest Source → List Break
-meanings_phase sources = import_breaks sources ++ (type_name_breaks sources ++ import_circles sources)
+meanings_phase sources =
+    import_breaks sources ++ (lost_breaks sources ++ (import_circles sources ++ definition_circles sources))
 
 abbrev pub phases_of_sources : Forest Statement → Forest Source → List (List Break)
 phases_of_sources modules sources = names_phase modules sources

@@ -1,106 +1,67 @@
--- What `type` statements mean by way of typedefs: types, and defaults (RFC 7950, 7.3 and 9).
-use Rattle.std.specs.Prelude.{ℕ, zero, suc, ◌&&◌, Bool, true, false, List, [], ◌∷◌, codes, Option, Some, None, option_map, option_and_then, if◌then◌else◌}
-use Rattle.std.specs.List.{flat_map}
+-- What typedefs mean, each by way of those that it names, and so `type` statements: types, and defaults (RFC 7950, 7.3 and 9).
+use Rattle.std.specs.Prelude.{ℕ, zero, suc, false, List, Option, Some, None, option_map, option_and_then, if◌then◌else◌}
 use Rattle.std.specs.Option.{option_map_or}
-use Rattle.yspec.specs.Forest.{Forest, end, node, size, first_of}
-use Rattle.yspec.specs.text.Text.{Text, is_text}
-use Rattle.yspec.specs.types.Restriction.{range, length, narrowed}
+use Rattle.yspec.specs.Forest.{Forest, size, first_of}
+use Rattle.yspec.specs.text.Text.{Text}
 use Rattle.yspec.specs.linking.Keyword as word
-use Rattle.yspec.specs.linking.Source.{Source, is_source_of, argument_in, argument_with, found_with}
-use Rattle.yspec.specs.linking.TypeStatements.{BuiltIn, Meant, own, of_target, Verdict, means, wrong, unjudged, built_in_meant, stated_by, are_in_place, verdict_in_place, meaning_of, told}
-use Rattle.yspec.specs.linking.Scopes.{Placed, statements_of, statement_at, meaning}
+use Rattle.yspec.specs.linking.Source.{Source, is_source_of, argument_with, found_with}
+use Rattle.yspec.specs.linking.TypeStatements.{Meant, Verdict, unjudged, verdict_on, meaning_of, type_breaks_in}
+use Rattle.yspec.specs.linking.Scopes.{statement_at, meaning}
 use Rattle.yspec.specs.schema.Breaks.{Break}
 
--- the first `type` statement right below one
-abbrev pub type_in : Placed → Option Placed
-type_in p = option_map (λ t. record { source = t.0; below = t.1; ancestors = (p.source, p.below) ∷ p.ancestors })
-    (found_with word.type_word p.below)
+-- what is known of a typedef: the verdict on its `type` statement, and the default that it has, or else its type
+pub record Known : Type 0 where
+  pub verdict : Verdict
+  pub default : Option Text
 
--- the typedef that a `type` statement names
-abbrev pub typedef_named : Forest Source → Placed → Option Placed
-typedef_named modules p = option_and_then (λ d. statement_at modules d.number) (meaning modules p)
+abbrev pub unknown : Known
+unknown = record { verdict = unjudged; default = None }
 
--- ---- what a restriction makes of what a type means
+-- the number of the definition that the statement of a number names
+abbrev pub number_named : Forest Source → ℕ → Option ℕ
+number_named modules number = option_map (λ d. d.number) (option_and_then (meaning modules) (statement_at modules number))
 
-abbrev pub restricted_by : Source → Forest Source → Meant → Option Meant
-restricted_by s below (own type) = option_map own (if is_source_of word.range_word s then narrowed type (stated_by range (s, below))
-    else (if is_source_of word.length_word s then narrowed type (stated_by length (s, below)) else None))
-restricted_by s below (of_target home steps required) = if is_source_of word.require_instance_word s
-    then Some (of_target home steps (is_text (argument_in s) (codes "true"))) else None
+-- what is known of the definition that the statement of a number names, given what is known of each
+abbrev pub named : Forest Source → (ℕ → Known) → ℕ → Known
+named modules known number = option_map_or known (number_named modules number) unknown
 
--- each substatement of a derived type is a restriction that the type may bear
-abbrev pub restricted_in : Forest Source → Meant → Option Meant
-restricted_in end m = Some m
-restricted_in (node s below after) m = option_and_then (restricted_in after) (restricted_by s below m)
+abbrev pub verdict_named : Forest Source → (ℕ → Known) → ℕ → Verdict
+verdict_named modules known number = (named modules known number).verdict
 
--- a member of a union is no leafref
-abbrev pub is_reference : Meant → Bool
-is_reference (own type) = false
-is_reference (of_target home steps required) = true
+-- of a typedef whose row is given and its `type` statement
+abbrev pub known_by : Forest Source → (ℕ → Known) → Forest Source → Source × Forest Source → Known
+known_by modules known row type = record {
+  verdict = verdict_on modules (verdict_named modules known) false type.0 type.1;
+  default = first_of (argument_with word.default_word row) (named modules known type.0.number).default;
+}
 
--- of a `type` statement that names a typedef, given the verdict on the typedef's own
-abbrev pub derived : Bool → Forest Source → Verdict → Verdict
-derived is_member below (means m) = if is_member && is_reference m then wrong
-    else option_map_or means (restricted_in below m) wrong
-derived is_member below _ = unjudged
+-- the row below the statement of a number, where that is a typedef
+abbrev pub typedef_row : Forest Source → ℕ → Option (Forest Source)
+typedef_row modules number = option_and_then (λ p. if is_source_of word.typedef_word p.source then Some p.below else None)
+    (statement_at modules number)
 
--- ---- verdicts
+abbrev pub known_in_row : Forest Source → (ℕ → Known) → Forest Source → Known
+known_in_row modules known row = option_map_or (known_by modules known row) (found_with word.type_word row) unknown
 
-abbrev pub judged_built_in : Bool → Placed → List Verdict → BuiltIn → Verdict
-judged_built_in is_member p members type =
-    if are_in_place type p.below then verdict_in_place is_member p.source type p.below members else wrong
+-- of the typedef of a number, by way of so many others at most
+unfoldable pub known_within : Forest Source → ℕ → ℕ → Known
+known_within modules zero number = unknown
+known_within modules (suc steps) number =
+    option_map_or (known_in_row modules (known_within modules steps)) (typedef_row modules number) unknown
 
--- `behind` judges the typedef's `type` statement, and `members` are the verdicts on the statements right below
-abbrev pub judged : Forest Source → (Placed → Verdict) → Bool → Placed → List Verdict → Verdict
-judged modules behind is_member p members = option_map_or (judged_built_in is_member p members)
-    (built_in_meant modules p.source)
-    (derived is_member p.below (option_map_or behind (option_and_then type_in (typedef_named modules p)) unjudged))
+abbrev pub known : Forest Source → ℕ → Known
+known modules number = known_within modules (size modules) number
 
--- those on the `type` statements of a row, which are members of a union
-unfoldable pub members_judged : Forest Source → (Placed → Verdict) → List (Source × Forest Source) → Forest Source → List Verdict
-members_judged modules behind ancestors end = []
-members_judged modules behind ancestors (node s below after) = if is_source_of word.type_word s
-    then judged modules behind true (record { source = s; below = below; ancestors = ancestors })
-    (members_judged modules behind ((s, below) ∷ ancestors) below) ∷ members_judged modules behind ancestors after
-    else members_judged modules behind ancestors after
+-- ---- what a `type` statement means
 
-abbrev pub judged_with : Forest Source → (Placed → Verdict) → Bool → Placed → Verdict
-judged_with modules behind is_member p = judged modules behind is_member p
-    (members_judged modules behind ((p.source, p.below) ∷ p.ancestors) p.below)
+-- one that is no member of a union, with what is below it
+abbrev pub type_meant : Forest Source → Source → Forest Source → Option Meant
+type_meant modules s below = meaning_of (verdict_on modules (verdict_named modules (known modules)) false s below)
 
--- by way of so many typedefs at most
-unfoldable pub judged_within : Forest Source → ℕ → Placed → Verdict
-judged_within modules zero p = unjudged
-judged_within modules (suc steps) p = judged_with modules (judged_within modules steps) false p
-
-abbrev pub verdict_on : Forest Source → Bool → Placed → Verdict
-verdict_on modules is_member p = judged_with modules (judged_within modules (size modules)) is_member p
-
--- what a `type` statement means that is no member of a union
-abbrev pub type_meant : Forest Source → Source → Option Meant
-type_meant modules s = option_and_then (λ p. meaning_of (verdict_on modules false p)) (statement_at modules s.number)
-
--- ---- C10
-
--- one below a `type` is a member of a union
-abbrev pub is_member_of : List (Source × Forest Source) → Bool
-is_member_of [] = false
-is_member_of (a ∷ others) = is_source_of word.type_word a.0
-
-abbrev pub type_break : Forest Source → Placed → List Break
-type_break modules p = if is_source_of word.type_word p.source
-    then told p.source (verdict_on modules (is_member_of p.ancestors) p) else []
-
-abbrev pub type_breaks : Forest Source → List Break
-type_breaks modules = flat_map (type_break modules) (statements_of modules)
-
--- ---- defaults
-
--- the default that the typedef has which a `type` statement names, or else its type, and so on
-unfoldable pub default_within : Forest Source → ℕ → Placed → Option Text
-default_within modules zero p = None
-default_within modules (suc steps) p = option_and_then (λ d. first_of (argument_with word.default_word d.below)
-    (option_and_then (default_within modules steps) (type_in d))) (typedef_named modules p)
-
+-- the default that the typedef has which it names
 abbrev pub default_meant : Forest Source → Source → Option Text
-default_meant modules s = option_and_then (default_within modules (size modules)) (statement_at modules s.number)
+default_meant modules s = (named modules (known modules) s.number).default
+
+-- C10
+abbrev pub type_breaks : Forest Source → List Break
+type_breaks modules = type_breaks_in modules (verdict_named modules (known modules)) false modules

@@ -12,7 +12,7 @@ use Rattle.yspec.specs.linking.Keyword as word
 use Rattle.yspec.specs.linking.Source.{argument_in}
 use Rattle.yspec.specs.linking.TypeStatements.{Meant, own, of_target}
 use Rattle.yspec.specs.linking.Planned.{Planned, Plan, same_number, nodes_of, node_of, child_called, is_a, is_leaf_or_leaf_list, stated_in, meant_in, target_meant, type_of, is_on_circle}
-use Rattle.yspec.specs.linking.SchemaNodes.{is_mandatory, least_of, key_names, key_numbers, unique_ways, default_texts, default_case, is_key}
+use Rattle.yspec.specs.linking.SchemaNodes.{is_mandatory, least_of, key_names, key_numbers, unique_ways, own_defaults, default_texts, default_case, is_key}
 use Rattle.yspec.specs.schema.Breaks.{Break, broken, when}
 
 -- a rule that is broken is told at the node's statement
@@ -109,9 +109,9 @@ abbrev pub is_refused : YangType → Text → Bool
 is_refused type text = not (is_some (value_of_text type text))
 
 -- of a leaf that is no key
-abbrev pub is_wrong_default : Planned → YangType → Bool
-is_wrong_default p type =
-    if is_mandatory p then not (is_empty (default_texts p)) else list_any (is_refused type) (default_texts p)
+abbrev pub is_wrong_default : Plan → Planned → YangType → Bool
+is_wrong_default plan p type =
+    if is_mandatory p then not (is_empty (own_defaults p)) else list_any (is_refused type) (default_texts plan p)
 
 abbrev pub same_default : YangType → Text → Text → Bool
 same_default type t u = option_map_or (λ v. option_map_or (same_value v) (value_of_text type u) false) (value_of_text type t) false
@@ -120,9 +120,9 @@ abbrev pub has_equal : YangType → List Text → Bool
 has_equal type [] = false
 has_equal type (t ∷ ts) = list_any (same_default type t) ts || has_equal type ts
 
-abbrev pub are_wrong_defaults : Planned → YangType → Bool
-are_wrong_defaults p type = if nat_lt 0 (least_of p) then not (is_empty (default_texts p))
-    else list_any (is_refused type) (default_texts p) || (p.config && has_equal type (default_texts p))
+abbrev pub are_wrong_defaults : Plan → Planned → YangType → Bool
+are_wrong_defaults plan p type = if nat_lt 0 (least_of p) then not (is_empty (own_defaults p))
+    else list_any (is_refused type) (default_texts plan p) || (p.config && has_equal type (default_texts plan p))
 
 -- whether a node must be stored, given that of those below it; a case needn't (RFC 7950, 3)
 abbrev pub must_be : Planned → Bool → Bool
@@ -144,8 +144,8 @@ is_wrong_case plan p (Some found) = is_mandatory p || has_mandatory (row_below p
 
 abbrev pub is_default_wrong : Plan → Planned → Bool
 is_default_wrong plan p = if is_a word.leaf_word p
-    then not (is_key plan p) && option_map_or (is_wrong_default p) (type_of plan p) false
-    else (if is_a word.leaf_list_word p then option_map_or (are_wrong_defaults p) (type_of plan p) false
+    then not (is_key plan p) && option_map_or (is_wrong_default plan p) (type_of plan p) false
+    else (if is_a word.leaf_list_word p then option_map_or (are_wrong_defaults plan p) (type_of plan p) false
     else (is_a word.choice_word p && (is_some (stated_in word.default_word p) && is_wrong_case plan p (default_case plan p))))
 
 abbrev pub default_breaks : Plan → Planned → List Break

@@ -9,7 +9,8 @@ use Rattle.yspec.specs.linking.Keyword as word
 use Rattle.yspec.specs.linking.Source.{Source, is_source_of, argument_in, argument_with, found_with}
 use Rattle.yspec.specs.linking.Parts.{Part}
 use Rattle.yspec.specs.linking.Prefixes.{NodeName, node_name}
-use Rattle.yspec.specs.linking.TypeStatements.{Meant, own, of_target, type_meant}
+use Rattle.yspec.specs.linking.TypeStatements.{Meant, own, of_target}
+use Rattle.yspec.specs.linking.DerivedTypes.{type_meant}
 
 -- a part as it will be a schema node
 pub record Planned : Type 0 where

@@ -1,5 +1,5 @@
 -- The schema nodes that planned ones stand for (RFC 7950, 4.2.2 and 7.5 to 7.9).
-use Rattle.std.specs.Prelude.{ℕ, ◌==◌, ◌&&◌, Bool, false, List, [], ◌∷◌, map, codes, Option, Some, None, is_some, option_map, option_and_then, unwrap_or, if◌then◌else◌}
+use Rattle.std.specs.Prelude.{ℕ, ◌==◌, ◌&&◌, ◌||◌, Bool, false, List, [], ◌∷◌, map, codes, Option, Some, None, is_some, option_map, option_and_then, unwrap_or, if◌then◌else◌, nat_lt}
 use Rattle.std.specs.List.{list_any, filter_map, flat_map}
 use Rattle.std.specs.Option.{option_map_or}
 use Rattle.yspec.specs.Forest.{Forest, relabelled}
@@ -9,8 +9,8 @@ use Rattle.yspec.specs.types.Values.{value_of_text}
 use Rattle.yspec.specs.linking.Keyword.{Keyword}
 use Rattle.yspec.specs.linking.Keyword as word
 use Rattle.yspec.specs.linking.Arguments.{Name, key_of, unique_of, count_of, most_of, status_of}
-use Rattle.yspec.specs.linking.Source.{Source, argument_in, first_with, all_with}
-use Rattle.yspec.specs.linking.TypeStatements.{built_in_meant}
+use Rattle.yspec.specs.linking.Source.{Source, argument_in, argument_with, first_with, all_with}
+use Rattle.yspec.specs.linking.DerivedTypes.{default_meant}
 use Rattle.yspec.specs.linking.Prefixes.{NodeName, node_name}
 use Rattle.yspec.specs.linking.Planned.{Planned, Plan, is_said, is_a, stated_in, node_of, child_called, way, target_of, type_of}
 use Rattle.yspec.specs.schema.Schema.{SchemaNode, Kind, container, leaf, leaf_list, list, choice, case, LeafType, Absence, allowed, default_used, mandatory, key, Amount, Tuples, LeafPath, Status, current}
@@ -61,8 +61,21 @@ tuples_of plan p = record { keys = key_numbers plan p; uniques = map (map leaf_p
 
 -- ---- defaults (RFC 7950, 7.6.1, 7.7.2 and 7.9.3)
 
-abbrev pub default_texts : Planned → List Text
-default_texts p = map argument_in (all_with word.default_word p.part.own)
+abbrev pub own_defaults : Planned → List Text
+own_defaults p = map argument_in (all_with word.default_word p.part.own)
+
+-- that of its type, where it may be without a value
+abbrev pub type_default : Plan → Planned → Option Text
+type_default plan p = if is_mandatory p || nat_lt 0 (least_of p) then None
+    else option_and_then (default_meant plan.modules) (first_with word.type_word p.part.own)
+
+-- its own defaults, or where it has none that of its type
+abbrev pub default_texts : Plan → Planned → List Text
+default_texts plan p = defaults_or (option_map_or (λ t. t ∷ []) (type_default plan p) []) (own_defaults p)
+  where
+    defaults_or : List Text → List Text → List Text
+    defaults_or others [] = others
+    defaults_or others (t ∷ ts) = t ∷ ts
 
 -- what a type makes of a default; none that it doesn't take
 abbrev pub default_value : Plan → Planned → Text → Option Val
@@ -77,7 +90,7 @@ first_value [] = None
 first_value (v ∷ vs) = Some v
 
 abbrev pub default_values : Plan → Planned → List Val
-default_values plan p = filter_map (default_value plan p) (default_texts p)
+default_values plan p = filter_map (default_value plan p) (default_texts plan p)
 
 -- a key of its list, whatever it states besides; mandatory; or with a default
 abbrev pub absence_of : Plan → Bool → Planned → Absence
@@ -92,19 +105,14 @@ default_case plan p = option_and_then
 
 -- ---- kinds
 
--- the name that a `type` statement has, where it names a type
-abbrev pub type_named : Forest Source → Source → Option Text
-type_named modules s = option_map (λ type. argument_in s) (built_in_meant modules s)
-
--- the name of its type as its `type` statement has it; that of texts where it names none
-abbrev pub type_name : Plan → Planned → Text
-type_name plan p =
-    unwrap_or (option_and_then (type_named plan.modules) (first_with word.type_word p.part.own)) (codes "string")
+-- the name of its type as its `type` statement has it, with its prefix; that of texts where it has none
+abbrev pub type_name : Planned → Text
+type_name p = unwrap_or (argument_with word.type_word p.part.own) (codes "string")
 
 -- the type of a leaf or of items; that of a leafref stands beside the number of its target
 abbrev pub leaf_type : Plan → Planned → LeafType
 leaf_type plan p = record {
-  name = type_name plan p;
+  name = type_name p;
   type = unwrap_or (type_of plan p) string_type;
   target = option_map number_in (target_of plan p);
 }

@@ -8,16 +8,21 @@ use Rattle.yspec.specs.linking.Source.{Source, sources_of}
 use Rattle.yspec.specs.linking.LinkingSamples.{statements_in, told_of}
 use Rattle.yspec.specs.linking.TypeStatements.{Meant}
 use Rattle.yspec.specs.linking.Scopes.{Placed, statement_at, meaning}
-use Rattle.yspec.specs.linking.DerivedTypes.{type_meant, default_meant}
-use Rattle.yspec.specs.linking.Linking.{linking_phases}
+use Rattle.yspec.specs.linking.DerivedTypes.{type_meant, default_meant, type_breaks}
+use Rattle.yspec.specs.linking.Compiling.{names_phase, meanings_phase}
 use Rattle.yspec.specs.linking.Graph.{Edge, is_on_circle}
 
 abbrev pub sources_in : List Text → Forest Source
 sources_in texts = sources_of (statements_in texts)
 
+-- the phases of names and types alone
+abbrev pub linking_phases : List Text → List (List Break)
+linking_phases texts = let sources = sources_in texts in
+    names_phase (statements_in texts) sources ∷ meanings_phase sources ∷ type_breaks sources ∷ []
+
 -- what is told of some texts: the code, the module's place, and the line
 abbrev pub told_of_names : List Text → Option (ℕ × (ℕ × ℕ))
-told_of_names texts = option_map told_of (first_broken (linking_phases (statements_in texts) (sources_in texts)))
+told_of_names texts = option_map told_of (first_broken (linking_phases texts))
 
 -- the same of one module, named m, with these lines from line 5 on
 abbrev pub told_line : Text → Option (ℕ × ℕ)
@@ -36,7 +41,7 @@ abbrev pub named_at : List Text → ℕ → Option ℕ
 named_at texts number = option_map (λ (s : Source). s.number) (asked_at meaning texts number)
 
 abbrev pub type_at : List Text → ℕ → Option Meant
-type_at texts number = asked_at (λ modules p. type_meant modules p.source) texts number
+type_at texts number = asked_at (λ modules p. type_meant modules p.source p.below) texts number
 
 abbrev pub default_at : List Text → ℕ → Option Text
 default_at texts number = asked_at (λ modules p. default_meant modules p.source) texts number

@@ -1,5 +1,4 @@
--- The types that `type` statements name and mean, and where one isn't found or breaks a rule of its own (RFC 7950, 7.4 and
--- 9).
+-- The types that `type` statements mean, and where one breaks a rule of its own (RFC 7950, 7.3, 7.4 and 9).
 use Rattle.std.specs.Prelude.{ℕ, ℤ, pos, ◌++◌, ◌&&◌, Bool, true, false, not, List, [], ◌∷◌, map, codes, Option, Some, None, find, is_some, option_map, option_and_then, unwrap_or, if◌then◌else◌}
 use Rattle.std.specs.List.{list_all, flat_map}
 use Rattle.std.specs.Option.{option_map_or}
@@ -63,17 +62,6 @@ built_in_named name = option_map (λ entry. entry.1) (find (λ entry. is_text na
 -- the one that a `type` statement of a set of modules names
 abbrev pub built_in_meant : Forest Source → Source → Option BuiltIn
 built_in_meant modules s = built_in_named (argument_in s)
-
--- ---- C8: types that are not found
-
-abbrev pub is_not_found : Forest Source → Source → Bool
-is_not_found modules s = is_source_of word.type_word s && not (is_some (built_in_meant modules s))
-
-abbrev pub type_name_break : Forest Source → Source → List Break
-type_name_break modules s = when (is_not_found modules s) (broken 8 s.home s.statement.line)
-
-abbrev pub type_name_breaks : Forest Source → List Break
-type_name_breaks modules = flat_map (type_name_break modules) (preorder modules)
 
 -- ---- what a `type` statement means
 
@@ -182,24 +170,51 @@ verdict_in_place is_member s union below members = union_verdict members
 verdict_in_place is_member s leafref below members = leafref_verdict is_member s below
 verdict_in_place is_member s type below members = option_map_or (λ t. means (own t)) (single_type type below) wrong
 
+-- ---- by way of a typedef
+
+-- what a substatement makes of what the typedef means: each is a restriction that a derived type may bear
+abbrev pub restricted_by : Source → Forest Source → Meant → Option Meant
+restricted_by s below (own type) = option_map own (if is_source_of word.range_word s then narrowed type (stated_by range (s, below))
+    else (if is_source_of word.length_word s then narrowed type (stated_by length (s, below)) else None))
+restricted_by s below (of_target home steps required) = if is_source_of word.require_instance_word s
+    then Some (of_target home steps (is_text (argument_in s) (codes "true"))) else None
+
+unfoldable pub restricted_in : Forest Source → Meant → Option Meant
+restricted_in end m = Some m
+restricted_in (node s below after) m = option_and_then (restricted_in after) (restricted_by s below m)
+
+abbrev pub is_reference : Meant → Bool
+is_reference (own type) = false
+is_reference (of_target home steps required) = true
+
+-- of a `type` statement that names a typedef, given the verdict on the typedef's own; a member of a union is no leafref
+abbrev pub derived : Bool → Forest Source → Verdict → Verdict
+derived is_member below (means m) = if is_member && is_reference m then wrong
+    else option_map_or means (restricted_in below m) wrong
+derived is_member below _ = unjudged
+
+-- ---- `named` is the verdict on the typedef that the statement of a number names
+
 -- on a `type` statement of a set of modules, a member of a union or not; `members` are the verdicts on those below it
-abbrev pub verdict : Forest Source → Bool → Source → Forest Source → List Verdict → Verdict
-verdict modules is_member s below members = option_map_or (λ type. if are_in_place type below
-    then verdict_in_place is_member s type below members else wrong) (built_in_meant modules s) unjudged
+abbrev pub verdict : Forest Source → (ℕ → Verdict) → Bool → Source → Forest Source → List Verdict → Verdict
+verdict modules named is_member s below members = option_map_or (λ type. if are_in_place type below
+    then verdict_in_place is_member s type below members else wrong) (built_in_meant modules s)
+    (derived is_member below (named s.number))
 
 -- the verdicts on the `type` statements of a row, which are members of a union
-unfoldable pub verdicts : Forest Source → Forest Source → List Verdict
-verdicts modules end = []
-verdicts modules (node s below after) = if is_source_of word.type_word s
-    then verdict modules true s below (verdicts modules below) ∷ verdicts modules after else verdicts modules after
+unfoldable pub verdicts : Forest Source → (ℕ → Verdict) → Forest Source → List Verdict
+verdicts modules named end = []
+verdicts modules named (node s below after) = if is_source_of word.type_word s
+    then verdict modules named true s below (verdicts modules named below) ∷ verdicts modules named after
+    else verdicts modules named after
+
+-- with those on its members
+abbrev pub verdict_on : Forest Source → (ℕ → Verdict) → Bool → Source → Forest Source → Verdict
+verdict_on modules named is_member s below = verdict modules named is_member s below (verdicts modules named below)
 
 abbrev pub meaning_of : Verdict → Option Meant
 meaning_of (means m) = Some m
 meaning_of _ = None
-
--- what a `type` statement of a set of modules means that is no member of a union
-abbrev pub type_meant : Forest Source → Source → Forest Source → Option Meant
-type_meant modules s below = meaning_of (verdict modules false s below (verdicts modules below))
 
 -- ---- C10
 
@@ -207,15 +222,12 @@ abbrev pub told : Source → Verdict → List Break
 told s wrong = broken 10 s.home s.statement.line
 told s _ = []
 
-abbrev pub type_break : Forest Source → Bool → Source → Forest Source → List Break
-type_break modules is_member s below = if is_source_of word.type_word s
-    then told s (verdict modules is_member s below (verdicts modules below)) else []
+abbrev pub type_break : Forest Source → (ℕ → Verdict) → Bool → Source → Forest Source → List Break
+type_break modules named is_member s below = if is_source_of word.type_word s
+    then told s (verdict_on modules named is_member s below) else []
 
 -- the `type` statements of a row that break a rule of their own; one below a `type` is a member of a union
-abbrev pub type_breaks_in : Forest Source → Bool → Forest Source → List Break
-type_breaks_in modules is_member end = []
-type_breaks_in modules is_member (node s below after) = type_breaks_in modules (is_source_of word.type_word s) below
-    ++ (type_break modules is_member s below ++ type_breaks_in modules is_member after)
-
-abbrev pub type_breaks : Forest Source → List Break
-type_breaks modules = type_breaks_in modules false modules
+abbrev pub type_breaks_in : Forest Source → (ℕ → Verdict) → Bool → Forest Source → List Break
+type_breaks_in modules named is_member end = []
+type_breaks_in modules named is_member (node s below after) = type_breaks_in modules named (is_source_of word.type_word s) below
+    ++ (type_break modules named is_member s below ++ type_breaks_in modules named is_member after)
