@@ -25,43 +25,44 @@ number_named modules number = option_map (λ d. d.number) (option_and_then (mean
 abbrev pub named : Forest Source → (ℕ → Known) → ℕ → Known
 named modules known number = option_map_or known (number_named modules number) unknown
 
-abbrev pub verdict_named : Forest Source → (ℕ → Known) → ℕ → Verdict
-verdict_named modules known number = (named modules known number).verdict
+abbrev pub verdict_by : (ℕ → Known) → ℕ → Verdict
+verdict_by named number = (named number).verdict
 
--- of a typedef whose row is given and its `type` statement
+-- of a typedef whose row is given and its `type` statement; `names` is what is known of those that statements name
 abbrev pub known_by : Forest Source → (ℕ → Known) → Forest Source → Source × Forest Source → Known
-known_by modules known row type = record {
-  verdict = verdict_on modules (verdict_named modules known) false type.0 type.1;
-  default = first_of (argument_with word.default_word row) (named modules known type.0.number).default;
+known_by modules names row type = record {
+  verdict = verdict_on modules (verdict_by names) false type.0 type.1;
+  default = first_of (argument_with word.default_word row) (names type.0.number).default;
 }
+
+abbrev pub known_in_row : Forest Source → (ℕ → Known) → Forest Source → Known
+known_in_row modules names row = option_map_or (known_by modules names row) (found_with word.type_word row) unknown
 
 -- the row below the statement of a number, where that is a typedef
 abbrev pub typedef_row : Forest Source → ℕ → Option (Forest Source)
 typedef_row modules number = option_and_then (λ p. if is_source_of word.typedef_word p.source then Some p.below else None)
     (statement_at modules number)
 
-abbrev pub known_in_row : Forest Source → (ℕ → Known) → Forest Source → Known
-known_in_row modules known row = option_map_or (known_by modules known row) (found_with word.type_word row) unknown
-
 -- of the typedef of a number, by way of so many others at most
 unfoldable pub known_within : Forest Source → ℕ → ℕ → Known
 known_within modules zero number = unknown
 known_within modules (suc steps) number =
-    option_map_or (known_in_row modules (known_within modules steps)) (typedef_row modules number) unknown
+    option_map_or (known_in_row modules (named modules (known_within modules steps))) (typedef_row modules number) unknown
 
-abbrev pub known : Forest Source → ℕ → Known
-known modules number = known_within modules (size modules) number
+-- of the typedef that the statement of a number names
+abbrev pub known_named : Forest Source → ℕ → Known
+known_named modules = named modules (known_within modules (size modules))
 
 -- ---- what a `type` statement means
 
 -- one that is no member of a union, with what is below it
 abbrev pub type_meant : Forest Source → Source → Forest Source → Option Meant
-type_meant modules s below = meaning_of (verdict_on modules (verdict_named modules (known modules)) false s below)
+type_meant modules s below = meaning_of (verdict_on modules (verdict_by (known_named modules)) false s below)
 
 -- the default that the typedef has which it names
 abbrev pub default_meant : Forest Source → Source → Option Text
-default_meant modules s = (named modules (known modules) s.number).default
+default_meant modules s = (known_named modules s.number).default
 
 -- C10
 abbrev pub type_breaks : Forest Source → List Break
-type_breaks modules = type_breaks_in modules (verdict_named modules (known modules)) false modules
+type_breaks modules = type_breaks_in modules (verdict_by (known_named modules)) false modules
