@@ -5,7 +5,7 @@ ghost use Rattle.yspec.specs.linking.CompilingSamples.{net_module, k_module};
 ghost use Rattle.yspec.specs.program.Output.{failed, found};
 ghost use Rattle.yspec.specs.program.Script.{lines_of};
 ghost use Rattle.yspec.specs.program.SchemaExamples.{hosts, one_host};
-ghost use Rattle.yspec.specs.program.Examples.{counted, drawn_as, dumped, faulty, module_p, scripted, shown, without_faults};
+ghost use Rattle.yspec.specs.program.Examples.{counted, drawn_as, dumped, faulty, module_p, module_text, scripted, shown, without_faults};
 
 /// How many nodes modules define.
 pub fn counts()
@@ -108,4 +108,14 @@ pub fn refused_edits()
         ++ codes "remove /ex-net:net/host\n\nremove /ex-net:net/host[2]\n")
         ≡ faulty (codes "line 1: E7\nline 2: E10 J5\nline 3: E3\nline 5: E5\n")
         (codes "0 faults\n") }
+{}
+
+/// The default of a type, in use where a leaf has none of its own.
+pub fn defaults_of_types()
+    ensures in_use { shown (module_text (codes "m") (codes "  typedef t { type uint8; default 3; }\n  leaf a { type t; }\n  leaf b { type leafref { path /m:a; } }\n"))
+        (codes "{\"m:b\":3}") ≡ without_faults }
+    ensures not_its_own { shown (module_text (codes "m") (codes "  typedef t { type uint8; default 3; }\n  leaf a { type t; default 4; }\n  leaf b { type leafref { path /m:a; } }\n"))
+        (codes "{\"m:b\":3}") ≡ found 1 (codes "V11 data-missing instance-required /m:b -\n1 faults\n") }
+    ensures range_of_the_typedef { shown (module_text (codes "m") (codes "  typedef t { type uint8 { range 0..9; } }\n  leaf a { type t; }\n"))
+        (codes "{\"m:a\":10}") ≡ found 1 (codes "V1 invalid-value - /m:a -\n1 faults\n") }
 {}

@@ -46,3 +46,9 @@ pub fn modules()
     ensures first { diagram_of_two 0 ≡ codes "module: a\n  +--rw x?   string\n  +--rw y\n     +--rw w?   int64\n" }
     ensures second { diagram_of_two 1 ≡ codes "module: b\n  +--rw z*   enumeration\n" }
 {}
+
+/// A type is shown by its name as its statement has it; a typedef of a leafref isn't shown by the path.
+pub fn derived_types()
+    ensures { diagram_lines (codes "typedef t { type uint8; } typedef r { type leafref { path /m:a; } } leaf a { type t; } leaf b { type m:t; } leaf c { type r; }")
+        ≡ codes "module: m\n  +--rw a?   t\n  +--rw b?   m:t\n  +--rw c?   r\n" }
+{}

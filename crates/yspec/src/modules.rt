@@ -95,3 +95,19 @@ pub fn refused_nodes()
     ensures to_state { compiled_lines (codes "  leaf a { type leafref { path /m:b; } }\n  leaf b { type string; config false; }\n") ≡ told_at 17 5 }
     ensures least_line { compiled_lines (codes "  leaf a { type leafref { path /m:b; } }\n  leaf c { type uint8; default x; }\n") ≡ told_at 17 5 }
 {}
+
+/// Leafs whose types are typedefs: their defaults, keys and references are judged at the leaf.
+pub fn derived_leafs()
+    ensures default_refused { compiled_lines
+        (codes "  typedef t { type uint8; default 30; }\n  leaf a { type t { range 0..20; } }\n")
+        ≡ told_at 11 6 }
+    ensures own_default_first { compiled_lines (codes "  typedef t { type uint8; default 30; }\n  leaf a { type t { range 0..20; } default 21; }\n  leaf b { type t { range 0..20; } default 20; }\n") ≡ told_at 11 6 }
+    ensures no_default_beside_mandatory { compiled_lines (codes "  typedef t { type uint8; default 300; }\n  leaf a { type t; mandatory true; }\n  leaf-list b { type t; min-elements 1; }\n  leaf c { type t; }\n") ≡ told_at 11 8 }
+    ensures of_a_leaf_list { compiled_lines
+        (codes "  typedef t { type uint8; default 300; }\n  leaf-list a { type t; }\n") ≡ told_at 11 6 }
+    ensures unused_default { compiled_lines (codes "  typedef t { type uint8; default 300; }\n  leaf a { type leafref { path /m:b; } }\n") ≡ told_at 17 6 }
+    ensures lost_in_a_grouping { compiled_lines
+        (codes "  grouping g { typedef t { type u; } }\n") ≡ told_at 8 5 }
+    ensures reference_at_the_leaf { compiled_lines
+        (codes "  typedef t { type leafref { path /m:b; } }\n  leaf a { type t; }\n") ≡ told_at 17 6 }
+{}
