@@ -39,6 +39,8 @@ const IN_MODULE: &[Allowed] = &[
     Allowed(Keyword::Extension, Count::Any),
     Allowed(Keyword::Description, Count::AtMostOne),
     Allowed(Keyword::Reference, Count::AtMostOne),
+    Allowed(Keyword::Typedef, Count::Any),
+    Allowed(Keyword::Grouping, Count::Any),
     Allowed(Keyword::Container, Count::Any),
     Allowed(Keyword::Leaf, Count::Any),
     Allowed(Keyword::LeafList, Count::Any),
@@ -68,6 +70,19 @@ const IN_TYPEDEF: &[Allowed] = &[
 ];
 
 const IN_GROUPING: &[Allowed] = &[
+    Allowed(Keyword::Typedef, Count::Any),
+    Allowed(Keyword::Grouping, Count::Any),
+    Allowed(Keyword::Container, Count::Any),
+    Allowed(Keyword::Leaf, Count::Any),
+    Allowed(Keyword::LeafList, Count::Any),
+    Allowed(Keyword::List, Count::Any),
+    Allowed(Keyword::Choice, Count::Any),
+    Allowed(Keyword::Status, Count::AtMostOne),
+    Allowed(Keyword::Description, Count::AtMostOne),
+    Allowed(Keyword::Reference, Count::AtMostOne),
+];
+
+const IN_CASE: &[Allowed] = &[
     Allowed(Keyword::Container, Count::Any),
     Allowed(Keyword::Leaf, Count::Any),
     Allowed(Keyword::LeafList, Count::Any),
@@ -93,6 +108,8 @@ const IN_AUGMENT: &[Allowed] = &[
 const IN_CONTAINER: &[Allowed] = &[
     Allowed(Keyword::Presence, Count::AtMostOne),
     Allowed(Keyword::Config, Count::AtMostOne),
+    Allowed(Keyword::Typedef, Count::Any),
+    Allowed(Keyword::Grouping, Count::Any),
     Allowed(Keyword::Container, Count::Any),
     Allowed(Keyword::Leaf, Count::Any),
     Allowed(Keyword::LeafList, Count::Any),
@@ -134,6 +151,8 @@ const IN_LIST: &[Allowed] = &[
     Allowed(Keyword::OrderedBy, Count::AtMostOne),
     Allowed(Keyword::MinElements, Count::AtMostOne),
     Allowed(Keyword::MaxElements, Count::AtMostOne),
+    Allowed(Keyword::Typedef, Count::Any),
+    Allowed(Keyword::Grouping, Count::Any),
     Allowed(Keyword::Container, Count::Any),
     Allowed(Keyword::Leaf, Count::Any),
     Allowed(Keyword::LeafList, Count::Any),
@@ -233,7 +252,7 @@ pub(crate) fn rule_of(keyword: Keyword) -> Rule
         Keyword::LeafList => (Form::Identifier, IN_LEAF_LIST),
         Keyword::List => (Form::Identifier, IN_LIST),
         Keyword::Choice => (Form::Identifier, IN_CHOICE),
-        Keyword::Case => (Form::Identifier, IN_GROUPING),
+        Keyword::Case => (Form::Identifier, IN_CASE),
         Keyword::Uses => (Form::Name, IN_USES),
         Keyword::Refine => (Form::RelativePath, IN_REFINE),
         Keyword::Type => (Form::Name, IN_TYPE),
