@@ -1,6 +1,6 @@
 //! Where typedefs or groupings refer to themselves (RFC 7950, 7.3 and 7.12).
 
-ghost use Rattle.std.specs.Prelude.{◌≡◌, ℕ, Bool, false, None, IfOk, map};
+ghost use Rattle.std.specs.Prelude.{◌≡◌, ℕ, Bool, false, IfOk, map};
 ghost use Rattle.std.specs.List.{filter_map};
 ghost use Rattle.std.specs.Option.{option_map_or};
 ghost use Rattle.yspec.specs.schema.Breaks.{least_from};
@@ -87,21 +87,22 @@ pub(crate) fn least_circle(
     told
 }
 
-/// The least of the references by which a typedef or a grouping refers to itself, given the innermost definition around
-/// each statement and what each means.
+/// The lesser of one so far and of the references by which a typedef or a grouping refers to itself, given the innermost
+/// definition around each statement and what each means.
 pub fn broken_circle_rule(
     alloc: Global,
     sources: &Sources<'_>,
     holders: &[Option<u32>],
     meanings: &[Option<u32>],
+    so_far: Option<BrokenRule>,
 ) -> Result<Option<BrokenRule>, AllocError>
     ensures { AreReferring holders.now (view sources.now)
         → AreMeanings meanings.now (view sources.now) → IfOk result (λ told. seen told
-        ≡ least_from None (definition_circles (view sources.now))) }
+        ≡ least_from (seen so_far) (definition_circles (view sources.now))) }
 {
     let edges = edges_by_number(alloc, holders, meanings)?;
     let found = present(alloc, &edges)?;
     let flags = on_circles(alloc, &found)?;
     let circular = flags_by_number(alloc, &edges, &flags)?;
-    Ok(least_circle(sources, &circular, None))
+    Ok(least_circle(sources, &circular, so_far))
 }

@@ -1,6 +1,6 @@
 //! Where the name of a type or a grouping means nothing (RFC 7950, 5.5, 6.4.1 and 7.13).
 
-ghost use Rattle.std.specs.Prelude.{◌≡◌, ℕ, None};
+ghost use Rattle.std.specs.Prelude.{◌≡◌, ℕ};
 ghost use Rattle.yspec.specs.schema.Breaks.{least_from};
 ghost use Rattle.yspec.specs.linking.Scopes.{lost_breaks};
 ghost use Rattle.ygrammar.specs.BreakView.{seen};
@@ -13,7 +13,7 @@ use ygrammar::{BrokenRule, CompileCode, Source, Sources, broken, least_when};
 use yword::Keyword;
 
 /// What a table of meanings holds of the statement of a number.
-pub(crate) fn meaning_at(meanings: &[Option<u32>], number: usize) -> Option<u32>
+pub fn meaning_at(meanings: &[Option<u32>], number: usize) -> Option<u32>
     ensures { result ≡ meaning_at meanings.now number }
 {
     match meanings.get(number) {
@@ -49,12 +49,16 @@ fn judge_lost(
     )
 }
 
-/// The least of the names of types and groupings that mean nothing, by module and line.
-pub fn broken_lost_rule(sources: &Sources<'_>, meanings: &[Option<u32>]) -> Option<BrokenRule>
+/// The lesser of one so far and of the names of types and groupings that mean nothing, by module and line.
+pub fn broken_lost_rule(
+    sources: &Sources<'_>,
+    meanings: &[Option<u32>],
+    so_far: Option<BrokenRule>,
+) -> Option<BrokenRule>
     ensures { AreMeanings meanings.now (view sources.now)
-        → seen result ≡ least_from None (lost_breaks (view sources.now)) }
+        → seen result ≡ least_from (seen so_far) (lost_breaks (view sources.now)) }
 {
-    let mut told = None;
+    let mut told = so_far;
     for (number, row) in sources.rows().iter().enumerate() {
         told = judge_lost(&row.label, meaning_at(meanings, number), told);
     }

@@ -1,6 +1,6 @@
 //! Where a definition has a name that is taken (RFC 7950, 5.5, 6.2.1, 7.3 and 7.12).
 
-ghost use Rattle.std.specs.Prelude.{◌≡◌, ◌==◌, List, None, IfOk, false, not};
+ghost use Rattle.std.specs.Prelude.{◌≡◌, ◌==◌, List, IfOk, false, not};
 ghost use Rattle.std.specs.List.{flat_map};
 ghost use Rattle.std.specs.Option.{option_map_or};
 ghost use Rattle.yspec.specs.Forest.{Forest};
@@ -95,13 +95,14 @@ fn broken_taken_rule_in<'t>(
     Ok(told)
 }
 
-/// The least of the typedefs and groupings whose names are taken, by module and line.
+/// The lesser of one so far and of the typedefs and groupings whose names are taken, by module and line.
 pub fn broken_taken_rule(
     alloc: Global,
     sources: &Sources<'_>,
+    so_far: Option<BrokenRule>,
 ) -> Result<Option<BrokenRule>, AllocError>
     ensures { IfOk result (λ told. seen told
-        ≡ least_from None (spec.taken_breaks (view sources.now))) }
+        ≡ least_from (seen so_far) (spec.taken_breaks (view sources.now))) }
 {
-    broken_taken_rule_in(alloc, &Scope::Top, sources.modules(), None)
+    broken_taken_rule_in(alloc, &Scope::Top, sources.modules(), so_far)
 }

@@ -1,4 +1,4 @@
-use Rattle.std.proofs.Common.{◌≡◌, ◌<◌, ◌≤◌, ap, ◌∙◌, arith, length, get_or, None, List}
+use Rattle.std.proofs.Common.{◌≡◌, ◌<◌, ◌≤◌, ap, ◌∙◌, arith, length, get_or, List}
 use Rattle.yspec.specs.schema.Breaks.{Break, least_from}
 use Rattle.yspec.specs.linking.Source.{Source}
 use Rattle.ypreorder.specs.Layout.{forest_of}
@@ -28,4 +28,4 @@ returns c are =
     let ended : length rows ≤ c.loop-number.number = omega (arith, ap length c.rows-row-items.ensures) in
     let breaks : Source → List Break = λ s. lost_by s (meaning_at c.args.meanings.now s.number) in
     all_rows breaks rows c.loop-number.number (seen c.loop-number.told) _ ended c.loop-number.invariant
-    ∙ ap (least_from None) (in_preorder breaks rows ∙ all_lost (forest_of rows) c.args.meanings.now are)
+    ∙ ap (least_from (seen c.args.so_far)) (in_preorder breaks rows ∙ all_lost (forest_of rows) c.args.meanings.now are)
