@@ -62,67 +62,67 @@ told_wrong s (spec.means m) = refl
 told_wrong s spec.wrong = refl
 told_wrong s spec.unjudged = refl
 
-module _ (modules : Forest Source) (s : Source) (below after before : Forest Source) (first : before ≡ node s below after) where
+module _ (modules : Forest Source) (named : ℕ → spec.Verdict) (s : Source) (below after before : Forest Source) (first : before ≡ node s below after) where
   pub no_verdict : (so_far whole : List spec.Verdict) → is_source_of type_word s ≡ false
-      → so_far ++ verdicts modules before ≡ whole → so_far ++ verdicts modules after ≡ whole
+      → so_far ++ verdicts modules named before ≡ whole → so_far ++ verdicts modules named after ≡ whole
   unfolding verdicts
   no_verdict so_far whole other made =
-      sym (ap (λ f. so_far ++ verdicts modules f) first
-      ∙ ap (λ b. so_far ++ cond b (verdict modules true s below (verdicts modules below) ∷ verdicts modules after) (verdicts modules after)) other) ∙ made
+      sym (ap (λ f. so_far ++ verdicts modules named f) first
+      ∙ ap (λ b. so_far ++ cond b (verdict modules named true s below (verdicts modules named below) ∷ verdicts modules named after) (verdicts modules named after)) other) ∙ made
 
   pub next_verdict : (so_far more : List spec.Verdict) (v : spec.Verdict) (whole : List spec.Verdict) → is_source_of type_word s ≡ true
-      → more ≡ so_far ++ v ∷ [] → v ≡ verdict modules true s below (verdicts modules below)
-      → so_far ++ verdicts modules before ≡ whole → more ++ verdicts modules after ≡ whole
+      → more ≡ so_far ++ v ∷ [] → v ≡ verdict modules named true s below (verdicts modules named below)
+      → so_far ++ verdicts modules named before ≡ whole → more ++ verdicts modules named after ≡ whole
   unfolding verdicts
   next_verdict so_far more v whole stands pushed is made =
-      ap (λ vs. vs ++ verdicts modules after) pushed
-      ∙ (append_assoc so_far (v ∷ []) (verdicts modules after)
-      ∙ (ap (λ x. so_far ++ x ∷ verdicts modules after) is
-      ∙ (sym (ap (λ f. so_far ++ verdicts modules f) first
-      ∙ ap (λ b. so_far ++ cond b (verdict modules true s below (verdicts modules below) ∷ verdicts modules after) (verdicts modules after)) stands) ∙ made)))
+      ap (λ vs. vs ++ verdicts modules named after) pushed
+      ∙ (append_assoc so_far (v ∷ []) (verdicts modules named after)
+      ∙ (ap (λ x. so_far ++ x ∷ verdicts modules named after) is
+      ∙ (sym (ap (λ f. so_far ++ verdicts modules named f) first
+      ∙ ap (λ b. so_far ++ cond b (verdict modules named true s below (verdicts modules named below) ∷ verdicts modules named after) (verdicts modules named after)) stands) ∙ made)))
 
-module _ (modules : Forest Source) (is_member : Bool) (s : Source) (below after before : Forest Source) (first : before ≡ node s below after) where
+module _ (modules : Forest Source) (named : ℕ → spec.Verdict) (is_member : Bool) (s : Source) (below after before : Forest Source) (first : before ≡ node s below after) where
   -- what is broken below, then at the statement, then behind it
   broken_parts : (so_far : Option Break) (own : List Break)
-      → spec.type_break modules is_member s below ≡ own
-      → least_from so_far (type_breaks_in modules is_member before)
-      ≡ least_from (least_from (least_from so_far (type_breaks_in modules (is_source_of type_word s) below)) own) (type_breaks_in modules is_member after)
+      → spec.type_break modules named is_member s below ≡ own
+      → least_from so_far (type_breaks_in modules named is_member before)
+      ≡ least_from (least_from (least_from so_far (type_breaks_in modules named (is_source_of type_word s) below)) own) (type_breaks_in modules named is_member after)
   broken_parts so_far own is =
-      let inner = type_breaks_in modules (is_source_of type_word s) below in
-      let rest = type_breaks_in modules is_member after in
-      ap (λ f. least_from so_far (type_breaks_in modules is_member f)) first
+      let inner = type_breaks_in modules named (is_source_of type_word s) below in
+      let rest = type_breaks_in modules named is_member after in
+      ap (λ f. least_from so_far (type_breaks_in modules named is_member f)) first
       ∙ (ap (λ b. least_from so_far (inner ++ (b ++ rest))) is
       ∙ (least_of_both so_far inner (own ++ rest) ∙ least_of_both (least_from so_far inner) own rest))
 
   pub no_type : (so_far result whole : Option Break) → is_source_of type_word s ≡ false
-      → result ≡ least_from so_far (type_breaks_in modules (is_source_of type_word s) below)
-      → least_from so_far (type_breaks_in modules is_member before) ≡ whole → least_from result (type_breaks_in modules is_member after) ≡ whole
+      → result ≡ least_from so_far (type_breaks_in modules named (is_source_of type_word s) below)
+      → least_from so_far (type_breaks_in modules named is_member before) ≡ whole → least_from result (type_breaks_in modules named is_member after) ≡ whole
   no_type so_far result whole other inner made =
-      ap (λ t. least_from t (type_breaks_in modules is_member after)) inner
-      ∙ (sym (broken_parts so_far [] (ap (λ b. cond b (told s (verdict modules is_member s below (verdicts modules below))) []) other)) ∙ made)
+      ap (λ t. least_from t (type_breaks_in modules named is_member after)) inner
+      ∙ (sym (broken_parts so_far [] (ap (λ b. cond b (told s (verdict modules named is_member s below (verdicts modules named below))) []) other)) ∙ made)
 
   pub next_type : (so_far mid result whole : Option Break) (v : spec.Verdict) → is_source_of type_word s ≡ true
-      → mid ≡ least_from so_far (type_breaks_in modules (is_source_of type_word s) below)
-      → v ≡ verdict modules is_member s below (verdicts modules below)
+      → mid ≡ least_from so_far (type_breaks_in modules named (is_source_of type_word s) below)
+      → v ≡ verdict modules named is_member s below (verdicts modules named below)
       → result ≡ least_from mid (when (is_wrong v) (broken 10 s.home s.statement.line))
-      → least_from so_far (type_breaks_in modules is_member before) ≡ whole → least_from result (type_breaks_in modules is_member after) ≡ whole
+      → least_from so_far (type_breaks_in modules named is_member before) ≡ whole → least_from result (type_breaks_in modules named is_member after) ≡ whole
   next_type so_far mid result whole v stands inner is judged made =
       let own = when (is_wrong v) (broken 10 s.home s.statement.line) in
-      let own_is : spec.type_break modules is_member s below ≡ own =
-      ap (λ b. cond b (told s (verdict modules is_member s below (verdicts modules below))) []) stands
+      let own_is : spec.type_break modules named is_member s below ≡ own =
+      ap (λ b. cond b (told s (verdict modules named is_member s below (verdicts modules named below))) []) stands
       ∙ (ap (told s) (sym is) ∙ told_wrong s v) in
-      ap (λ t. least_from t (type_breaks_in modules is_member after)) (judged ∙ ap (λ t. least_from t own) inner)
+      ap (λ t. least_from t (type_breaks_in modules named is_member after)) (judged ∙ ap (λ t. least_from t own) inner)
       ∙ (sym (broken_parts so_far own own_is) ∙ made)
 
-pub no_more_verdicts : (modules left : Forest Source) (so_far whole : List spec.Verdict) → left ≡ end
-    → so_far ++ verdicts modules left ≡ whole → so_far ≡ whole
+pub no_more_verdicts : (modules : Forest Source) (named : ℕ → spec.Verdict) (left : Forest Source) (so_far whole : List spec.Verdict) → left ≡ end
+    → so_far ++ verdicts modules named left ≡ whole → so_far ≡ whole
 unfolding verdicts
-no_more_verdicts modules left so_far whole ended made =
-    sym (ap (λ f. so_far ++ verdicts modules f) ended ∙ append-nil so_far) ∙ made
+no_more_verdicts modules named left so_far whole ended made =
+    sym (ap (λ f. so_far ++ verdicts modules named f) ended ∙ append-nil so_far) ∙ made
 
-pub no_more_types : (modules : Forest Source) (is_member : Bool) (left : Forest Source) (so_far whole : Option Break) → left ≡ end
-    → least_from so_far (type_breaks_in modules is_member left) ≡ whole → so_far ≡ whole
-no_more_types modules is_member left so_far whole ended made = sym (ap (λ f. least_from so_far (type_breaks_in modules is_member f)) ended) ∙ made
+pub no_more_types : (modules : Forest Source) (named : ℕ → spec.Verdict) (is_member : Bool) (left : Forest Source) (so_far whole : Option Break) → left ≡ end
+    → least_from so_far (type_breaks_in modules named is_member left) ≡ whole → so_far ≡ whole
+no_more_types modules named is_member left so_far whole ended made = sym (ap (λ f. least_from so_far (type_breaks_in modules named is_member f)) ended) ∙ made
 
 -- ---- which are wrong
 
@@ -140,19 +140,19 @@ wrong_path home required None = refl
 wrong_path home required (Some steps) = refl
 
 -- a union without members
-pub wrong_union : (modules f : Forest Source) → is_wrong (union_verdict (verdicts modules f)) ≡ not (is_some (first_with type_word f))
+pub wrong_union : (modules : Forest Source) (named : ℕ → spec.Verdict) (f : Forest Source) → is_wrong (union_verdict (verdicts modules named f)) ≡ not (is_some (first_with type_word f))
 unfolding verdicts
-wrong_union modules end = refl
-wrong_union modules (node s below after) = by (is_source_of type_word s) (wrong_union modules after)
+wrong_union modules named end = refl
+wrong_union modules named (node s below after) = by (is_source_of type_word s) (wrong_union modules named after)
   where
     some : (types : Option (List YangType)) → is_wrong (option_map_or (λ ts. spec.means (spec.own (union_type ts))) types spec.unjudged) ≡ false
     some None = refl
     some (Some ts) = refl
 
-    by : (b : Bool) → is_wrong (union_verdict (verdicts modules after)) ≡ not (is_some (first_with type_word after))
-        → is_wrong (union_verdict (cond b (verdict modules true s below (verdicts modules below) ∷ verdicts modules after) (verdicts modules after)))
+    by : (b : Bool) → is_wrong (union_verdict (verdicts modules named after)) ≡ not (is_some (first_with type_word after))
+        → is_wrong (union_verdict (cond b (verdict modules named true s below (verdicts modules named below) ∷ verdicts modules named after) (verdicts modules named after)))
         ≡ not (is_some (cond b (Some s) (first_with type_word after)))
-    by true h = some (member_types (verdict modules true s below (verdicts modules below) ∷ verdicts modules after))
+    by true h = some (member_types (verdict modules named true s below (verdicts modules named below) ∷ verdicts modules named after))
     by false h = h
 
 -- a plain type alone

@@ -1,2 +1,3 @@
 pub mod KindView
 pub mod TypeView
+pub mod TypedefView

@@ -1,6 +1,6 @@
-//! Where a `type` statement names no type, or breaks a rule of its own (RFC 7950, 7.3, 7.4 and 9).
+//! Where a `type` statement breaks a rule of its own (RFC 7950, 7.3, 7.4 and 9).
 
-ghost use Rattle.std.specs.Prelude.{◌≡◌, ◌==◌, IfOk, None, is_some, length, not};
+ghost use Rattle.std.specs.Prelude.{◌≡◌, ◌==◌, ℕ, IfOk, None, is_some, length, not};
 ghost use Rattle.yspec.specs.Forest.{Forest, row};
 ghost use Rattle.yspec.specs.schema.Breaks.{least_from};
 ghost use Rattle.yspec.specs.linking.Source as sources;
@@ -10,51 +10,16 @@ ghost use Rattle.ygrammar.specs.BreakView.{seen};
 ghost use Rattle.ygrammar.specs.LinkView.{view};
 ghost use Rattle.ygrammar.specs.SourceView.{source_view};
 ghost use Rattle.yword.specs.BuiltInView.{built_in_view};
+ghost use Rattle.yspec.specs.linking.DerivedTypes.{type_breaks};
 ghost use Rattle.ylink.specs.TypeView.{is_plain, is_wrong};
+ghost use Rattle.ylink.specs.TypedefView.{verdicts_in, IsOf};
 
-use crate::types::{are_in_place, built_in_meant, path_stated, single_type};
+use crate::typedefs::Typedefs;
+use crate::types::{are_in_place, built_in_meant, derived, path_stated, single_type};
 use std::alloc::{AllocError, Global};
-use ygrammar::{BrokenRule, CompileCode, Source, Sources, broken, first_with, least, least_when};
+use ygrammar::{BrokenRule, CompileCode, Source, Sources, broken, first_with, least_when};
 use ypreorder::{Node, Nodes};
 use yword::{BuiltIn, Keyword};
-
-/// Whether a statement of a set, which has that number, names a type that isn't found.
-fn is_not_found(sources: &Sources<'_>, number: u32, statement: &Source<'_>) -> bool
-    ensures { result ≡ spec.is_not_found (view sources.now) (source_view number statement.now) }
-{
-    Keyword::Type.is(statement.keyword) && built_in_meant(sources, number, statement).is_none()
-}
-
-/// The lesser of one so far and of the rule that a statement breaks which names no type.
-fn judge_type_name(
-    sources: &Sources<'_>,
-    number: u32,
-    statement: &Source<'_>,
-    so_far: Option<BrokenRule>,
-) -> Option<BrokenRule>
-    ensures { seen result ≡ least_from (seen so_far)
-        (spec.type_name_break (view sources.now) (source_view number statement.now)) }
-{
-    let missing = is_not_found(sources, number, statement);
-    if !missing {
-        return so_far;
-    }
-    least(
-        so_far,
-        broken(CompileCode::C8, statement.home, statement.statement),
-    )
-}
-
-/// The lesser of one so far and of the types that aren't found, by module and line.
-pub(crate) fn lost_type(sources: &Sources<'_>, so_far: Option<BrokenRule>) -> Option<BrokenRule>
-    ensures { seen result ≡ least_from (seen so_far) (spec.type_name_breaks (view sources.now)) }
-{
-    let mut told = so_far;
-    for (number, row) in sources.rows().iter().enumerate() {
-        told = judge_type_name(sources, number as u32, &row.label, told);
-    }
-    told
-}
 
 /// Whether a built-in type is one that needs no substatement.
 fn is_plain(type_name: BuiltIn) -> bool
@@ -115,9 +80,9 @@ fn is_wrong_in_place(
     statement: Node<'_, Source<'_>>,
 ) -> Result<bool, AllocError>
     ensures { let f = row_by source_view statement.entry.children in
-        (modules : Forest sources.Source) → IfOk result (λ b. b
+        (modules : Forest sources.Source) (named : ℕ → spec.Verdict) → IfOk result (λ b. b
         ≡ is_wrong (spec.verdict_in_place is_member (label_by source_view statement.entry)
-        (built_in_view type_name) f (spec.verdicts modules f))) }
+        (built_in_view type_name) f (spec.verdicts modules named f))) }
 {
     let below = statement.children();
     match type_name {
@@ -128,19 +93,20 @@ fn is_wrong_in_place(
 }
 
 /// Whether a `type` statement of a set, a member of a union or not, breaks a rule of its own.
-fn is_wrong(
+fn is_wrong<'t>(
     alloc: Global,
-    sources: &Sources<'_>,
+    sources: &Sources<'t>,
+    typedefs: &Typedefs<'t>,
     is_member: bool,
-    statement: Node<'_, Source<'_>>,
+    statement: Node<'_, Source<'t>>,
 ) -> Result<bool, AllocError>
-    ensures { let f = row_by source_view statement.entry.children in
-        let modules = view sources.now in
-        IfOk result (λ b. b ≡ is_wrong (spec.verdict modules is_member
-        (label_by source_view statement.entry) f (spec.verdicts modules f))) }
+    ensures { IfOk result (λ b. b ≡ is_wrong (spec.verdict_on (view sources.now)
+        (verdicts_in typedefs.now) is_member (label_by source_view statement.entry)
+        (row_by source_view statement.entry.children))) }
 {
     let Some(type_name) = built_in_meant(sources, statement.number(), statement.label()) else {
-        return Ok(false);
+        let named = typedefs.named(statement.number());
+        return Ok(derived(alloc, is_member, named, statement.children())?.is_wrong());
     };
     if !are_in_place(type_name, statement.children()) {
         return Ok(true);
@@ -149,25 +115,28 @@ fn is_wrong(
 }
 
 /// The least rule that the `type` statements of a row of a set, members of a union or not, and those below it break.
-fn broken_type_rule_in(
+fn broken_type_rule_in<'t>(
     alloc: Global,
-    sources: &Sources<'_>,
+    sources: &Sources<'t>,
+    typedefs: &Typedefs<'t>,
     is_member: bool,
-    statements: Nodes<'_, Source<'_>>,
+    statements: Nodes<'_, Source<'t>>,
     so_far: Option<BrokenRule>,
 ) -> Result<Option<BrokenRule>, AllocError>
     ensures { IfOk result (λ told. seen told ≡ least_from (seen so_far)
-        (spec.type_breaks_in (view sources.now) is_member (row_by source_view statements.entry))) }
+        (spec.type_breaks_in (view sources.now) (verdicts_in typedefs.now) is_member
+        (row_by source_view statements.entry))) }
 {
     let mut told = so_far;
     for statement in statements {
         let source = statement.label();
         let is_type = Keyword::Type.is(source.keyword);
-        told = broken_type_rule_in(alloc, sources, is_type, statement.children(), told)?;
+        let below = statement.children();
+        told = broken_type_rule_in(alloc, sources, typedefs, is_type, below, told)?;
         if !is_type {
             continue;
         }
-        let wrong = is_wrong(alloc, sources, is_member, statement)?;
+        let wrong = is_wrong(alloc, sources, typedefs, is_member, statement)?;
         told = least_when(
             wrong,
             told,
@@ -178,12 +147,13 @@ fn broken_type_rule_in(
 }
 
 /// The least of the `type` statements that break a rule of their own, by module and line.
-pub fn broken_type_rule(
+pub fn broken_type_rule<'t>(
     alloc: Global,
-    sources: &Sources<'_>,
+    sources: &Sources<'t>,
+    typedefs: &Typedefs<'t>,
 ) -> Result<Option<BrokenRule>, AllocError>
-    ensures { IfOk result (λ told. seen told
-        ≡ least_from None (spec.type_breaks (view sources.now))) }
+    ensures { IsOf typedefs.now (view sources.now) → IfOk result (λ told. seen told
+        ≡ least_from None (type_breaks (view sources.now))) }
 {
-    broken_type_rule_in(alloc, sources, false, sources.modules(), None)
+    broken_type_rule_in(alloc, sources, typedefs, false, sources.modules(), None)
 }

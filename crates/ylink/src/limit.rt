@@ -11,7 +11,7 @@ ghost use Rattle.yspec.specs.linking.TypeStatements as spec;
 ghost use Rattle.ynumber.specs.View.{restriction_of, text_of};
 ghost use Rattle.ynumber.specs.Words.{narrow_refusal, same};
 ghost use Rattle.ypreorder.specs.View.{row_by, label_by};
-ghost use Rattle.ygrammar.specs.SourceView.{source_view};
+ghost use Rattle.ygrammar.specs.SourceView.{node_view, source_view};
 ghost use Rattle.ylink.specs.KindView.{word_of, restriction_by};
 
 use std::alloc::{AllocError, Global};
@@ -76,6 +76,20 @@ fn spans_stated(alloc: Global, statement: Node<'_, Source<'_>>) -> Result<Vec<Sp
     }
 }
 
+/// The restriction of a kind that a statement states.
+fn restriction_by(
+    alloc: Global,
+    kind: SpanRestriction,
+    statement: Node<'_, Source<'_>>,
+) -> Result<Restriction, AllocError>
+    ensures { IfOk result (λ r. restriction_of r
+        ≡ spec.stated_by (restriction_by kind) (node_view statement.entry)) }
+{
+    let spans = spans_stated(alloc, statement)?;
+    let app_tag = app_tag(alloc, statement.children())?;
+    Ok(kind.restriction(spans, app_tag))
+}
+
 /// The restriction of a kind that a row states, where it states one.
 fn restriction_stated(
     alloc: Global,
@@ -86,11 +100,7 @@ fn restriction_stated(
         ≡ spec.stated (word_of kind) (restriction_by kind) (row_by source_view below.entry)) }
 {
     match found_with(kind.keyword(), below) {
-        Some(statement) => {
-            let spans = spans_stated(alloc, statement)?;
-            let app_tag = app_tag(alloc, statement.children())?;
-            Ok(Some(kind.restriction(spans, app_tag)))
-        }
+        Some(statement) => Ok(Some(restriction_by(alloc, kind, statement)?)),
         None => Ok(None),
     }
 }
@@ -160,4 +170,26 @@ pub(crate) fn measured_type(
         (spec.stated word.length_word restrictions.length (row_by source_view below.entry)) type) }
 {
     restricted_type(alloc, SpanRestriction::Length, below, outer)
+}
+
+/// What a statement makes of a type where it is a restriction that the type may bear.
+pub(crate) fn narrowed_type(
+    alloc: Global,
+    outer: YType,
+    statement: Node<'_, Source<'_>>,
+) -> Result<Option<YType>, AllocError>
+    ensures { IfOk result (λ type. option_map spec.own type
+        ≡ spec.restricted_by (label_by source_view statement.entry)
+        (row_by source_view statement.entry.children) (spec.own outer)) }
+{
+    let keyword = statement.label().keyword;
+    let kind = if Keyword::Range.is(keyword) {
+        SpanRestriction::Range
+    } else if Keyword::Length.is(keyword) {
+        SpanRestriction::Length
+    } else {
+        return Ok(None);
+    };
+    let restriction = restriction_by(alloc, kind, statement)?;
+    accepted_type(outer.narrow(alloc, &restriction))
 }

@@ -13,12 +13,15 @@ ghost use Rattle.ygrammar.specs.LinkView.{view};
 ghost use Rattle.ygrammar.specs.NameView.{names_view};
 ghost use Rattle.ygrammar.specs.SourceView.{source_view};
 ghost use Rattle.yword.specs.BuiltInView.{built_in_view};
+ghost use Rattle.yspec.specs.linking.DerivedTypes.{type_meant, unknown};
 ghost use Rattle.ylink.specs.TypeView.{meant_view, verdict_view};
+ghost use Rattle.ylink.specs.TypedefView.{known_view, verdicts_in, IsOf};
 
-use crate::limit::{accepted_type, measured_type, ranged_type};
+use crate::limit::{accepted_type, measured_type, narrowed_type, ranged_type};
 use crate::naming::{bits, enumeration};
+use crate::typedefs::{Known, Typedefs};
 use std::alloc::{AllocError, Global};
-use ygrammar::{Name, Source, Sources, argument_with, fraction_digits, leafref_path};
+use ygrammar::{Name, Source, Sources, argument_of, argument_with, fraction_digits, leafref_path};
 use ypreorder::{Node, Nodes};
 use ytype::{FractionDigits, YType};
 use yword::{BuiltIn, Keyword};
@@ -245,20 +248,97 @@ fn verdict_in_place<'t>(
     }
 }
 
+/// What a substatement makes of what a typedef means.
+fn restricted_by<'t>(
+    alloc: Global,
+    meant: Meant<'t>,
+    statement: Node<'_, Source<'t>>,
+) -> Result<Option<Meant<'t>>, AllocError>
+    ensures { IfOk result (λ made. option_map meant_view made
+        ≡ spec.restricted_by (label_by source_view statement.entry)
+        (row_by source_view statement.entry.children) (meant_view meant.entry)) }
+{
+    match meant {
+        Meant::Own(outer) => match narrowed_type(alloc, outer, statement)? {
+            Some(narrowed) => Ok(Some(Meant::Own(narrowed))),
+            None => Ok(None),
+        },
+        Meant::OfTarget { home, steps, .. } => {
+            if !Keyword::RequireInstance.is(statement.label().keyword) {
+                return Ok(None);
+            }
+            Ok(Some(Meant::OfTarget {
+                home,
+                steps,
+                required: argument_of(statement) == "true",
+            }))
+        }
+    }
+}
+
+/// What the substatements of a `type` statement make of what the typedef means that it names; nothing where one of them may
+/// not stand there.
+fn restricted_in<'t>(
+    alloc: Global,
+    meant: Meant<'t>,
+    below: Nodes<'_, Source<'t>>,
+) -> Result<Option<Meant<'t>>, AllocError>
+    ensures { IfOk result (λ made. option_map meant_view made
+        ≡ spec.restricted_in (row_by source_view below.entry) (meant_view meant.entry)) }
+{
+    let mut made = meant;
+    for statement in below {
+        match restricted_by(alloc, made, statement)? {
+            Some(restricted) => made = restricted,
+            None => return Ok(None),
+        }
+    }
+    Ok(Some(made))
+}
+
+/// The verdict on a `type` statement that names a typedef, given what is known of that one.
+pub(crate) fn derived<'t>(
+    alloc: Global,
+    is_member: bool,
+    named: Option<&Known<'t>>,
+    below: Nodes<'_, Source<'t>>,
+) -> Result<Verdict<'t>, AllocError>
+    ensures { IfOk result (λ verdict. verdict_view verdict
+        ≡ spec.derived is_member (row_by source_view below.entry)
+        (option_map_or (λ k. known_view k.now) named.entry unknown).verdict) }
+{
+    let Some(known) = named else {
+        return Ok(Verdict::Unjudged);
+    };
+    let Verdict::Means(meant) = &known.verdict else {
+        return Ok(Verdict::Unjudged);
+    };
+    if is_member && meant.is_reference() {
+        return Ok(Verdict::Wrong);
+    }
+    match restricted_in(alloc, meant.copy()?, below)? {
+        Some(restricted) => Ok(Verdict::Means(restricted)),
+        None => Ok(Verdict::Wrong),
+    }
+}
+
 /// The verdict on a `type` statement of a set, given those on the `type` statements below it.
 fn judge_type<'t>(
     alloc: Global,
     sources: &Sources<'t>,
+    typedefs: &Typedefs<'t>,
     is_member: bool,
     statement: Node<'_, Source<'t>>,
     members: Vec<Verdict<'t>>,
 ) -> Result<Verdict<'t>, AllocError>
     ensures { IfOk result (λ verdict. verdict_view verdict
-        ≡ spec.verdict (view sources.now) is_member (label_by source_view statement.entry)
-        (row_by source_view statement.entry.children) (map verdict_view members.entry.items)) }
+        ≡ spec.verdict (view sources.now) (verdicts_in typedefs.now) is_member
+        (label_by source_view statement.entry) (row_by source_view statement.entry.children)
+        (map verdict_view members.entry.items)) }
 {
     let Some(type_name) = built_in_meant(sources, statement.number(), statement.label()) else {
-        return Ok(Verdict::Unjudged);
+        let named = typedefs.named(statement.number());
+        return derived(alloc, is_member, named, statement.children());
     };
     if !are_in_place(type_name, statement.children()) {
         return Ok(Verdict::Wrong);
@@ -270,42 +350,93 @@ fn judge_type<'t>(
 fn member_verdicts<'t>(
     alloc: Global,
     sources: &Sources<'t>,
+    typedefs: &Typedefs<'t>,
     statements: Nodes<'_, Source<'t>>,
 ) -> Result<Vec<Verdict<'t>>, AllocError>
-    ensures { IfOk result (λ found. map verdict_view found.items
-        ≡ spec.verdicts (view sources.now) (row_by source_view statements.entry)) }
+    ensures { IfOk result (λ found. map verdict_view found.items ≡ spec.verdicts
+        (view sources.now) (verdicts_in typedefs.now) (row_by source_view statements.entry)) }
 {
     let mut found = Vec::new(alloc);
     for statement in statements {
         if !Keyword::Type.is(statement.label().keyword) {
             continue;
         }
-        let members = member_verdicts(alloc, sources, statement.children())?;
-        let judged = judge_type(alloc, sources, true, statement, members)?;
+        let members = member_verdicts(alloc, sources, typedefs, statement.children())?;
+        let judged = judge_type(alloc, sources, typedefs, true, statement, members)?;
         found.push(judged)?;
     }
     Ok(found)
+}
+
+/// The verdict on a `type` statement of a set, a member of a union or not.
+pub(crate) fn verdict_on<'t>(
+    alloc: Global,
+    sources: &Sources<'t>,
+    typedefs: &Typedefs<'t>,
+    is_member: bool,
+    statement: Node<'_, Source<'t>>,
+) -> Result<Verdict<'t>, AllocError>
+    ensures { IfOk result (λ verdict. verdict_view verdict
+        ≡ spec.verdict_on (view sources.now) (verdicts_in typedefs.now) is_member
+        (label_by source_view statement.entry) (row_by source_view statement.entry.children)) }
+{
+    let members = member_verdicts(alloc, sources, typedefs, statement.children())?;
+    judge_type(alloc, sources, typedefs, is_member, statement, members)
 }
 
 /// What a `type` statement of a set means that is no member of a union.
 pub fn type_meant<'t>(
     alloc: Global,
     sources: &Sources<'t>,
+    typedefs: &Typedefs<'t>,
     statement: Node<'_, Source<'t>>,
 ) -> Result<Option<Meant<'t>>, AllocError>
-    ensures { IfOk result (λ meant. option_map meant_view meant
-        ≡ spec.type_meant (view sources.now) (label_by source_view statement.entry)
+    ensures { IsOf typedefs.now (view sources.now) → IfOk result (λ meant. option_map meant_view meant
+        ≡ type_meant (view sources.now) (label_by source_view statement.entry)
         (row_by source_view statement.entry.children)) }
 {
-    let members = member_verdicts(alloc, sources, statement.children())?;
-    let judged = judge_type(alloc, sources, false, statement, members)?;
-    Ok(judged.meaning())
+    Ok(verdict_on(alloc, sources, typedefs, false, statement)?.meaning())
+}
+
+impl<'t> Meant<'t> {
+    ghost use Rattle.std.specs.Prelude.{◌≡◌, IfOk};
+    ghost use Rattle.yspec.specs.linking.TypeStatements as spec;
+    ghost use Rattle.ylink.specs.TypeView.{meant_view};
+
+    fn is_reference(&self) -> bool
+        ensures { result ≡ spec.is_reference (meant_view self.now) }
+    {
+        matches!(self, Meant::OfTarget { .. })
+    }
+
+    fn copy(&self) -> Result<Meant<'t>, AllocError>
+        ensures { IfOk result (λ copy. meant_view copy ≡ meant_view self.now) }
+    {
+        match self {
+            Meant::Own(own) => Ok(Meant::Own(own.clone()?)),
+            Meant::OfTarget {
+                home,
+                steps,
+                required,
+            } => Ok(Meant::OfTarget {
+                home: *home,
+                steps: steps.clone()?,
+                required: *required,
+            }),
+        }
+    }
 }
 
 impl<'t> Verdict<'t> {
     ghost use Rattle.std.specs.Prelude.{◌≡◌, option_map};
     ghost use Rattle.yspec.specs.linking.TypeStatements as spec;
-    ghost use Rattle.ylink.specs.TypeView.{meant_view, verdict_view};
+    ghost use Rattle.ylink.specs.TypeView.{is_wrong, meant_view, verdict_view};
+
+    pub(crate) fn is_wrong(&self) -> bool
+        ensures { result ≡ is_wrong (verdict_view self.now) }
+    {
+        matches!(self, Verdict::Wrong)
+    }
 
     fn meaning(self) -> Option<Meant<'t>>
         ensures { option_map meant_view result ≡ spec.meaning_of (verdict_view self.entry) }

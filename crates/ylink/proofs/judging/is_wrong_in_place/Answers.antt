@@ -11,10 +11,10 @@ use Rattle.ylink.proofs.TypeLemmas.{is_some_map, wrong_union}
 use Rattle.ylink.proofs.judging.is_wrong_in_place.Goals as goal
 
 pub returns-in-Union : goal.returns-in-Union
-returns-in-Union c modules =
+returns-in-Union c modules named =
     let f = row_by source_view c.args.statement.children in
     let s = label_by source_view c.args.statement in
     sym (not-not c.is_none.result)
     ∙ (ap not (sym c.is_none.ensures ∙ (is_some_map (label_by source_view) c.first_with.result ∙ ap is_some (c.first_with.ensures ∙ ap (λ n. first_with type_word (row_by source_view n)) c.children-below.ensures)))
-    ∙ (sym (wrong_union modules f)
-    ∙ sym (ap (λ t. is_wrong (spec.verdict_in_place c.args.is_member s (built_in_view t) f (spec.verdicts modules f))) c.in-Union.is)))
+    ∙ (sym (wrong_union modules named f)
+    ∙ sym (ap (λ t. is_wrong (spec.verdict_in_place c.args.is_member s (built_in_view t) f (spec.verdicts modules named f))) c.in-Union.is)))

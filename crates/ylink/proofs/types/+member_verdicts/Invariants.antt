@@ -5,6 +5,7 @@ use Rattle.ypreorder.specs.View.{row_by, row_view}
 use Rattle.ygrammar.specs.LinkView.{view}
 use Rattle.ygrammar.specs.SourceView.{source_view}
 use Rattle.ylink.specs.TypeView.{verdict_view}
+use Rattle.ylink.specs.TypedefView.{verdicts_in}
 use Rattle.ylink.proofs.types.+member_verdicts.Given as goal
 
 -- what stands below a statement is smaller than its row
@@ -16,6 +17,6 @@ invariant-loop-statement l = record {
   more : (goal.iterator-loop-statement).can_next l.statement-iterator;
   ends : (goal.iterator-loop-statement).is_finite l.statement-iterator;
   smaller : size (row_view l.statement-iterator) ≤ size (row_view l.fn.statements);
-  verdicts : map verdict_view l.found.items ++ verdicts (view l.sources) (row_by source_view l.statement-iterator)
-      ≡ verdicts (view l.sources) (row_by source_view l.fn.statements);
+  verdicts : map verdict_view l.found.items ++ verdicts (view l.sources) (verdicts_in l.typedefs) (row_by source_view l.statement-iterator)
+      ≡ verdicts (view l.sources) (verdicts_in l.typedefs) (row_by source_view l.fn.statements);
 }

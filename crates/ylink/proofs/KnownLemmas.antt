@@ -1,0 +1,169 @@
+-- What is known of a typedef rests on what is known of those alone that its `type` statements name.
+use Rattle.std.proofs.Common.{◌≡◌, ℕ, zero, suc, Bool, true, false, cond, List, [], ◌∷◌, ◌++◌, Option, Some, None, refl, sym, ap, ap₂, ◌∙◌, arith, subst}
+use Rattle.std.specs.Prelude.{⊤, option_map, option_and_then, find, ◌==◌, ◌&&◌}
+use Rattle.std.specs.List.{Contains, list_any, filter_map, cons_option}
+use Rattle.std.specs.Option.{option_map_or}
+use Rattle.std.proofs.lemmas.Bool.Decides.{Decides-eqb}
+use Rattle.std.proofs.lemmas.List.Elements.{Contains-append_left, Contains-append_right}
+use Rattle.yspec.specs.Forest.{Forest, end, node, first_of}
+use Rattle.yspec.specs.text.Text.{Text}
+use Rattle.yspec.specs.linking.Circles.{referring, innermost, definition_edge, definition_edges}
+use Rattle.yspec.specs.linking.DerivedTypes.{Known, unknown, number_named, named, verdict_by, known_by, known_in_row, typedef_row}
+use Rattle.yspec.specs.linking.Graph.{Edge}
+use Rattle.yspec.specs.linking.Keyword.{Keyword, same_keyword, type_word, typedef_word, default_word}
+use Rattle.yspec.specs.linking.Scopes.{Placed, placed, statements_of, statement_at, meaning, kind_named}
+use Rattle.yspec.specs.linking.Source.{Source, is_source_of, found_with, argument_with}
+use Rattle.yspec.specs.linking.TypeStatements.{Verdict, BuiltIn, wrong, verdict, verdicts, verdict_on, verdict_in_place, are_in_place, built_in_meant, derived}
+use Rattle.yspec.proofs.LinkingProofs.KeywordLemmas.{same_is}
+use Rattle.ygraph.specs.Reaching.{leads, has_edge, HasEdge}
+use Rattle.ypreorder.specs.Layout.{numbered_by}
+use Rattle.ygrammar.specs.declared.source.Source as held
+use Rattle.ygrammar.specs.SourceView.{source_view}
+use Rattle.ynames.specs.ReferringView.{innermost_of}
+use Rattle.ynames.specs.ScopeView.{placed_at}
+use Rattle.ylink.proofs.PlacedLemmas.{stands_at, among_them, below_them}
+
+-- ---- verdicts
+
+module _ (modules : Forest Source) (f g : ℕ → Known) where
+  -- they say the same of the `type` statements of a row, and of those below these
+  abbrev pub Agree : Forest Source → Type 0
+  Agree end = ⊤
+  Agree (node s below after) = (is_source_of type_word s ≡ true → (f s.number ≡ g s.number) × Agree below) × Agree after
+
+  same_verdicts : (row : Forest Source) → Agree row → verdicts modules (verdict_by f) row ≡ verdicts modules (verdict_by g) row
+  unfolding verdicts
+  same_verdicts end a = refl
+  same_verdicts (node s below after) a = by (is_source_of type_word s) refl
+    where
+      by : (b : Bool) → is_source_of type_word s ≡ b
+          → cond b (verdict modules (verdict_by f) true s below (verdicts modules (verdict_by f) below) ∷ verdicts modules (verdict_by f) after) (verdicts modules (verdict_by f) after)
+          ≡ cond b (verdict modules (verdict_by g) true s below (verdicts modules (verdict_by g) below) ∷ verdicts modules (verdict_by g) after) (verdicts modules (verdict_by g) after)
+      by true is =
+          let own = a.0 is in
+          ap₂ (λ v vs. v ∷ vs)
+          (ap₂ (λ (k : Known) vs. option_map_or (λ type. cond (are_in_place type below) (verdict_in_place true s type below vs) wrong)
+          (built_in_meant modules s) (derived true below k.verdict)) own.0 (same_verdicts below own.1))
+          (same_verdicts after a.1)
+      by false is = same_verdicts after a.1
+
+  pub same_verdict : (is_member : Bool) (s : Source) (below : Forest Source) → f s.number ≡ g s.number → Agree below
+      → verdict_on modules (verdict_by f) is_member s below ≡ verdict_on modules (verdict_by g) is_member s below
+  same_verdict is_member s below own inner =
+      ap₂ (λ (k : Known) vs. option_map_or (λ type. cond (are_in_place type below) (verdict_in_place is_member s type below vs) wrong)
+      (built_in_meant modules s) (derived is_member below k.verdict)) own (same_verdicts below inner)
+
+  pub agree_all : ((n : ℕ) → f n ≡ g n) → (row : Forest Source) → Agree row
+  agree_all all end = tt
+  agree_all all (node s below after) = ((λ is. (all s.number, agree_all all below)), agree_all all after)
+
+  pub agree_found : (row : Forest Source) → Agree row → (t : Source × Forest Source) → found_with type_word row ≡ Some t
+      → (f t.0.number ≡ g t.0.number) × Agree t.1
+  agree_found end a t e = absurd cc
+  agree_found (node s below after) a t e = by (is_source_of type_word s) refl e
+    where
+      by : (b : Bool) → is_source_of type_word s ≡ b → cond b (Some (s, below)) (found_with type_word after) ≡ Some t
+          → (f t.0.number ≡ g t.0.number) × Agree t.1
+      by true is e = let same : (s, below) ≡ t = cc in subst (λ (u : Source × Forest Source). (f u.0.number ≡ g u.0.number) × Agree u.1) same (a.0 is)
+      by false is e = agree_found after a.1 t e
+
+  pub same_in_row : (row : Forest Source) → Agree row → known_in_row modules f row ≡ known_in_row modules g row
+  same_in_row row a = by (found_with type_word row) refl
+    where
+      by : (o : Option (Source × Forest Source)) → found_with type_word row ≡ o
+          → option_map_or (known_by modules f row) o unknown ≡ option_map_or (known_by modules g row) o unknown
+      by None e = refl
+      by (Some t) e =
+          let same = agree_found row a t e in
+          ap₂ (λ v (d : Option Text). record { verdict = v; default = d })
+          (same_verdict false t.0 t.1 same.0 same.1)
+          (ap (λ (k : Known). first_of (argument_with default_word row) k.default) same.0)
+
+  -- ---- by where statements stand
+
+  pub agree_below : (d : ℕ) (ancestors : List (Source × Forest Source)) (row : Forest Source) → innermost_of typedef_word ancestors ≡ Some d
+      → ((p : Placed) → Contains (placed ancestors row) p → is_source_of type_word p.source ≡ true → referring p ≡ Some d → f p.source.number ≡ g p.source.number)
+      → Agree row
+  unfolding placed
+  agree_below d ancestors end inner all = tt
+  agree_below d ancestors (node s below after) inner all =
+      let p = placed_at s below ancestors in
+      let under = placed ((s, below) ∷ ancestors) below in
+      let behind = placed ancestors after in (
+        (λ is.
+            let word : type_word ≡ s.keyword = same_is type_word s.keyword is in (
+              all p (0, omega arith, refl) is (sym (ap (λ k. option_and_then (λ kind. innermost kind p) (kind_named k)) word) ∙ inner),
+              agree_below d ((s, below) ∷ ancestors) below
+                  (sym (ap (λ k. option_map (λ (a : Source × Forest Source). a.0.number) (cond (same_keyword typedef_word k) (Some (s, below)) (find (λ (a : Source × Forest Source). is_source_of typedef_word a.0) ancestors))) word) ∙ inner)
+                  (λ q at. all q (let inside = Contains-append_left under behind q at in let within = inside.1.0 in (suc inside.0, omega (arith, within), inside.1.1))),
+            )),
+        agree_below d ancestors after inner
+            (λ q at. all q (let inside = Contains-append_right under behind q at in let within = inside.1.0 in (suc inside.0, omega (arith, within), inside.1.1))),
+      )
+
+-- ---- edges
+
+edge_among : (h : Placed → Option Edge) (ps : List Placed) (p : Placed) (a b : ℕ) → Contains ps p → h p ≡ Some (record { source = a; target = b })
+    → has_edge (filter_map h ps) a b ≡ true
+edge_among h [] p a b at e = absurd (let within = at.1.0 in omega (arith, within))
+edge_among h (q ∷ ps) p a b (zero, within, is) e = ap (λ o. has_edge (cons_option o (filter_map h ps)) a b) (ap h is ∙ e)
+    ∙ first ((a == a) && (b == b)) (ap₂ (λ x y. x && y) ((Decides-eqb a a).1 refl) ((Decides-eqb b b).1 refl))
+  where
+    first : (x : Bool) → x ≡ true → cond x true (has_edge (filter_map h ps) a b) ≡ true
+    first true is = refl
+    first false is = absurd cc
+edge_among h (q ∷ ps) p a b (suc k, within, is) e = by (h q) (edge_among h ps p a b (k, omega (arith, within), is) e)
+  where
+    by : (o : Option Edge) → has_edge (filter_map h ps) a b ≡ true → has_edge (cons_option o (filter_map h ps)) a b ≡ true
+    by None rest = rest
+    by (Some x) rest = or_right (leads a b x) rest
+      where
+        or_right : (y : Bool) → has_edge (filter_map h ps) a b ≡ true → cond y true (has_edge (filter_map h ps) a b) ≡ true
+        or_right true rest = refl
+        or_right false rest = rest
+
+-- ---- a set of modules
+
+module _ (held_forest : Forest held.Source) where
+  abbrev set : Forest Source
+  set = numbered_by source_view 0 held_forest
+
+  module _ (known_here known_there : ℕ → Known) (d : ℕ) (same : (e : ℕ) → HasEdge (definition_edges set) d e → known_here e ≡ known_there e) where
+    -- of a statement in the typedef
+    same_named : (p : Placed) → Contains (statements_of set) p → referring p ≡ Some d → named set known_here p.source.number ≡ named set known_there p.source.number
+    same_named p at refers =
+        sym (ap (λ o. option_map_or known_here (option_map (λ (x : Source). x.number) (option_and_then (meaning set) o)) unknown) stands)
+        ∙ (by (meaning set p) refl
+        ∙ ap (λ o. option_map_or known_there (option_map (λ (x : Source). x.number) (option_and_then (meaning set) o)) unknown) stands)
+      where
+        stands : Some p ≡ statement_at set p.source.number
+        stands = sym (stands_at held_forest p at)
+
+        by : (o : Option Source) → meaning set p ≡ o
+            → option_map_or known_here (option_map (λ (x : Source). x.number) o) unknown ≡ option_map_or known_there (option_map (λ (x : Source). x.number) o) unknown
+        by None e = refl
+        by (Some x) e = same x.number (edge_among (definition_edge set) (statements_of set) p d x.number at
+            (ap₂ (λ m r. option_and_then (λ (y : Source). option_map (λ (a : ℕ). record { source = a; target = y.number }) r) m) e refers))
+
+    pub same_known : option_map_or (known_in_row set (named set known_here)) (typedef_row set d) unknown
+        ≡ option_map_or (known_in_row set (named set known_there)) (typedef_row set d) unknown
+    same_known = by (statement_at set d) refl
+      where
+        by : (o : Option Placed) → statement_at set d ≡ o
+            → option_map_or (known_in_row set (named set known_here)) (option_and_then (λ p. cond (is_source_of typedef_word p.source) (Some p.below) None) o) unknown
+            ≡ option_map_or (known_in_row set (named set known_there)) (option_and_then (λ p. cond (is_source_of typedef_word p.source) (Some p.below) None) o) unknown
+        by None e = refl
+        by (Some p) e = is (is_source_of typedef_word p.source) refl
+          where
+            at : Contains (statements_of set) p × (p.source.number ≡ d)
+            at = among_them held_forest d p e
+
+            is : (b : Bool) → is_source_of typedef_word p.source ≡ b
+                → option_map_or (known_in_row set (named set known_here)) (cond b (Some p.below) None) unknown
+                ≡ option_map_or (known_in_row set (named set known_there)) (cond b (Some p.below) None) unknown
+            is false other = refl
+            is true typedef = same_in_row set (named set known_here) (named set known_there) p.below
+                (agree_below set (named set known_here) (named set known_there) d ((p.source, p.below) ∷ p.ancestors) p.below
+                (ap (λ b. option_map (λ (a : Source × Forest Source). a.0.number) (cond b (Some (p.source, p.below)) (find (λ (a : Source × Forest Source). is_source_of typedef_word a.0) p.ancestors))) typedef
+                ∙ ap (λ n. Some n) at.1)
+                (λ q inside is_type refers. same_named q (below_them [] set p q at.0 inside) refers))

@@ -1,0 +1,48 @@
+-- What is known of typedefs, as the specification's.
+use Rattle.std.specs.Prelude.{◌≡◌, ℕ, List, Option, Some, None, option_map, option_and_then, slice_get, if◌then◌else◌, map}
+use Rattle.std.specs.Option.{option_map_or}
+use Rattle.yspec.specs.Forest.{Forest}
+use Rattle.yspec.specs.linking.Keyword.{typedef_word}
+use Rattle.yspec.specs.linking.Source.{Source, is_source_of}
+use Rattle.yspec.specs.linking.Scopes.{Placed, statements_of}
+use Rattle.yspec.specs.linking.TypeStatements.{Verdict, unjudged}
+use Rattle.yspec.specs.linking.DerivedTypes as spec
+use Rattle.ypreorder.specs.View.{row_by}
+use Rattle.ypreorder.specs.declared.nodes.Nodes.{Nodes}
+use Rattle.ygrammar.specs.SourceView.{source_view}
+use Rattle.ygrammar.specs.declared.source.Source as held
+use Rattle.ynames.specs.MeaningView.{meaning_at}
+use Rattle.ylink.specs.TypeView.{verdict_view}
+use Rattle.ylink.specs.declared.typedefs.Known.{Known}
+use Rattle.ylink.specs.declared.typedefs.Typedefs.{Typedefs}
+
+abbrev pub known_view : Known → spec.Known
+known_view k = record { verdict = verdict_view k.verdict; default = option_map (λ t. t.now) k.default }
+
+-- what a table holds of the typedef of a number
+abbrev pub known_at : List (Option Known) → ℕ → spec.Known
+known_at table number = option_map_or known_view (option_and_then (λ k. k) (slice_get table number)) spec.unknown
+
+-- what is known of the typedef that the statement of a number names
+abbrev pub names_in : Typedefs → ℕ → spec.Known
+names_in t number = option_map_or (known_at t.known.items) (meaning_at t.meanings.items number) spec.unknown
+
+abbrev pub verdicts_in : Typedefs → ℕ → Verdict
+verdicts_in t = spec.verdict_by (names_in t)
+
+-- they are the typedefs of a set
+abbrev pub IsOf : Typedefs → Forest Source → Type 0
+IsOf t modules = (number : ℕ) → names_in t number ≡ spec.known_named modules number
+
+-- ---- their rows
+
+-- the row below a statement that is a typedef
+abbrev pub row_at : Placed → Option (Forest Source)
+row_at p = if is_source_of typedef_word p.source then Some p.below else None
+
+abbrev pub rows_view : List (Option (Nodes held.Source)) → List (Option (Forest Source))
+rows_view rows = map (option_map (row_by source_view)) rows
+
+-- the table holds the row below each statement of a set that is a typedef
+abbrev pub AreRows : List (Option (Nodes held.Source)) → Forest Source → Type 0
+AreRows rows modules = rows_view rows ≡ map row_at (statements_of modules)
