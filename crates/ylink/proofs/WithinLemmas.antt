@@ -28,20 +28,20 @@ each_append P (x ∷ xs) ys own others = (own.0, each_append P xs ys own.1 other
 
 each_found : {A : Type 0} (P : A → Type 0) (test : A → Bool) (xs : List A) (x : A) → Each P xs → find test xs ≡ Some x → P x
 each_found P test [] x all e = absurd cc
-each_found P test (y ∷ ys) x all e = by (test y) e
+each_found P test (y ∷ ys) x all e = by (test y) e (λ later. each_found P test ys x all.1 later)
   where
-    by : (b : Bool) → cond b (Some y) (find test ys) ≡ Some x → P x
-    by true e = let same : y ≡ x = cc in subst P same all.0
-    by false e = each_found P test ys x all.1 e
+    by : (b : Bool) → cond b (Some y) (find test ys) ≡ Some x → (find test ys ≡ Some x → P x) → P x
+    by true e rest = let same : y ≡ x = cc in subst P same all.0
+    by false e rest = rest e
 
 each_given : {A B : Type 0} (P : A → Type 0) (Q : B → Type 0) (h : A → Option B) → ((x : A) → P x → (y : B) → h x ≡ Some y → Q y)
     → (xs : List A) → Each P xs → Each Q (filter_map h xs)
 each_given P Q h gives [] all = tt
-each_given P Q h gives (x ∷ xs) all = by (h x) refl
+each_given {A} {B} P Q h gives (x ∷ xs) all = by (h x) refl (each_given P Q h gives xs all.1)
   where
-    by : (o : Option _) → h x ≡ o → Each Q (cons_option o (filter_map h xs))
-    by None e = each_given P Q h gives xs all.1
-    by (Some y) e = (gives x all.0 y e, each_given P Q h gives xs all.1)
+    by : (o : Option B) → h x ≡ o → Each Q (filter_map h xs) → Each Q (cons_option o (filter_map h xs))
+    by None e rest = rest
+    by (Some y) e rest = (gives x all.0 y e, rest)
 
 module _ (n : ℕ) where
   abbrev pub Below : Source → Type 0
@@ -164,7 +164,7 @@ module _ (f : Forest held.Source) where
 
   -- what a statement names
   pub meant_within : (p : Placed) → Contains (statements_of set) p → (d : Source) → meaning set p ≡ Some d → d.number < size f
-  meant_within p at d e = is_meant (size f) set all_of_set p (each_at (statements_of set) each_placed at.0 at.1.0 at.1.1) d e
+  meant_within p at d e = is_meant (size f) set all_of_set p (each_at (statements_of set) each_placed at.0 at.1 at.2) d e
     where
       each_at : (ps : List Placed) → Each (IsPlaced (size f)) ps → (i : ℕ) → i < length ps → get_or ps i p ≡ p → IsPlaced (size f) p
       each_at [] all i within is = absurd (omega (arith, within))
