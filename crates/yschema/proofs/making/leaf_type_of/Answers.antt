@@ -2,9 +2,10 @@ use Rattle.std.proofs.Common.{ap, ap₂, ◌∙◌}
 use Rattle.std.specs.Prelude.{unwrap_or, option_map}
 use Rattle.yspec.specs.types.Types.{string_type}
 use Rattle.yspec.specs.linking.Planned.{type_of, target_of}
-use Rattle.yspec.specs.linking.SchemaNodes.{number_in, type_name}
+use Rattle.yspec.specs.linking.SchemaNodes.{number_in}
 use Rattle.yplan.specs.NodesView.{node_view}
 use Rattle.yplan.specs.PlanView.{view}
+use Rattle.ymodel.specs.Layout.{type_name_view}
 use Rattle.yschema.proofs.MakingLemmas.{leaf_type_by}
 use Rattle.yschema.proofs.making.leaf_type_of.Goals as goal
 
@@ -14,5 +15,5 @@ returns c =
     let p = node_view c.args.node in
     let type = c.value_type.ensures plan p c.requires.of_plan c.requires.stands in
     let target = c.target.ensures plan p c.requires.of_plan c.requires.stands in
-    ap (λ n. leaf_type_by n _ _) (c.in_ok-name.ensures ∙ c.type_name.ensures c.args.node.number)
-    ∙ ap₂ (leaf_type_by (type_name p)) (c.in_ok-value_type.ensures ∙ ap (λ t. unwrap_or t string_type) type) (c.id_of.ensures ∙ target)
+    ap₂ (leaf_type_by (type_name_view c.in_ok-name.name)) (c.in_ok-value_type.ensures ∙ ap (λ t. unwrap_or t string_type) type) (c.id_of.ensures ∙ target)
+    ∙ ap (λ n. leaf_type_by n (unwrap_or (type_of plan p) string_type) (option_map number_in (target_of plan p))) (c.in_ok-name.ensures ∙ c.type_name.ensures c.args.node.number)
