@@ -124,13 +124,13 @@ fn must_be(node: Node<'_, Planned<'_, '_>>) -> bool
     }
 }
 
-/// The texts of all its defaults, in order (RFC 7950, 7.6.4 and 7.7.4).
-pub fn default_texts<'t>(
+/// The texts of all its own defaults, in order (RFC 7950, 7.6.4 and 7.7.4).
+pub fn own_defaults<'t>(
     alloc: Global,
     planned: &Planned<'_, 't>,
 ) -> Result<Vec<&'t str>, AllocError>
     ensures { (number : _) → IfOk result (λ texts. map (λ t. t.now) texts.items
-        ≡ spec.default_texts (planned_view number planned.now)) }
+        ≡ spec.own_defaults (planned_view number planned.now)) }
 {
     let mut texts = Vec::new(alloc);
     for statement in planned.own_with(Keyword::Default) {
