@@ -1,10 +1,2 @@
-pub mod DefinitionView
-pub mod EdgeView
-pub mod FirstNamedView
 pub mod KindView
-pub mod MeaningView
-pub mod PrefixView
-pub mod ReferringView
-pub mod RevisionView
-pub mod ScopeView
 pub mod TypeView

@@ -6,12 +6,10 @@ ghost use Rattle.yspec.specs.linking.Compiling.{meanings_phase};
 ghost use Rattle.ygrammar.specs.BreakView.{seen};
 ghost use Rattle.ygrammar.specs.LinkView.{view};
 
-use crate::importing::circular_import;
-use crate::imports::unmet_import;
 use crate::judging::lost_type;
-use crate::prefix::places_of;
 use std::alloc::{AllocError, Global};
 use ygrammar::{BrokenRule, Sources};
+use ynames::{circular_import, places_of, unmet_import};
 
 /// The least of the imports that the set doesn't meet, of the types that aren't found, and of the imports by which a module
 /// imports itself, by module and line.

@@ -7,7 +7,7 @@ ghost use Rattle.ypreorder.specs.Layout.{IsLaidOut};
 ghost use Rattle.ypreorder.specs.View.{rows_in};
 ghost use Rattle.yplan.specs.Finding.{is_found, list_of, name_of};
 ghost use Rattle.ygrammar.specs.LinkView as link;
-ghost use Rattle.ylink.specs.PrefixView.{IsOf};
+ghost use Rattle.ynames.specs.PrefixView.{IsOf};
 
 use crate::finding::index_of;
 use crate::levels::levels_of;
@@ -17,7 +17,7 @@ use crate::planning::planned;
 use std::alloc::{AllocError, Global};
 use ygrammar::{Name, Sources};
 use yindex::{Among, Names, NodeIndex};
-use ylink::{NodeName, Prefixes};
+use ynames::{NodeName, Prefixes};
 use ypreorder::{Nodes, Row, Table};
 use yword::Keyword;
 
@@ -55,7 +55,7 @@ impl<'a, 't> Plan<'a, 't> {
     ghost use Rattle.yplan.specs.NodesView.{left, node_view};
     ghost use Rattle.yspec.specs.linking.Prefixes as names;
     ghost use Rattle.ygrammar.specs.NameView.{name_view};
-    ghost use Rattle.ylink.specs.PrefixView.{node_name_view};
+    ghost use Rattle.ynames.specs.PrefixView.{node_name_view};
 
     /// The nodes that the statements of a set of modules define.
     pub fn of(alloc: Global, sources: &'a Sources<'t>) -> Result<Plan<'a, 't>, AllocError>

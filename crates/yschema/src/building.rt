@@ -30,8 +30,9 @@ use ygrammar::{
     BrokenRule, CompileCode, Source, Sources, argument_of, argument_with, broken,
     broken_statement_rule,
 };
-use ylink::{broken_meaning_rule, broken_prefix_rule, broken_type_rule};
+use ylink::{broken_meaning_rule, broken_type_rule};
 use ymodel::{Schema, SchemaModule};
+use ynames::broken_prefix_rule;
 use yplan::{Plan, broken_name_rule};
 use ypreorder::Node;
 use yresolve::{Resolved, broken_node_rule};

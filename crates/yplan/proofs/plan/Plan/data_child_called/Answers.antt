@@ -2,7 +2,7 @@ use Rattle.std.proofs.Common.{sym, ◌∙◌}
 use Rattle.std.specs.Prelude.{◌&&◌}
 use Rattle.yspec.specs.linking.Planned as spec
 use Rattle.yspec.specs.linking.Planned.{same_number, is_called, is_data, nodes_of}
-use Rattle.ylink.specs.PrefixView.{node_name_view}
+use Rattle.ynames.specs.PrefixView.{node_name_view}
 use Rattle.yplan.specs.PlanView.{view}
 use Rattle.yplan.proofs.NodeLemmas.{by_number, find-filter}
 use Rattle.yplan.proofs.plan.Plan.data_child_called.Goals as goal

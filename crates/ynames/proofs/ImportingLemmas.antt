@@ -1,0 +1,69 @@
+-- Edges of imports, statement by statement, and which lie on circles.
+use Rattle.std.proofs.Common.{◌≡◌, ℕ, ◌+◌, ◌<◌, ◌≤◌, Bool, false, List, [], ◌∷◌, ◌++◌, length, get_or, drop, map, Option, refl, sym, ap, ap₂, ◌∙◌}
+use Rattle.std.specs.Prelude.{option_map}
+use Rattle.std.specs.List.{filter_map, flat_map}
+use Rattle.std.specs.Option.{option_map_or}
+use Rattle.std.proofs.lemmas.List.{append-nil, at_drop_all}
+use Rattle.yspec.specs.Forest.{Forest, end, node, preorder}
+use Rattle.yspec.specs.linking.Circles.{import_edge, import_edges, import_circle, import_circles, is_circular}
+use Rattle.yspec.specs.linking.Graph as spec
+use Rattle.yspec.specs.linking.Graph.{is_on_circle}
+use Rattle.yspec.specs.linking.Scopes.{Placed, placed, statements_of}
+use Rattle.yspec.specs.linking.Source.{Source}
+use Rattle.ygraph.specs.Edges.{edge_view}
+use Rattle.ygraph.specs.declared.circles.Edge.{Edge}
+use Rattle.ypreorder.specs.Layout.{labels_by}
+use Rattle.ypreorder.specs.declared.row.Row.{Row}
+use Rattle.ygrammar.specs.declared.source.Source as held
+use Rattle.ygrammar.specs.SourceView.{source_view}
+use Rattle.ynames.specs.EdgeView.{circles_by}
+use Rattle.ynames.proofs.EdgeLemmas.{seen_flags, map_both, present_view, filter_mapped}
+use Rattle.ynames.proofs.MeaningLemmas.{map_append}
+use Rattle.ynames.proofs.ScopeLemmas.{flat_append}
+
+module _ (modules : Forest Source) (rows : List (Row held.Source)) (i : ℕ) (so_far : List (Option Edge)) where
+  pub all_import_edges : (whole : List (Option spec.Edge)) → length rows ≤ i
+      → map (option_map edge_view) so_far ++ map (import_edge modules) (labels_by source_view i (drop i rows)) ≡ whole → map (option_map edge_view) so_far ≡ whole
+  all_import_edges whole ended made =
+      sym (append-nil (map (option_map edge_view) so_far))
+      ∙ (ap (λ l. map (option_map edge_view) so_far ++ l) (sym (at_drop_all (λ rs. map (import_edge modules) (labels_by source_view i rs)) rows i ended)) ∙ made)
+
+-- ---- the statements of a set, with what is around them and without
+
+sources_placed : {A : Type 0} (f : Source → A) (ancestors : List (Source × Forest Source)) (g : Forest Source) → map (λ (p : Placed). f p.source) (placed ancestors g) ≡ map f (preorder g)
+unfolding placed
+sources_placed f ancestors end = refl
+sources_placed f ancestors (node s below after) =
+    let under = placed ((s, below) ∷ ancestors) below in
+    ap (λ l. f s ∷ l) (map_append (λ (p : Placed). f p.source) under (placed ancestors after)
+    ∙ (ap₂ (λ a b. a ++ b) (sources_placed f ((s, below) ∷ ancestors) below) (sources_placed f ancestors after)
+    ∙ sym (map_append f (preorder below) (preorder after))))
+
+flat_placed : {B : Type 0} (g : Source → List B) (ancestors : List (Source × Forest Source)) (f : Forest Source)
+    → flat_map (λ (p : Placed). g p.source) (placed ancestors f) ≡ flat_map g (preorder f)
+unfolding placed
+flat_placed g ancestors end = refl
+flat_placed g ancestors (node s below after) =
+    let under = placed ((s, below) ∷ ancestors) below in
+    ap (λ l. g s ++ l) (flat_append (λ (p : Placed). g p.source) under (placed ancestors after)
+    ∙ (ap₂ (λ a b. a ++ b) (flat_placed g ((s, below) ∷ ancestors) below) (flat_placed g ancestors after)
+    ∙ sym (flat_append g (preorder below) (preorder after))))
+
+module _ (modules : Forest Source) where
+  abbrev pub flag_of : Placed → Bool
+  flag_of p = is_circular (import_edges modules) (import_edge modules p.source)
+
+  pub circles_of_imports : circles_by flag_of modules ≡ import_circles modules
+  circles_of_imports = flat_placed (import_circle modules (import_edges modules)) [] modules
+
+  pub import_flags : (table : List (Option Edge)) (found : List Edge)
+      → map (option_map edge_view) table ≡ map (import_edge modules) (preorder modules) → found ≡ filter_map (λ e. e) table
+      → map (λ e. option_map_or (λ x. is_on_circle (map edge_view found) (edge_view x)) e false) table ≡ map flag_of (statements_of modules)
+  import_flags table found is found_is =
+      let sources = preorder modules in
+      let all : map edge_view found ≡ import_edges modules =
+      ap (map edge_view) found_is ∙ (present_view table ∙ (ap (filter_map (λ e. e)) is ∙ filter_mapped (import_edge modules) sources)) in
+      seen_flags (map edge_view found) table
+      ∙ (ap₂ (λ a es. map (is_circular a) es) all is
+      ∙ (map_both (is_circular (import_edges modules)) (import_edge modules) sources
+      ∙ sym (sources_placed (λ s. is_circular (import_edges modules) (import_edge modules s)) [] modules)))

@@ -1,0 +1,12 @@
+pub mod DeclaredLemmas
+pub mod DefinitionLemmas
+pub mod EdgeLemmas
+pub mod FirstNamedLemmas
+pub mod ImportingLemmas
+pub mod MeaningLemmas
+pub mod NumberedLemmas
+pub mod PrefixLemmas
+pub mod ReferringLemmas
+pub mod RepeatedLemmas
+pub mod RevisionLemmas
+pub mod ScopeLemmas

@@ -1,0 +1,10 @@
+use Rattle.std.proofs.Common.{is_some, sym, ap, ◌∙◌}
+use Rattle.yword.specs.BuiltInView.{built_in_view}
+use Rattle.ynames.proofs.NumberedLemmas.{is_some_map}
+use Rattle.ynames.proofs.PrefixLemmas.{no_prefix}
+use Rattle.ynames.proofs.prefix.is_unknown_type.Goals as goal
+
+pub returns-then-is_some : goal.returns-then-is_some
+returns-then-is_some c modules prefixes =
+    no_prefix modules c.args.source.now.home _
+    (sym (sym (is_some_map built_in_view c.built_in.result) ∙ ap is_some c.built_in.ensures) ∙ (sym c.is_some.ensures ∙ c.if-is_some.true))

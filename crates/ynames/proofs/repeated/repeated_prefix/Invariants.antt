@@ -1,0 +1,15 @@
+use Rattle.std.proofs.Common.{◌≡◌}
+use Rattle.yspec.specs.linking.Imports.{repeated_prefixes}
+use Rattle.yspec.specs.schema.Breaks.{least_from}
+use Rattle.ypreorder.specs.View.{row_by}
+use Rattle.ygrammar.specs.BreakView.{seen}
+use Rattle.ygrammar.specs.LinkView.{view}
+use Rattle.ygrammar.specs.SourceView.{source_view}
+use Rattle.ynames.proofs.repeated.repeated_prefix.Given as goal
+
+abbrev pub invariant-loop-top : goal.invariant-loop-top
+invariant-loop-top l = record {
+  more : (goal.iterator-loop-top).can_next l.top-iterator;
+  ends : (goal.iterator-loop-top).is_finite l.top-iterator;
+  so_far : least_from (seen l.told) (repeated_prefixes (row_by source_view l.top-iterator)) ≡ least_from (seen l.fn.so_far) (repeated_prefixes (view l.sources));
+}

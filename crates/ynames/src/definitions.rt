@@ -1,0 +1,124 @@
+//! The definitions that stand in rows of statements, found by kind and name (RFC 7950, 5.5 and 6.2.1).
+
+ghost use Rattle.std.specs.Prelude.{◌≡◌, None, Some, if◌then◌else◌, IfOk, OnOk};
+ghost use Rattle.yspec.specs.Forest.{first_of, row};
+ghost use Rattle.yspec.specs.text.Text.{is_text};
+ghost use Rattle.ypreorder.specs.View.{row_by};
+ghost use Rattle.yword.specs.KeywordView.{keyword_view};
+ghost use Rattle.ygrammar.specs.SourceView.{source_view};
+ghost use Rattle.ynames.specs.DefinitionView.{AreFirst, AreOf};
+
+use crate::first_named::FirstNamed;
+use std::alloc::{AllocError, Global};
+use ygrammar::Source;
+use ypreorder::Nodes;
+use yword::Keyword;
+
+/// What statements define for others to name.
+#[derive(Clone, Copy, Debug)]
+pub(crate) enum DefinitionKind {
+    Typedef,
+    Grouping,
+}
+
+/// The definitions of a row, by their names.
+#[derive(Drop)]
+pub(crate) struct Definitions<'t> {
+    // The numbers of the first statements of each name.
+    typedefs: FirstNamed<'t, u32>,
+    groupings: FirstNamed<'t, u32>,
+}
+
+/// Where names are looked for: the rows around a statement, innermost first.
+#[derive(Clone, Copy)]
+pub(crate) enum Scope<'a, 't> {
+    /// Nothing is around it.
+    Top,
+    /// The row of its siblings, and what is around that.
+    Below {
+        row: &'a Definitions<'t>,
+        above: &'a Scope<'a, 't>,
+    },
+}
+
+/// The numbers of the statements of a keyword in a row, by their arguments: of several with one argument the first.
+fn first_named<'t>(
+    alloc: Global,
+    keyword: Keyword,
+    statements: Nodes<'_, Source<'t>>,
+) -> Result<FirstNamed<'t, u32>, AllocError>
+    ensures { IfOk result (λ names. AreFirst names (keyword_view keyword)
+        (row (row_by source_view statements.entry))) }
+{
+    let mut names = FirstNamed::new(alloc);
+    for statement in statements {
+        let source = statement.label();
+        if keyword.is(source.keyword) {
+            names.add(source.argument(), statement.number())?;
+        }
+    }
+    Ok(names)
+}
+
+impl<'t> Definitions<'t> {
+    ghost use Rattle.std.specs.Prelude.{◌≡◌, IfOk};
+    ghost use Rattle.ypreorder.specs.View.{row_by};
+    ghost use Rattle.ygrammar.specs.SourceView.{source_view};
+    ghost use Rattle.ynames.specs.DefinitionView.{first_in, AreOf};
+
+    /// The definitions of a row.
+    pub(crate) fn of(
+        alloc: Global,
+        statements: Nodes<'_, Source<'t>>,
+    ) -> Result<Definitions<'t>, AllocError>
+        ensures { IfOk result (λ d. AreOf d (row_by source_view statements.entry)) }
+    {
+        let typedefs = first_named(alloc, Keyword::Typedef, statements)?;
+        let groupings = first_named(alloc, Keyword::Grouping, statements)?;
+        Ok(Definitions {
+            typedefs,
+            groupings,
+        })
+    }
+
+    /// The number of the first definition of a kind and name.
+    pub(crate) fn first(&self, kind: DefinitionKind, name: &str) -> Option<u32>
+        ensures { result ≡ first_in kind self.now name.now }
+    {
+        match kind {
+            DefinitionKind::Typedef => self.typedefs.get(name),
+            DefinitionKind::Grouping => self.groupings.get(name),
+        }
+    }
+}
+
+impl<'a, 't> Scope<'a, 't> {
+    ghost use Rattle.std.specs.Prelude.{◌≡◌};
+    ghost use Rattle.ynames.specs.DefinitionView.{innermost_in, outermost_in};
+
+    /// The number of the innermost definition of a kind and name.
+    pub(crate) fn innermost(&self, kind: DefinitionKind, name: &str) -> Option<u32>
+        ensures { result ≡ innermost_in kind self.now name.now }
+    {
+        match self {
+            Scope::Top => None,
+            Scope::Below { row, above } => match row.first(kind, name) {
+                Some(number) => Some(number),
+                None => above.innermost(kind, name),
+            },
+        }
+    }
+
+    /// The number of the outermost definition of a kind and name.
+    pub(crate) fn outermost(&self, kind: DefinitionKind, name: &str) -> Option<u32>
+        ensures { result ≡ outermost_in kind self.now name.now }
+    {
+        match self {
+            Scope::Top => None,
+            Scope::Below { row, above } => match above.outermost(kind, name) {
+                Some(number) => Some(number),
+                None => row.first(kind, name),
+            },
+        }
+    }
+}

@@ -1,0 +1,77 @@
+//! Which typedef or grouping holds each `type` and `uses` statement (RFC 7950, 7.3 and 7.12).
+
+ghost use Rattle.std.specs.Prelude.{◌≡◌, ◌++◌, List, Some, IfOk, OnOk, map, option_and_then, if◌then◌else◌};
+ghost use Rattle.yspec.specs.linking.Circles.{referring};
+ghost use Rattle.yspec.specs.linking.Keyword.{typedef_word, grouping_word};
+ghost use Rattle.yspec.specs.linking.Scopes.{placed, kind_named};
+ghost use Rattle.yspec.specs.linking.Source.{is_source_of};
+ghost use Rattle.ypreorder.specs.View.{row_by, label_by};
+ghost use Rattle.yword.specs.KeywordView.{keyword_view};
+ghost use Rattle.ygrammar.specs.LinkView.{view};
+ghost use Rattle.ygrammar.specs.SourceView.{source_view};
+ghost use Rattle.ynames.specs.ReferringView.{innermost_of, AreReferring};
+
+use std::alloc::{AllocError, Global};
+use ygrammar::{Source, Sources};
+use ypreorder::{Node, Nodes};
+use yword::Keyword;
+
+/// The innermost statement with a keyword around what stands below a statement, given that around it.
+fn innermost_below(
+    keyword: Keyword,
+    above: Option<u32>,
+    statement: Node<'_, Source<'_>>,
+) -> Option<u32>
+    ensures { result ≡ if is_source_of (keyword_view keyword) (label_by source_view statement.entry)
+        then Some statement.entry.number else above }
+{
+    if keyword.is(statement.label().keyword) {
+        Some(statement.number())
+    } else {
+        above
+    }
+}
+
+/// The innermost definition of the kind that a statement with a keyword names, given those of both kinds.
+fn holder_of(keyword: Keyword, typedef: Option<u32>, grouping: Option<u32>) -> Option<u32>
+    ensures { (ancestors : List _) → typedef ≡ innermost_of typedef_word ancestors
+        → grouping ≡ innermost_of grouping_word ancestors → result
+        ≡ option_and_then (λ kind. innermost_of kind ancestors) (kind_named (keyword_view keyword)) }
+{
+    match keyword {
+        Keyword::Type => typedef,
+        Keyword::Uses => grouping,
+        _ => None,
+    }
+}
+
+/// Adds what holds the statements of a row, and those below it, given the innermost definitions around the row.
+fn add_holders(
+    typedef: Option<u32>,
+    grouping: Option<u32>,
+    statements: Nodes<'_, Source<'_>>,
+    made: &mut Vec<Option<u32>>,
+) -> Result<(), AllocError>
+    ensures { (ancestors : List _) → typedef ≡ innermost_of typedef_word ancestors
+        → grouping ≡ innermost_of grouping_word ancestors
+        → OnOk result (made.new.items ≡ made.old.items
+        ++ map referring (placed ancestors (row_by source_view statements.entry))) }
+{
+    for statement in statements {
+        made.push(holder_of(statement.label().keyword, typedef, grouping))?;
+        let inner_typedef = innermost_below(Keyword::Typedef, typedef, statement);
+        let inner_grouping = innermost_below(Keyword::Grouping, grouping, statement);
+        add_holders(inner_typedef, inner_grouping, statement.children(), made)?;
+    }
+    Ok(())
+}
+
+/// Of each statement of a set, by its number, that of the innermost definition that holds it and is of the kind that it
+/// names.
+pub fn holders_of(alloc: Global, sources: &Sources<'_>) -> Result<Vec<Option<u32>>, AllocError>
+    ensures { IfOk result (λ made. AreReferring made.items (view sources.now)) }
+{
+    let mut made = Vec::new(alloc);
+    add_holders(None, None, sources.modules(), &mut made)?;
+    Ok(made)
+}
