@@ -1,5 +1,5 @@
 -- The first definitions of rows by their names, and of the rows around a statement.
-use Rattle.std.proofs.Common.{◌≡◌, ℕ, Bool, true, false, cond, List, [], ◌∷◌, ◌++◌, Option, Some, None, is_some, refl, sym, ap, ◌∙◌}
+use Rattle.std.proofs.Common.{◌≡◌, ℕ, Bool, true, false, cond, List, [], ◌∷◌, ◌++◌, Option, Some, None, refl, sym, ap, ◌∙◌}
 use Rattle.std.specs.Prelude.{find, option_map, ◌&&◌}
 use Rattle.yspec.specs.Forest.{Forest, end, node, row, first_of}
 use Rattle.yspec.specs.text.Text.{Text, is_text}

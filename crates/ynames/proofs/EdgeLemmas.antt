@@ -1,9 +1,9 @@
 -- Edges of definitions, one statement after another.
 use Rattle.std.proofs.Common.{◌≡◌, ℕ, zero, suc, ◌+◌, ◌<◌, ◌≤◌, false, List, [], ◌∷◌, ◌++◌, length, get_or, drop, map, Option, Some, None, refl, sym, ap, ap₂, ◌∙◌, arith}
-use Rattle.std.specs.Prelude.{option_map, option_and_then, IfOk, Result, Ok, Err}
+use Rattle.std.specs.Prelude.{option_map, option_and_then}
 use Rattle.std.specs.List.{filter_map, cons_option}
 use Rattle.std.specs.Option.{option_map_or}
-use Rattle.std.proofs.lemmas.List.{append_assoc, append-nil, at_drop_more, at_drop_all, length-append}
+use Rattle.std.proofs.lemmas.List.{append_assoc, append-nil, at_drop_more, at_drop_all, length-append, map-append}
 use Rattle.yspec.specs.Forest.{Forest}
 use Rattle.yspec.specs.linking.Circles.{referring, definition_edge, definition_edges, is_circular}
 use Rattle.yspec.specs.linking.Graph as spec
@@ -15,7 +15,6 @@ use Rattle.ygraph.specs.declared.circles.Edge.{Edge}
 use Rattle.ynames.specs.EdgeView.{edge_by, edges_from}
 use Rattle.ynames.specs.MeaningView.{meaning_at, number_meant, AreMeanings}
 use Rattle.ynames.specs.ReferringView.{AreReferring}
-use Rattle.ynames.proofs.MeaningLemmas.{map_append}
 use Rattle.ynames.proofs.NumberedLemmas.{get_behind}
 
 -- what is held at a number
@@ -33,7 +32,7 @@ module _ (holders meanings : List (Option ℕ)) (i : ℕ) (so_far : List (Option
       let rest = edges_from holders (i + 1) (drop (i + 1) meanings) in
       let seen = map (option_map edge_view) so_far in
       ap (λ l. map (option_map edge_view) l ++ rest) pushed
-      ∙ (ap (λ l. l ++ rest) (map_append (option_map edge_view) so_far (e ∷ []))
+      ∙ (ap (λ l. l ++ rest) (map-append (option_map edge_view) so_far (e ∷ []))
       ∙ (append_assoc seen (option_map edge_view e ∷ []) rest
       ∙ (ap (λ x. seen ++ x ∷ rest) (is ∙ ap (edge_by (meaning_at holders i)) (get_at meanings i within))
       ∙ (sym (ap (λ l. seen ++ l) (at_drop_more (edges_from holders i) meanings i None within)) ∙ made))))
@@ -110,7 +109,3 @@ circular_flags modules holders meanings table found held meant is found_is =
     seen_flags all table ∙ (ap (map (is_circular all)) (is ∙ by_statement modules holders meanings held meant)
     ∙ (map_both (is_circular all) (definition_edge modules) statements
     ∙ ap (λ edges. map (λ p. is_circular edges (definition_edge modules p)) statements) (all_present modules holders meanings table found held meant is found_is)))
-
-pub if_ok : {A E : Type 0} (P Q : A → Type 0) (r : Result A E) → ((x : A) → P x → Q x) → IfOk r P → IfOk r Q
-if_ok P Q (Ok x) next holds = next x holds
-if_ok P Q (Err e) next holds = tt

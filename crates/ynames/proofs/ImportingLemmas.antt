@@ -1,9 +1,10 @@
 -- Edges of imports, statement by statement, and which lie on circles.
-use Rattle.std.proofs.Common.{◌≡◌, ℕ, ◌+◌, ◌<◌, ◌≤◌, Bool, false, List, [], ◌∷◌, ◌++◌, length, get_or, drop, map, Option, refl, sym, ap, ap₂, ◌∙◌}
+use Rattle.std.proofs.Common.{◌≡◌, ℕ, ◌≤◌, Bool, false, List, [], ◌∷◌, ◌++◌, length, drop, map, Option, refl, sym, ap, ap₂, ◌∙◌}
 use Rattle.std.specs.Prelude.{option_map}
 use Rattle.std.specs.List.{filter_map, flat_map}
 use Rattle.std.specs.Option.{option_map_or}
-use Rattle.std.proofs.lemmas.List.{append-nil, at_drop_all}
+use Rattle.std.proofs.lemmas.Grind.{flat_map-append}
+use Rattle.std.proofs.lemmas.List.{append-nil, at_drop_all, map-append}
 use Rattle.yspec.specs.Forest.{Forest, end, node, preorder}
 use Rattle.yspec.specs.linking.Circles.{import_edge, import_edges, import_circle, import_circles, is_circular}
 use Rattle.yspec.specs.linking.Graph as spec
@@ -18,8 +19,6 @@ use Rattle.ygrammar.specs.declared.source.Source as held
 use Rattle.ygrammar.specs.SourceView.{source_view}
 use Rattle.ynames.specs.EdgeView.{circles_by}
 use Rattle.ynames.proofs.EdgeLemmas.{seen_flags, map_both, present_view, filter_mapped}
-use Rattle.ynames.proofs.MeaningLemmas.{map_append}
-use Rattle.ynames.proofs.ScopeLemmas.{flat_append}
 
 module _ (modules : Forest Source) (rows : List (Row held.Source)) (i : ℕ) (so_far : List (Option Edge)) where
   pub all_import_edges : (whole : List (Option spec.Edge)) → length rows ≤ i
@@ -35,9 +34,9 @@ unfolding placed
 sources_placed f ancestors end = refl
 sources_placed f ancestors (node s below after) =
     let under = placed ((s, below) ∷ ancestors) below in
-    ap (λ l. f s ∷ l) (map_append (λ (p : Placed). f p.source) under (placed ancestors after)
+    ap (λ l. f s ∷ l) (map-append (λ (p : Placed). f p.source) under (placed ancestors after)
     ∙ (ap₂ (λ a b. a ++ b) (sources_placed f ((s, below) ∷ ancestors) below) (sources_placed f ancestors after)
-    ∙ sym (map_append f (preorder below) (preorder after))))
+    ∙ sym (map-append f (preorder below) (preorder after))))
 
 flat_placed : {B : Type 0} (g : Source → List B) (ancestors : List (Source × Forest Source)) (f : Forest Source)
     → flat_map (λ (p : Placed). g p.source) (placed ancestors f) ≡ flat_map g (preorder f)
@@ -45,9 +44,9 @@ unfolding placed
 flat_placed g ancestors end = refl
 flat_placed g ancestors (node s below after) =
     let under = placed ((s, below) ∷ ancestors) below in
-    ap (λ l. g s ++ l) (flat_append (λ (p : Placed). g p.source) under (placed ancestors after)
+    ap (λ l. g s ++ l) (flat_map-append (λ (p : Placed). g p.source) under (placed ancestors after)
     ∙ (ap₂ (λ a b. a ++ b) (flat_placed g ((s, below) ∷ ancestors) below) (flat_placed g ancestors after)
-    ∙ sym (flat_append g (preorder below) (preorder after))))
+    ∙ sym (flat_map-append g (preorder below) (preorder after))))
 
 module _ (modules : Forest Source) where
   abbrev pub flag_of : Placed → Bool

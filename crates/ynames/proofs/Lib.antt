@@ -5,8 +5,10 @@ pub mod FirstNamedLemmas
 pub mod ImportingLemmas
 pub mod MeaningLemmas
 pub mod NumberedLemmas
+pub mod PlaceLemmas
 pub mod PrefixLemmas
 pub mod ReferringLemmas
 pub mod RepeatedLemmas
 pub mod RevisionLemmas
 pub mod ScopeLemmas
+pub mod ToldLemmas

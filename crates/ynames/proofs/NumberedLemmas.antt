@@ -2,7 +2,8 @@
 use Rattle.std.proofs.Common.{◌≡◌, ℕ, zero, suc, ◌+◌, Bool, false, not, List, [], ◌∷◌, ◌++◌, length, map, Option, Some, None, is_some, refl, sym, ap, ap₂, ◌∙◌, arith}
 use Rattle.std.specs.Prelude.{slice_get, option_map, option_and_then, unwrap_or, ◌&&◌}
 use Rattle.std.specs.List.{flat_map}
-use Rattle.std.proofs.lemmas.List.{append_assoc, append-nil, length-append, length-map}
+use Rattle.std.proofs.lemmas.Grind.{flat_map-append}
+use Rattle.std.proofs.lemmas.List.{append_assoc, append-nil, length-append, length-map, map-append}
 use Rattle.yspec.specs.Forest.{Forest, end, node, size, preorder}
 use Rattle.yspec.specs.linking.Source.{Source}
 use Rattle.yspec.specs.linking.Scopes.{Placed, placed, statements_of, meaning, kind_named, names_built_in, lost_break}
@@ -13,8 +14,6 @@ use Rattle.ygrammar.specs.SourceView.{source_view}
 use Rattle.ynames.specs.EdgeView.{circle_by, flag_at}
 use Rattle.ynames.specs.MeaningView.{number_meant, meaning_at, lost_by, AreMeanings}
 use Rattle.ynames.specs.ScopeView.{placed_at}
-use Rattle.ynames.proofs.ScopeLemmas.{flat_append}
-use Rattle.ynames.proofs.MeaningLemmas.{map_append}
 
 pub get_behind : {A : Type 0} (before after : List A) (x : A) (n : ℕ) → length before ≡ n → slice_get (before ++ x ∷ after) n ≡ Some x
 get_behind [] after x zero e = refl
@@ -52,7 +51,7 @@ module _ {A B : Type 0} (m : Placed → A) (g : Source → Option A → List B) 
       let all_others = map m others in
       let look : Source → List B = λ s. g s (slice_get table s.number) in
       let parted : table ≡ before ++ (m p ∷ (all_under ++ (all_others ++ after))) =
-      held_is ∙ ap (λ l. before ++ (m p ∷ l)) (ap (λ l. l ++ after) (map_append m under others) ∙ append_assoc all_under all_others after) in
+      held_is ∙ ap (λ l. before ++ (m p ∷ l)) (ap (λ l. l ++ after) (map-append m under others) ∙ append_assoc all_under all_others after) in
       let here : slice_get table k ≡ Some (m p) =
       ap (λ ms. slice_get ms k) parted ∙ (get_behind before (all_under ++ (all_others ++ after)) (m p) k count) in
       let one : length (before ++ m p ∷ []) ≡ k + 1 = length-append before (m p ∷ []) ∙ omega (arith, count) in
@@ -64,12 +63,12 @@ module _ {A B : Type 0} (m : Placed → A) (g : Source → Option A → List B) 
       (parted ∙ (sym (append_assoc before (m p ∷ []) (all_under ++ (all_others ++ after)))
       ∙ sym (append_assoc (before ++ m p ∷ []) all_under (all_others ++ after)))) in
       ap₂ (λ o l. g s o ++ l) here
-      (flat_append look (preorder inner) (preorder outer) ∙ (ap₂ (λ a b. a ++ b) first rest
-      ∙ sym (flat_append (λ p. g p.source (Some (m p))) under others)))
+      (flat_map-append look (preorder inner) (preorder outer) ∙ (ap₂ (λ a b. a ++ b) first rest
+      ∙ sym (flat_map-append (λ p. g p.source (Some (m p))) under others)))
 
 -- ---- names that are lost
 
-pub is_some_map : {A B : Type 0} (f : A → B) (o : Option A) → is_some (option_map f o) ≡ is_some o
+pub is_some_map : {A B : Type 0} (f : A → B) (o : Option A) → is_some o ≡ is_some (option_map f o)
 is_some_map f None = refl
 is_some_map f (Some x) = refl
 
@@ -78,7 +77,7 @@ lost_of : (modules : Forest Source) (ps : List Placed)
 lost_of modules [] = refl
 lost_of modules (p ∷ ps) =
     ap₂ (λ b l. when (is_some (kind_named p.source.keyword) && (not (names_built_in p.source) && not b)) (broken 8 p.source.home p.source.statement.line) ++ l)
-    (is_some_map (λ d. d.number) (meaning modules p)) (lost_of modules ps)
+    (sym (is_some_map (λ d. d.number) (meaning modules p))) (lost_of modules ps)
 
 pub all_lost : (f : Forest held.Source) (meanings : List (Option ℕ)) → AreMeanings meanings (numbered_by source_view 0 f)
     → flat_map (λ s. lost_by s (meaning_at meanings s.number)) (preorder (numbered_by source_view 0 f))

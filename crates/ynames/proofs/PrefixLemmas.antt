@@ -1,17 +1,16 @@
 -- Prefixes of modules one after another, and unknown ones among names.
-use Rattle.std.proofs.Common.{◌≡◌, ℕ, zero, suc, ◌+◌, ◌<◌, ◌≤◌, Bool, true, false, cond, List, [], ◌∷◌, ◌++◌, length, get_or, drop, map, Option, Some, None, is_some, refl, sym, ap, ◌∙◌}
+use Rattle.std.proofs.Common.{◌≡◌, ℕ, ◌+◌, ◌<◌, ◌≤◌, Bool, true, false, List, [], ◌∷◌, length, get_or, drop, map, Option, Some, None, is_some, refl, sym, ap, ◌∙◌}
 use Rattle.std.specs.Prelude.{◌||◌, unwrap_or}
-use Rattle.std.specs.Borrow.{Bor}
 use Rattle.std.specs.List.{list_any, flat_map}
-use Rattle.std.proofs.lemmas.List.{at_drop_more, at_drop_all, append_assoc, append-nil}
+use Rattle.std.proofs.lemmas.List.{at_drop_more, at_drop_all}
 use Rattle.std.proofs.lemmas.List.Folds.{list_any-append}
-use Rattle.yspec.specs.Forest.{Forest, end, node}
-use Rattle.yspec.specs.text.Text.{Text, is_text}
+use Rattle.yspec.specs.Forest.{Forest}
+use Rattle.yspec.specs.text.Text.{Text}
 use Rattle.yspec.specs.types.Types.{int8, int16, int32, int64, uint8, uint16, uint32, uint64}
-use Rattle.yspec.specs.linking.Keyword.{prefix_word, type_word}
+use Rattle.yspec.specs.linking.Keyword.{type_word}
 use Rattle.yspec.specs.linking.Arguments.{Name, unique_of}
 use Rattle.yspec.specs.linking.Prefixes.{is_unknown_prefix, names_given}
-use Rattle.yspec.specs.linking.Source.{Source, argument_with}
+use Rattle.yspec.specs.linking.Source.{Source}
 use Rattle.yspec.specs.linking.TypeStatements.{BuiltIn, integer, decimal64, string, boolean, empty, enumeration, bits, union, leafref, built_in_name, built_in_named}
 use Rattle.yspec.proofs.LinkingProofs.BuiltInLemmas.{name_of_named}
 use Rattle.yword.specs.declared.keyword.Keyword.{Keyword}

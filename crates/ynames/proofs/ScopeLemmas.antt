@@ -3,7 +3,8 @@ use Rattle.std.proofs.Common.{◌≡◌, Bool, true, false, not, List, [], ◌�
 use Rattle.std.specs.Prelude.{reverse, ◌&&◌, ◌||◌, ◌==◌}
 use Rattle.std.specs.List.{flat_map}
 use Rattle.std.specs.Option.{option_map_or}
-use Rattle.std.proofs.lemmas.List.{append_assoc, append-nil, reverse-append}
+use Rattle.std.proofs.lemmas.Grind.{flat_map-append}
+use Rattle.std.proofs.lemmas.List.{append-nil, reverse-append}
 use Rattle.yspec.specs.Forest.{Forest, end, node, row, first_of}
 use Rattle.yspec.specs.text.Text.{Text}
 use Rattle.yspec.specs.linking.Keyword.{same_keyword, typedef_word, grouping_word}
@@ -18,10 +19,6 @@ use Rattle.ynames.specs.DefinitionView.{kind_word, first_number, first_in, AreOf
 use Rattle.ynames.specs.ScopeView.{placed_at}
 use Rattle.ynames.proofs.DefinitionLemmas.{first_append}
 
-pub flat_append : {A B : Type 0} (f : A → List B) (xs ys : List A) → flat_map f (xs ++ ys) ≡ flat_map f xs ++ flat_map f ys
-flat_append f [] ys = refl
-flat_append f (x ∷ xs) ys = ap (λ l. f x ++ l) (flat_append f xs ys) ∙ sym (append_assoc (f x) (flat_map f xs) (flat_map f ys))
-
 -- ---- the scope of what stands below a statement
 
 module _ (d : Definitions) (s : Source) (f : Forest Source) (scope : Scope) (ancestors : List (Source × Forest Source)) where
@@ -35,7 +32,7 @@ module _ (d : Definitions) (s : Source) (f : Forest Source) (scope : Scope) (anc
       let outer = (above kind name).1 in
       let last : around (reverse ((s, f) ∷ ancestors)) ≡ around (reverse ancestors) ++ row f =
       ap around (reverse-append ((s, f) ∷ []) ancestors)
-      ∙ (flat_append (λ (a : Source × Forest Source). row a.1) (reverse ancestors) ((s, f) ∷ []) ∙ ap (λ r. around (reverse ancestors) ++ r) (append-nil (row f))) in (
+      ∙ (flat_map-append (λ (a : Source × Forest Source). row a.1) (reverse ancestors) ((s, f) ∷ []) ∙ ap (λ r. around (reverse ancestors) ++ r) (append-nil (row f))) in (
         ap₂ first_of first inner ∙ sym (first_append k name (row f) (around ancestors)),
         ap₂ first_of outer first ∙ (sym (first_append k name (around (reverse ancestors)) (row f)) ∙ ap (first_number k name) (sym last)),
       )
@@ -59,7 +56,7 @@ module _ (breaks : Placed → List Break) (ancestors : List (Source × Forest So
       ∙ (ap (λ t. least_from (least_from t (flat_map breaks under)) rest) own
       ∙ (sym (ap (λ f. least_from so_far (flat_map breaks (placed ancestors f))) first
       ∙ (least_of_both so_far here (flat_map breaks (under ++ behind))
-      ∙ (ap (least_from (least_from so_far here)) (flat_append breaks under behind)
+      ∙ (ap (least_from (least_from so_far here)) (flat_map-append breaks under behind)
       ∙ least_of_both (least_from so_far here) (flat_map breaks under) rest))) ∙ made))
 
   pub all_placed : (left : Forest Source) (so_far whole : Option Break) → left ≡ end

@@ -1,6 +1,6 @@
 -- What names of types and groupings mean, by numbers.
-use Rattle.std.specs.Prelude.{◌≡◌, ℕ, ⊤, ◌&&◌, Bool, not, is_some, map, List, [], ◌∷◌, Option, option_map, option_and_then, slice_get}
-use Rattle.yspec.specs.Forest.{Forest, end, node}
+use Rattle.std.specs.Prelude.{◌≡◌, ℕ, ◌&&◌, Bool, not, is_some, map, List, Option, option_map, option_and_then, slice_get}
+use Rattle.yspec.specs.Forest.{Forest, row}
 use Rattle.yspec.specs.text.Text.{Text}
 use Rattle.yspec.specs.linking.Arguments.{name_of}
 use Rattle.yspec.specs.linking.Keyword.{Keyword}
@@ -11,7 +11,8 @@ use Rattle.ynames.specs.declared.definitions.Definitions.{Definitions}
 use Rattle.ynames.specs.declared.definitions.DefinitionKind.{DefinitionKind}
 use Rattle.ynames.specs.declared.meanings.NamedModules.{NamedModules}
 use Rattle.ynames.specs.PrefixView.{IsOf}
-use Rattle.ynames.specs.DefinitionView.{AreOf, first_in}
+use Rattle.ynames.specs.DefinitionView.{first_in, first_number, kind_word}
+use Rattle.ynames.specs.PlaceView.{by_place}
 
 -- the numbers of definitions
 abbrev pub numbered : Option Source → Option ℕ
@@ -25,12 +26,13 @@ number_meant modules p = numbered (meaning modules p)
 abbrev pub named_in : Forest Source → Keyword → Placed → Option ℕ
 named_in modules kind p = numbered (option_and_then (definition_named modules kind p) (name_of (argument_in p.source)))
 
+-- the number of the definition of a kind and name at the top of a module, from what stands below it
+abbrev pub top_number : DefinitionKind → Text → ℕ → Forest Source → Option ℕ
+top_number kind name place f = first_number (kind_word kind) name (row f)
+
 -- the definitions are those at the top of modules, one after another
 abbrev pub AreTopsOf : List Definitions → Forest Source → Type 0
-AreTopsOf [] end = ⊤
-AreTopsOf (d ∷ ds) end = ⊥
-AreTopsOf [] (node s below after) = ⊥
-AreTopsOf (d ∷ ds) (node s below after) = AreOf d below × AreTopsOf ds after
+AreTopsOf ds modules = (kind : DefinitionKind) (name : Text) → map (λ d. first_in kind d name) ds ≡ by_place (top_number kind name) 0 modules
 
 -- the definition of a kind and name at the top of the module at a place
 abbrev pub top_in : List Definitions → ℕ → DefinitionKind → Text → Option ℕ

@@ -7,4 +7,4 @@ use Rattle.ynames.proofs.prefix.is_unknown_type.Goals as goal
 pub returns-then-is_some : goal.returns-then-is_some
 returns-then-is_some c modules prefixes =
     no_prefix modules c.args.source.now.home _
-    (sym (sym (is_some_map built_in_view c.built_in.result) ∙ ap is_some c.built_in.ensures) ∙ (sym c.is_some.ensures ∙ c.if-is_some.true))
+    (sym (is_some_map built_in_view c.built_in.result ∙ ap is_some c.built_in.ensures) ∙ (sym c.is_some.ensures ∙ c.if-is_some.true))

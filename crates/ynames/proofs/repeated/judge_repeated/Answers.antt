@@ -1,4 +1,4 @@
-use Rattle.std.proofs.Common.{◌≡◌, ◌∷◌, [], ap, sym, refl, ◌∙◌, arith, is_some, cond, Some, None}
+use Rattle.std.proofs.Common.{◌∷◌, [], ap, ◌∙◌, arith, is_some, cond, Some, None}
 use Rattle.yspec.specs.Forest.{first_of}
 use Rattle.yspec.specs.text.Text.{is_text}
 use Rattle.yspec.specs.linking.Source.{argument_in}

@@ -1,9 +1,14 @@
-use Rattle.std.proofs.Common.{◌∙◌}
-use Rattle.ynames.specs.DefinitionView.{kind_word}
-use Rattle.ynames.proofs.MeaningLemmas.{top_found, defined_there}
+use Rattle.std.proofs.Common.{refl, ◌∙◌}
+use Rattle.ynames.specs.DefinitionView.{first_in, kind_word}
+use Rattle.ynames.specs.MeaningView.{top_number}
+use Rattle.ynames.proofs.MeaningLemmas.{defined_there}
+use Rattle.ynames.proofs.PlaceLemmas.{found_at_place}
 use Rattle.ynames.proofs.meanings.NamedModules.defined_in.Goals as goal
 
 pub returns-else-module-home : goal.returns-else-module-home
 returns-else-module-home c modules p are around same =
-    defined_there modules (kind_word c.args.kind) c.args.name.now p c.args.module c.args.home c.top.result
-    (c.top.ensures ∙ top_found c.args.self.now.tops.items modules are.1 c.args.module c.args.kind c.args.name.now) c.if-module-home.false same
+    let kind = c.args.kind in
+    let name = c.args.name.now in
+    defined_there modules (kind_word kind) name p c.args.module c.args.home c.top.result
+    (c.top.ensures ∙ found_at_place (λ d. first_in kind d name) (top_number kind name) (λ place. refl) modules c.args.self.now.tops.items (are.1 kind name) c.args.module)
+    c.if-module-home.false same
