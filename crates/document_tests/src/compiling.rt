@@ -121,6 +121,94 @@ C10:4/leaf l { type boolean { require-instance true; } }";
 }
 
 #[test]
+fn typedefs(rt: HostRuntime) {
+    let rows = "0 nodes/typedef t { type uint8; default 300; }
+1 nodes/typedef t { type uint8; } leaf a { type t; }
+1 nodes/leaf a { type p:t; } typedef t { type string; }
+1 nodes/typedef t { type uint8; } grouping t { leaf a { type t; } } leaf b { type t; }
+2 nodes/container c { typedef t { type string; } leaf a { type t; } }
+2 nodes/container c { typedef t { type string; } } container d { typedef t { type uint8; } }
+1 nodes/grouping g { list l { key k; typedef t { type uint8; } leaf k { type t; } } } leaf a { type string; }
+1 nodes/typedef t { type u { range 2..3; } } typedef u { type int8 { range 1..9; } } leaf a { type t; default 2; }
+2 nodes/typedef r { type leafref { path /b; } } leaf a { type r; } leaf b { type string; }
+1 nodes/typedef t { type union { type s; type uint8; } } typedef s { type string { length 1; } } leaf a { type t; default 25; }
+1 nodes/typedef t { type uint8; default 7; } leaf a { type t { range 1..7; } }
+1 nodes/typedef t { type uint8; default 300; } leaf a { type t; mandatory true; }
+1 nodes/typedef t { type uint8; default 300; } leaf-list a { type t; min-elements 1; }
+1 nodes/typedef t { type uint8; default 300; } leaf a { type t; default 3; }
+2 nodes/typedef t { type uint8; default 300; } list l { key k; leaf k { type t; } }";
+    for row in rows.lines() {
+        assert!(rt; is_told_of(rt.alloc(), row) == Some(true), "{row:?}");
+    }
+}
+
+#[test]
+fn refused_typedefs(rt: HostRuntime) {
+    let rows = "C1:4/container c { uses g; }
+C1:4/typedef t { type string; config true; }
+C2:4/typedef t;
+C7:5/typedef t { type string; }|typedef t { type uint8; }
+C7:5/typedef t { type string; }|container c { typedef t { type uint8; } }
+C7:4/container c { typedef t { type uint8; } }|typedef t { type string; }
+C7:5/grouping g;|grouping g;
+C7:4/typedef string { type uint8; }
+C7:4/typedef binary { type uint8; }
+C8:5/container c { typedef t { type string; } }|leaf a { type t; }
+C8:5/grouping g {| leaf a { type t; } }
+C9:4/typedef a { type b; }|typedef b { type a; }
+C9:4/typedef t { type union { type string; type t; } }
+C10:5/typedef a { type int32 { range 1..10; } }|typedef b { type a { range 0..10; } }
+C10:5/typedef a { type int32 { range 1..10; } }|leaf b { type a { range 1..11; } }
+C10:5/typedef a { type string; }|leaf b { type a { range 1; } }
+C10:5/typedef a { type enumeration { enum x; } }|leaf b { type a { enum x; } }
+C10:5/typedef r { type leafref { path /a; } }|leaf a { type union { type r; type string; } }
+C10:5/typedef t { type uint8; }|leaf a { type t { fraction-digits 1; } }
+C10:4/typedef t { type uint8 { range 5..1; } }|leaf a { type t { range 7..6; } }
+C11:5/typedef t { type uint8; default 7; }|leaf a { type t { range 1..6; } }
+C11:5/typedef t { type uint8; default x; }|leaf-list a { type t; }
+C17:5/typedef r { type leafref { path /b; } }|leaf a { type r; }";
+    for row in rows.lines() {
+        assert!(rt; is_told_of(rt.alloc(), row) == Some(true), "{row:?}");
+    }
+}
+
+// A typedef of numbers up to 100, as many more as are asked for, each of the one before, and a leaf of the last.
+fn chained(alloc: Global, typedefs: u32, default: &str) -> Result<String, AllocError> {
+    let mut text = String::from_str(alloc, " yang-version 1.1;\n")?;
+    text.push_str("typedef t0 { type uint8 { range 0..100; } }")?;
+    for before in 0..typedefs {
+        text.push_str("typedef t")?;
+        text.push_str(format!(in alloc; "{}", before + 1)?.as_str())?;
+        text.push_str(" { type t")?;
+        text.push_str(format!(in alloc; "{before}")?.as_str())?;
+        text.push_str("; }")?;
+    }
+    text.push_str("\nleaf a { type t")?;
+    text.push_str(format!(in alloc; "{typedefs}")?.as_str())?;
+    text.push_str("; default ")?;
+    text.push_str(default)?;
+    text.push_str("; }")?;
+    Ok(text)
+}
+
+// `N nodes/typedefs/default` or `CODE:LINE/typedefs/default`
+fn may_chain(alloc: Global, row: &str) -> Option<bool> {
+    let (told, row) = row.split_once('/')?;
+    let (typedefs, default) = row.split_once('/')?;
+    let statements = chained(alloc, number_of(typedefs)?, default).ok()?;
+    is_compiled(alloc, statements.as_str(), told)
+}
+
+#[test]
+fn chains_of_typedefs(rt: HostRuntime) {
+    let rows = "1 nodes/100/100
+C11:5/100/101";
+    for row in rows.lines() {
+        assert!(rt; may_chain(rt.alloc(), row) == Some(true), "{row:?}");
+    }
+}
+
+#[test]
 fn refused_values(rt: HostRuntime) {
     let rows = "C11:4/leaf a { type uint8; default 256; }
 C11:4/leaf a { type uint8; default 08; }
@@ -243,6 +331,37 @@ C8:5/import a { prefix q; }|leaf b { type q:t; }
 C9:4/import m { prefix q; }";
     for row in rows.lines() {
         assert!(rt; is_told_beside(rt.alloc(), row) == Some(true), "{row:?}");
+    }
+}
+
+const TYPES: &str = "module t {
+  yang-version 1.1; namespace \"urn:t\"; prefix t;
+  typedef t { type uint8 { range 1..9; } default 4; }
+  container c { typedef inner { type string; } }
+}
+";
+
+// Whether this comes of a module beside another that defines types.
+fn is_told_of_types(alloc: Global, row: &str) -> Option<bool> {
+    let (told, statements) = row.split_once('/')?;
+    let mut text = String::from_str(alloc, " yang-version 1.1;\n").ok()?;
+    let statements = with_line_feeds(alloc, statements).ok()?;
+    text.push_str(statements.as_str()).ok()?;
+    let text = module_text(alloc, text.as_str()).ok()?;
+    comes_of(alloc, &[TYPES, text.as_str()], 1, told)
+}
+
+#[test]
+fn types_of_another_module(rt: HostRuntime) {
+    let rows =
+        "2 nodes/import t { prefix q; }|typedef t { type string; }|leaf b { type q:t; default 9; }
+C8:5/import t { prefix q; }|leaf b { type q:inner; }
+C8:5/import t { prefix q; }|leaf b { type t; }
+C10:5/import t { prefix q; }|leaf b { type q:t { range 0..9; } }
+C11:5/import t { prefix q; }|leaf b { type q:t; default 10; }
+C11:5/import t { prefix q; }|leaf b { type q:t { range 5..9; } }";
+    for row in rows.lines() {
+        assert!(rt; is_told_of_types(rt.alloc(), row) == Some(true), "{row:?}");
     }
 }
 
