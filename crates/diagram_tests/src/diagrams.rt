@@ -68,8 +68,8 @@ const STATE_DIAGRAM: &str = "module: w
      +--ro at   uint64
 ";
 
-// The schema of two modules; nothing where memory runs out or one is refused.
-fn schema_of(alloc: Global, first: &str, second: &str) -> Option<Schema> {
+/// The schema of two modules; nothing where memory runs out or one is refused.
+pub(crate) fn schema_of(alloc: Global, first: &str, second: &str) -> Option<Schema> {
     let mut modules = Vec::new(alloc);
     modules.push(parse(alloc, first.as_bytes()).ok()?).ok()?;
     modules.push(parse(alloc, second.as_bytes()).ok()?).ok()?;

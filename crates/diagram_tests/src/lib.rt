@@ -3,3 +3,5 @@
 
 #[cfg(test)]
 mod diagrams;
+#[cfg(test)]
+mod type_names;

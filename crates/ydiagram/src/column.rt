@@ -11,7 +11,6 @@ use crate::fault::{DiagramFault, put};
 use crate::label::{label_width, write_prefixed};
 use ymodel::{LeafType, Schema, SchemaId, SchemaNode};
 use youtput::Sink;
-use yword::BuiltIn;
 
 /// Writes so many spaces.
 fn write_spaces<W: Sink>(count: u128, sink: &mut W) -> Result<(), DiagramFault>
@@ -68,13 +67,14 @@ fn write_path<W: Sink>(
     }
 }
 
-/// To which node a leafref refers.
+/// To which node a leafref refers; none of a type that is another by name.
 fn referred_node(leaf_type: &LeafType) -> Option<SchemaId>
     ensures { number_of result ≡ spec.referred (leaf_type_view leaf_type.now) }
 {
-    match leaf_type.name {
-        BuiltIn::Leafref => leaf_type.target,
-        _ => None,
+    if leaf_type.name.text() == "leafref" {
+        leaf_type.target
+    } else {
+        None
     }
 }
 
@@ -93,7 +93,7 @@ fn write_type<W: Sink>(
             put(sink, &["-> "])?;
             write_path(schema, shown, target, sink)
         }
-        None => put(sink, &[leaf_type.name.name()]),
+        None => put(sink, &[leaf_type.name.text()]),
     }
 }
 

@@ -1,6 +1,7 @@
 -- How the nodes of a schema lie in rows: each before those below it, with how many these are.
 use Rattle.std.specs.Prelude.{ℕ, zero, suc, ◌+◌, Bool, true, ◌&&◌, nat_le, length, take, drop, map, List, [], ◌∷◌, ◌++◌, Option, Some, None, option_map, option_and_then, slice_get, if◌then◌else◌, string_bytes, ◌≡◌}
 use Rattle.yspec.specs.Forest.{Forest, end, node, size}
+use Rattle.yspec.specs.text.Text.{Text}
 use Rattle.yspec.specs.schema.Schema as spec
 use Rattle.yspec.specs.linking.TypeStatements.{built_in_name}
 use Rattle.yword.specs.BuiltInView.{built_in_view}
@@ -9,6 +10,8 @@ use Rattle.ymodel.specs.declared.node.SchemaId.{SchemaId}
 use Rattle.ymodel.specs.declared.node.SchemaNode.{SchemaNode}
 use Rattle.ymodel.specs.declared.node.Kind.{Kind}
 use Rattle.ymodel.specs.declared.node.Kind.TheVariants as kinds
+use Rattle.ymodel.specs.declared.node.TypeName.{TypeName}
+use Rattle.ymodel.specs.declared.node.TypeName.TheVariants as type_names
 use Rattle.ymodel.specs.declared.node.LeafType.{LeafType}
 use Rattle.ymodel.specs.declared.node.Absence.{Absence}
 use Rattle.ymodel.specs.declared.node.Absence.TheVariants as absences
@@ -24,9 +27,14 @@ number_of = option_map (λ id. id.0)
 abbrev pub numbers_of : List SchemaId → List ℕ
 numbers_of = map (λ id. id.0)
 
+-- the name of a type as it is written
+abbrev pub type_name_view : TypeName → Text
+type_name_view (type_names.BuiltIn b) = built_in_name (built_in_view b)
+type_name_view (type_names.Derived name) = string_bytes name
+
 abbrev pub leaf_type_view : LeafType → spec.LeafType
 leaf_type_view t =
-    record { name = built_in_name (built_in_view t.name); type = t.value_type; target = number_of t.target }
+    record { name = type_name_view t.name; type = t.value_type; target = number_of t.target }
 
 abbrev pub absence_view : Absence → spec.Absence
 absence_view absences.Allowed = spec.allowed

@@ -11,6 +11,6 @@ mod written;
 
 pub use children::{Child, Children, Row};
 pub use index::id_of;
-pub use node::{Absence, Amount, Kind, LeafType, SchemaId, SchemaNode, Tuples};
+pub use node::{Absence, Amount, Kind, LeafType, SchemaId, SchemaNode, Tuples, TypeName};
 pub use schema::{Schema, SchemaModule};
 pub use yword::{BuiltIn, Status};

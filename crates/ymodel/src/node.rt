@@ -2,6 +2,7 @@
 
 ghost use Rattle.std.specs.Prelude.{◌≡◌, ◌<◌, ◌^◌};
 
+use std::alloc::{AllocError, Global};
 use ytype::{Val, YType};
 use yword::{BuiltIn, Status};
 
@@ -26,11 +27,45 @@ impl SchemaId {
     }
 }
 
+/// The name of a type as its `type` statement has it, with its prefix (RFC 7950, 7.4).
+#[derive(Debug, Drop)]
+pub enum TypeName {
+    /// That of a built-in type.
+    BuiltIn(BuiltIn),
+    /// Any other: that of a derived type.
+    Derived(String),
+}
+
+impl TypeName {
+    ghost use Rattle.std.specs.Prelude.{◌≡◌, IfOk};
+    ghost use Rattle.ymodel.specs.Layout.{type_name_view};
+
+    /// The name that a text is. That of a built-in type takes no memory.
+    pub fn of(alloc: Global, text: &str) -> Result<TypeName, AllocError>
+        ensures { IfOk result (λ name. type_name_view name ≡ text.now) }
+    {
+        match BuiltIn::named(text) {
+            Some(built_in) => Ok(TypeName::BuiltIn(built_in)),
+            None => Ok(TypeName::Derived(String::from_str(alloc, text)?)),
+        }
+    }
+
+    /// Its text.
+    pub fn text(&self) -> &str
+        ensures { result.now ≡ type_name_view self.now }
+    {
+        match self {
+            TypeName::BuiltIn(built_in) => built_in.name(),
+            TypeName::Derived(text) => text.as_str(),
+        }
+    }
+}
+
 /// The type of a leaf or of items, and its name in the `type` statement; of a leafref it is that of its target, which
 /// stands beside it (RFC 7950, 9.9).
 #[derive(Debug, Drop)]
 pub struct LeafType {
-    pub name: BuiltIn,
+    pub name: TypeName,
     pub value_type: YType,
     pub target: Option<SchemaId>,
 }

@@ -1,24 +1,19 @@
 //! What planned nodes state.
 
-ghost use Rattle.std.specs.Prelude.{◌≡◌, map, IfOk, option_map, option_and_then};
-ghost use Rattle.yspec.specs.linking.Keyword.{type_word};
-ghost use Rattle.yspec.specs.linking.Source.{first_with};
-ghost use Rattle.yspec.specs.linking.TypeStatements.{built_in_meant};
+ghost use Rattle.std.specs.Prelude.{◌≡◌, map, IfOk};
 ghost use Rattle.yspec.specs.linking.SchemaNodes as spec;
 ghost use Rattle.yspec.specs.linking.NodeBreaks as breaks;
-ghost use Rattle.yword.specs.BuiltInView.{built_in_view};
 ghost use Rattle.yplan.specs.PlanView.{view};
 ghost use Rattle.ypreorder.specs.View.{row_by, label_by};
-ghost use Rattle.yplan.specs.PlannedView.{part_at, planned_view};
+ghost use Rattle.yplan.specs.PlannedView.{planned_view};
 
 use crate::plan::Plan;
 use crate::planned::Planned;
 use std::alloc::{AllocError, Global};
 use ygrammar::{argument_of, count, most};
-use ylink::built_in_meant;
 use ymodel::Amount;
 use ypreorder::{Node, Nodes};
-use yword::{BuiltIn, Keyword, Status, status_of};
+use yword::{Keyword, Status, status_of};
 
 impl<'a, 't> Planned<'a, 't> {
     ghost use Rattle.std.specs.Prelude.{◌≡◌, is_some};
@@ -87,6 +82,16 @@ impl<'a, 't> Planned<'a, 't> {
     {
         self.own_argument(Keyword::Presence).is_some()
     }
+
+    /// The name of its type as its `type` statement has it, with its prefix; that of texts where it has none.
+    pub fn type_name(&self) -> &'t str
+        ensures { (number : _) → result.now ≡ spec.type_name (planned_view number self.now) }
+    {
+        match self.own_argument(Keyword::Type) {
+            Some(text) => text,
+            None => "string",
+        }
+    }
 }
 
 /// Whether a row has a node that must be stored.
@@ -119,23 +124,13 @@ fn must_be(node: Node<'_, Planned<'_, '_>>) -> bool
     }
 }
 
-/// The built-in type that the `type` statement of a node names.
-pub fn type_name(plan: &Plan<'_, '_>, planned: &Planned<'_, '_>) -> Option<BuiltIn>
-    ensures { option_map built_in_view result
-        ≡ option_and_then (built_in_meant (view plan.now).modules)
-        (first_with type_word (part_at planned.now).own) }
-{
-    let statement = planned.first_own(Keyword::Type)?;
-    built_in_meant(plan.sources(), statement.number(), statement.label())
-}
-
-/// The texts of all its defaults, in order (RFC 7950, 7.6.4 and 7.7.4).
-pub fn default_texts<'t>(
+/// The texts of all its own defaults, in order (RFC 7950, 7.6.4 and 7.7.4).
+pub fn own_defaults<'t>(
     alloc: Global,
     planned: &Planned<'_, 't>,
 ) -> Result<Vec<&'t str>, AllocError>
     ensures { (number : _) → IfOk result (λ texts. map (λ t. t.now) texts.items
-        ≡ spec.default_texts (planned_view number planned.now)) }
+        ≡ spec.own_defaults (planned_view number planned.now)) }
 {
     let mut texts = Vec::new(alloc);
     for statement in planned.own_with(Keyword::Default) {

@@ -12,7 +12,7 @@ mod plan;
 mod planned;
 mod planning;
 
-pub use facts::{default_texts, is_wrong_case, type_name};
+pub use facts::{is_wrong_case, own_defaults};
 pub use names::broken_name_rule;
 pub use nodes::{PlanNode, PlanNodes};
 pub use own::OwnStatements;

@@ -1,6 +1,6 @@
 -- Schema nodes made from planned ones, and how they lie in rows.
 use Rattle.std.proofs.Common.{◌≡◌, ◌≢◌, ℕ, suc, Bool, ◌+◌, ◌<◌, ◌≤◌, List, [], ◌∷◌, ◌++◌, length, drop, get_or, map, Option, Some, None, refl, sym, ap, ap₂, ◌∙◌, subst, length-append, arith, append_assoc}
-use Rattle.std.specs.Prelude.{codes, option_map, option_and_then, slice_get, string_bytes, unwrap_or, if◌then◌else◌}
+use Rattle.std.specs.Prelude.{option_map, option_and_then, slice_get, string_bytes, if◌then◌else◌}
 use Rattle.std.specs.List.{filter_map}
 use Rattle.std.proofs.lemmas.Option.{slice_get-get_or}
 use Rattle.std.proofs.lemmas.List.{map-append, at_drop_more, at_drop_all, append-nil}
@@ -9,16 +9,10 @@ use Rattle.yspec.specs.text.Text.{Text}
 use Rattle.yspec.specs.types.Types.{YangType, Val}
 use Rattle.yspec.specs.types.Values.{value_of_text}
 use Rattle.yspec.specs.schema.Schema.{SchemaNode, LeafType, Status, Kind, case, Absence, key, mandatory}
-use Rattle.yspec.specs.linking.Source.{Source}
 use Rattle.yspec.specs.linking.Planned as spec
-use Rattle.yspec.specs.linking.SchemaNodes.{schema_node, schema_nodes, kind_by, absent_by, first_value, type_named}
-use Rattle.yspec.specs.linking.TypeStatements.{string, built_in_name, built_in_meant}
-use Rattle.yspec.proofs.LinkingProofs.BuiltInLemmas.{name_or_text}
+use Rattle.yspec.specs.linking.SchemaNodes.{schema_node, schema_nodes, kind_by, absent_by, first_value}
 use Rattle.yspec.proofs.LinkingProofs.LinkedLemmas.{relabelled-size}
 use Rattle.yword.specs.KeywordView.{keyword_view}
-use Rattle.yword.specs.BuiltInView.{built_in_view}
-use Rattle.yword.specs.declared.builtin.BuiltIn.{BuiltIn}
-use Rattle.yword.specs.declared.builtin.BuiltIn.TheVariants as types
 use Rattle.yword.specs.declared.keyword.Keyword.{Keyword}
 use Rattle.yword.specs.declared.keyword.Keyword.TheVariants as words
 use Rattle.ypreorder.specs.Layout as preorder
@@ -56,20 +50,6 @@ absent_as is_its_key must values = if is_its_key then key else (if must then man
 
 abbrev pub leaf_type_by : Text → YangType → Option ℕ → LeafType
 leaf_type_by name type target = record { name = name; type = type; target = target }
-
-seen_or_text : (o : Option BuiltIn) → built_in_view (unwrap_or o types.String) ≡ unwrap_or (option_map built_in_view o) string
-seen_or_text None = refl
-seen_or_text (Some b) = refl
-
--- the name of the built-in type that is stated, or that of texts
-pub name_made : (modules : Forest Source) (found : Option BuiltIn) (name : BuiltIn) (stated : Option Source)
-    → option_map built_in_view found ≡ option_and_then (built_in_meant modules) stated → name ≡ unwrap_or found types.String
-    → built_in_name (built_in_view name) ≡ unwrap_or (option_and_then (type_named modules) stated) (codes "string")
-name_made modules found name None named is =
-    ap (λ b. built_in_name (built_in_view b)) is ∙ (ap built_in_name (seen_or_text found) ∙ ap (λ o. built_in_name (unwrap_or o string)) named)
-name_made modules found name (Some s) named is =
-    ap (λ b. built_in_name (built_in_view b)) is
-    ∙ (ap built_in_name (seen_or_text found) ∙ name_or_text modules s (option_map built_in_view found) named)
 
 -- ---- kinds
 

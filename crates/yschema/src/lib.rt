@@ -13,5 +13,5 @@ pub use limits::{LEVEL_LIMIT, NODE_LIMIT};
 pub use ygrammar::CompileCode;
 pub use ymodel::{
     Absence, Amount, BuiltIn, Child, Children, Kind, LeafType, Schema, SchemaId, SchemaModule,
-    SchemaNode, Status, Tuples,
+    SchemaNode, Status, Tuples, TypeName,
 };

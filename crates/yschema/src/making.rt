@@ -4,8 +4,6 @@ ghost use Rattle.std.specs.Prelude.{◌≡◌, Some, None, map, option_map, slic
 ghost use Rattle.yspec.specs.types.Types.{string_type};
 ghost use Rattle.yspec.specs.linking.Planned.{nodes_of};
 ghost use Rattle.yspec.specs.linking.SchemaNodes as spec;
-ghost use Rattle.yspec.specs.linking.TypeStatements.{built_in_name};
-ghost use Rattle.yword.specs.BuiltInView.{built_in_view};
 ghost use Rattle.yplan.specs.Finding.{name_of};
 ghost use Rattle.yplan.specs.NodesView as plans;
 ghost use Rattle.yplan.specs.PlannedView.{planned_view};
@@ -16,11 +14,11 @@ ghost use Rattle.ymodel.specs.Lookup.{names_in};
 ghost use Rattle.yschema.specs.Made.{place_made, planned_place};
 
 use std::alloc::{AllocError, Global};
-use ymodel::{Absence, Kind, LeafType, Row, SchemaNode, id_of};
-use yplan::{Plan, PlanNode, Planned, type_name};
+use ymodel::{Absence, Kind, LeafType, Row, SchemaNode, TypeName, id_of};
+use yplan::{Plan, PlanNode, Planned};
 use yresolve::{Resolved, default_values, tuples_of};
 use ytype::{Val, YType};
-use yword::{BuiltIn, Keyword};
+use yword::Keyword;
 
 /// The values of the defaults of a leaf or leaf-list, in order.
 fn values_of<'a, 't>(
@@ -90,14 +88,6 @@ fn type_or_text(alloc: Global, value_type: Option<&YType>) -> Result<YType, Allo
     value_type.clone()
 }
 
-/// The name of the type that a leaf or leaf-list states; that of texts where it states none.
-fn type_name_of(plan: &Plan<'_, '_>, planned: &Planned<'_, '_>) -> BuiltIn
-    ensures { (number : _) → built_in_name (built_in_view result)
-        ≡ spec.type_name (plan_view.view plan.now) (planned_view number planned.now) }
-{
-    type_name(plan, planned).unwrap_or(BuiltIn::String)
-}
-
 /// The type of a leaf or of items, and to which node it refers.
 fn leaf_type_of<'a, 't>(
     alloc: Global,
@@ -111,9 +101,10 @@ fn leaf_type_of<'a, 't>(
     ensures { IfOk result (λ made. leaf_type_view made
         ≡ spec.leaf_type (plan_view.view plan.now) (plans.node_view node.entry)) }
 {
+    let name = TypeName::of(alloc, node.planned.type_name())?;
     let value_type = type_or_text(alloc, resolved.value_type(node.number))?;
     Ok(LeafType {
-        name: type_name_of(plan, &node.planned),
+        name,
         value_type,
         target: id_of(resolved.target(node.number)),
     })

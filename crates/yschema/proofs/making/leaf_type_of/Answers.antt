@@ -3,10 +3,9 @@ use Rattle.std.specs.Prelude.{unwrap_or, option_map}
 use Rattle.yspec.specs.types.Types.{string_type}
 use Rattle.yspec.specs.linking.Planned.{type_of, target_of}
 use Rattle.yspec.specs.linking.SchemaNodes.{number_in}
-use Rattle.yspec.specs.linking.TypeStatements.{built_in_name}
-use Rattle.yword.specs.BuiltInView.{built_in_view}
 use Rattle.yplan.specs.NodesView.{node_view}
 use Rattle.yplan.specs.PlanView.{view}
+use Rattle.ymodel.specs.Layout.{type_name_view}
 use Rattle.yschema.proofs.MakingLemmas.{leaf_type_by}
 use Rattle.yschema.proofs.making.leaf_type_of.Goals as goal
 
@@ -16,5 +15,5 @@ returns c =
     let p = node_view c.args.node in
     let type = c.value_type.ensures plan p c.requires.of_plan c.requires.stands in
     let target = c.target.ensures plan p c.requires.of_plan c.requires.stands in
-    ap₂ (leaf_type_by (built_in_name (built_in_view c.type_name_of.result))) (c.in_ok-value_type.ensures ∙ ap (λ t. unwrap_or t string_type) type) (c.id_of.ensures ∙ target)
-    ∙ ap (λ n. leaf_type_by n (unwrap_or (type_of plan p) string_type) (option_map number_in (target_of plan p))) (c.type_name_of.ensures c.args.node.number)
+    ap₂ (leaf_type_by (type_name_view c.in_ok-name.name)) (c.in_ok-value_type.ensures ∙ ap (λ t. unwrap_or t string_type) type) (c.id_of.ensures ∙ target)
+    ∙ ap (λ n. leaf_type_by n (unwrap_or (type_of plan p) string_type) (option_map number_in (target_of plan p))) (c.in_ok-name.ensures ∙ c.type_name.ensures c.args.node.number)

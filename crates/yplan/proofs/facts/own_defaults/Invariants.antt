@@ -3,7 +3,7 @@ use Rattle.yspec.specs.linking.Keyword.{default_word}
 use Rattle.yspec.specs.linking.Source.{argument_in, all_with}
 use Rattle.yplan.specs.OwnView.{left}
 use Rattle.yplan.specs.PlannedView.{part_at}
-use Rattle.yplan.proofs.facts.default_texts.Given as goal
+use Rattle.yplan.proofs.facts.own_defaults.Given as goal
 
 abbrev pub invariant-loop-statement : goal.invariant-loop-statement
 invariant-loop-statement l = record {

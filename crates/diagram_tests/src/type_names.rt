@@ -1,0 +1,55 @@
+//! The column of types: names as `type` statements have them, and the paths of leafrefs (RFC 8340, 2.6).
+
+use crate::diagrams::schema_of;
+use std::alloc::Global;
+use ydiagram::write;
+use youtput::Cut;
+
+const BEGINNING: &str = "module m {
+  yang-version 1.1;
+  namespace \"urn:m\";
+  prefix m;
+  import n { prefix o; }
+  typedef t { type uint8; }
+  typedef leafref-of-b { type leafref { path /m:b; } }
+  leaf b { type string; }
+  leaf a { type ";
+
+const IMPORTED: &str = "module n {
+  yang-version 1.1;
+  namespace \"urn:n\";
+  prefix n;
+  typedef t { type string; }
+}
+";
+
+// Whether the type of a leaf is shown so: `SHOWN = TYPE`, a `type` statement without its keyword.
+fn is_shown(alloc: Global, row: &str) -> Option<bool> {
+    let (shown, type_text) = row.split_once(" = ")?;
+    let module = format!(in alloc; "{}{type_text} }}\n}}\n", BEGINNING).ok()?;
+    let wanted = format!(in alloc; "module: m\n  +--rw b?   string\n  +--rw a?   {shown}\n").ok()?;
+    let schema = schema_of(alloc, module.as_str(), IMPORTED)?;
+    let mut sink = Cut::new(alloc, 4096, 4096, None).ok()?;
+    match write(&schema, 0, &mut sink) {
+        Ok(()) => Some(sink.bytes() == wanted.as_bytes()),
+        Err(_) => Some(false),
+    }
+}
+
+#[test]
+fn names_of_types(rt: HostRuntime) {
+    let rows = "uint8 = uint8;
+t = t;
+m:t = m:t;
+m:t = \"m:t\";
+o:t = o:t;
+t = t { range 1..5; }
+string = string { length 1..8; }
+union = union { type t; type o:t; }
+-> /b = leafref { path /b; }
+leafref-of-b = leafref-of-b;
+m:leafref-of-b = m:leafref-of-b;";
+    for row in rows.lines() {
+        assert!(rt; is_shown(rt.alloc(), row) == Some(true), "{row:?}");
+    }
+}
