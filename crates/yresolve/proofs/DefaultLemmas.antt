@@ -1,20 +1,25 @@
 -- Values of defaults: those that are refused, and those that come twice.
-use Rattle.std.proofs.Common.{◌≡◌, ◌≢◌, ℕ, suc, ◌<◌, ◌≤◌, map, eqb, ◌&&◌, Bool, true, false, not, cond, ltb, ◌||◌, Bor, List, [], ◌∷◌, length, Option, Some, None, is_some, refl, sym, ap, ap₂, ◌∙◌, arith}
+use Rattle.std.proofs.Common.{◌≡◌, ◌≢◌, ℕ, suc, ◌<◌, ◌≤◌, map, eqb, ◌++◌, ◌&&◌, Bool, true, false, not, cond, ltb, ◌||◌, Bor, List, [], ◌∷◌, length, Option, Some, None, is_some, refl, sym, ap, ap₂, ◌∙◌, arith}
 use Rattle.std.specs.List.{list_any, cons_option, filter_map}
 use Rattle.std.specs.Option.{option_map_or}
+use Rattle.std.specs.Prelude.{option_map, option_and_then}
 use Rattle.std.specs.Ordering.{is_eq}
 use Rattle.std.specs.BTreeSet.{BTreeSet, contains_by}
 use Rattle.std.specs.BTreeMap.{is_at}
-use Rattle.std.proofs.lemmas.Bool.{lt-ltb, le-ltb, ltb-true, ltb-false, ne_eqb}
+use Rattle.std.proofs.lemmas.Bool.{lt-ltb, le-ltb, ltb-true, ltb-false, ne_eqb, eqb-true}
 use Rattle.std.proofs.lemmas.List.{length-map}
 use Rattle.yspec.specs.text.Text.{Text}
 use Rattle.yspec.specs.types.Types.{YangType, Val}
 use Rattle.yspec.specs.types.Order.{value_cmp, same_value}
 use Rattle.yspec.specs.types.Values.{value_of_text}
-use Rattle.yspec.specs.linking.Keyword.{Keyword, same_keyword, leaf_word, leaf_list_word, choice_word, default_word}
+use Rattle.yspec.specs.Forest.{Forest}
+use Rattle.yspec.specs.linking.Source.{Source, first_with, found_with}
+use Rattle.yspec.specs.linking.DerivedTypes.{default_meant}
+use Rattle.yspec.specs.linking.Keyword.{Keyword, same_keyword, leaf_word, leaf_list_word, choice_word, type_word, default_word}
 use Rattle.yspec.specs.linking.Planned.{Planned, Plan, stated_in, type_of}
-use Rattle.yspec.specs.linking.SchemaNodes.{is_mandatory, least_of, is_key, default_texts, default_case}
+use Rattle.yspec.specs.linking.SchemaNodes.{is_mandatory, least_of, is_key, own_defaults, type_default, default_texts, default_case}
 use Rattle.yspec.specs.linking.NodeBreaks.{is_empty, is_refused, has_equal, is_wrong_default, are_wrong_defaults, is_wrong_case, is_default_wrong}
+use Rattle.yplan.proofs.PartLemmas.{first_found}
 use Rattle.yresolve.specs.Values.{comes_twice, wrong_leaf, wrong_leaf_list}
 
 -- ---- values that were seen
@@ -126,68 +131,120 @@ no_texts : (ts : List (Bor Text)) → eqb (length ts) 0 ≡ is_empty (map (λ t.
 no_texts [] = refl
 no_texts (t ∷ ts) = let other : suc (length ts) ≢ 0 = omega arith in ne_eqb (suc (length ts)) 0 other
 
-module _ (p : Planned) (type : YangType) (texts : List (Bor Text)) (are : map (λ t. t.now) texts ≡ default_texts p) where
+-- others where there are none
+abbrev texts_or : List Text → List Text → List Text
+texts_or others [] = others
+texts_or others (t ∷ ts) = t ∷ ts
+
+abbrev of_type : Plan → Planned → List Text
+of_type plan p = option_map_or (λ t. t ∷ []) (type_default plan p) []
+
+-- a node with defaults of its own has these
+pub own_texts : (plan : Plan) (p : Planned) (texts : List (Bor Text)) → eqb (length texts) 0 ≡ false → map (λ t. t.now) texts ≡ own_defaults p
+    → map (λ t. t.now) texts ≡ default_texts plan p
+own_texts plan p [] some are = absurd cc
+own_texts plan p (t ∷ ts) some are = ap (texts_or (of_type plan p)) are
+
+-- one without has that of its type
+pub texts_of_type : (plan : Plan) (p : Planned) (texts more : List (Bor Text)) (d : Option (Bor Text)) → eqb (length texts) 0 ≡ true
+    → map (λ t. t.now) texts ≡ own_defaults p → option_map (λ t. t.now) d ≡ type_default plan p
+    → more ≡ texts ++ option_map_or (λ t. t ∷ []) d [] → map (λ t. t.now) more ≡ default_texts plan p
+texts_of_type plan p (t ∷ ts) more d none are is ends = absurd (some_texts t ts none)
+  where
+    some_texts : (x : Bor Text) (xs : List (Bor Text)) → eqb (suc (length xs)) 0 ≡ true → ⊥
+    some_texts x xs e = let other : suc (length xs) ≢ 0 = omega arith in other (eqb-true (suc (length xs)) 0 e)
+texts_of_type plan p [] more d none are is ends =
+    ap (map (λ t. t.now)) ends ∙ (by d ∙ (ap (λ o. option_map_or (λ t. t ∷ []) o []) is ∙ ap (texts_or (of_type plan p)) are))
+  where
+    by : (o : Option (Bor Text)) → map (λ t. t.now) (option_map_or (λ t. t ∷ []) o []) ≡ option_map_or (λ t. t ∷ []) (option_map (λ t. t.now) o) []
+    by None = refl
+    by (Some t) = refl
+
+module _ (plan : Plan) (p : Planned) (type : YangType) where
   abbrev stated : Bool
-  stated = not (is_empty (default_texts p))
+  stated = not (is_empty (own_defaults p))
 
   abbrev refused : Bool
-  refused = list_any (is_refused type) (default_texts p)
+  refused = list_any (is_refused type) (default_texts plan p)
 
   abbrev equal : Bool
-  equal = has_equal type (default_texts p)
+  equal = has_equal type (default_texts plan p)
 
-  some_stated : not (eqb (length texts) 0) ≡ stated
-  some_stated = ap not (no_texts texts ∙ ap is_empty are)
+  some_stated : (texts : List (Bor Text)) → map (λ t. t.now) texts ≡ own_defaults p → not (eqb (length texts) 0) ≡ stated
+  some_stated texts are = ap not (no_texts texts ∙ ap is_empty are)
 
-  some_refused : (values : List Val) → values ≡ filter_map (value_of_text type) (map (λ t. t.now) texts) → ltb (length values) (length texts) ≡ refused
-  some_refused values taken =
-      ap₂ (λ m n. ltb m n) (ap length taken) (sym (length-map texts (λ t. t.now)))
-      ∙ (sym (any_refused type (map (λ t. t.now) texts)) ∙ ap (list_any (is_refused type)) are)
+  -- of a leaf with a default of its own
+  pub wrong_beside : (texts : List (Bor Text)) → map (λ t. t.now) texts ≡ own_defaults p → is_mandatory p ≡ true
+      → not (eqb (length texts) 0) ≡ is_wrong_default plan p type
+  wrong_beside texts are must = some_stated texts are ∙ ap (λ b. cond b stated refused) (sym must)
 
-  some_equal : (values : List Val) → values ≡ filter_map (value_of_text type) (map (λ t. t.now) texts) → comes_twice same_value values ≡ equal
-  some_equal values taken = ap (comes_twice same_value) taken ∙ (sym (equal_values type (map (λ t. t.now) texts)) ∙ ap (has_equal type) are)
-
-  -- of a leaf
-  pub wrong_beside : is_mandatory p ≡ true → not (eqb (length texts) 0) ≡ is_wrong_default p type
-  wrong_beside must = some_stated ∙ ap (λ b. cond b stated refused) (sym must)
-
-  pub wrong_refused : (values : List Val) → values ≡ filter_map (value_of_text type) (map (λ t. t.now) texts) → is_mandatory p ≡ false
-      → ltb (length values) (length texts) ≡ is_wrong_default p type
-  wrong_refused values taken may = some_refused values taken ∙ ap (λ b. cond b stated refused) (sym may)
-
-  -- of a leaf-list
-  by_least : (b : Bool) → ltb 0 (least_of p) ≡ b → cond b stated (refused || (p.config && equal)) ≡ are_wrong_defaults p type
+  -- of a leaf-list with some of its own
+  by_least : (b : Bool) → ltb 0 (least_of p) ≡ b → cond b stated (refused || (p.config && equal)) ≡ are_wrong_defaults plan p type
   by_least b is = ap (λ d. cond d stated (refused || (p.config && equal))) (sym is)
 
-  pub wrong_least : (n : ℕ) → n ≡ least_of p → 0 < n → not (eqb (length texts) 0) ≡ are_wrong_defaults p type
-  wrong_least n is above = some_stated ∙ by_least true (ap (ltb 0) (sym is) ∙ lt-ltb 0 n above)
+  pub wrong_least : (texts : List (Bor Text)) → map (λ t. t.now) texts ≡ own_defaults p → (n : ℕ) → n ≡ least_of p → 0 < n
+      → not (eqb (length texts) 0) ≡ are_wrong_defaults plan p type
+  wrong_least texts are n is above = some_stated texts are ∙ by_least true (ap (ltb 0) (sym is) ∙ lt-ltb 0 n above)
 
-  module _ (n : ℕ) (is : n ≡ least_of p) (none : n ≤ 0) (values : List Val) (taken : values ≡ filter_map (value_of_text type) (map (λ t. t.now) texts)) where
-    by_values : (b : Bool) → ltb (length values) (length texts) ≡ b → (b || (p.config && comes_twice same_value values)) ≡ are_wrong_defaults p type
-    by_values b fewer =
-        ap₂ (λ r e. r || (p.config && e)) (sym fewer ∙ some_refused values taken) (some_equal values taken)
-        ∙ by_least false (ap (ltb 0) (sym is) ∙ le-ltb 0 n none)
+  module _ (texts : List (Bor Text)) (are : map (λ t. t.now) texts ≡ default_texts plan p) where
+    some_refused : (values : List Val) → values ≡ filter_map (value_of_text type) (map (λ t. t.now) texts) → ltb (length values) (length texts) ≡ refused
+    some_refused values taken =
+        ap₂ (λ m n. ltb m n) (ap length taken) (sym (length-map texts (λ t. t.now)))
+        ∙ (sym (any_refused type (map (λ t. t.now) texts)) ∙ ap (list_any (is_refused type)) are)
 
-    pub wrong_fewer : length values < length texts → true ≡ are_wrong_defaults p type
-    wrong_fewer fewer = by_values true (lt-ltb (length values) (length texts) fewer)
+    some_equal : (values : List Val) → values ≡ filter_map (value_of_text type) (map (λ t. t.now) texts) → comes_twice same_value values ≡ equal
+    some_equal values taken = ap (comes_twice same_value) taken ∙ (sym (equal_values type (map (λ t. t.now) texts)) ∙ ap (has_equal type) are)
 
-    pub wrong_twice : length texts ≤ length values → p.config ≡ true → comes_twice same_value values ≡ are_wrong_defaults p type
-    wrong_twice all config =
-        ap (λ c. c && comes_twice same_value values) (sym config) ∙ by_values false (le-ltb (length values) (length texts) all)
+    -- of a leaf
+    pub wrong_refused : (values : List Val) → values ≡ filter_map (value_of_text type) (map (λ t. t.now) texts) → is_mandatory p ≡ false
+        → ltb (length values) (length texts) ≡ is_wrong_default plan p type
+    wrong_refused values taken may = some_refused values taken ∙ ap (λ b. cond b stated refused) (sym may)
 
-    pub right_state : length texts ≤ length values → p.config ≡ false → false ≡ are_wrong_defaults p type
-    right_state all state =
-        ap (λ c. c && comes_twice same_value values) (sym state) ∙ by_values false (le-ltb (length values) (length texts) all)
+    -- of a leaf-list
+    module _ (n : ℕ) (is : n ≡ least_of p) (none : n ≤ 0) (values : List Val) (taken : values ≡ filter_map (value_of_text type) (map (λ t. t.now) texts)) where
+      by_values : (b : Bool) → ltb (length values) (length texts) ≡ b → (b || (p.config && comes_twice same_value values)) ≡ are_wrong_defaults plan p type
+      by_values b fewer =
+          ap₂ (λ r e. r || (p.config && e)) (sym fewer ∙ some_refused values taken) (some_equal values taken)
+          ∙ by_least false (ap (ltb 0) (sym is) ∙ le-ltb 0 n none)
+
+      pub wrong_fewer : length values < length texts → true ≡ are_wrong_defaults plan p type
+      wrong_fewer fewer = by_values true (lt-ltb (length values) (length texts) fewer)
+
+      pub wrong_twice : length texts ≤ length values → p.config ≡ true → comes_twice same_value values ≡ are_wrong_defaults plan p type
+      wrong_twice all config =
+          ap (λ c. c && comes_twice same_value values) (sym config) ∙ by_values false (le-ltb (length values) (length texts) all)
+
+      pub right_state : length texts ≤ length values → p.config ≡ false → false ≡ are_wrong_defaults plan p type
+      right_state all state =
+          ap (λ c. c && comes_twice same_value values) (sym state) ∙ by_values false (le-ltb (length values) (length texts) all)
+
+-- ---- the default of a type
+
+pub no_default : (plan : Plan) (p : Planned) → (is_mandatory p || ltb 0 (least_of p)) ≡ true → None ≡ type_default plan p
+no_default plan p must = ap (λ b. cond b None (option_and_then (default_meant plan.modules) (first_with type_word p.part.own))) (sym must)
+
+pub default_named : (plan : Plan) (p : Planned) (found : Option (Source × Forest Source)) (default : Option Text) → (is_mandatory p || ltb 0 (least_of p)) ≡ false
+    → found ≡ found_with type_word p.part.own → default ≡ option_and_then (λ (x : Source × Forest Source). default_meant plan.modules x.0) found
+    → default ≡ type_default plan p
+default_named plan p found default may is so =
+    so ∙ (by found ∙ (ap (λ (o : Option (Source × Forest Source)). option_and_then (default_meant plan.modules) (option_map (λ x. x.0) o)) is
+    ∙ (ap (option_and_then (default_meant plan.modules)) (first_found type_word p.part.own)
+    ∙ ap (λ b. cond b None (option_and_then (default_meant plan.modules) (first_with type_word p.part.own))) (sym may))))
+  where
+    by : (o : Option (Source × Forest Source))
+        → option_and_then (λ (x : Source × Forest Source). default_meant plan.modules x.0) o ≡ option_and_then (default_meant plan.modules) (option_map (λ (x : Source × Forest Source). x.0) o)
+    by None = refl
+    by (Some x) = refl
 
 -- ---- by the keyword of a node
 
 abbrev wrong_by : Plan → Planned → Keyword → Bool
-wrong_by plan p w = cond (same_keyword leaf_word w) (wrong_leaf p (is_key plan p) (type_of plan p))
-    (cond (same_keyword leaf_list_word w) (wrong_leaf_list p (type_of plan p))
+wrong_by plan p w = cond (same_keyword leaf_word w) (wrong_leaf plan p (is_key plan p) (type_of plan p))
+    (cond (same_keyword leaf_list_word w) (wrong_leaf_list plan p (type_of plan p))
     (same_keyword choice_word w && (is_some (stated_in default_word p) && is_wrong_case plan p (default_case plan p))))
 
-pub leaf_as : (plan : Plan) (p : Planned) → leaf_word ≡ p.part.source.keyword → wrong_leaf p (is_key plan p) (type_of plan p) ≡ is_default_wrong plan p
+pub leaf_as : (plan : Plan) (p : Planned) → leaf_word ≡ p.part.source.keyword → wrong_leaf plan p (is_key plan p) (type_of plan p) ≡ is_default_wrong plan p
 leaf_as plan p is = ap (wrong_by plan p) is
 
-pub leaf_list_as : (plan : Plan) (p : Planned) → leaf_list_word ≡ p.part.source.keyword → wrong_leaf_list p (type_of plan p) ≡ is_default_wrong plan p
+pub leaf_list_as : (plan : Plan) (p : Planned) → leaf_list_word ≡ p.part.source.keyword → wrong_leaf_list plan p (type_of plan p) ≡ is_default_wrong plan p
 leaf_list_as plan p is = ap (wrong_by plan p) is

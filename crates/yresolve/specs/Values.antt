@@ -3,7 +3,7 @@ use Rattle.std.specs.Prelude.{Bool, false, not, ◌&&◌, ◌||◌, List, [], �
 use Rattle.std.specs.List.{list_any}
 use Rattle.std.specs.Option.{option_map_or}
 use Rattle.yspec.specs.types.Types.{YangType}
-use Rattle.yspec.specs.linking.Planned.{Planned}
+use Rattle.yspec.specs.linking.Planned.{Planned, Plan}
 use Rattle.yspec.specs.linking.NodeBreaks.{is_wrong_default, are_wrong_defaults}
 
 -- whether one of a list is the same as a later one
@@ -12,9 +12,9 @@ comes_twice same [] = false
 comes_twice same (x ∷ xs) = list_any (same x) xs || comes_twice same xs
 
 -- of a leaf, by whether it is a key, and its type
-abbrev pub wrong_leaf : Planned → Bool → Option YangType → Bool
-wrong_leaf p is_key type = not is_key && option_map_or (is_wrong_default p) type false
+abbrev pub wrong_leaf : Plan → Planned → Bool → Option YangType → Bool
+wrong_leaf plan p is_key type = not is_key && option_map_or (is_wrong_default plan p) type false
 
 -- of a leaf-list, by its type
-abbrev pub wrong_leaf_list : Planned → Option YangType → Bool
-wrong_leaf_list p type = option_map_or (are_wrong_defaults p) type false
+abbrev pub wrong_leaf_list : Plan → Planned → Option YangType → Bool
+wrong_leaf_list plan p type = option_map_or (are_wrong_defaults plan p) type false

@@ -5,16 +5,21 @@ ghost use Rattle.std.specs.List.{filter_map};
 ghost use Rattle.yspec.specs.types.Values.{value_of_text};
 ghost use Rattle.yspec.specs.types.Order.{same_value};
 ghost use Rattle.yspec.specs.linking.Keyword.{default_word};
+ghost use Rattle.yspec.specs.linking.Planned as plans;
 ghost use Rattle.yspec.specs.linking.Planned.{stated_in, type_of};
 ghost use Rattle.yspec.specs.linking.SchemaNodes as spec;
 ghost use Rattle.yspec.specs.linking.NodeBreaks as breaks;
+ghost use Rattle.ylink.specs.TypedefView.{IsOf};
 ghost use Rattle.yplan.specs.PlannedView.{planned_view};
 ghost use Rattle.yplan.specs.PlanView.{view};
+ghost use Rattle.yresolve.specs.ResolvedView as resolved_as;
 ghost use Rattle.yresolve.specs.Values.{comes_twice, wrong_leaf, wrong_leaf_list};
 
+use crate::resolved::Resolved;
 use std::alloc::{AllocError, Global};
 use std::collections::BTreeSet;
-use yplan::{Plan, Planned, default_texts, is_wrong_case};
+use ylink::Typedefs;
+use yplan::{Plan, Planned, is_wrong_case, own_defaults};
 use ytype::{BadValue, Val, YType};
 use yword::Keyword;
 
@@ -56,51 +61,90 @@ fn comes_twice(alloc: Global, values: &[Val]) -> Result<bool, AllocError>
     Ok(false)
 }
 
-/// The values that a type takes from the defaults of a node, in order.
-pub fn default_values(
-    alloc: Global,
-    value_type: &YType,
-    planned: &Planned<'_, '_>,
-) -> Result<Vec<Val>, AllocError>
-    ensures { (number : _) → IfOk result (λ values. values.items
-        ≡ filter_map (value_of_text value_type.now)
-        (spec.default_texts (planned_view number planned.now))) }
+/// The default of the type of a node, where it may be without a value.
+fn type_default<'t>(typedefs: &Typedefs<'t>, planned: &Planned<'_, 't>) -> Option<&'t str>
+    ensures { (plan : plans.Plan) (number : _) → IsOf typedefs.now plan.modules
+        → option_map (λ t. t.now) result
+        ≡ spec.type_default plan (planned_view number planned.now) }
 {
-    let texts = default_texts(alloc, planned)?;
+    if planned.is_mandatory() || planned.least() > 0 {
+        return None;
+    }
+    let statement = planned.first_own(Keyword::Type)?;
+    typedefs.default_named(statement.number())
+}
+
+/// The texts of the defaults of a node, in order: its own, or where it has none that of its type.
+fn default_texts<'t>(
+    alloc: Global,
+    typedefs: &Typedefs<'t>,
+    planned: &Planned<'_, 't>,
+) -> Result<Vec<&'t str>, AllocError>
+    ensures { (plan : plans.Plan) (number : _) → IsOf typedefs.now plan.modules
+        → IfOk result (λ texts. map (λ t. t.now) texts.items
+        ≡ spec.default_texts plan (planned_view number planned.now)) }
+{
+    let mut texts = own_defaults(alloc, planned)?;
+    if texts.is_empty() {
+        if let Some(text) = type_default(typedefs, planned) {
+            texts.push(text)?;
+        }
+    }
+    Ok(texts)
+}
+
+/// The values that a type takes from the defaults of a node of a plan, in order.
+pub fn default_values<'t>(
+    alloc: Global,
+    resolved: &Resolved<'t>,
+    value_type: &YType,
+    planned: &Planned<'_, 't>,
+) -> Result<Vec<Val>, AllocError>
+    ensures { (plan : plans.Plan) (number : _) → resolved_as.IsOf resolved.now plan
+        → IfOk result (λ values. values.items ≡ filter_map (value_of_text value_type.now)
+        (spec.default_texts plan (planned_view number planned.now))) }
+{
+    let texts = default_texts(alloc, &resolved.typedefs, planned)?;
     values_of(alloc, value_type, &texts)
 }
 
-/// Whether a leaf that is no key is mandatory and has a default, or has one that its type doesn't take.
-pub fn is_wrong_default(
+/// Whether a leaf that is no key is mandatory and has a default of its own, or has one that its type doesn't take.
+fn is_wrong_default<'t>(
     alloc: Global,
+    typedefs: &Typedefs<'t>,
     value_type: &YType,
-    planned: &Planned<'_, '_>,
+    planned: &Planned<'_, 't>,
 ) -> Result<bool, AllocError>
-    ensures { (number : _) → IfOk result (λ wrong. wrong
-        ≡ breaks.is_wrong_default (planned_view number planned.now) value_type.now) }
+    ensures { (plan : plans.Plan) (number : _) → IsOf typedefs.now plan.modules
+        → IfOk result (λ wrong. wrong
+        ≡ breaks.is_wrong_default plan (planned_view number planned.now) value_type.now) }
 {
-    let texts = default_texts(alloc, planned)?;
     if planned.is_mandatory() {
-        return Ok(!texts.is_empty());
+        let stated = own_defaults(alloc, planned)?;
+        return Ok(!stated.is_empty());
     }
+    let texts = default_texts(alloc, typedefs, planned)?;
     let values = values_of(alloc, value_type, &texts)?;
     Ok(values.len() < texts.len())
 }
 
-/// Whether a leaf-list has defaults though there must be items, or one that its type doesn't take, or, as
+/// Whether a leaf-list has defaults of its own though there must be items, or one that its type doesn't take, or, as
 /// configuration, two that are the same.
-pub fn are_wrong_defaults(
+fn are_wrong_defaults<'t>(
     alloc: Global,
+    typedefs: &Typedefs<'t>,
     value_type: &YType,
-    planned: &Planned<'_, '_>,
+    planned: &Planned<'_, 't>,
 ) -> Result<bool, AllocError>
-    ensures { (number : _) → IfOk result (λ wrong. wrong
-        ≡ breaks.are_wrong_defaults (planned_view number planned.now) value_type.now) }
+    ensures { (plan : plans.Plan) (number : _) → IsOf typedefs.now plan.modules
+        → IfOk result (λ wrong. wrong
+        ≡ breaks.are_wrong_defaults plan (planned_view number planned.now) value_type.now) }
 {
-    let texts = default_texts(alloc, planned)?;
     if planned.least() > 0 {
-        return Ok(!texts.is_empty());
+        let stated = own_defaults(alloc, planned)?;
+        return Ok(!stated.is_empty());
     }
+    let texts = default_texts(alloc, typedefs, planned)?;
     let values = values_of(alloc, value_type, &texts)?;
     if values.len() < texts.len() {
         return Ok(true);
@@ -113,14 +157,16 @@ pub fn are_wrong_defaults(
 }
 
 /// Whether a leaf has a wrong default, given whether it is a key, and its type.
-fn is_wrong_leaf(
+fn is_wrong_leaf<'t>(
     alloc: Global,
-    planned: &Planned<'_, '_>,
+    typedefs: &Typedefs<'t>,
+    planned: &Planned<'_, 't>,
     is_key: bool,
     value_type: Option<&YType>,
 ) -> Result<bool, AllocError>
-    ensures { (number : _) → IfOk result (λ wrong. wrong
-        ≡ wrong_leaf (planned_view number planned.now) is_key
+    ensures { (plan : plans.Plan) (number : _) → IsOf typedefs.now plan.modules
+        → IfOk result (λ wrong. wrong
+        ≡ wrong_leaf plan (planned_view number planned.now) is_key
         (option_map (λ t. t.now) value_type.entry)) }
 {
     match value_type {
@@ -128,24 +174,26 @@ fn is_wrong_leaf(
             if is_key {
                 return Ok(false);
             }
-            is_wrong_default(alloc, value_type, planned)
+            is_wrong_default(alloc, typedefs, value_type, planned)
         }
         None => Ok(false),
     }
 }
 
 /// Whether a leaf-list has wrong defaults, given its type.
-fn is_wrong_leaf_list(
+fn is_wrong_leaf_list<'t>(
     alloc: Global,
-    planned: &Planned<'_, '_>,
+    typedefs: &Typedefs<'t>,
+    planned: &Planned<'_, 't>,
     value_type: Option<&YType>,
 ) -> Result<bool, AllocError>
-    ensures { (number : _) → IfOk result (λ wrong. wrong
-        ≡ wrong_leaf_list (planned_view number planned.now)
+    ensures { (plan : plans.Plan) (number : _) → IsOf typedefs.now plan.modules
+        → IfOk result (λ wrong. wrong
+        ≡ wrong_leaf_list plan (planned_view number planned.now)
         (option_map (λ t. t.now) value_type.entry)) }
 {
     match value_type {
-        Some(value_type) => are_wrong_defaults(alloc, value_type, planned),
+        Some(value_type) => are_wrong_defaults(alloc, typedefs, value_type, planned),
         None => Ok(false),
     }
 }
@@ -163,19 +211,21 @@ fn is_wrong_choice<'a, 't>(plan: &Plan<'a, 't>, number: u32, planned: &Planned<'
 pub(crate) fn has_wrong_default<'a, 't>(
     alloc: Global,
     plan: &Plan<'a, 't>,
+    typedefs: &Typedefs<'t>,
     number: u32,
     planned: &Planned<'a, 't>,
     is_key: bool,
     value_type: Option<&YType>,
 ) -> Result<bool, AllocError>
+    requires named { IsOf typedefs.now (view plan.now).modules }
     ensures { let p = planned_view number planned.now in
         is_key ≡ spec.is_key (view plan.now) p → option_map (λ t. t.now) value_type.entry
         ≡ type_of (view plan.now) p
         → IfOk result (λ wrong. wrong ≡ breaks.is_default_wrong (view plan.now) p) }
 {
     match planned.keyword() {
-        Keyword::Leaf => is_wrong_leaf(alloc, planned, is_key, value_type),
-        Keyword::LeafList => is_wrong_leaf_list(alloc, planned, value_type),
+        Keyword::Leaf => is_wrong_leaf(alloc, typedefs, planned, is_key, value_type),
+        Keyword::LeafList => is_wrong_leaf_list(alloc, typedefs, planned, value_type),
         Keyword::Choice => Ok(is_wrong_choice(plan, number, planned)),
         _ => Ok(false),
     }

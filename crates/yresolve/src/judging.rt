@@ -43,7 +43,9 @@ fn broken_own_rule<'a, 't>(
         resolved.is_key(node.number),
         resolved.value_type(node.number),
     );
-    let default = has_wrong_default(alloc, plan, node.number, planned, is_key, value_type)?;
+    let typedefs = &resolved.typedefs;
+    let number = node.number;
+    let default = has_wrong_default(alloc, plan, typedefs, number, planned, is_key, value_type)?;
     Ok(least_when(default, told, planned.broken(CompileCode::C11)))
 }
 

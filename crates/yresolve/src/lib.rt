@@ -10,7 +10,7 @@ mod resolved;
 mod tuples;
 mod types;
 
-pub use defaults::{are_wrong_defaults, default_values, is_wrong_default};
+pub use defaults::default_values;
 pub use judging::broken_node_rule;
 pub use resolved::Resolved;
 pub use tuples::tuples_of;

@@ -7,13 +7,14 @@ ghost use Rattle.yspec.specs.linking.Prefixes.{node_name};
 ghost use Rattle.yspec.specs.linking.SchemaNodes.{number_in};
 ghost use Rattle.ygrammar.specs.NameView.{names_view};
 ghost use Rattle.ylink.specs.TypeView.{meant_view};
+ghost use Rattle.ylink.specs.TypedefView.{IsOf};
 ghost use Rattle.yplan.specs.NodesView.{node_view};
 ghost use Rattle.yplan.specs.PlannedView.{planned_view};
 ghost use Rattle.yplan.specs.PlanView.{view};
 
 use std::alloc::{AllocError, Global};
 use ygrammar::Name;
-use ylink::{Meant, type_meant};
+use ylink::{Meant, Typedefs, type_meant};
 use yplan::{Plan, PlanNode, Planned};
 use yword::Keyword;
 
@@ -28,13 +29,15 @@ pub(crate) struct Meanings<'t> {
 fn meaning_of<'t>(
     alloc: Global,
     plan: &Plan<'_, 't>,
+    typedefs: &Typedefs<'t>,
     planned: &Planned<'_, 't>,
 ) -> Result<Option<Meant<'t>>, AllocError>
+    requires named { IsOf typedefs.now (view plan.now).modules }
     ensures { (number : _) → IfOk result (λ meant. option_map meant_view meant
         ≡ meant_in (view plan.now) (planned_view number planned.now)) }
 {
     match planned.first_own(Keyword::Type) {
-        Some(statement) => type_meant(alloc, plan.sources(), statement),
+        Some(statement) => type_meant(alloc, plan.sources(), typedefs, statement),
         None => Ok(None),
     }
 }
@@ -121,7 +124,9 @@ fn target_of<'a, 't>(
 pub(crate) fn meanings_of<'t>(
     alloc: Global,
     plan: &Plan<'_, 't>,
+    typedefs: &Typedefs<'t>,
 ) -> Result<Meanings<'t>, AllocError>
+    requires named { IsOf typedefs.now (view plan.now).modules }
     ensures meant { IfOk result (λ m. map (option_map meant_view) m.meant.items
         ≡ map (meant_in (view plan.now)) (nodes_of (view plan.now))) }
     ensures targets { let p = view plan.now in IfOk result (λ m. m.targets.items
@@ -130,7 +135,7 @@ pub(crate) fn meanings_of<'t>(
     let mut meant = Vec::with_capacity(alloc, plan.nodes())?;
     let mut targets = Vec::with_capacity(alloc, plan.nodes())?;
     for node in plan.iter() {
-        let meaning = meaning_of(alloc, plan, &node.planned)?;
+        let meaning = meaning_of(alloc, plan, typedefs, &node.planned)?;
         targets.push(target_of(plan, &node.planned, &meaning))?;
         meant.push(meaning)?;
     }

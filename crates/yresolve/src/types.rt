@@ -3,6 +3,7 @@
 ghost use Rattle.std.specs.Prelude.{◌≡◌, Some, map, IfOk, option_map, slice_get, unwrap_or, None};
 ghost use Rattle.yspec.specs.linking.Planned.{is_on_circle, referring};
 ghost use Rattle.ylink.specs.TypeView.{meant_view};
+ghost use Rattle.ylink.specs.TypedefView.{IsOf};
 ghost use Rattle.yresolve.specs.ChainTypes.{as_meant};
 ghost use Rattle.yplan.specs.PlanView.{view};
 ghost use Rattle.yresolve.specs.TypesView.{AreOf, meants_view, meant_at, own_at, type_told, types_told};
@@ -10,7 +11,7 @@ ghost use Rattle.yresolve.specs.TypesView.{AreOf, meants_view, meant_at, own_at,
 use crate::meanings::meanings_of;
 use std::alloc::{AllocError, Global};
 use ygraph::{Chain, chains_of};
-use ylink::Meant;
+use ylink::{Meant, Typedefs};
 use ynumber::Restriction;
 use yplan::Plan;
 use ytype::YType;
@@ -136,11 +137,16 @@ fn all_circles(alloc: Global, chains: &[Chain]) -> Result<Vec<bool>, AllocError>
     Ok(circles)
 }
 
-/// What the types of a plan's nodes mean and to what they refer.
-pub fn types_of<'t>(alloc: Global, plan: &Plan<'_, 't>) -> Result<Types<'t>, AllocError>
+/// What the types of a plan's nodes mean and to what they refer, given the typedefs of its statements.
+pub fn types_of<'t>(
+    alloc: Global,
+    plan: &Plan<'_, 't>,
+    typedefs: &Typedefs<'t>,
+) -> Result<Types<'t>, AllocError>
+    requires named { IsOf typedefs.now (view plan.now).modules }
     ensures { IfOk result (λ types. AreOf types (view plan.now)) }
 {
-    let meanings = meanings_of(alloc, plan)?;
+    let meanings = meanings_of(alloc, plan, typedefs)?;
     let chains = chains_of(alloc, meanings.targets.as_slice())?;
     let types = all_types(alloc, meanings.meant.as_slice(), chains.as_slice())?;
     let circles = all_circles(alloc, chains.as_slice())?;

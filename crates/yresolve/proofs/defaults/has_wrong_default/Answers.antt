@@ -10,11 +10,11 @@ use Rattle.yresolve.proofs.defaults.has_wrong_default.Goals as goal
 pub returns-in-Leaf : goal.returns-in-Leaf
 returns-in-Leaf c = λ key type.
     let p = planned_view c.args.number c.args.planned.now in
-    IfOk-weaker c.is_wrong_leaf.result _ _ (λ wrong so. so ∙ (ap₂ (wrong_leaf p) key type
-    ∙ leaf_as (view c.args.plan.now) p (ap keyword_view (sym c.in-Leaf.is) ∙ c.keyword.ensures))) (c.is_wrong_leaf.ensures c.args.number)
+    IfOk-weaker c.is_wrong_leaf.result _ _ (λ wrong so. so ∙ (ap₂ (wrong_leaf (view c.args.plan.now) p) key type
+    ∙ leaf_as (view c.args.plan.now) p (ap keyword_view (sym c.in-Leaf.is) ∙ c.keyword.ensures))) (c.is_wrong_leaf.ensures (view c.args.plan.now) c.args.number c.requires.named)
 
 pub returns-in-LeafList : goal.returns-in-LeafList
 returns-in-LeafList c = λ key type.
     let p = planned_view c.args.number c.args.planned.now in
-    IfOk-weaker c.is_wrong_leaf_list.result _ _ (λ wrong so. so ∙ (ap (wrong_leaf_list p) type
-    ∙ leaf_list_as (view c.args.plan.now) p (ap keyword_view (sym c.in-LeafList.is) ∙ c.keyword.ensures))) (c.is_wrong_leaf_list.ensures c.args.number)
+    IfOk-weaker c.is_wrong_leaf_list.result _ _ (λ wrong so. so ∙ (ap (wrong_leaf_list (view c.args.plan.now) p) type
+    ∙ leaf_list_as (view c.args.plan.now) p (ap keyword_view (sym c.in-LeafList.is) ∙ c.keyword.ensures))) (c.is_wrong_leaf_list.ensures (view c.args.plan.now) c.args.number c.requires.named)

@@ -7,18 +7,18 @@ use Rattle.yresolve.proofs.DefaultLemmas.{wrong_beside, wrong_refused}
 use Rattle.yresolve.proofs.defaults.is_wrong_default.Goals as goal
 
 pub returns-then-is_mandatory : goal.returns-then-is_mandatory
-returns-then-is_mandatory c = λ number.
-    let count : vec_len c.in_ok-texts.texts ≡ length c.in_ok-texts.texts.items = omega arith in
+returns-then-is_mandatory c = λ plan number named.
+    let count : vec_len c.in_ok-stated.stated ≡ length c.in_ok-stated.stated.items = omega arith in
     ap not (c.is_empty.ensures ∙ ap (λ n. n == 0) count)
-    ∙ wrong_beside (planned_view number c.args.planned.now) c.args.value_type.now c.in_ok-texts.texts.items (c.in_ok-texts.ensures number)
+    ∙ wrong_beside plan (planned_view number c.args.planned.now) c.args.value_type.now c.in_ok-stated.stated.items (c.in_ok-stated.ensures number)
     (sym (c.is_mandatory.ensures number) ∙ c.if-is_mandatory.true)
 
 pub returns : goal.returns
-returns c = λ number.
+returns c = λ plan number named.
     let type = c.args.value_type.now in
     let taken = c.in_ok-values.ensures ∙ ap (λ texts. filter_map (value_of_text type) (map (λ t. t.now) texts)) c.deref.ensures.value in
     let first : c.len.result ≡ length c.in_ok-values.values.items = omega (arith, c.len.ensures) in
     let second : c.len-2.result ≡ length c.in_ok-texts.texts.items = omega (arith, c.len-2.ensures) in
     ap₂ (λ m n. ltb m n) first second
-    ∙ wrong_refused (planned_view number c.args.planned.now) type c.in_ok-texts.texts.items (c.in_ok-texts.ensures number) c.in_ok-values.values.items taken
+    ∙ wrong_refused plan (planned_view number c.args.planned.now) type c.in_ok-texts.texts.items (c.in_ok-texts.ensures plan number named) c.in_ok-values.values.items taken
     (sym (c.is_mandatory.ensures number) ∙ c.if-is_mandatory.false)
