@@ -6,11 +6,17 @@ use Rattle.ytext.specs.declared.statement.Module.{Module}
 use Rattle.yspec.specs.Forest.{Forest}
 use Rattle.yspec.specs.text.Statement.{Statement}
 use Rattle.yspec.specs.schema.Breaks.{Break, broken, when, least_from, or_told, first_broken, last_module, limit_breaks}
-use Rattle.yspec.proofs.LinkingProofs.BreakLemmas.{some_told}
+use Rattle.yspec.proofs.LinkingProofs.BreakLemmas.{some_told, none_second}
+use Rattle.yspec.proofs.SchemaProofs.LeastLemmas.{least_of_both}
+use Rattle.std.proofs.lemmas.List.{append_assoc}
 use Rattle.yspec.specs.linking.Source.{Source, sources_of}
 use Rattle.yspec.specs.linking.StatementBreaks.{statement_phase}
 use Rattle.yspec.specs.linking.Planned.{Plan}
-use Rattle.yspec.specs.linking.Compiling.{phases, phases_of_sources, compiled, plan_of, schema_of, schema_of_plan}
+use Rattle.yspec.specs.linking.Imports.{import_breaks}
+use Rattle.yspec.specs.linking.Scopes.{lost_breaks}
+use Rattle.yspec.specs.linking.Circles.{import_circles, definition_circles}
+use Rattle.yspec.specs.linking.DerivedTypes.{type_breaks}
+use Rattle.yspec.specs.linking.Compiling.{names_phase, meanings_phase, phases, phases_of_sources, compiled, plan_of, schema_of, schema_of_plan}
 use Rattle.yschema.specs.Phases.{statement_part, source_part, plan_part, rule_part}
 
 -- the first phase that has one tells it
@@ -36,6 +42,27 @@ pub told_then : (first others : List (List Break)) → None ≡ first_broken fir
 told_then [] others none = refl
 told_then ([] ∷ phases) others none = told_then phases others none
 told_then ((x ∷ xs) ∷ phases) others none = absurd (some_told xs x (sym none))
+
+-- ---- names
+
+-- three lists, each told with what those before it tell
+pub three_told : (first second third : Option Break) (a b c d : List Break) → first ≡ least_from None (a ++ b) → second ≡ least_from first c
+    → third ≡ least_from second d → third ≡ least_from None (a ++ (b ++ (c ++ d)))
+three_told first second third a b c d first_is second_is third_is =
+    third_is ∙ (ap (λ t. least_from t d) second_is
+    ∙ (sym (least_of_both first c d) ∙ (ap (λ t. least_from t (c ++ d)) first_is
+    ∙ (sym (least_of_both None (a ++ b) (c ++ d)) ∙ ap (least_from None) (append_assoc a b (c ++ d))))))
+
+pub none_broken : (phase : List Break) → None ≡ least_from None phase → phase ≡ []
+none_broken [] none = refl
+none_broken (x ∷ xs) none = absurd (some_told xs x (sym none))
+
+-- no definition refers to itself where names mean something
+pub no_circles : (s : Forest Source) → None ≡ least_from None (meanings_phase s) → definition_circles s ≡ []
+no_circles s none =
+    none_second (import_circles s) (definition_circles s)
+    (none_second (lost_breaks s) (import_circles s ++ definition_circles s)
+    (none_second (import_breaks s) (lost_breaks s ++ (import_circles s ++ definition_circles s)) (none_broken (meanings_phase s) none)))
 
 -- ---- limits
 
@@ -78,6 +105,21 @@ module _ (f : Forest Statement) where
       pub in_sources : (b : Break) → Some b ≡ first_broken (source_part f s) → compiled f ≡ Err b
       in_sources b e = refused_as f b (told_first (source_part f s) (plan_part f p ++ rule_part f p) b e
           ∙ (sym (told_then (statement_part f) (source_part f s ++ (plan_part f p ++ rule_part f p)) first) ∙ ap first_broken parts))
+
+      pub in_names : (b : Break) → Some b ≡ least_from None (names_phase f s) → compiled f ≡ Err b
+      in_names b e = in_sources b (told_here (names_phase f s) _ b e)
+
+      module _ (names : None ≡ least_from None (names_phase f s)) where
+        pub in_meanings : (b : Break) → Some b ≡ least_from None (meanings_phase s) → compiled f ≡ Err b
+        in_meanings b e = in_sources b (told_here (meanings_phase s) _ b e ∙ sym (told_later (names_phase f s) _ names))
+
+        module _ (meanings : None ≡ least_from None (meanings_phase s)) where
+          pub of_types : (t : Option Break) → t ≡ least_from None (type_breaks s) → t ≡ first_broken (source_part f s)
+          of_types t e = e ∙ (sym (told_last (type_breaks s))
+              ∙ (sym (told_later (meanings_phase s) _ meanings) ∙ sym (told_later (names_phase f s) _ names)))
+
+          pub in_types : (b : Break) → Some b ≡ least_from None (type_breaks s) → compiled f ≡ Err b
+          in_types b e = in_sources b (of_types (Some b) e)
 
       module _ (second : None ≡ first_broken (source_part f s)) where
         pub in_plan : (b : Break) → Some b ≡ first_broken (plan_part f p) → compiled f ≡ Err b

@@ -5,7 +5,7 @@ use Rattle.yspec.specs.text.Statement.{Statement}
 use Rattle.yspec.specs.schema.Breaks.{Break, limit_breaks, node_limit}
 use Rattle.yspec.specs.linking.Source.{Source}
 use Rattle.yspec.specs.linking.StatementBreaks.{statement_phase}
-use Rattle.yspec.specs.linking.TypeStatements.{type_breaks}
+use Rattle.yspec.specs.linking.DerivedTypes.{type_breaks}
 use Rattle.yspec.specs.linking.Planned.{Plan}
 use Rattle.yspec.specs.linking.NodeBreaks.{name_breaks, node_breaks}
 use Rattle.yspec.specs.linking.Compiling.{is_too_deep, names_phase, meanings_phase}

@@ -13,6 +13,7 @@ ghost use Rattle.yspec.specs.linking.Source.{sources_of};
 ghost use Rattle.ytext.specs.View.{modules_view};
 ghost use Rattle.ygrammar.specs.LinkView as link;
 ghost use Rattle.yplan.specs.PlanView as plans;
+ghost use Rattle.ylink.specs.TypedefView as typedefs_of;
 ghost use Rattle.yresolve.specs.ResolvedView.{IsOf};
 ghost use Rattle.ygrammar.specs.SourceView.{source_view};
 ghost use Rattle.ypreorder.specs.View.{row_by, label_by};
@@ -30,9 +31,11 @@ use ygrammar::{
     BrokenRule, CompileCode, Source, Sources, argument_of, argument_with, broken,
     broken_statement_rule,
 };
-use ylink::{broken_meaning_rule, broken_type_rule};
+use ylink::{Typedefs, broken_type_rule};
 use ymodel::{Schema, SchemaModule};
-use ynames::broken_prefix_rule;
+use ynames::{
+    Prefixes, broken_meaning_rule, broken_prefix_rule, broken_taken_rule, holders_of, meanings_of,
+};
 use yplan::{Plan, broken_name_rule};
 use ypreorder::Node;
 use yresolve::{Resolved, broken_node_rule};
@@ -40,8 +43,8 @@ use ytext::Module;
 use yword::Keyword;
 
 /// The schema of a set of modules, or the least broken rule, by module, line and number, of the first phase that has one.
-/// Phases: the table of statements; prefixes and names of modules; imports and names of types; types; the number of nodes;
-/// names of siblings; what nodes state and refer to; levels. Of no modules it is a schema without nodes.
+/// Phases: the table of statements; prefixes, and names of modules and definitions; imports, and what names mean; types; the
+/// number of nodes; names of siblings; what nodes state and refer to; levels. Of no modules it is a schema without nodes.
 pub fn compile(alloc: Global, modules: &[Module]) -> Result<Schema, CompileFault>
     ensures exact { Gives view told_by result (compiled (modules_view modules.now)) }
     ensures names { IfOk result (λ schema. NamesDiffer (view schema)) }
@@ -65,19 +68,49 @@ fn compile_sources(
     requires first { None ≡ first_broken (statement_part (modules_view modules.now)) }
     ensures { Gives view told_by result (compiled (modules_view modules.now)) }
 {
-    if let Some(found) = broken_source_rule(alloc, modules, sources)? {
+    if let Some(found) = broken_names_rule(alloc, modules, sources)? {
+        return Err(CompileFault::from(found));
+    }
+    let prefixes = Prefixes::of(alloc, sources)?;
+    let meanings = meanings_of(alloc, sources, &prefixes)?;
+    let holders = holders_of(alloc, sources)?;
+    if let Some(found) = broken_meaning_rule(alloc, sources, &holders, &meanings)? {
+        return Err(CompileFault::from(found));
+    }
+    let typedefs = Typedefs::of(alloc, sources, &holders, meanings)?;
+    compile_types(alloc, modules, sources, typedefs)
+}
+
+/// Compiles modules whose names are right.
+fn compile_types<'t>(
+    alloc: Global,
+    modules: &[Module],
+    sources: &Sources<'t>,
+    typedefs: Typedefs<'t>,
+) -> Result<Schema, CompileFault>
+    requires made { link.view sources.now ≡ sources_of (modules_view modules.now) }
+    requires named { typedefs_of.IsOf typedefs (link.view sources.now) }
+    requires first { None ≡ first_broken (statement_part (modules_view modules.now)) }
+    requires names { None
+        ≡ least_from None (spec.names_phase (modules_view modules.now) (link.view sources.now)) }
+    requires meanings { None ≡ least_from None (spec.meanings_phase (link.view sources.now)) }
+    ensures { Gives view told_by result (compiled (modules_view modules.now)) }
+{
+    if let Some(found) = broken_type_rule(alloc, sources, &typedefs)? {
         return Err(CompileFault::from(found));
     }
     let plan = Plan::of(alloc, sources)?;
-    compile_plan(alloc, modules, &plan)
+    compile_plan(alloc, modules, &plan, typedefs)
 }
 
-/// Compiles modules whose prefixes and types are right.
-fn compile_plan(
+/// Compiles modules whose names and types are right.
+fn compile_plan<'t>(
     alloc: Global,
     modules: &[Module],
-    plan: &Plan<'_, '_>,
+    plan: &Plan<'_, 't>,
+    typedefs: Typedefs<'t>,
 ) -> Result<Schema, CompileFault>
+    requires named { typedefs_of.IsOf typedefs (plans.view plan.now).modules }
     requires made { plans.view plan.now ≡ spec.plan_of (sources_of (modules_view modules.now)) }
     requires first { None ≡ first_broken (statement_part (modules_view modules.now)) }
     requires second { None ≡ first_broken
@@ -87,7 +120,7 @@ fn compile_plan(
     if let Some(found) = broken_plan_rule(modules, plan) {
         return Err(CompileFault::from(found));
     }
-    let resolved = Resolved::of(alloc, plan)?;
+    let resolved = Resolved::of(alloc, plan, typedefs)?;
     compile_rules(alloc, modules, plan, &resolved)
 }
 
@@ -113,23 +146,18 @@ fn compile_rules<'t>(
     Ok(build(alloc, plan, resolved)?)
 }
 
-/// The rule that is told of prefixes and names of modules, of imports and names of types, or of types.
-fn broken_source_rule(
+/// The rule that is told of prefixes, or of names of modules and definitions.
+fn broken_names_rule(
     alloc: Global,
     modules: &[Module],
     sources: &Sources<'_>,
 ) -> Result<Option<BrokenRule>, AllocError>
-    ensures { let s = link.view sources.now in
-        IfOk result (λ told. seen told ≡ first_broken (source_part (modules_view modules.now) s)) }
+    ensures { let s = link.view sources.now in IfOk result (λ told. seen told
+        ≡ least_from None (spec.names_phase (modules_view modules.now) s)) }
 {
     let prefix = broken_prefix_rule(alloc, sources)?;
-    if let Some(found) = repeated_module(alloc, modules, prefix)? {
-        return Ok(Some(found));
-    }
-    if let Some(found) = broken_meaning_rule(alloc, sources)? {
-        return Ok(Some(found));
-    }
-    broken_type_rule(alloc, sources)
+    let repeated = repeated_module(alloc, modules, prefix)?;
+    broken_taken_rule(alloc, sources, repeated)
 }
 
 /// A limit that is passed is told at the module given last.

@@ -34,7 +34,7 @@ fn values_of<'a, 't>(
         ≡ spec.default_values (plan_view.view plan.now) (plans.node_view node.entry)) }
 {
     match resolved.value_type(node.number) {
-        Some(value_type) => default_values(alloc, value_type, &node.planned),
+        Some(value_type) => default_values(alloc, resolved, value_type, &node.planned),
         None => Ok(Vec::new(alloc)),
     }
 }

@@ -10,10 +10,10 @@ pub returns-in-Some : goal.returns-in-Some
 returns-in-Some c =
     let p = node_view c.args.node in
     let type = c.in-Some.ensures (view c.args.plan.now) p c.requires.of_plan c.requires.stands in
-    IfOk-weaker c.default_values.result _ _ (λ values so. so ∙ ap (λ t. made_by t (default_texts p)) type) (c.default_values.ensures c.args.node.number)
+    IfOk-weaker c.default_values.result _ _ (λ values so. so ∙ ap (λ t. made_by t (default_texts (view c.args.plan.now) p)) type) (c.default_values.ensures (view c.args.plan.now) c.args.node.number c.requires.of_plan)
 
 pub returns-in-None : goal.returns-in-None
 returns-in-None c =
     let p = node_view c.args.node in
     let type = c.in-None.ensures (view c.args.plan.now) p c.requires.of_plan c.requires.stands in
-    c.new.ensures.items ∙ (nothing_made (default_texts p) ∙ ap (λ t. made_by t (default_texts p)) type)
+    c.new.ensures.items ∙ (nothing_made (default_texts (view c.args.plan.now) p) ∙ ap (λ t. made_by t (default_texts (view c.args.plan.now) p)) type)
