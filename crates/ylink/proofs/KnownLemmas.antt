@@ -1,6 +1,6 @@
 -- What is known of a typedef rests on what is known of those alone that its `type` statements name.
 use Rattle.std.proofs.Common.{◌≡◌, ℕ, zero, suc, Bool, true, false, cond, List, [], ◌∷◌, ◌++◌, Option, Some, None, refl, sym, ap, ap₂, ◌∙◌, arith, subst}
-use Rattle.std.specs.Prelude.{⊤, option_map, option_and_then, find, ◌==◌, ◌&&◌}
+use Rattle.std.specs.Prelude.{⊤, option_map, option_and_then, find, ◌==◌, ◌&&◌, ◌||◌}
 use Rattle.std.specs.List.{Contains, list_any, filter_map, cons_option}
 use Rattle.std.specs.Option.{option_map_or}
 use Rattle.std.proofs.lemmas.Bool.Decides.{Decides-eqb}
@@ -34,18 +34,20 @@ module _ (modules : Forest Source) (f g : ℕ → Known) where
   same_verdicts : (row : Forest Source) → Agree row → verdicts modules (verdict_by f) row ≡ verdicts modules (verdict_by g) row
   unfolding verdicts
   same_verdicts end a = refl
-  same_verdicts (node s below after) a = by (is_source_of type_word s) refl
+  same_verdicts (node s below after) a = by (is_source_of type_word s) refl (λ own. same_verdicts below own) (same_verdicts after a.1)
     where
       by : (b : Bool) → is_source_of type_word s ≡ b
+          → (Agree below → verdicts modules (verdict_by f) below ≡ verdicts modules (verdict_by g) below)
+          → verdicts modules (verdict_by f) after ≡ verdicts modules (verdict_by g) after
           → cond b (verdict modules (verdict_by f) true s below (verdicts modules (verdict_by f) below) ∷ verdicts modules (verdict_by f) after) (verdicts modules (verdict_by f) after)
           ≡ cond b (verdict modules (verdict_by g) true s below (verdicts modules (verdict_by g) below) ∷ verdicts modules (verdict_by g) after) (verdicts modules (verdict_by g) after)
-      by true is =
+      by true is inner rest =
           let own = a.0 is in
           ap₂ (λ v vs. v ∷ vs)
           (ap₂ (λ (k : Known) vs. option_map_or (λ type. cond (are_in_place type below) (verdict_in_place true s type below vs) wrong)
-          (built_in_meant modules s) (derived true below k.verdict)) own.0 (same_verdicts below own.1))
-          (same_verdicts after a.1)
-      by false is = same_verdicts after a.1
+          (built_in_meant modules s) (derived true below k.verdict)) own.0 (inner own.1))
+          rest
+      by false is inner rest = rest
 
   pub same_verdict : (is_member : Bool) (s : Source) (below : Forest Source) → f s.number ≡ g s.number → Agree below
       → verdict_on modules (verdict_by f) is_member s below ≡ verdict_on modules (verdict_by g) is_member s below
@@ -60,12 +62,13 @@ module _ (modules : Forest Source) (f g : ℕ → Known) where
   pub agree_found : (row : Forest Source) → Agree row → (t : Source × Forest Source) → found_with type_word row ≡ Some t
       → (f t.0.number ≡ g t.0.number) × Agree t.1
   agree_found end a t e = absurd cc
-  agree_found (node s below after) a t e = by (is_source_of type_word s) refl e
+  agree_found (node s below after) a t e = by (is_source_of type_word s) refl e (λ later. agree_found after a.1 t later)
     where
       by : (b : Bool) → is_source_of type_word s ≡ b → cond b (Some (s, below)) (found_with type_word after) ≡ Some t
+          → (found_with type_word after ≡ Some t → (f t.0.number ≡ g t.0.number) × Agree t.1)
           → (f t.0.number ≡ g t.0.number) × Agree t.1
-      by true is e = let same : (s, below) ≡ t = cc in subst (λ (u : Source × Forest Source). (f u.0.number ≡ g u.0.number) × Agree u.1) same (a.0 is)
-      by false is e = agree_found after a.1 t e
+      by true is e rest = let same : (s, below) ≡ t = cc in subst (λ (u : Source × Forest Source). (f u.0.number ≡ g u.0.number) × Agree u.1) same (a.0 is)
+      by false is e rest = rest e
 
   pub same_in_row : (row : Forest Source) → Agree row → known_in_row modules f row ≡ known_in_row modules g row
   same_in_row row a = by (found_with type_word row) refl
@@ -95,21 +98,21 @@ module _ (modules : Forest Source) (f g : ℕ → Known) where
               all p (0, omega arith, refl) is (sym (ap (λ k. option_and_then (λ kind. innermost kind p) (kind_named k)) word) ∙ inner),
               agree_below d ((s, below) ∷ ancestors) below
                   (sym (ap (λ k. option_map (λ (a : Source × Forest Source). a.0.number) (cond (same_keyword typedef_word k) (Some (s, below)) (find (λ (a : Source × Forest Source). is_source_of typedef_word a.0) ancestors))) word) ∙ inner)
-                  (λ q at. all q (let inside = Contains-append_left under behind q at in let within = inside.1.0 in (suc inside.0, omega (arith, within), inside.1.1))),
+                  (λ q at. all q (let inside = Contains-append_left under behind q at in let within = inside.1 in (suc inside.0, omega (arith, within), inside.2))),
             )),
         agree_below d ancestors after inner
-            (λ q at. all q (let inside = Contains-append_right under behind q at in let within = inside.1.0 in (suc inside.0, omega (arith, within), inside.1.1))),
+            (λ q at. all q (let inside = Contains-append_right under behind q at in let within = inside.1 in (suc inside.0, omega (arith, within), inside.2))),
       )
 
 -- ---- edges
 
 edge_among : (h : Placed → Option Edge) (ps : List Placed) (p : Placed) (a b : ℕ) → Contains ps p → h p ≡ Some (record { source = a; target = b })
     → has_edge (filter_map h ps) a b ≡ true
-edge_among h [] p a b at e = absurd (let within = at.1.0 in omega (arith, within))
+edge_among h [] p a b at e = absurd (let within = at.1 in omega (arith, within))
 edge_among h (q ∷ ps) p a b (zero, within, is) e = ap (λ o. has_edge (cons_option o (filter_map h ps)) a b) (ap h is ∙ e)
     ∙ first ((a == a) && (b == b)) (ap₂ (λ x y. x && y) ((Decides-eqb a a).1 refl) ((Decides-eqb b b).1 refl))
   where
-    first : (x : Bool) → x ≡ true → cond x true (has_edge (filter_map h ps) a b) ≡ true
+    first : (x : Bool) → x ≡ true → (x || has_edge (filter_map h ps) a b) ≡ true
     first true is = refl
     first false is = absurd cc
 edge_among h (q ∷ ps) p a b (suc k, within, is) e = by (h q) (edge_among h ps p a b (k, omega (arith, within), is) e)
@@ -118,7 +121,7 @@ edge_among h (q ∷ ps) p a b (suc k, within, is) e = by (h q) (edge_among h ps 
     by None rest = rest
     by (Some x) rest = or_right (leads a b x) rest
       where
-        or_right : (y : Bool) → has_edge (filter_map h ps) a b ≡ true → cond y true (has_edge (filter_map h ps) a b) ≡ true
+        or_right : (y : Bool) → has_edge (filter_map h ps) a b ≡ true → (y || has_edge (filter_map h ps) a b) ≡ true
         or_right true rest = refl
         or_right false rest = rest
 

@@ -1,3 +1,5 @@
 pub mod KnownLemmas
+pub mod OrderLemmas
 pub mod PlacedLemmas
 pub mod TypeLemmas
+pub mod WithinLemmas

@@ -68,6 +68,15 @@ number_from k [] are i within d = absurd (omega arith)
 number_from k (p ∷ ps) are zero within d = are.0 ∙ omega arith
 number_from k (p ∷ ps) are (suc i) within d = let same : (k + 1) + i ≡ k + suc i = omega arith in number_from (k + 1) ps are.1 i (omega arith) d ∙ same
 
+found_among : (n : ℕ) (p : Placed) (ps : List Placed) → find (λ q. q.source.number == n) ps ≡ Some p → Contains ps p × (p.source.number ≡ n)
+found_among n p [] e = absurd cc
+found_among n p (q ∷ qs) e = by (q.source.number == n) refl e (λ later. found_among n p qs later)
+  where
+    by : (b : Bool) → (q.source.number == n) ≡ b → cond b (Some q) (find (λ r. r.source.number == n) qs) ≡ Some p
+        → (find (λ r. r.source.number == n) qs ≡ Some p → Contains qs p × (p.source.number ≡ n)) → Contains (q ∷ qs) p × (p.source.number ≡ n)
+    by true is e rest = let same : q ≡ p = cc in ((0, omega arith, same), sym (ap (λ (r : Placed). r.source.number) same) ∙ (Decides-eqb q.source.number n).0 is)
+    by false is e rest = let found = rest e in let at = found.0 in let within = at.1 in ((suc at.0, omega (arith, within), at.2), found.1)
+
 -- ---- a set of modules
 
 module _ (f : Forest held.Source) where
@@ -75,28 +84,23 @@ module _ (f : Forest held.Source) where
   modules = numbered_by source_view 0 f
 
   pub found_at : (n : ℕ) → statement_at modules n ≡ slice_get (statements_of modules) n
-  found_at n = found_from 0 (statements_of modules) (are_from [] 0 f) n
+  found_at n =
+      let plain : n ≡ 0 + n = omega arith in
+      ap (λ m. find (λ p. p.source.number == m) (statements_of modules)) plain ∙ found_from 0 (statements_of modules) (are_from [] 0 f) n
 
   -- each of its statements is the one that has its number
   pub stands_at : (p : Placed) → Contains (statements_of modules) p → statement_at modules p.source.number ≡ Some p
   stands_at p at =
       let ps = statements_of modules in
-      let within = at.1.0 in
-      let is = at.1.1 in
-      let number : p.source.number ≡ at.0 = sym (ap (λ (q : Placed). q.source.number) is) ∙ number_from 0 ps (are_from [] 0 f) at.0 within p in
+      let within = at.1 in
+      let is = at.2 in
+      let plain : 0 + at.0 ≡ at.0 = omega arith in
+      let number : p.source.number ≡ at.0 = sym (ap (λ (q : Placed). q.source.number) is) ∙ (number_from 0 ps (are_from [] 0 f) at.0 within p ∙ plain) in
       ap (statement_at modules) number ∙ (found_at at.0 ∙ (slice_get-get_or ps at.0 p within ∙ ap (λ q. Some q) is))
 
   -- and is among them
   pub among_them : (n : ℕ) (p : Placed) → statement_at modules n ≡ Some p → Contains (statements_of modules) p × (p.source.number ≡ n)
-  among_them n p e = found (statements_of modules) e
-    where
-      found : (ps : List Placed) → find (λ q. q.source.number == n) ps ≡ Some p → Contains ps p × (p.source.number ≡ n)
-      found [] e = absurd cc
-      found (q ∷ qs) e = by (q.source.number == n) refl e
-        where
-          by : (b : Bool) → (q.source.number == n) ≡ b → cond b (Some q) (find (λ r. r.source.number == n) qs) ≡ Some p → Contains (q ∷ qs) p × (p.source.number ≡ n)
-          by true is e = let same : q ≡ p = cc in ((0, omega arith, same), sym (ap (λ (r : Placed). r.source.number) same) ∙ (Decides-eqb q.source.number n).0 is)
-          by false is e = let rest = found qs e in let at = rest.0 in let within = at.1.0 in ((suc at.0, omega (arith, within), at.1.1), rest.1)
+  among_them n p e = found_among n p (statements_of modules) e
 
   pub number_named_at : (meanings : List (Option ℕ)) → AreMeanings meanings modules → (n : ℕ) → number_named modules n ≡ meaning_at meanings n
   number_named_at meanings are n =
@@ -133,14 +137,14 @@ module _ (f : Forest held.Source) where
 pub below_them : (ancestors : List (Source × Forest Source)) (f : Forest Source) (p q : Placed) → Contains (placed ancestors f) p
     → Contains (placed ((p.source, p.below) ∷ p.ancestors) p.below) q → Contains (placed ancestors f) q
 unfolding placed
-below_them ancestors end p q at inside = absurd (let within = at.1.0 in omega (arith, within))
+below_them ancestors end p q at inside = absurd (let within = at.1 in omega (arith, within))
 below_them ancestors (node s below after) p q (zero, within, is) inside =
     let under = placed ((s, below) ∷ ancestors) below in
     let own = subst (λ (r : Placed). Contains (placed ((r.source, r.below) ∷ r.ancestors) r.below) q) (sym is) inside in
     later (placed_at s below ancestors) (under ++ placed ancestors after) q (Contains-append_left under (placed ancestors after) q own)
   where
     later : (r : Placed) (ps : List Placed) (q : Placed) → Contains ps q → Contains (r ∷ ps) q
-    later r ps q at = let within = at.1.0 in (suc at.0, omega (arith, within), at.1.1)
+    later r ps q at = let within = at.1 in (suc at.0, omega (arith, within), at.2)
 below_them ancestors (node s below after) p q (suc k, within, is) inside =
     let under = placed ((s, below) ∷ ancestors) below in
     let behind = placed ancestors after in
@@ -148,5 +152,5 @@ below_them ancestors (node s below after) p q (suc k, within, is) inside =
     (λ at. Contains-append_left under behind q (below_them ((s, below) ∷ ancestors) below p q at inside))
     (λ at. Contains-append_right under behind q (below_them ancestors after p q at inside))
     (Contains-append_cases under behind p (k, omega (arith, within), is)) in
-    let within_them = among.1.0 in
-    (suc among.0, omega (arith, within_them), among.1.1)
+    let within_them = among.1 in
+    (suc among.0, omega (arith, within_them), among.2)

@@ -9,7 +9,7 @@ use Rattle.yspec.specs.linking.Arguments.{Name}
 use Rattle.yspec.specs.linking.Source.{Source, is_source_of, argument_in, first_with}
 use Rattle.yspec.specs.linking.TypeStatements as spec
 use Rattle.yspec.specs.linking.TypeStatements.{namings, verdicts, verdict, told, type_breaks_in, member_types, union_verdict, single_type}
-use Rattle.std.specs.Prelude.{◌==◌, ℕ, is_some, length, map, not, option_map}
+use Rattle.std.specs.Prelude.{◌==◌, ℕ, is_some, length, map, not, option_map, option_and_then}
 use Rattle.std.specs.Option.{option_map_or}
 use Rattle.yspec.specs.types.Types.{YangType}
 use Rattle.yspec.specs.types.Restriction.{union_type}
@@ -167,3 +167,15 @@ made_plain spec.enumeration end plain none = absurd (let clash : false ≡ true 
 made_plain spec.bits end plain none = absurd (let clash : false ≡ true = plain in cc)
 made_plain spec.union end plain none = absurd (let clash : false ≡ true = plain in cc)
 made_plain spec.leafref end plain none = absurd (let clash : false ≡ true = plain in cc)
+
+-- ---- restrictions of a type, one after another
+
+pub restricted_more : (s : Source) (below after before : Forest Source) (m : spec.Meant) (made : Option spec.Meant) → before ≡ node s below after
+    → made ≡ spec.restricted_by s below m → option_and_then (spec.restricted_in after) made ≡ spec.restricted_in before m
+unfolding spec.restricted_in
+restricted_more s below after before m made first is =
+    ap (option_and_then (spec.restricted_in after)) is ∙ sym (ap (λ f. spec.restricted_in f m) first)
+
+pub restricted_all : (left : Forest Source) (m : spec.Meant) → left ≡ end → Some m ≡ spec.restricted_in left m
+unfolding spec.restricted_in
+restricted_all left m ended = sym (ap (λ f. spec.restricted_in f m) ended)

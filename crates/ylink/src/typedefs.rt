@@ -209,8 +209,8 @@ impl<'t> Typedefs<'t> {
         let order = in_order(alloc, rows.len(), &edges)?;
         let known = none_known(alloc, rows.len())?;
         let mut typedefs = Typedefs { meanings, known };
-        for number in order {
-            typedefs.learn(alloc, sources, number, row_of(&rows, number))?;
+        for number in &order {
+            typedefs.learn(alloc, sources, *number, row_of(&rows, *number))?;
         }
         Ok(typedefs)
     }

@@ -32,8 +32,8 @@ loop-statement-preserved-then-not-is_type t c =
     let other : same_keyword type_word s.keyword ≡ false = sym keyword ∙ first_of (search rules, cc) in
     let inner : seen c.in_ok-told.told ≡ least_from so_far (type_breaks_in modules named (same_keyword type_word s.keyword) below) =
     c.in_ok-told.ensures
-    ∙ (ap (λ b. least_from so_far (type_breaks_in modules named b (row_by source_view c.children.result))) keyword
-    ∙ ap (λ n. least_from so_far (type_breaks_in modules named (same_keyword type_word s.keyword) (row_by source_view n))) c.children.ensures) in
+    ∙ (ap (λ b. least_from so_far (type_breaks_in modules named b (row_by source_view c.children-below.result))) keyword
+    ∙ ap (λ n. least_from so_far (type_breaks_in modules named (same_keyword type_word s.keyword) (row_by source_view n))) c.children-below.ensures) in
     record {
       more = tt;
       ends = tt;
@@ -61,8 +61,8 @@ loop-statement-preserved t c =
     let stands : same_keyword type_word s.keyword ≡ true = sym keyword ∙ is_type in
     let inner : mid ≡ least_from so_far (type_breaks_in modules named (same_keyword type_word s.keyword) below) =
     c.in_ok-told.ensures
-    ∙ (ap (λ b. least_from so_far (type_breaks_in modules named b (row_by source_view c.children.result))) keyword
-    ∙ ap (λ n. least_from so_far (type_breaks_in modules named (same_keyword type_word s.keyword) (row_by source_view n))) c.children.ensures) in
+    ∙ (ap (λ b. least_from so_far (type_breaks_in modules named b (row_by source_view c.children-below.result))) keyword
+    ∙ ap (λ n. least_from so_far (type_breaks_in modules named (same_keyword type_word s.keyword) (row_by source_view n))) c.children-below.ensures) in
     let judged : seen c.least_when-told.result ≡ least_from mid (when (is_wrong v) (broken 10 s.home s.statement.line)) =
     c.least_when-told.ensures
     ∙ (ap (λ w. least_from mid (when w (break_view c.broken.result ∷ []))) c.in_ok-wrong.ensures

@@ -10,9 +10,6 @@ use Rattle.ylink.specs.TypeView.{is_wrong}
 use Rattle.ylink.specs.TypedefView.{verdicts_in}
 use Rattle.ylink.proofs.judging.is_wrong.Goals as goal
 
-pub returns-in-None : goal.returns-in-None
-returns-in-None c = search rules
-
 pub returns : goal.returns
 returns c =
     let modules = view c.args.sources.now in
