@@ -1,10 +1,8 @@
-use Rattle.std.proofs.Common.{◌≡◌, None, refl, sym, ap, subst, ◌∙◌}
+use Rattle.std.proofs.Common.{refl, sym, ap, subst, ◌∙◌}
 use Rattle.ytext.specs.View.{modules_view}
 use Rattle.yspec.specs.Results.{Fails}
 use Rattle.yspec.specs.linking.Compiling.{compiled, plan_of}
 use Rattle.ygrammar.specs.LinkView as link
-use Rattle.ynames.specs.MeaningView.{AreMeanings}
-use Rattle.ynames.specs.ReferringView.{AreReferring}
 use Rattle.yschema.specs.Told.{seen, told_by, break_view}
 use Rattle.yschema.proofs.ToldLemmas.{in_names, in_meanings, no_circles}
 use Rattle.yschema.proofs.building.compile_sources.Goals as goal
@@ -15,3 +13,19 @@ returns-in-Some c =
     let s = link.view c.args.sources.now in
     subst (λ fault. Fails (told_by fault) (compiled f)) (sym c.from.ensures)
     (in_names f s c.requires.made (plan_of s) refl c.requires.first (break_view c.in-Some.found) (sym (ap seen c.in-Some.is) ∙ c.in_ok-found.ensures))
+
+pub returns-in-Some-2 : goal.returns-in-Some-2
+returns-in-Some-2 c =
+    let f = modules_view c.args.modules.now in
+    let s = link.view c.args.sources.now in
+    let meant = c.in_ok-found-2.ensures (c.deref.ensures.value ∙ c.in_ok-holders.ensures)
+    (c.deref-2.ensures.value ∙ c.in_ok-meanings.ensures c.in_ok-prefixes.ensures) in
+    subst (λ fault. Fails (told_by fault) (compiled f)) (sym c.from-in-Some-2.ensures)
+    (in_meanings f s c.requires.made (plan_of s) refl c.requires.first (sym (ap seen c.in_default.is) ∙ c.in_ok-found.ensures)
+    (break_view c.in-Some-2.found) (sym (ap seen c.in-Some-2.is) ∙ meant))
+
+pub of-requires-2-clause-straight : goal.of-requires-2-clause-straight
+of-requires-2-clause-straight c =
+    let meant = c.in_ok-found-2.ensures (c.deref.ensures.value ∙ c.in_ok-holders.ensures)
+    (c.deref-2.ensures.value ∙ c.in_ok-meanings.ensures c.in_ok-prefixes.ensures) in
+    no_circles (link.view c.args.sources.now) (sym (ap seen c.in_default-2.is) ∙ meant)
