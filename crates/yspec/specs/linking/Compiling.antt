@@ -55,15 +55,18 @@ abbrev pub meanings_phase : Forest Source → List Break
 meanings_phase sources =
     import_breaks sources ++ (lost_breaks sources ++ (import_circles sources ++ definition_circles sources))
 
-abbrev pub phases_of_sources : Forest Statement → Forest Source → List (List Break)
-phases_of_sources modules sources = names_phase modules sources
-    ∷ meanings_phase sources
-    ∷ type_breaks sources
-    ∷ phases_of_plan modules (plan_of sources)
+-- The rules broken in each phase of linking, of the row of `module` statements.
+abbrev pub linking_phases : Forest Statement → List (List Break)
+linking_phases modules = let sources = sources_of modules in
+    statement_phase modules ∷ names_phase modules sources ∷ meanings_phase sources ∷ type_breaks sources ∷ []
 
--- The rules broken in each phase, of the row of `module` statements. A code is told only where no earlier phase has one.
+-- the statements of a set of modules that links, or what is told
+unfoldable pub linked : Forest Statement → Result (Forest Source) Break
+linked modules = option_map_or Err (first_broken (linking_phases modules)) (Ok (sources_of modules))
+
+-- The rules broken in each phase of compiling. A code is told only where no earlier phase has one.
 abbrev pub phases : Forest Statement → List (List Break)
-phases modules = statement_phase modules ∷ phases_of_sources modules (sources_of modules)
+phases modules = linking_phases modules ++ phases_of_plan modules (plan_of (sources_of modules))
 
 -- the schema of a set of modules, or what is told
 unfoldable pub compiled : Forest Statement → Result Schema Break

@@ -1,12 +1,14 @@
 -- What typedefs mean, each by way of those that it names, and so `type` statements: types, and defaults (RFC 7950, 7.3 and 9).
-use Rattle.std.specs.Prelude.{ℕ, zero, suc, false, List, Option, Some, None, option_map, option_and_then, if◌then◌else◌}
+use Rattle.std.specs.Prelude.{ℕ, zero, suc, Bool, false, List, [], ◌∷◌, Option, Some, None, option_map, option_and_then, if◌then◌else◌}
+use Rattle.std.specs.List.{flat_map}
 use Rattle.std.specs.Option.{option_map_or}
 use Rattle.yspec.specs.Forest.{Forest, size, first_of}
 use Rattle.yspec.specs.text.Text.{Text}
+use Rattle.yspec.specs.types.Types.{YangType}
 use Rattle.yspec.specs.linking.Keyword as word
 use Rattle.yspec.specs.linking.Source.{Source, is_source_of, argument_with, found_with}
-use Rattle.yspec.specs.linking.TypeStatements.{Meant, Verdict, unjudged, verdict_on, meaning_of, type_breaks_in}
-use Rattle.yspec.specs.linking.Scopes.{statement_at, meaning}
+use Rattle.yspec.specs.linking.TypeStatements.{Meant, Verdict, unjudged, verdict_on, meaning_of, own_type, told}
+use Rattle.yspec.specs.linking.Scopes.{Placed, statements_of, statement_at, meaning}
 use Rattle.yspec.specs.schema.Breaks.{Break}
 
 -- what is known of a typedef: the verdict on its `type` statement, and the default that it has, or else its type
@@ -53,16 +55,36 @@ known_within modules (suc steps) number =
 abbrev pub known_named : Forest Source → ℕ → Known
 known_named modules = named modules (known_within modules (size modules))
 
--- ---- what a `type` statement means
+-- ---- `type` statements where they stand
 
--- one that is no member of a union, with what is below it
-abbrev pub type_meant : Forest Source → Source → Forest Source → Option Meant
-type_meant modules s below = meaning_of (verdict_on modules (verdict_by (known_named modules)) false s below)
+-- one that stands right below another is a member of a union
+abbrev pub is_member : List (Source × Forest Source) → Bool
+is_member [] = false
+is_member (a ∷ ancestors) = is_source_of word.type_word a.0
+
+abbrev pub verdict_of : Forest Source → Placed → Verdict
+verdict_of modules p = verdict_on modules (verdict_by (known_named modules)) (is_member p.ancestors) p.source p.below
+
+-- what a statement means that is a `type` statement
+abbrev pub meant_by : Forest Source → Placed → Option Meant
+meant_by modules p = if is_source_of word.type_word p.source then meaning_of (verdict_of modules p) else None
+
+-- what the `type` statement of a number means
+abbrev pub type_meant : Forest Source → ℕ → Option Meant
+type_meant modules number = option_and_then (meant_by modules) (statement_at modules number)
+
+-- the type of a `type` statement of a number that refers to no other node
+abbrev pub type_stated : Forest Source → ℕ → Option YangType
+type_stated modules number = option_and_then own_type (type_meant modules number)
 
 -- the default that the typedef has which it names
 abbrev pub default_meant : Forest Source → Source → Option Text
 default_meant modules s = (known_named modules s.number).default
 
--- C10
+-- ---- C10
+
+abbrev pub type_break : Forest Source → Placed → List Break
+type_break modules p = if is_source_of word.type_word p.source then told p.source (verdict_of modules p) else []
+
 abbrev pub type_breaks : Forest Source → List Break
-type_breaks modules = type_breaks_in modules (verdict_by (known_named modules)) false modules
+type_breaks modules = flat_map (type_break modules) (statements_of modules)

@@ -6,7 +6,7 @@ use Rattle.yspec.specs.text.Text.{Text, is_text}
 use Rattle.yspec.specs.types.Types.{YangType}
 use Rattle.yspec.specs.linking.Keyword.{Keyword}
 use Rattle.yspec.specs.linking.Keyword as word
-use Rattle.yspec.specs.linking.Source.{Source, is_source_of, argument_in, argument_with, found_with}
+use Rattle.yspec.specs.linking.Source.{Source, is_source_of, argument_in, argument_with, first_with}
 use Rattle.yspec.specs.linking.Parts.{Part}
 use Rattle.yspec.specs.linking.Prefixes.{NodeName, node_name}
 use Rattle.yspec.specs.linking.TypeStatements.{Meant, own, of_target}
@@ -133,7 +133,7 @@ data_node_at plan scope (name ∷ next ∷ names) =
 
 -- what the `type` statement of a node means
 abbrev pub meant_in : Plan → Planned → Option Meant
-meant_in plan p = option_and_then (λ s. type_meant plan.modules s.0 s.1) (found_with word.type_word p.part.own)
+meant_in plan p = option_and_then (λ s. type_meant plan.modules s.number) (first_with word.type_word p.part.own)
 
 -- ---- leafrefs
 

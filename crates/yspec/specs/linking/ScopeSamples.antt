@@ -41,7 +41,7 @@ abbrev pub named_at : List Text → ℕ → Option ℕ
 named_at texts number = option_map (λ (s : Source). s.number) (asked_at meaning texts number)
 
 abbrev pub type_at : List Text → ℕ → Option Meant
-type_at texts number = asked_at (λ modules p. type_meant modules p.source p.below) texts number
+type_at texts number = type_meant (sources_in texts) number
 
 abbrev pub default_at : List Text → ℕ → Option Text
 default_at texts number = asked_at (λ modules p. default_meant modules p.source) texts number

@@ -72,6 +72,11 @@ pub data Meant : Type 0 where
   -- is required (RFC 7950, 9.9)
   of_target : ℕ → List Name → Bool → Meant
 
+-- the type that refers to no other node, if it is one
+abbrev pub own_type : Meant → Option YangType
+own_type (own type) = Some type
+own_type (of_target home steps required) = None
+
 pub data Verdict : Type 0 where
   means : Meant → Verdict
   -- it breaks a rule of its own
@@ -218,16 +223,7 @@ meaning_of _ = None
 
 -- ---- C10
 
+-- what a verdict tells of its statement
 abbrev pub told : Source → Verdict → List Break
 told s wrong = broken 10 s.home s.statement.line
 told s _ = []
-
-abbrev pub type_break : Forest Source → (ℕ → Verdict) → Bool → Source → Forest Source → List Break
-type_break modules named is_member s below = if is_source_of word.type_word s
-    then told s (verdict_on modules named is_member s below) else []
-
--- the `type` statements of a row that break a rule of their own; one below a `type` is a member of a union
-abbrev pub type_breaks_in : Forest Source → (ℕ → Verdict) → Bool → Forest Source → List Break
-type_breaks_in modules named is_member end = []
-type_breaks_in modules named is_member (node s below after) = type_breaks_in modules named (is_source_of word.type_word s) below
-    ++ (type_break modules named is_member s below ++ type_breaks_in modules named is_member after)
