@@ -2,7 +2,7 @@
 use Rattle.std.specs.Prelude.{◌≡◌, ℕ, ◌++◌, ◌==◌, ◌&&◌, List, length, codes, decimal, string_bytes, Result, Ok, Err, if◌then◌else◌}
 use Rattle.std.specs.Option.{option_map_or}
 use Rattle.ytext.specs.Told.{number_of}
-use Rattle.yschema.specs.Told.{code_number}
+use Rattle.ylink.specs.Told.{code_number}
 use Rattle.ymodel.specs.View as schema_view
 use Rattle.ytree.specs.Told as document
 use Rattle.ytree.specs.View.{place_view}

@@ -2,8 +2,8 @@
 use Rattle.std.specs.Prelude.{◌≡◌, Option, Some, None}
 use Rattle.yspec.specs.edit.Live as spec
 use Rattle.yspec.specs.edit.Live.{CheckRefusal, of_modules, of_document}
-use Rattle.yschema.specs.Told as schema
-use Rattle.yschema.specs.declared.fault.CompileFault.TheVariants as compile_faults
+use Rattle.ylink.specs.Told as schema
+use Rattle.ylink.specs.declared.fault.CompileFault.TheVariants as compile_faults
 use Rattle.ytree.specs.Told as document
 use Rattle.ytree.specs.View.{place_view}
 use Rattle.ytree.specs.declared.fault.DocFault.TheVariants as doc_faults

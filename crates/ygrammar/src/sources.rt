@@ -17,8 +17,10 @@ pub struct Sources<'a> {
 }
 
 impl<'a> Sources<'a> {
-    ghost use Rattle.std.specs.Prelude.{◌≡◌, IfOk};
+    ghost use Rattle.std.specs.Prelude.{◌≡◌, ◌+◌, IfOk, Some, None, slice_get, take, drop};
+    ghost use Rattle.yspec.specs.Forest.{end};
     ghost use Rattle.yspec.specs.linking.Source.{sources_of};
+    ghost use Rattle.ypreorder.specs.Layout.{forest_of, numbered_by};
     ghost use Rattle.ytext.specs.View.{modules_view};
     ghost use Rattle.ypreorder.specs.View.{row_by, rows_in};
     ghost use Rattle.ygrammar.specs.SourceView.{source_view};
@@ -41,6 +43,17 @@ impl<'a> Sources<'a> {
         ensures { row_by source_view result ≡ view self.now }
     {
         self.table.nodes()
+    }
+
+    /// The statements right below that of a number, in order; none of a number that none has.
+    pub fn below(&self, number: u32) -> Nodes<'_, Source<'a>>
+        ensures row { (r : Row Source) → slice_get (rows_in self.now.table) number ≡ Some r
+            → row_by source_view result ≡ numbered_by source_view (number + 1)
+            (forest_of (take r.below (drop (number + 1) (rows_in self.now.table)))) }
+        ensures none { slice_get (rows_in self.now.table) number ≡ None
+            → row_by source_view result ≡ end }
+    {
+        self.table.children(number)
     }
 
     /// All statements, as they lie in the table.

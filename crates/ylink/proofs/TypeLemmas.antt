@@ -8,7 +8,7 @@ use Rattle.yspec.specs.linking.Keyword.{Keyword}
 use Rattle.yspec.specs.linking.Arguments.{Name}
 use Rattle.yspec.specs.linking.Source.{Source, is_source_of, argument_in, first_with}
 use Rattle.yspec.specs.linking.TypeStatements as spec
-use Rattle.yspec.specs.linking.TypeStatements.{namings, verdicts, verdict, told, type_breaks_in, member_types, union_verdict, single_type}
+use Rattle.yspec.specs.linking.TypeStatements.{namings, verdicts, verdict, told, member_types, union_verdict, single_type}
 use Rattle.std.specs.Prelude.{◌==◌, ℕ, is_some, length, map, not, option_map, option_and_then}
 use Rattle.std.specs.Option.{option_map_or}
 use Rattle.yspec.specs.types.Types.{YangType}
@@ -17,7 +17,7 @@ use Rattle.yspec.specs.linking.Keyword.{type_word}
 use Rattle.yspec.specs.schema.Breaks.{Break, least_from, when, broken}
 use Rattle.yspec.proofs.SchemaProofs.LeastLemmas.{least_of_both}
 use Rattle.ylink.specs.declared.types.Verdict.{Verdict}
-use Rattle.ylink.specs.TypeView.{verdict_view, is_plain, is_wrong}
+use Rattle.ylink.specs.TypeView.{verdict_view, is_wrong}
 
 -- ---- names of enumerations and bits
 
@@ -81,92 +81,11 @@ module _ (modules : Forest Source) (named : ℕ → spec.Verdict) (s : Source) (
       ∙ (sym (ap (λ f. so_far ++ verdicts modules named f) first
       ∙ ap (λ b. so_far ++ cond b (verdict modules named true s below (verdicts modules named below) ∷ verdicts modules named after) (verdicts modules named after)) stands) ∙ made)))
 
-module _ (modules : Forest Source) (named : ℕ → spec.Verdict) (is_member : Bool) (s : Source) (below after before : Forest Source) (first : before ≡ node s below after) where
-  -- what is broken below, then at the statement, then behind it
-  broken_parts : (so_far : Option Break) (own : List Break)
-      → spec.type_break modules named is_member s below ≡ own
-      → least_from so_far (type_breaks_in modules named is_member before)
-      ≡ least_from (least_from (least_from so_far (type_breaks_in modules named (is_source_of type_word s) below)) own) (type_breaks_in modules named is_member after)
-  broken_parts so_far own is =
-      let inner = type_breaks_in modules named (is_source_of type_word s) below in
-      let rest = type_breaks_in modules named is_member after in
-      ap (λ f. least_from so_far (type_breaks_in modules named is_member f)) first
-      ∙ (ap (λ b. least_from so_far (inner ++ (b ++ rest))) is
-      ∙ (least_of_both so_far inner (own ++ rest) ∙ least_of_both (least_from so_far inner) own rest))
-
-  pub no_type : (so_far result whole : Option Break) → is_source_of type_word s ≡ false
-      → result ≡ least_from so_far (type_breaks_in modules named (is_source_of type_word s) below)
-      → least_from so_far (type_breaks_in modules named is_member before) ≡ whole → least_from result (type_breaks_in modules named is_member after) ≡ whole
-  no_type so_far result whole other inner made =
-      ap (λ t. least_from t (type_breaks_in modules named is_member after)) inner
-      ∙ (sym (broken_parts so_far [] (ap (λ b. cond b (told s (verdict modules named is_member s below (verdicts modules named below))) []) other)) ∙ made)
-
-  pub next_type : (so_far mid result whole : Option Break) (v : spec.Verdict) → is_source_of type_word s ≡ true
-      → mid ≡ least_from so_far (type_breaks_in modules named (is_source_of type_word s) below)
-      → v ≡ verdict modules named is_member s below (verdicts modules named below)
-      → result ≡ least_from mid (when (is_wrong v) (broken 10 s.home s.statement.line))
-      → least_from so_far (type_breaks_in modules named is_member before) ≡ whole → least_from result (type_breaks_in modules named is_member after) ≡ whole
-  next_type so_far mid result whole v stands inner is judged made =
-      let own = when (is_wrong v) (broken 10 s.home s.statement.line) in
-      let own_is : spec.type_break modules named is_member s below ≡ own =
-      ap (λ b. cond b (told s (verdict modules named is_member s below (verdicts modules named below))) []) stands
-      ∙ (ap (told s) (sym is) ∙ told_wrong s v) in
-      ap (λ t. least_from t (type_breaks_in modules named is_member after)) (judged ∙ ap (λ t. least_from t own) inner)
-      ∙ (sym (broken_parts so_far own own_is) ∙ made)
-
 pub no_more_verdicts : (modules : Forest Source) (named : ℕ → spec.Verdict) (left : Forest Source) (so_far whole : List spec.Verdict) → left ≡ end
     → so_far ++ verdicts modules named left ≡ whole → so_far ≡ whole
 unfolding verdicts
 no_more_verdicts modules named left so_far whole ended made =
     sym (ap (λ f. so_far ++ verdicts modules named f) ended ∙ append-nil so_far) ∙ made
-
-pub no_more_types : (modules : Forest Source) (named : ℕ → spec.Verdict) (is_member : Bool) (left : Forest Source) (so_far whole : Option Break) → left ≡ end
-    → least_from so_far (type_breaks_in modules named is_member left) ≡ whole → so_far ≡ whole
-no_more_types modules named is_member left so_far whole ended made = sym (ap (λ f. least_from so_far (type_breaks_in modules named is_member f)) ended) ∙ made
-
--- ---- which are wrong
-
-pub is_some_map : {A B : Type 0} (f : A → B) (o : Option A) → is_some o ≡ is_some (option_map f o)
-is_some_map f None = refl
-is_some_map f (Some x) = refl
-
-pub wrong_own : (made : Option YangType) → is_wrong (option_map_or (λ type. spec.means (spec.own type)) made spec.wrong) ≡ not (is_some made)
-wrong_own None = refl
-wrong_own (Some type) = refl
-
-pub wrong_path : (home : ℕ) (required : Bool) (path : Option (List Name))
-    → is_wrong (option_map_or (λ steps. spec.means (spec.of_target home steps required)) path spec.wrong) ≡ not (is_some path)
-wrong_path home required None = refl
-wrong_path home required (Some steps) = refl
-
--- a union without members
-pub wrong_union : (modules : Forest Source) (named : ℕ → spec.Verdict) (f : Forest Source) → is_wrong (union_verdict (verdicts modules named f)) ≡ not (is_some (first_with type_word f))
-unfolding verdicts
-wrong_union modules named end = refl
-wrong_union modules named (node s below after) = by (is_source_of type_word s) (wrong_union modules named after)
-  where
-    some : (types : Option (List YangType)) → is_wrong (option_map_or (λ ts. spec.means (spec.own (union_type ts))) types spec.unjudged) ≡ false
-    some None = refl
-    some (Some ts) = refl
-
-    by : (b : Bool) → is_wrong (union_verdict (verdicts modules named after)) ≡ not (is_some (first_with type_word after))
-        → is_wrong (union_verdict (cond b (verdict modules named true s below (verdicts modules named below) ∷ verdicts modules named after) (verdicts modules named after)))
-        ≡ not (is_some (cond b (Some s) (first_with type_word after)))
-    by true h = some (member_types (verdict modules named true s below (verdicts modules named below) ∷ verdicts modules named after))
-    by false h = h
-
--- a plain type alone
-pub made_plain : (t : spec.BuiltIn) (f : Forest Source) → is_plain t ≡ true → (length (row f) == 0) ≡ true → is_some (single_type t f) ≡ true
-made_plain t (node s below after) plain none = absurd (let same = (Decides-eqb (length (row (node s below after))) 0).0 none in omega (arith, same))
-made_plain (spec.integer i) end plain none = refl
-made_plain spec.string end plain none = refl
-made_plain spec.boolean end plain none = refl
-made_plain spec.empty end plain none = refl
-made_plain spec.decimal64 end plain none = absurd (let clash : false ≡ true = plain in cc)
-made_plain spec.enumeration end plain none = absurd (let clash : false ≡ true = plain in cc)
-made_plain spec.bits end plain none = absurd (let clash : false ≡ true = plain in cc)
-made_plain spec.union end plain none = absurd (let clash : false ≡ true = plain in cc)
-made_plain spec.leafref end plain none = absurd (let clash : false ≡ true = plain in cc)
 
 -- ---- restrictions of a type, one after another
 

@@ -20,11 +20,3 @@ abbrev pub is_wrong : spec.Verdict → Bool
 is_wrong (spec.means meant) = false
 is_wrong spec.wrong = true
 is_wrong spec.unjudged = false
-
--- it needs no substatement
-abbrev pub is_plain : spec.BuiltIn → Bool
-is_plain (spec.integer i) = true
-is_plain spec.string = true
-is_plain spec.boolean = true
-is_plain spec.empty = true
-is_plain _ = false

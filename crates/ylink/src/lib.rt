@@ -1,12 +1,21 @@
-//! What `type` statements mean, by way of typedefs.
+//! The statements of a set of modules, linked: what their names and types mean, and the rules that they break.
 #![tactic(auto)]
 
+mod fault;
 mod judging;
 mod limit;
+mod linked;
+mod linking;
 mod naming;
+mod repeated;
+mod statements;
 mod typedefs;
 mod types;
+mod verdicts;
 
-pub use judging::broken_type_rule;
-pub use typedefs::Typedefs;
-pub use types::{Meant, Verdict, built_in_meant, type_meant};
+pub use fault::CompileFault;
+pub use linked::{Linked, StmtId};
+pub use linking::link;
+pub use statements::Statements;
+pub use types::Meant;
+pub use ygrammar::CompileCode;

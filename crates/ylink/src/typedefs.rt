@@ -11,7 +11,7 @@ use crate::types::{Verdict, verdict_on};
 use std::alloc::{AllocError, Global};
 use ygrammar::{Source, Sources, argument_with, found_with};
 use ygraph::in_order;
-use ynames::definition_edges_of;
+use ynames::{definition_edges_of, meaning_at};
 use ypreorder::{Node, Nodes};
 use yword::Keyword;
 
@@ -26,7 +26,7 @@ pub(crate) struct Known<'t> {
 
 /// What the typedefs of a set of modules mean, found by the statements that name them.
 #[derive(Drop)]
-pub struct Typedefs<'t> {
+pub(crate) struct Typedefs<'t> {
     // The number of the definition that each statement names.
     meanings: Vec<Option<u32>>,
     // What is known of each statement that is a typedef, by its number.
@@ -108,9 +108,16 @@ impl<'t> Typedefs<'t> {
     ghost use Rattle.ypreorder.specs.View.{row_by};
     ghost use Rattle.ygrammar.specs.LinkView.{view};
     ghost use Rattle.ygrammar.specs.SourceView.{node_view, source_view};
-    ghost use Rattle.ynames.specs.MeaningView.{AreMeanings};
+    ghost use Rattle.ynames.specs.MeaningView.{meaning_at, AreMeanings};
     ghost use Rattle.ynames.specs.ReferringView.{AreReferring};
     ghost use Rattle.ylink.specs.TypedefView.{known_at, known_view, names_in, IsOf};
+
+    /// The number of the definition that the statement of a number names.
+    pub(crate) fn meaning(&self, number: u32) -> Option<u32>
+        ensures { result ≡ meaning_at self.now.meanings.items number }
+    {
+        meaning_at(&self.meanings, number as usize)
+    }
 
     /// What is known of the typedef that the statement of a number names.
     pub(crate) fn named(&self, number: u32) -> Option<&Known<'t>>
@@ -123,7 +130,7 @@ impl<'t> Typedefs<'t> {
     }
 
     /// The default of the typedef that the statement of a number names, or of its type.
-    pub fn default_named(&self, number: u32) -> Option<&'t str>
+    pub(crate) fn default_named(&self, number: u32) -> Option<&'t str>
         ensures { option_map (λ t. t.now) result ≡ (names_in self.now number).default }
     {
         self.named(number)?.default
@@ -193,7 +200,7 @@ impl<'t> Typedefs<'t> {
 
     /// The typedefs of a set in which none refers to itself, given the innermost definition around each statement and what
     /// each means.
-    pub fn of(
+    pub(crate) fn of(
         alloc: Global,
         sources: &Sources<'t>,
         holders: &[Option<u32>],
@@ -202,7 +209,8 @@ impl<'t> Typedefs<'t> {
         requires held { AreReferring holders.now (view sources.now) }
         requires meant { AreMeanings meanings.items (view sources.now) }
         requires straight { definition_circles (view sources.now) ≡ [] }
-        ensures { IfOk result (λ typedefs. IsOf typedefs (view sources.now)) }
+        ensures known { IfOk result (λ typedefs. IsOf typedefs (view sources.now)) }
+        ensures meanings { IfOk result (λ typedefs. AreMeanings typedefs.meanings.items (view sources.now)) }
     {
         let rows = typedef_rows(alloc, sources)?;
         let edges = definition_edges_of(alloc, holders, &meanings)?;

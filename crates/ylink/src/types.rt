@@ -13,9 +13,9 @@ ghost use Rattle.ygrammar.specs.LinkView.{view};
 ghost use Rattle.ygrammar.specs.NameView.{names_view};
 ghost use Rattle.ygrammar.specs.SourceView.{source_view};
 ghost use Rattle.yword.specs.BuiltInView.{built_in_view};
-ghost use Rattle.yspec.specs.linking.DerivedTypes.{type_meant, unknown};
+ghost use Rattle.yspec.specs.linking.DerivedTypes.{unknown};
 ghost use Rattle.ylink.specs.TypeView.{meant_view, verdict_view};
-ghost use Rattle.ylink.specs.TypedefView.{known_view, verdicts_in, IsOf};
+ghost use Rattle.ylink.specs.TypedefView.{known_view, verdicts_in};
 
 use crate::limit::{accepted_type, measured_type, narrowed_type, ranged_type};
 use crate::naming::{bits, enumeration};
@@ -41,7 +41,7 @@ pub enum Meant<'t> {
 
 /// What is known of a `type` statement.
 #[derive(Drop)]
-pub enum Verdict<'t> {
+pub(crate) enum Verdict<'t> {
     Means(Meant<'t>),
     /// It breaks a rule of its own.
     Wrong,
@@ -73,14 +73,14 @@ fn may_bear(type_name: BuiltIn, keyword: Keyword) -> bool
 }
 
 /// The built-in type that a `type` statement of a set names, which has that number.
-pub fn built_in_meant(sources: &Sources<'_>, number: u32, statement: &Source<'_>) -> Option<BuiltIn>
+fn built_in_meant(sources: &Sources<'_>, number: u32, statement: &Source<'_>) -> Option<BuiltIn>
     ensures { option_map built_in_view result
         ≡ spec.built_in_meant (view sources.now) (source_view number statement.now) }
 {
     statement.built_in()
 }
 
-pub(crate) fn are_in_place(type_name: BuiltIn, below: Nodes<'_, Source<'_>>) -> bool
+fn are_in_place(type_name: BuiltIn, below: Nodes<'_, Source<'_>>) -> bool
     ensures { result ≡ spec.are_in_place (built_in_view type_name)
         (row_by source_view below.entry) }
 {
@@ -110,7 +110,7 @@ fn decimal(alloc: Global, below: Nodes<'_, Source<'_>>) -> Result<Option<YType>,
 }
 
 /// A type that is no union and no leafref.
-pub(crate) fn single_type(
+fn single_type(
     alloc: Global,
     type_name: BuiltIn,
     below: Nodes<'_, Source<'_>>,
@@ -147,7 +147,7 @@ fn is_required(below: Nodes<'_, Source<'_>>) -> bool
 }
 
 /// The path of a leafref, where it has one.
-pub(crate) fn path_stated<'t>(
+fn path_stated<'t>(
     alloc: Global,
     below: Nodes<'_, Source<'t>>,
 ) -> Result<Option<Vec<Name<'t>>>, AllocError>
@@ -297,7 +297,7 @@ fn restricted_in<'t>(
 }
 
 /// The verdict on a `type` statement that names a typedef, given what is known of that one.
-pub(crate) fn derived<'t>(
+fn derived<'t>(
     alloc: Global,
     is_member: bool,
     named: Option<&Known<'t>>,
@@ -323,7 +323,7 @@ pub(crate) fn derived<'t>(
 }
 
 /// The verdict on a `type` statement of a set, given those on the `type` statements below it.
-fn judge_type<'t>(
+pub(crate) fn judge_type<'t>(
     alloc: Global,
     sources: &Sources<'t>,
     typedefs: &Typedefs<'t>,
@@ -384,24 +384,20 @@ pub(crate) fn verdict_on<'t>(
     judge_type(alloc, sources, typedefs, is_member, statement, members)
 }
 
-/// What a `type` statement of a set means that is no member of a union.
-pub fn type_meant<'t>(
-    alloc: Global,
-    sources: &Sources<'t>,
-    typedefs: &Typedefs<'t>,
-    statement: Node<'_, Source<'t>>,
-) -> Result<Option<Meant<'t>>, AllocError>
-    ensures { IsOf typedefs.now (view sources.now) → IfOk result (λ meant. option_map meant_view meant
-        ≡ type_meant (view sources.now) (label_by source_view statement.entry)
-        (row_by source_view statement.entry.children)) }
-{
-    Ok(verdict_on(alloc, sources, typedefs, false, statement)?.meaning())
-}
-
 impl<'t> Meant<'t> {
-    ghost use Rattle.std.specs.Prelude.{◌≡◌, IfOk};
+    ghost use Rattle.std.specs.Prelude.{◌≡◌, IfOk, option_map};
     ghost use Rattle.yspec.specs.linking.TypeStatements as spec;
     ghost use Rattle.ylink.specs.TypeView.{meant_view};
+
+    /// The type that refers to no other node, where it is one.
+    pub fn own(&self) -> Option<&YType>
+        ensures { option_map (λ t. t.now) result ≡ spec.own_type (meant_view self.now) }
+    {
+        match self {
+            Meant::Own(value_type) => Some(value_type),
+            Meant::OfTarget { .. } => None,
+        }
+    }
 
     fn is_reference(&self) -> bool
         ensures { result ≡ spec.is_reference (meant_view self.now) }
@@ -428,18 +424,24 @@ impl<'t> Meant<'t> {
 }
 
 impl<'t> Verdict<'t> {
-    ghost use Rattle.std.specs.Prelude.{◌≡◌, option_map};
+    ghost use Rattle.std.specs.Prelude.{◌≡◌, IfOk, option_map};
     ghost use Rattle.yspec.specs.linking.TypeStatements as spec;
-    ghost use Rattle.ylink.specs.TypeView.{is_wrong, meant_view, verdict_view};
+    ghost use Rattle.ylink.specs.TypeView.{meant_view, verdict_view};
 
-    pub(crate) fn is_wrong(&self) -> bool
-        ensures { result ≡ is_wrong (verdict_view self.now) }
+    pub(crate) fn copy(&self) -> Result<Verdict<'t>, AllocError>
+        ensures { IfOk result (λ copy. verdict_view copy ≡ verdict_view self.now) }
     {
-        matches!(self, Verdict::Wrong)
+        match self {
+            Verdict::Means(meant) => Ok(Verdict::Means(meant.copy()?)),
+            Verdict::Wrong => Ok(Verdict::Wrong),
+            Verdict::Unjudged => Ok(Verdict::Unjudged),
+        }
     }
 
-    fn meaning(self) -> Option<Meant<'t>>
-        ensures { option_map meant_view result ≡ spec.meaning_of (verdict_view self.entry) }
+    /// What the statement means, where it means anything.
+    pub fn meaning(&self) -> Option<&Meant<'t>>
+        ensures { option_map (λ m. meant_view m.now) result
+            ≡ spec.meaning_of (verdict_view self.now) }
     {
         match self {
             Verdict::Means(meant) => Some(meant),

@@ -261,26 +261,33 @@ fn judge_prefixes(
 }
 
 /// The least of the prefixes that their modules don't declare, by module and line.
-fn undeclared_prefix(alloc: Global, sources: &Sources<'_>) -> Result<Option<BrokenRule>, AllocError>
+fn undeclared_prefix(
+    alloc: Global,
+    sources: &Sources<'_>,
+    prefixes: &Prefixes<'_>,
+) -> Result<Option<BrokenRule>, AllocError>
+    requires { IsOf prefixes.now (view sources.now) }
     ensures { IfOk result (λ told. seen told
         ≡ least_from None (spec.prefix_breaks (view sources.now))) }
 {
-    let prefixes = Prefixes::of(alloc, sources)?;
     let mut told = None;
     for row in sources.rows() {
-        told = judge_prefixes(alloc, &prefixes, &row.label, told)?;
+        told = judge_prefixes(alloc, prefixes, &row.label, told)?;
     }
     Ok(told)
 }
 
-/// The least of the prefixes that their modules don't declare, or give twice, by module and line.
+/// The least of the prefixes that their modules don't declare, or give twice, by module and line, given what prefixes stand
+/// for.
 pub fn broken_prefix_rule(
     alloc: Global,
     sources: &Sources<'_>,
+    prefixes: &Prefixes<'_>,
 ) -> Result<Option<BrokenRule>, AllocError>
+    requires { IsOf prefixes.now (view sources.now) }
     ensures { let s = view sources.now in IfOk result (λ told. seen told
         ≡ least_from None (spec.prefix_breaks s ++ repeated_prefixes s)) }
 {
-    let told = undeclared_prefix(alloc, sources)?;
+    let told = undeclared_prefix(alloc, sources, prefixes)?;
     repeated_prefix(alloc, sources, told)
 }

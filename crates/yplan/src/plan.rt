@@ -25,11 +25,11 @@ use yword::Keyword;
 #[derive(Drop)]
 pub struct Plan<'a, 't> {
     sources: &'a Sources<'t>,
-    prefixes: Prefixes<'t>,
+    prefixes: &'a Prefixes<'t>,
     table: Table<Planned<'a, 't>>,
     // Its nodes by their names, below those right above them and below those where they share them.
     index: NodeIndex<'t>,
-    ghost prefixed: { IsOf prefixes (link.view sources.now) },
+    ghost prefixed: { IsOf prefixes.now (link.view sources.now) },
     ghost laid_out: { IsLaidOut (rows_in table) },
     ghost named: { texts_of index ≡ map name_of (list_of table) },
     ghost indexed: { (among : _) → (above : _) → (m : ℕ) → (name : _)
@@ -57,11 +57,15 @@ impl<'a, 't> Plan<'a, 't> {
     ghost use Rattle.ygrammar.specs.NameView.{name_view};
     ghost use Rattle.ynames.specs.PrefixView.{node_name_view};
 
-    /// The nodes that the statements of a set of modules define.
-    pub fn of(alloc: Global, sources: &'a Sources<'t>) -> Result<Plan<'a, 't>, AllocError>
+    /// The nodes that the statements of a set of modules define, given what their prefixes stand for.
+    pub fn of(
+        alloc: Global,
+        sources: &'a Sources<'t>,
+        prefixes: &'a Prefixes<'t>,
+    ) -> Result<Plan<'a, 't>, AllocError>
+        requires { IsOf prefixes.now (link.view sources.now) }
         ensures { IfOk result (λ plan. view plan ≡ plan_of (link.view sources.entry.now)) }
     {
-        let prefixes = Prefixes::of(alloc, sources)?;
         let table = planned(alloc, sources)?;
         let index = index_of(alloc, &table)?;
         Ok(Plan {

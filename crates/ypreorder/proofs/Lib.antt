@@ -2,3 +2,4 @@ pub mod RowLemmas
 pub mod TableLemmas
 pub mod LayoutLemmas
 pub mod LabelLemmas
+pub mod ChildrenLemmas

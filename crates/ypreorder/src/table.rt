@@ -14,8 +14,9 @@ pub struct Table<L> {
 }
 
 impl<L: Drop> Table<L> {
-    ghost use Rattle.std.specs.Prelude.{◌≡◌};
-    ghost use Rattle.ypreorder.specs.Layout.{laid, closed, opened};
+    ghost use Rattle.std.specs.Prelude.{◌≡◌, ◌+◌, Some, None, slice_get, take, drop};
+    ghost use Rattle.yspec.specs.Forest.{end};
+    ghost use Rattle.ypreorder.specs.Layout.{laid, closed, opened, forest_of};
     ghost use Rattle.ypreorder.specs.View.{row_view, rows_in, forest_in};
 
     /// A table without rows.
@@ -47,6 +48,25 @@ impl<L: Drop> Table<L> {
         ensures number { result.number ≡ 0 }
     {
         Nodes::new(self.rows.as_slice(), 0)
+    }
+
+    /// The children of the node of a number, in order; none of a number that no node has.
+    pub fn children(&self, number: u32) -> Nodes<'_, L>
+        ensures row { (r : Row L) → slice_get (rows_in self.now) number ≡ Some r
+            → row_view result ≡ forest_of (take r.below (drop (number + 1) (rows_in self.now))) }
+        ensures number { (r : Row L) → slice_get (rows_in self.now) number ≡ Some r
+            → result.number ≡ number + 1 }
+        ensures none { slice_get (rows_in self.now) number ≡ None → row_view result ≡ end }
+    {
+        let rows = self.rows.as_slice();
+        let (_, from) = rows.split_at((number as usize).min(rows.len()));
+        match from.split_first() {
+            Some((first, rest)) => {
+                let (below, _) = rest.split_at(first.below.min(rest.len()));
+                Nodes::new(below, number + 1)
+            }
+            None => Nodes::new(&[], 0),
+        }
     }
 
     /// Adds a node behind all others, below one of them or at the top, with nothing below it yet. It answers its number;

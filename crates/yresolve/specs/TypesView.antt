@@ -1,5 +1,6 @@
 -- What the types of a plan's nodes mean, by number.
 use Rattle.std.specs.Prelude.{◌≡◌, ℕ, ◌+◌, List, [], ◌∷◌, map, Option, None, slice_get, unwrap_or, option_map, option_and_then}
+use Rattle.std.specs.Borrow.{Bor}
 use Rattle.yspec.specs.types.Types.{YangType}
 use Rattle.yspec.specs.linking.TypeStatements as spec
 use Rattle.yspec.specs.linking.Planned.{Planned, Plan, nodes_of, meant_in, target_of, type_of, is_on_circle}
@@ -10,8 +11,8 @@ use Rattle.ygraph.specs.declared.chains.Chain.{Chain}
 use Rattle.yresolve.specs.ChainTypes.{own_type, as_meant}
 use Rattle.yresolve.specs.declared.types.Types.{Types}
 
-abbrev pub meants_view : List (Option Meant) → List (Option spec.Meant)
-meants_view = map (option_map meant_view)
+abbrev pub meants_view : List (Option (Bor Meant)) → List (Option spec.Meant)
+meants_view = map (option_map (λ m. meant_view m.now))
 
 -- what the type of the node of a number means
 abbrev pub meant_at : List (Option spec.Meant) → ℕ → Option spec.Meant

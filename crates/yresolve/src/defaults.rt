@@ -9,7 +9,7 @@ ghost use Rattle.yspec.specs.linking.Planned as plans;
 ghost use Rattle.yspec.specs.linking.Planned.{stated_in, type_of};
 ghost use Rattle.yspec.specs.linking.SchemaNodes as spec;
 ghost use Rattle.yspec.specs.linking.NodeBreaks as breaks;
-ghost use Rattle.ylink.specs.TypedefView.{IsOf};
+ghost use Rattle.ylink.specs.LinkedView.{IsOf};
 ghost use Rattle.yplan.specs.PlannedView.{planned_view};
 ghost use Rattle.yplan.specs.PlanView.{view};
 ghost use Rattle.yresolve.specs.ResolvedView as resolved_as;
@@ -18,7 +18,7 @@ ghost use Rattle.yresolve.specs.Values.{comes_twice, wrong_leaf, wrong_leaf_list
 use crate::resolved::Resolved;
 use std::alloc::{AllocError, Global};
 use std::collections::BTreeSet;
-use ylink::Typedefs;
+use ylink::Linked;
 use yplan::{Plan, Planned, is_wrong_case, own_defaults};
 use ytype::{BadValue, Val, YType};
 use yword::Keyword;
@@ -62,8 +62,8 @@ fn comes_twice(alloc: Global, values: &[Val]) -> Result<bool, AllocError>
 }
 
 /// The default of the type of a node, where it may be without a value.
-fn type_default<'t>(typedefs: &Typedefs<'t>, planned: &Planned<'_, 't>) -> Option<&'t str>
-    ensures { (plan : plans.Plan) (number : _) → IsOf typedefs.now plan.modules
+fn type_default<'t>(linked: &Linked<'t>, planned: &Planned<'_, 't>) -> Option<&'t str>
+    ensures { (plan : plans.Plan) (number : _) → IsOf linked.now plan.modules
         → option_map (λ t. t.now) result
         ≡ spec.type_default plan (planned_view number planned.now) }
 {
@@ -71,22 +71,22 @@ fn type_default<'t>(typedefs: &Typedefs<'t>, planned: &Planned<'_, 't>) -> Optio
         return None;
     }
     let statement = planned.first_own(Keyword::Type)?;
-    typedefs.default_named(statement.number())
+    linked.default_named(statement.number())
 }
 
 /// The texts of the defaults of a node, in order: its own, or where it has none that of its type.
 fn default_texts<'t>(
     alloc: Global,
-    typedefs: &Typedefs<'t>,
+    linked: &Linked<'t>,
     planned: &Planned<'_, 't>,
 ) -> Result<Vec<&'t str>, AllocError>
-    ensures { (plan : plans.Plan) (number : _) → IsOf typedefs.now plan.modules
+    ensures { (plan : plans.Plan) (number : _) → IsOf linked.now plan.modules
         → IfOk result (λ texts. map (λ t. t.now) texts.items
         ≡ spec.default_texts plan (planned_view number planned.now)) }
 {
     let mut texts = own_defaults(alloc, planned)?;
     if texts.is_empty() {
-        if let Some(text) = type_default(typedefs, planned) {
+        if let Some(text) = type_default(linked, planned) {
             texts.push(text)?;
         }
     }
@@ -96,7 +96,7 @@ fn default_texts<'t>(
 /// The values that a type takes from the defaults of a node of a plan, in order.
 pub fn default_values<'t>(
     alloc: Global,
-    resolved: &Resolved<'t>,
+    resolved: &Resolved<'_, 't>,
     value_type: &YType,
     planned: &Planned<'_, 't>,
 ) -> Result<Vec<Val>, AllocError>
@@ -104,18 +104,18 @@ pub fn default_values<'t>(
         → IfOk result (λ values. values.items ≡ filter_map (value_of_text value_type.now)
         (spec.default_texts plan (planned_view number planned.now))) }
 {
-    let texts = default_texts(alloc, &resolved.typedefs, planned)?;
+    let texts = default_texts(alloc, resolved.linked, planned)?;
     values_of(alloc, value_type, &texts)
 }
 
 /// Whether a leaf that is no key is mandatory and has a default of its own, or has one that its type doesn't take.
 fn is_wrong_default<'t>(
     alloc: Global,
-    typedefs: &Typedefs<'t>,
+    linked: &Linked<'t>,
     value_type: &YType,
     planned: &Planned<'_, 't>,
 ) -> Result<bool, AllocError>
-    ensures { (plan : plans.Plan) (number : _) → IsOf typedefs.now plan.modules
+    ensures { (plan : plans.Plan) (number : _) → IsOf linked.now plan.modules
         → IfOk result (λ wrong. wrong
         ≡ breaks.is_wrong_default plan (planned_view number planned.now) value_type.now) }
 {
@@ -123,7 +123,7 @@ fn is_wrong_default<'t>(
         let stated = own_defaults(alloc, planned)?;
         return Ok(!stated.is_empty());
     }
-    let texts = default_texts(alloc, typedefs, planned)?;
+    let texts = default_texts(alloc, linked, planned)?;
     let values = values_of(alloc, value_type, &texts)?;
     Ok(values.len() < texts.len())
 }
@@ -132,11 +132,11 @@ fn is_wrong_default<'t>(
 /// configuration, two that are the same.
 fn are_wrong_defaults<'t>(
     alloc: Global,
-    typedefs: &Typedefs<'t>,
+    linked: &Linked<'t>,
     value_type: &YType,
     planned: &Planned<'_, 't>,
 ) -> Result<bool, AllocError>
-    ensures { (plan : plans.Plan) (number : _) → IsOf typedefs.now plan.modules
+    ensures { (plan : plans.Plan) (number : _) → IsOf linked.now plan.modules
         → IfOk result (λ wrong. wrong
         ≡ breaks.are_wrong_defaults plan (planned_view number planned.now) value_type.now) }
 {
@@ -144,7 +144,7 @@ fn are_wrong_defaults<'t>(
         let stated = own_defaults(alloc, planned)?;
         return Ok(!stated.is_empty());
     }
-    let texts = default_texts(alloc, typedefs, planned)?;
+    let texts = default_texts(alloc, linked, planned)?;
     let values = values_of(alloc, value_type, &texts)?;
     if values.len() < texts.len() {
         return Ok(true);
@@ -159,12 +159,12 @@ fn are_wrong_defaults<'t>(
 /// Whether a leaf has a wrong default, given whether it is a key, and its type.
 fn is_wrong_leaf<'t>(
     alloc: Global,
-    typedefs: &Typedefs<'t>,
+    linked: &Linked<'t>,
     planned: &Planned<'_, 't>,
     is_key: bool,
     value_type: Option<&YType>,
 ) -> Result<bool, AllocError>
-    ensures { (plan : plans.Plan) (number : _) → IsOf typedefs.now plan.modules
+    ensures { (plan : plans.Plan) (number : _) → IsOf linked.now plan.modules
         → IfOk result (λ wrong. wrong
         ≡ wrong_leaf plan (planned_view number planned.now) is_key
         (option_map (λ t. t.now) value_type.entry)) }
@@ -174,7 +174,7 @@ fn is_wrong_leaf<'t>(
             if is_key {
                 return Ok(false);
             }
-            is_wrong_default(alloc, typedefs, value_type, planned)
+            is_wrong_default(alloc, linked, value_type, planned)
         }
         None => Ok(false),
     }
@@ -183,17 +183,17 @@ fn is_wrong_leaf<'t>(
 /// Whether a leaf-list has wrong defaults, given its type.
 fn is_wrong_leaf_list<'t>(
     alloc: Global,
-    typedefs: &Typedefs<'t>,
+    linked: &Linked<'t>,
     planned: &Planned<'_, 't>,
     value_type: Option<&YType>,
 ) -> Result<bool, AllocError>
-    ensures { (plan : plans.Plan) (number : _) → IsOf typedefs.now plan.modules
+    ensures { (plan : plans.Plan) (number : _) → IsOf linked.now plan.modules
         → IfOk result (λ wrong. wrong
         ≡ wrong_leaf_list plan (planned_view number planned.now)
         (option_map (λ t. t.now) value_type.entry)) }
 {
     match value_type {
-        Some(value_type) => are_wrong_defaults(alloc, typedefs, value_type, planned),
+        Some(value_type) => are_wrong_defaults(alloc, linked, value_type, planned),
         None => Ok(false),
     }
 }
@@ -211,21 +211,21 @@ fn is_wrong_choice<'a, 't>(plan: &Plan<'a, 't>, number: u32, planned: &Planned<'
 pub(crate) fn has_wrong_default<'a, 't>(
     alloc: Global,
     plan: &Plan<'a, 't>,
-    typedefs: &Typedefs<'t>,
+    linked: &Linked<'t>,
     number: u32,
     planned: &Planned<'a, 't>,
     is_key: bool,
     value_type: Option<&YType>,
 ) -> Result<bool, AllocError>
-    requires named { IsOf typedefs.now (view plan.now).modules }
+    requires named { IsOf linked.now (view plan.now).modules }
     ensures { let p = planned_view number planned.now in
         is_key ≡ spec.is_key (view plan.now) p → option_map (λ t. t.now) value_type.entry
         ≡ type_of (view plan.now) p
         → IfOk result (λ wrong. wrong ≡ breaks.is_default_wrong (view plan.now) p) }
 {
     match planned.keyword() {
-        Keyword::Leaf => is_wrong_leaf(alloc, typedefs, planned, is_key, value_type),
-        Keyword::LeafList => is_wrong_leaf_list(alloc, typedefs, planned, value_type),
+        Keyword::Leaf => is_wrong_leaf(alloc, linked, planned, is_key, value_type),
+        Keyword::LeafList => is_wrong_leaf_list(alloc, linked, planned, value_type),
         Keyword::Choice => Ok(is_wrong_choice(plan, number, planned)),
         _ => Ok(false),
     }

@@ -22,7 +22,7 @@ use yplan::{Plan, PlanNode};
 fn broken_own_rule<'a, 't>(
     alloc: Global,
     plan: &Plan<'a, 't>,
-    resolved: &Resolved<'t>,
+    resolved: &Resolved<'_, 't>,
     node: PlanNode<'a, 't>,
     so_far: Option<BrokenRule>,
 ) -> Result<Option<BrokenRule>, AllocError>
@@ -43,9 +43,9 @@ fn broken_own_rule<'a, 't>(
         resolved.is_key(node.number),
         resolved.value_type(node.number),
     );
-    let typedefs = &resolved.typedefs;
+    let linked = resolved.linked;
     let number = node.number;
-    let default = has_wrong_default(alloc, plan, typedefs, number, planned, is_key, value_type)?;
+    let default = has_wrong_default(alloc, plan, linked, number, planned, is_key, value_type)?;
     Ok(least_when(default, told, planned.broken(CompileCode::C11)))
 }
 
@@ -53,7 +53,7 @@ fn broken_own_rule<'a, 't>(
 pub fn broken_node_rule<'t>(
     alloc: Global,
     plan: &Plan<'_, 't>,
-    resolved: &Resolved<'t>,
+    resolved: &Resolved<'_, 't>,
 ) -> Result<Option<BrokenRule>, AllocError>
     requires { IsOf resolved.now (view plan.now) }
     ensures { IfOk result (λ told. seen told

@@ -7,38 +7,37 @@ ghost use Rattle.yspec.specs.linking.Prefixes.{node_name};
 ghost use Rattle.yspec.specs.linking.SchemaNodes.{number_in};
 ghost use Rattle.ygrammar.specs.NameView.{names_view};
 ghost use Rattle.ylink.specs.TypeView.{meant_view};
-ghost use Rattle.ylink.specs.TypedefView.{IsOf};
+ghost use Rattle.ylink.specs.LinkedView.{IsOf};
 ghost use Rattle.yplan.specs.NodesView.{node_view};
 ghost use Rattle.yplan.specs.PlannedView.{planned_view};
 ghost use Rattle.yplan.specs.PlanView.{view};
+ghost use Rattle.yresolve.specs.TypesView.{meants_view};
 
 use std::alloc::{AllocError, Global};
 use ygrammar::Name;
-use ylink::{Meant, Typedefs, type_meant};
+use ylink::{Linked, Meant};
 use yplan::{Plan, PlanNode, Planned};
 use yword::Keyword;
 
 /// What the type of each node means, and the node to which it refers, by number.
 #[derive(Drop)]
-pub(crate) struct Meanings<'t> {
-    pub meant: Vec<Option<Meant<'t>>>,
+pub(crate) struct Meanings<'l, 't> {
+    pub meant: Vec<Option<&'l Meant<'t>>>,
     pub targets: Vec<Option<u32>>,
 }
 
 /// What the `type` statement of a node means; nothing where it has none that is right.
-fn meaning_of<'t>(
-    alloc: Global,
-    plan: &Plan<'_, 't>,
-    typedefs: &Typedefs<'t>,
+fn meaning_of<'l, 't>(
+    linked: &'l Linked<'t>,
     planned: &Planned<'_, 't>,
-) -> Result<Option<Meant<'t>>, AllocError>
-    requires named { IsOf typedefs.now (view plan.now).modules }
-    ensures { (number : _) → IfOk result (λ meant. option_map meant_view meant
-        ≡ meant_in (view plan.now) (planned_view number planned.now)) }
+) -> Option<&'l Meant<'t>>
+    ensures { (plan : spec.Plan) (number : _) → IsOf linked.entry.now plan.modules
+        → option_map (λ m. meant_view m.now) result
+        ≡ meant_in plan (planned_view number planned.now) }
 {
     match planned.first_own(Keyword::Type) {
-        Some(statement) => type_meant(alloc, plan.sources(), typedefs, statement),
-        None => Ok(None),
+        Some(statement) => linked.meant(statement.number()),
+        None => None,
     }
 }
 
@@ -107,9 +106,9 @@ pub(crate) fn target_meant<'a, 't>(
 fn target_of<'a, 't>(
     plan: &Plan<'a, 't>,
     planned: &Planned<'a, 't>,
-    meant: &Option<Meant<'t>>,
+    meant: Option<&Meant<'t>>,
 ) -> Option<u32>
-    ensures { (number : _) → option_map meant_view meant.now
+    ensures { (number : _) → option_map (λ m. meant_view m.now) meant.entry
         ≡ meant_in (view plan.now) (planned_view number planned.now)
         → result ≡ option_map number_in
         (spec.target_of (view plan.now) (planned_view number planned.now)) }
@@ -121,13 +120,13 @@ fn target_of<'a, 't>(
 }
 
 /// Those of all nodes.
-pub(crate) fn meanings_of<'t>(
+pub(crate) fn meanings_of<'l, 't>(
     alloc: Global,
     plan: &Plan<'_, 't>,
-    typedefs: &Typedefs<'t>,
-) -> Result<Meanings<'t>, AllocError>
-    requires named { IsOf typedefs.now (view plan.now).modules }
-    ensures meant { IfOk result (λ m. map (option_map meant_view) m.meant.items
+    linked: &'l Linked<'t>,
+) -> Result<Meanings<'l, 't>, AllocError>
+    requires named { IsOf linked.entry.now (view plan.now).modules }
+    ensures meant { IfOk result (λ m. meants_view m.meant.items
         ≡ map (meant_in (view plan.now)) (nodes_of (view plan.now))) }
     ensures targets { let p = view plan.now in IfOk result (λ m. m.targets.items
         ≡ map (λ q. option_map number_in (spec.target_of p q)) (nodes_of p)) }
@@ -135,8 +134,8 @@ pub(crate) fn meanings_of<'t>(
     let mut meant = Vec::with_capacity(alloc, plan.nodes())?;
     let mut targets = Vec::with_capacity(alloc, plan.nodes())?;
     for node in plan.iter() {
-        let meaning = meaning_of(alloc, plan, typedefs, &node.planned)?;
-        targets.push(target_of(plan, &node.planned, &meaning))?;
+        let meaning = meaning_of(linked, &node.planned);
+        targets.push(target_of(plan, &node.planned, meaning))?;
         meant.push(meaning)?;
     }
     Ok(Meanings { meant, targets })

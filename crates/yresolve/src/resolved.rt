@@ -5,39 +5,39 @@ ghost use Rattle.yspec.specs.linking.Planned as spec;
 use crate::tuples::keys;
 use crate::types::{Types, types_of};
 use std::alloc::{AllocError, Global};
-use ylink::Typedefs;
+use ylink::Linked;
 use yplan::Plan;
 use ytype::YType;
 
-/// The types of a plan's nodes, to what leafrefs refer, which leafs are keys, and the typedefs that types name.
+/// The types of a plan's nodes, to what leafrefs refer, which leafs are keys, and the statements, linked.
 #[derive(Drop)]
-pub struct Resolved<'t> {
-    pub(crate) types: Types<'t>,
+pub struct Resolved<'l, 't> {
+    pub(crate) types: Types<'l, 't>,
     keys: Vec<bool>,
-    pub(crate) typedefs: Typedefs<'t>,
+    pub(crate) linked: &'l Linked<'t>,
 }
 
-impl<'t> Resolved<'t> {
+impl<'l, 't> Resolved<'l, 't> {
     ghost use Rattle.std.specs.Prelude.{◌≡◌, Some, IfOk, slice_get, option_map};
     ghost use Rattle.yspec.specs.linking.Planned as spec;
     ghost use Rattle.yspec.specs.linking.SchemaNodes as nodes;
-    ghost use Rattle.ylink.specs.TypedefView as named;
+    ghost use Rattle.ylink.specs.LinkedView as linked_as;
     ghost use Rattle.yplan.specs.PlanView.{view};
     ghost use Rattle.yresolve.specs.ResolvedView.{IsOf};
 
-    /// Those of a plan, given the typedefs of its statements.
+    /// Those of a plan, given its statements, linked.
     pub fn of(
         alloc: Global,
         plan: &Plan<'_, 't>,
-        typedefs: Typedefs<'t>,
-    ) -> Result<Resolved<'t>, AllocError>
-        requires named { named.IsOf typedefs (view plan.now).modules }
+        linked: &'l Linked<'t>,
+    ) -> Result<Resolved<'l, 't>, AllocError>
+        requires named { linked_as.IsOf linked.entry.now (view plan.now).modules }
         ensures { IfOk result (λ resolved. IsOf resolved (view plan.now)) }
     {
         Ok(Resolved {
-            types: types_of(alloc, plan, &typedefs)?,
+            types: types_of(alloc, plan, linked)?,
             keys: keys(alloc, plan)?,
-            typedefs,
+            linked,
         })
     }
 

@@ -3,7 +3,7 @@
 ghost use Rattle.std.specs.Prelude.{◌≡◌, Some, map, IfOk, option_map, slice_get, unwrap_or, None};
 ghost use Rattle.yspec.specs.linking.Planned.{is_on_circle, referring};
 ghost use Rattle.ylink.specs.TypeView.{meant_view};
-ghost use Rattle.ylink.specs.TypedefView.{IsOf};
+ghost use Rattle.ylink.specs.LinkedView.{IsOf};
 ghost use Rattle.yresolve.specs.ChainTypes.{as_meant};
 ghost use Rattle.yplan.specs.PlanView.{view};
 ghost use Rattle.yresolve.specs.TypesView.{AreOf, meants_view, meant_at, own_at, type_told, types_told};
@@ -11,16 +11,16 @@ ghost use Rattle.yresolve.specs.TypesView.{AreOf, meants_view, meant_at, own_at,
 use crate::meanings::meanings_of;
 use std::alloc::{AllocError, Global};
 use ygraph::{Chain, chains_of};
-use ylink::{Meant, Typedefs};
+use ylink::{Linked, Meant};
 use ynumber::Restriction;
 use yplan::Plan;
 use ytype::YType;
 
 /// What the types of nodes mean and to what they refer, each by the number of its node.
 #[derive(Drop)]
-pub struct Types<'t> {
+pub struct Types<'l, 't> {
     /// What `type` statements mean.
-    pub(crate) meant: Vec<Option<Meant<'t>>>,
+    pub(crate) meant: Vec<Option<&'l Meant<'t>>>,
     /// The leafs and leaf-lists to which leafrefs refer.
     pub targets: Vec<Option<u32>>,
     /// Whether references lead back to the node.
@@ -30,28 +30,25 @@ pub struct Types<'t> {
 }
 
 /// What the type of the node of a number means.
-pub(crate) fn meant_at<'m, 't>(
-    meant: &'m [Option<Meant<'t>>],
+pub(crate) fn meant_at<'l, 't>(
+    meant: &[Option<&'l Meant<'t>>],
     number: usize,
-) -> Option<&'m Meant<'t>>
+) -> Option<&'l Meant<'t>>
     ensures { option_map (λ m. meant_view m.now) result
         ≡ meant_at (meants_view meant.entry.now) number }
 {
     match meant.get(number) {
-        Some(Some(meant)) => Some(meant),
-        _ => None,
+        Some(meant) => *meant,
+        None => None,
     }
 }
 
 /// The type that the node of a number states itself, where that is no leafref.
-fn own_at<'m, 't>(meant: &'m [Option<Meant<'t>>], number: usize) -> Option<&'m YType>
+fn own_at<'l, 't>(meant: &[Option<&'l Meant<'t>>], number: usize) -> Option<&'l YType>
     ensures { option_map (λ t. t.now) result ≡ own_at (meants_view meant.entry.now) number }
 {
     match meant_at(meant, number) {
-        Some(meant) => match meant {
-            Meant::Own(value_type) => Some(value_type),
-            Meant::OfTarget { .. } => None,
-        },
+        Some(meant) => meant.own(),
         None => None,
     }
 }
@@ -93,7 +90,7 @@ fn type_as(
 /// The type of the node of a number, whose references lead to an end.
 fn type_told(
     alloc: Global,
-    meant: &[Option<Meant<'_>>],
+    meant: &[Option<&Meant<'_>>],
     number: usize,
     end: Option<usize>,
 ) -> Result<Option<YType>, AllocError>
@@ -114,7 +111,7 @@ fn type_told(
 /// The types of all nodes, whose references lead where these chains tell.
 fn all_types(
     alloc: Global,
-    meant: &[Option<Meant<'_>>],
+    meant: &[Option<&Meant<'_>>],
     chains: &[Chain],
 ) -> Result<Vec<Option<YType>>, AllocError>
     ensures { IfOk result (λ types. types.items ≡ types_told (meants_view meant.now) 0 chains.now) }
@@ -137,16 +134,16 @@ fn all_circles(alloc: Global, chains: &[Chain]) -> Result<Vec<bool>, AllocError>
     Ok(circles)
 }
 
-/// What the types of a plan's nodes mean and to what they refer, given the typedefs of its statements.
-pub fn types_of<'t>(
+/// What the types of a plan's nodes mean and to what they refer, given its statements, linked.
+pub fn types_of<'l, 't>(
     alloc: Global,
     plan: &Plan<'_, 't>,
-    typedefs: &Typedefs<'t>,
-) -> Result<Types<'t>, AllocError>
-    requires named { IsOf typedefs.now (view plan.now).modules }
+    linked: &'l Linked<'t>,
+) -> Result<Types<'l, 't>, AllocError>
+    requires named { IsOf linked.entry.now (view plan.now).modules }
     ensures { IfOk result (λ types. AreOf types (view plan.now)) }
 {
-    let meanings = meanings_of(alloc, plan, typedefs)?;
+    let meanings = meanings_of(alloc, plan, linked)?;
     let chains = chains_of(alloc, meanings.targets.as_slice())?;
     let types = all_types(alloc, meanings.meant.as_slice(), chains.as_slice())?;
     let circles = all_circles(alloc, chains.as_slice())?;
@@ -158,7 +155,7 @@ pub fn types_of<'t>(
     })
 }
 
-impl Types<'_> {
+impl Types<'_, '_> {
     ghost use Rattle.std.specs.Prelude.{◌≡◌, false, slice_get, unwrap_or};
 
     /// Whether references lead back to the node of a number.

@@ -1,4 +1,2 @@
-pub mod ModuleLemmas
-pub mod NameLemmas
 pub mod ToldLemmas
 pub mod MakingLemmas

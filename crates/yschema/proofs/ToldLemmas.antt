@@ -4,65 +4,15 @@ use Rattle.std.specs.Option.{option_map_or}
 use Rattle.ytext.specs.View.{view, modules_view}
 use Rattle.ytext.specs.declared.statement.Module.{Module}
 use Rattle.yspec.specs.Forest.{Forest}
+use Rattle.yspec.specs.Results.{Fails}
 use Rattle.yspec.specs.text.Statement.{Statement}
-use Rattle.yspec.specs.schema.Breaks.{Break, broken, when, least_from, or_told, first_broken, last_module, limit_breaks}
-use Rattle.yspec.proofs.LinkingProofs.BreakLemmas.{some_told, none_second}
-use Rattle.yspec.proofs.SchemaProofs.LeastLemmas.{least_of_both}
-use Rattle.std.proofs.lemmas.List.{append_assoc}
-use Rattle.yspec.specs.linking.Source.{Source, sources_of}
-use Rattle.yspec.specs.linking.StatementBreaks.{statement_phase}
+use Rattle.yspec.specs.schema.Breaks.{Break, broken, when, least_from, first_broken, last_module, limit_breaks}
+use Rattle.yspec.specs.linking.Source.{sources_of}
 use Rattle.yspec.specs.linking.Planned.{Plan}
-use Rattle.yspec.specs.linking.Imports.{import_breaks}
-use Rattle.yspec.specs.linking.Scopes.{lost_breaks}
-use Rattle.yspec.specs.linking.Circles.{import_circles, definition_circles}
-use Rattle.yspec.specs.linking.DerivedTypes.{type_breaks}
-use Rattle.yspec.specs.linking.Compiling.{names_phase, meanings_phase, phases, phases_of_sources, compiled, plan_of, schema_of, schema_of_plan}
-use Rattle.yschema.specs.Phases.{statement_part, source_part, plan_part, rule_part}
-
--- the first phase that has one tells it
-pub told_here : (phase : List Break) (later : Option Break) (b : Break) → Some b ≡ least_from None phase → Some b ≡ or_told phase later
-told_here [] later b e = absurd cc
-told_here (x ∷ xs) later b e = e
-
-pub told_later : (phase : List Break) (later : Option Break) → None ≡ least_from None phase → or_told phase later ≡ later
-told_later [] later none = refl
-told_later (x ∷ xs) later none = absurd (some_told xs x (sym none))
-
-pub told_last : (phase : List Break) → or_told phase None ≡ least_from None phase
-told_last [] = refl
-told_last (x ∷ xs) = refl
-
--- phases in two parts
-pub told_first : (first others : List (List Break)) (b : Break) → Some b ≡ first_broken first → Some b ≡ first_broken (first ++ others)
-told_first [] others b e = absurd cc
-told_first ([] ∷ phases) others b e = told_first phases others b e
-told_first ((x ∷ xs) ∷ phases) others b e = e
-
-pub told_then : (first others : List (List Break)) → None ≡ first_broken first → first_broken (first ++ others) ≡ first_broken others
-told_then [] others none = refl
-told_then ([] ∷ phases) others none = told_then phases others none
-told_then ((x ∷ xs) ∷ phases) others none = absurd (some_told xs x (sym none))
-
--- ---- names
-
--- three lists, each told with what those before it tell
-pub three_told : (first second third : Option Break) (a b c d : List Break) → first ≡ least_from None (a ++ b) → second ≡ least_from first c
-    → third ≡ least_from second d → third ≡ least_from None (a ++ (b ++ (c ++ d)))
-three_told first second third a b c d first_is second_is third_is =
-    third_is ∙ (ap (λ t. least_from t d) second_is
-    ∙ (sym (least_of_both first c d) ∙ (ap (λ t. least_from t (c ++ d)) first_is
-    ∙ (sym (least_of_both None (a ++ b) (c ++ d)) ∙ ap (least_from None) (append_assoc a b (c ++ d))))))
-
-pub none_broken : (phase : List Break) → None ≡ least_from None phase → phase ≡ []
-none_broken [] none = refl
-none_broken (x ∷ xs) none = absurd (some_told xs x (sym none))
-
--- no definition refers to itself where names mean something
-pub no_circles : (s : Forest Source) → None ≡ least_from None (meanings_phase s) → definition_circles s ≡ []
-no_circles s none =
-    none_second (import_circles s) (definition_circles s)
-    (none_second (lost_breaks s) (import_circles s ++ definition_circles s)
-    (none_second (import_breaks s) (lost_breaks s ++ (import_circles s ++ definition_circles s)) (none_broken (meanings_phase s) none)))
+use Rattle.yspec.specs.linking.Compiling.{linking_phases, linked, phases, phases_of_plan, compiled, plan_of, schema_of, schema_of_plan}
+use Rattle.yschema.specs.Phases.{plan_part, rule_part}
+use Rattle.ylink.proofs.LinkingLemmas.{refused}
+use Rattle.ylink.proofs.PhaseLemmas.{told_first, told_then}
 
 -- ---- limits
 
@@ -94,56 +44,34 @@ pub passes : (f : Forest Statement) → None ≡ first_broken (phases f) → com
 unfolding compiled
 passes f e = ap (λ t. option_map_or Err t (Ok (schema_of f))) (sym e)
 
--- ---- the phases in four parts
+-- ---- the phases in three parts
+
+pub not_linked : (f : Forest Statement) (b : Break) → linked f ≡ Err b → compiled f ≡ Err b
+not_linked f b e = refused_as f b (told_first (linking_phases f) (phases_of_plan f (plan_of (sources_of f))) b (refused f b e))
+
+pub refused_linking : (f : Forest Statement) (t : Option Break) → Fails t (linked f) → Fails t (compiled f)
+refused_linking f None h = tt
+refused_linking f (Some b) h = not_linked f b h
 
 module _ (f : Forest Statement) where
-  module _ (s : Forest Source) (s_is : s ≡ sources_of f) (p : Plan) (p_is : p ≡ plan_of s) where
-    parts : (statement_part f) ++ (source_part f s ++ (plan_part f p ++ rule_part f p)) ≡ phases f
-    parts = ap (λ q. (statement_part f) ++ (source_part f s ++ (plan_part f q ++ rule_part f q))) p_is ∙ ap (λ x. statement_phase f ∷ phases_of_sources f x) s_is
+  module _ (p : Plan) (p_is : p ≡ plan_of (sources_of f)) (first : None ≡ first_broken (linking_phases f)) where
+    parts : linking_phases f ++ (plan_part f p ++ rule_part f p) ≡ phases f
+    parts = ap (λ q. linking_phases f ++ (plan_part f q ++ rule_part f q)) p_is
 
-    module _ (first : None ≡ first_broken (statement_part f)) where
-      pub in_sources : (b : Break) → Some b ≡ first_broken (source_part f s) → compiled f ≡ Err b
-      in_sources b e = refused_as f b (told_first (source_part f s) (plan_part f p ++ rule_part f p) b e
-          ∙ (sym (told_then (statement_part f) (source_part f s ++ (plan_part f p ++ rule_part f p)) first) ∙ ap first_broken parts))
+    pub in_plan : (b : Break) → Some b ≡ first_broken (plan_part f p) → compiled f ≡ Err b
+    in_plan b e = refused_as f b (told_first (plan_part f p) (rule_part f p) b e
+        ∙ (sym (told_then (linking_phases f) (plan_part f p ++ rule_part f p) first) ∙ ap first_broken parts))
 
-      pub in_names : (b : Break) → Some b ≡ least_from None (names_phase f s) → compiled f ≡ Err b
-      in_names b e = in_sources b (told_here (names_phase f s) _ b e)
+    module _ (third : None ≡ first_broken (plan_part f p)) where
+      in_rules : (t : Option Break) → t ≡ first_broken (rule_part f p) → t ≡ first_broken (phases f)
+      in_rules t e = e ∙ (sym (told_then (plan_part f p) (rule_part f p) third)
+          ∙ (sym (told_then (linking_phases f) (plan_part f p ++ rule_part f p) first) ∙ ap first_broken parts))
 
-      module _ (names : None ≡ least_from None (names_phase f s)) where
-        pub in_meanings : (b : Break) → Some b ≡ least_from None (meanings_phase s) → compiled f ≡ Err b
-        in_meanings b e = in_sources b (told_here (meanings_phase s) _ b e ∙ sym (told_later (names_phase f s) _ names))
+      pub refused_in_rules : (b : Break) → Some b ≡ first_broken (rule_part f p) → compiled f ≡ Err b
+      refused_in_rules b e = refused_as f b (in_rules (Some b) e)
 
-        module _ (meanings : None ≡ least_from None (meanings_phase s)) where
-          pub of_types : (t : Option Break) → t ≡ least_from None (type_breaks s) → t ≡ first_broken (source_part f s)
-          of_types t e = e ∙ (sym (told_last (type_breaks s))
-              ∙ (sym (told_later (meanings_phase s) _ meanings) ∙ sym (told_later (names_phase f s) _ names)))
-
-          pub in_types : (b : Break) → Some b ≡ least_from None (type_breaks s) → compiled f ≡ Err b
-          in_types b e = in_sources b (of_types (Some b) e)
-
-      module _ (second : None ≡ first_broken (source_part f s)) where
-        pub in_plan : (b : Break) → Some b ≡ first_broken (plan_part f p) → compiled f ≡ Err b
-        in_plan b e = refused_as f b (told_first (plan_part f p) (rule_part f p) b e
-            ∙ (sym (told_then (source_part f s) (plan_part f p ++ rule_part f p) second)
-            ∙ (sym (told_then (statement_part f) (source_part f s ++ (plan_part f p ++ rule_part f p)) first) ∙ ap first_broken parts)))
-
-        module _ (third : None ≡ first_broken (plan_part f p)) where
-          in_rules : (t : Option Break) → t ≡ first_broken (rule_part f p) → t ≡ first_broken (phases f)
-          in_rules t e = e ∙ (sym (told_then (plan_part f p) (rule_part f p) third)
-              ∙ (sym (told_then (source_part f s) (plan_part f p ++ rule_part f p) second)
-              ∙ (sym (told_then (statement_part f) (source_part f s ++ (plan_part f p ++ rule_part f p)) first) ∙ ap first_broken parts)))
-
-          pub refused_in_rules : (b : Break) → Some b ≡ first_broken (rule_part f p) → compiled f ≡ Err b
-          refused_in_rules b e = refused_as f b (in_rules (Some b) e)
-
-          pub is_made : None ≡ first_broken (rule_part f p) → compiled f ≡ Ok (schema_of_plan p)
-          is_made e = passes f (in_rules None e) ∙ ap (λ q. Ok (schema_of_plan q)) (sym (p_is ∙ ap plan_of s_is))
-
-pub in_statements : (f : Forest Statement) (b : Break) → Some b ≡ least_from None (statement_phase f) → compiled f ≡ Err b
-in_statements f b e = refused_as f b (told_here (statement_phase f) _ b e)
-
-pub no_statement : (f : Forest Statement) → None ≡ least_from None (statement_phase f) → None ≡ first_broken (statement_part f)
-no_statement f e = e ∙ sym (told_last (statement_phase f))
+      pub is_made : None ≡ first_broken (rule_part f p) → compiled f ≡ Ok (schema_of_plan p)
+      is_made e = passes f (in_rules None e) ∙ ap (λ q. Ok (schema_of_plan q)) (sym p_is)
 
 -- what holds of every value holds of one that is answered
 pub if_ok_any : {A E : Type 0} (P : A → Type 0) → ((x : A) → P x) → (r : Result A E) → IfOk r P

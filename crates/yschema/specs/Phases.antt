@@ -1,20 +1,11 @@
--- The phases of compiling in four parts: of statements, of their names and types, of a plan, and of what its nodes refer to.
+-- The phases of compiling behind those of linking, in two parts: of a plan, and of what its nodes refer to.
 use Rattle.std.specs.Prelude.{List, [], ◌∷◌, nat_lt}
 use Rattle.yspec.specs.Forest.{Forest, size}
 use Rattle.yspec.specs.text.Statement.{Statement}
 use Rattle.yspec.specs.schema.Breaks.{Break, limit_breaks, node_limit}
-use Rattle.yspec.specs.linking.Source.{Source}
-use Rattle.yspec.specs.linking.StatementBreaks.{statement_phase}
-use Rattle.yspec.specs.linking.DerivedTypes.{type_breaks}
 use Rattle.yspec.specs.linking.Planned.{Plan}
 use Rattle.yspec.specs.linking.NodeBreaks.{name_breaks, node_breaks}
-use Rattle.yspec.specs.linking.Compiling.{is_too_deep, names_phase, meanings_phase}
-
-abbrev pub statement_part : Forest Statement → List (List Break)
-statement_part modules = statement_phase modules ∷ []
-
-abbrev pub source_part : Forest Statement → Forest Source → List (List Break)
-source_part modules s = names_phase modules s ∷ meanings_phase s ∷ type_breaks s ∷ []
+use Rattle.yspec.specs.linking.Compiling.{is_too_deep}
 
 abbrev pub plan_part : Forest Statement → Plan → List (List Break)
 plan_part modules p = limit_breaks (nat_lt node_limit (size p.nodes)) modules ∷ name_breaks p ∷ []

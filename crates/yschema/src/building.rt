@@ -1,41 +1,35 @@
 //! From modules to their schema.
 
-ghost use Rattle.std.specs.Prelude.{◌≡◌, ◌≤◌, [], Some, None, IfOk, unwrap_or, map};
+ghost use Rattle.std.specs.Prelude.{◌≡◌, ◌≤◌, [], Ok, Some, None, IfOk, unwrap_or, map};
 ghost use Rattle.yspec.specs.Forest.{levels};
 ghost use Rattle.yspec.specs.Results.{Gives};
 ghost use Rattle.yspec.specs.document.Fitting.{LeafsAreBare};
 ghost use Rattle.yspec.specs.document.Writing.{NamesDiffer};
 ghost use Rattle.yspec.specs.schema.Breaks.{first_broken, least_from, level_limit, limit_breaks};
 ghost use Rattle.yspec.specs.linking.Compiling as spec;
-ghost use Rattle.yspec.specs.linking.Compiling.{compiled, IsCompiled};
-ghost use Rattle.yschema.specs.Phases.{statement_part, source_part, plan_part, rule_part};
+ghost use Rattle.yspec.specs.linking.Compiling.{compiled, linking_phases, IsCompiled};
+ghost use Rattle.yschema.specs.Phases.{plan_part, rule_part};
 ghost use Rattle.yspec.specs.linking.Source.{sources_of};
 ghost use Rattle.ytext.specs.View.{modules_view};
 ghost use Rattle.ygrammar.specs.LinkView as link;
 ghost use Rattle.yplan.specs.PlanView as plans;
-ghost use Rattle.ylink.specs.TypedefView as typedefs_of;
+ghost use Rattle.ylink.specs.LinkedView as statements;
 ghost use Rattle.yresolve.specs.ResolvedView.{IsOf};
 ghost use Rattle.ygrammar.specs.SourceView.{source_view};
 ghost use Rattle.ypreorder.specs.View.{row_by, label_by};
 ghost use Rattle.yspec.specs.linking.Source as sources;
 ghost use Rattle.yspec.specs.linking.Keyword.{prefix_word};
-ghost use Rattle.yschema.specs.Told.{seen, told_by};
+ghost use Rattle.ylink.specs.Told.{seen, told_by};
 ghost use Rattle.ymodel.specs.View.{view, module_view};
 
-use crate::fault::CompileFault;
 use crate::limits::{LEVEL_LIMIT, NODE_LIMIT};
 use crate::making::rows_of;
-use crate::names::repeated_module;
 use std::alloc::{AllocError, Global};
 use ygrammar::{
     BrokenRule, CompileCode, Source, Sources, argument_of, argument_with, broken,
-    broken_statement_rule,
 };
-use ylink::{Typedefs, broken_type_rule};
+use ylink::{CompileFault, Linked, link};
 use ymodel::{Schema, SchemaModule};
-use ynames::{
-    Prefixes, broken_meaning_rule, broken_prefix_rule, broken_taken_rule, holders_of, meanings_of,
-};
 use yplan::{Plan, broken_name_rule};
 use ypreorder::Node;
 use yresolve::{Resolved, broken_node_rule};
@@ -51,77 +45,27 @@ pub fn compile(alloc: Global, modules: &[Module]) -> Result<Schema, CompileFault
     ensures bare { IfOk result (λ schema. LeafsAreBare (view schema).nodes) }
     ensures within { IfOk result (λ schema. levels (view schema).nodes ≤ level_limit) }
 {
-    if let Some(found) = broken_statement_rule(alloc, modules)? {
-        return Err(CompileFault::from(found));
+    match link(alloc, modules) {
+        Ok(linked) => compile_linked(alloc, modules, &linked),
+        Err(fault) => Err(fault),
     }
-    let sources = Sources::of(alloc, modules)?;
-    compile_sources(alloc, modules, &sources)
 }
 
-/// Compiles modules whose statements are those of the table.
-fn compile_sources(
+/// Compiles modules that link.
+fn compile_linked<'t>(
     alloc: Global,
     modules: &[Module],
-    sources: &Sources<'_>,
+    linked: &Linked<'t>,
 ) -> Result<Schema, CompileFault>
-    requires made { link.view sources.now ≡ sources_of (modules_view modules.now) }
-    requires first { None ≡ first_broken (statement_part (modules_view modules.now)) }
+    requires links { spec.linked (modules_view modules.now) ≡ Ok (statements.view linked.now) }
     ensures { Gives view told_by result (compiled (modules_view modules.now)) }
 {
-    if let Some(found) = broken_names_rule(alloc, modules, sources)? {
+    let plan = Plan::of(alloc, linked.sources(), linked.prefixes())?;
+    if let Some(found) = broken_plan_rule(modules, &plan) {
         return Err(CompileFault::from(found));
     }
-    let prefixes = Prefixes::of(alloc, sources)?;
-    let meanings = meanings_of(alloc, sources, &prefixes)?;
-    let holders = holders_of(alloc, sources)?;
-    if let Some(found) = broken_meaning_rule(alloc, sources, &holders, &meanings)? {
-        return Err(CompileFault::from(found));
-    }
-    let typedefs = Typedefs::of(alloc, sources, &holders, meanings)?;
-    compile_types(alloc, modules, sources, typedefs)
-}
-
-/// Compiles modules whose names are right.
-fn compile_types<'t>(
-    alloc: Global,
-    modules: &[Module],
-    sources: &Sources<'t>,
-    typedefs: Typedefs<'t>,
-) -> Result<Schema, CompileFault>
-    requires made { link.view sources.now ≡ sources_of (modules_view modules.now) }
-    requires named { typedefs_of.IsOf typedefs (link.view sources.now) }
-    requires first { None ≡ first_broken (statement_part (modules_view modules.now)) }
-    requires names { None
-        ≡ least_from None (spec.names_phase (modules_view modules.now) (link.view sources.now)) }
-    requires meanings { None ≡ least_from None (spec.meanings_phase (link.view sources.now)) }
-    ensures { Gives view told_by result (compiled (modules_view modules.now)) }
-{
-    if let Some(found) = broken_type_rule(alloc, sources, &typedefs)? {
-        return Err(CompileFault::from(found));
-    }
-    let plan = Plan::of(alloc, sources)?;
-    compile_plan(alloc, modules, &plan, typedefs)
-}
-
-/// Compiles modules whose names and types are right.
-fn compile_plan<'t>(
-    alloc: Global,
-    modules: &[Module],
-    plan: &Plan<'_, 't>,
-    typedefs: Typedefs<'t>,
-) -> Result<Schema, CompileFault>
-    requires named { typedefs_of.IsOf typedefs (plans.view plan.now).modules }
-    requires made { plans.view plan.now ≡ spec.plan_of (sources_of (modules_view modules.now)) }
-    requires first { None ≡ first_broken (statement_part (modules_view modules.now)) }
-    requires second { None ≡ first_broken
-        (source_part (modules_view modules.now) (sources_of (modules_view modules.now))) }
-    ensures { Gives view told_by result (compiled (modules_view modules.now)) }
-{
-    if let Some(found) = broken_plan_rule(modules, plan) {
-        return Err(CompileFault::from(found));
-    }
-    let resolved = Resolved::of(alloc, plan, typedefs)?;
-    compile_rules(alloc, modules, plan, &resolved)
+    let resolved = Resolved::of(alloc, &plan, linked)?;
+    compile_rules(alloc, modules, &plan, &resolved)
 }
 
 /// Compiles modules that have no more nodes than they may, and no names twice.
@@ -129,14 +73,12 @@ fn compile_rules<'t>(
     alloc: Global,
     modules: &[Module],
     plan: &Plan<'_, 't>,
-    resolved: &Resolved<'t>,
+    resolved: &Resolved<'_, 't>,
 ) -> Result<Schema, CompileFault>
     requires of_plan { IsOf resolved.now (plans.view plan.now) }
     requires made { plans.view plan.now ≡ spec.plan_of (sources_of (modules_view modules.now)) }
-    requires first { None ≡ first_broken (statement_part (modules_view modules.now)) }
+    requires first { None ≡ first_broken (linking_phases (modules_view modules.now)) }
     requires second { None ≡ first_broken
-        (source_part (modules_view modules.now) (sources_of (modules_view modules.now))) }
-    requires third { None ≡ first_broken
         (plan_part (modules_view modules.now) (plans.view plan.now)) }
     ensures { Gives view told_by result (compiled (modules_view modules.now)) }
 {
@@ -144,20 +86,6 @@ fn compile_rules<'t>(
         return Err(CompileFault::from(found));
     }
     Ok(build(alloc, plan, resolved)?)
-}
-
-/// The rule that is told of prefixes, or of names of modules and definitions.
-fn broken_names_rule(
-    alloc: Global,
-    modules: &[Module],
-    sources: &Sources<'_>,
-) -> Result<Option<BrokenRule>, AllocError>
-    ensures { let s = link.view sources.now in IfOk result (λ told. seen told
-        ≡ least_from None (spec.names_phase (modules_view modules.now) s)) }
-{
-    let prefix = broken_prefix_rule(alloc, sources)?;
-    let repeated = repeated_module(alloc, modules, prefix)?;
-    broken_taken_rule(alloc, sources, repeated)
 }
 
 /// A limit that is passed is told at the module given last.
@@ -193,7 +121,7 @@ fn broken_rule<'t>(
     alloc: Global,
     modules: &[Module],
     plan: &Plan<'_, 't>,
-    resolved: &Resolved<'t>,
+    resolved: &Resolved<'_, 't>,
 ) -> Result<Option<BrokenRule>, AllocError>
     requires { IsOf resolved.now (plans.view plan.now) }
     ensures { let p = plans.view plan.now in
@@ -233,7 +161,7 @@ fn modules_of(alloc: Global, sources: &Sources<'_>) -> Result<Vec<SchemaModule>,
 fn build<'t>(
     alloc: Global,
     plan: &Plan<'_, 't>,
-    resolved: &Resolved<'t>,
+    resolved: &Resolved<'_, 't>,
 ) -> Result<Schema, AllocError>
     requires of_plan { IsOf resolved.now (plans.view plan.now) }
     requires legal { IsCompiled (spec.schema_of_plan (plans.view plan.now)) }

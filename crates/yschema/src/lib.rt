@@ -2,15 +2,12 @@
 #![tactic(auto)]
 
 mod building;
-mod fault;
 mod limits;
 mod making;
-mod names;
 
 pub use building::compile;
-pub use fault::CompileFault;
 pub use limits::{LEVEL_LIMIT, NODE_LIMIT};
-pub use ygrammar::CompileCode;
+pub use ylink::{CompileCode, CompileFault};
 pub use ymodel::{
     Absence, Amount, BuiltIn, Child, Children, Kind, LeafType, Schema, SchemaId, SchemaModule,
     SchemaNode, Status, Tuples, TypeName,

@@ -24,7 +24,7 @@ use yword::Keyword;
 fn values_of<'a, 't>(
     alloc: Global,
     plan: &Plan<'a, 't>,
-    resolved: &Resolved<'t>,
+    resolved: &Resolved<'_, 't>,
     node: PlanNode<'a, 't>,
 ) -> Result<Vec<Val>, AllocError>
     requires of_plan { IsOf resolved.now (plan_view.view plan.now) }
@@ -50,7 +50,7 @@ fn first_of(values: Vec<Val>) -> Option<Val>
 fn absence_of<'a, 't>(
     alloc: Global,
     plan: &Plan<'a, 't>,
-    resolved: &Resolved<'t>,
+    resolved: &Resolved<'_, 't>,
     node: PlanNode<'a, 't>,
 ) -> Result<Absence, AllocError>
     requires of_plan { IsOf resolved.now (plan_view.view plan.now) }
@@ -92,7 +92,7 @@ fn type_or_text(alloc: Global, value_type: Option<&YType>) -> Result<YType, Allo
 fn leaf_type_of<'a, 't>(
     alloc: Global,
     plan: &Plan<'a, 't>,
-    resolved: &Resolved<'t>,
+    resolved: &Resolved<'_, 't>,
     node: PlanNode<'a, 't>,
 ) -> Result<LeafType, AllocError>
     requires of_plan { IsOf resolved.now (plan_view.view plan.now) }
@@ -114,7 +114,7 @@ fn leaf_type_of<'a, 't>(
 fn kind_of<'a, 't>(
     alloc: Global,
     plan: &Plan<'a, 't>,
-    resolved: &Resolved<'t>,
+    resolved: &Resolved<'_, 't>,
     node: PlanNode<'a, 't>,
 ) -> Result<Kind, AllocError>
     requires of_plan { IsOf resolved.now (plan_view.view plan.now) }
@@ -154,7 +154,7 @@ fn kind_of<'a, 't>(
 fn node_of<'a, 't>(
     alloc: Global,
     plan: &Plan<'a, 't>,
-    resolved: &Resolved<'t>,
+    resolved: &Resolved<'_, 't>,
     node: PlanNode<'a, 't>,
 ) -> Result<SchemaNode, AllocError>
     requires of_plan { IsOf resolved.now (plan_view.view plan.now) }
@@ -177,7 +177,7 @@ fn node_of<'a, 't>(
 fn row_of<'a, 't>(
     alloc: Global,
     plan: &Plan<'a, 't>,
-    resolved: &Resolved<'t>,
+    resolved: &Resolved<'_, 't>,
     number: u32,
     row: &ypreorder::Row<Planned<'a, 't>>,
 ) -> Result<Row, AllocError>
@@ -202,7 +202,7 @@ fn row_of<'a, 't>(
 pub(crate) fn rows_of<'t>(
     alloc: Global,
     plan: &Plan<'_, 't>,
-    resolved: &Resolved<'t>,
+    resolved: &Resolved<'_, 't>,
 ) -> Result<Vec<Row>, AllocError>
     requires { IsOf resolved.now (plan_view.view plan.now) }
     ensures laid { IfOk result (λ rows. laid 0 rows.items

@@ -1,18 +1,29 @@
-use Rattle.std.proofs.Common.{false, None, ap, ◌∙◌}
-use mathlib.Core.Path.{fun_ext}
-use Rattle.yspec.specs.schema.Breaks.{least_from}
-use Rattle.yspec.specs.linking.DerivedTypes.{verdict_by}
-use Rattle.yspec.specs.linking.TypeStatements.{type_breaks_in}
-use Rattle.ygrammar.specs.LinkView.{view}
-use Rattle.ygrammar.proofs.GrammarLemmas.{if_ok_then}
-use Rattle.ylink.specs.TypedefView.{verdicts_in}
+use Rattle.std.proofs.Common.{◌∙◌, ap, arith, List, None}
+use Rattle.yspec.specs.schema.Breaks.{Break, least_from}
+use Rattle.yspec.specs.linking.Source.{Source}
+use Rattle.ypreorder.specs.Layout.{forest_of}
+use Rattle.ypreorder.specs.View.{rows_in}
+use Rattle.ygrammar.specs.BreakView.{seen}
+use Rattle.ygrammar.specs.SourceView.{source_view}
+use Rattle.ynames.proofs.ToldLemmas.{next_told, all_told}
+use Rattle.ylink.specs.VerdictView.{table_view, verdict_held, told_by}
+use Rattle.ylink.proofs.VerdictLemmas.{all_judged}
 use Rattle.ylink.proofs.judging.broken_type_rule.Goals as goal
 
+pub loop-number-preserved : goal.loop-number-preserved
+loop-number-preserved c =
+    let i = c.loop-number.number in
+    let row = c.row-item.result in
+    let told = seen c.loop-number.told in
+    let table = table_view c.args.verdicts.now in
+    let breaks : Source → List Break = λ s. told_by s (verdict_held table s.number) in
+    next_told breaks _ (rows_in c.args.sources.now.table) c.rows-row-items.ensures i row told (seen c.judge_verdict-told.result) _ (omega arith) c.row-item.is
+    (c.judge_verdict-told.ensures i ∙ ap (λ v. least_from told (told_by (source_view i row.label) v)) c.verdict_held.ensures) c.loop-number.invariant
+
 pub returns : goal.returns
-returns c is =
-    let modules = view c.args.sources.now in
-    let named = verdicts_in c.args.typedefs.now in
-    if_ok_then _ _ c.broken_type_rule_in.result
-    (λ told e. e ∙ (ap (λ f. least_from None (type_breaks_in modules named false f)) c.modules.ensures
-    ∙ ap (λ names. least_from None (type_breaks_in modules (verdict_by names) false modules)) (fun_ext is)))
-    c.broken_type_rule_in.ensures
+returns c are =
+    let rows = rows_in c.args.sources.now.table in
+    let table = table_view c.args.verdicts.now in
+    let breaks : Source → List Break = λ s. told_by s (verdict_held table s.number) in
+    all_told breaks _ rows c.rows-row-items.ensures c.loop-number.number (seen c.loop-number.told) None (omega arith) c.loop-number.invariant
+    ∙ ap (least_from None) (all_judged (forest_of rows) table are)

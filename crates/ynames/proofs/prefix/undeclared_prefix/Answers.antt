@@ -11,7 +11,7 @@ loop-row-preserved c =
     let modules = view c.args.sources.now in
     let i = c.loop-row.row-index in
     next_told (prefix_break modules) _ (rows_in c.args.sources.now.table) c.rows-row-items.ensures i c.row-item.result (seen c.loop-row.told) (seen c.in_ok-told.told) _
-    (omega arith) c.row-item.is (c.in_ok-told.ensures modules i c.in_ok-prefixes.ensures) c.loop-row.invariant
+    (omega arith) c.row-item.is (c.in_ok-told.ensures modules i c.requires) c.loop-row.invariant
 
 pub returns : goal.returns
 returns c =

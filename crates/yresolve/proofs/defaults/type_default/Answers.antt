@@ -2,9 +2,9 @@ use Rattle.std.proofs.Common.{◌≡◌, ◌||◌, false, true, ltb, Some, None,
 use Rattle.std.specs.Prelude.{option_map}
 use Rattle.std.proofs.lemmas.Bool.{lt-ltb, le-ltb}
 use Rattle.yspec.specs.linking.SchemaNodes.{is_mandatory, least_of}
-use Rattle.yspec.specs.linking.DerivedTypes.{Known}
+use Rattle.yspec.specs.linking.DerivedTypes.{known_named}
 use Rattle.ygrammar.specs.SourceView.{node_view}
-use Rattle.ylink.specs.TypedefView.{names_in}
+use Rattle.ylink.specs.LinkedView as statements
 use Rattle.yplan.specs.PlannedView.{planned_view}
 use Rattle.yresolve.proofs.DefaultLemmas.{no_default, default_named}
 use Rattle.yresolve.proofs.defaults.type_default.Goals as goal
@@ -40,4 +40,5 @@ returns c = λ plan number named.
     ∙ le-ltb 0 c.least.result c.if-least-gt0.false in
     default_named plan p (Some (node_view s)) (option_map (λ t. t.now) c.default_named.result) may
     (ap (option_map node_view) (sym c.in_ok-statement.was) ∙ c.first_own.ensures)
-    (c.default_named.ensures ∙ (ap (λ n. (names_in c.args.typedefs.now n).default) c.number.ensures ∙ ap (λ (k : Known). k.default) (named s.number)))
+    (c.default_named.ensures ∙ (ap (λ n. (known_named (statements.view c.args.linked.now) n).default) c.number.ensures
+    ∙ ap (λ modules. (known_named modules s.number).default) named))

@@ -15,10 +15,10 @@ loop-node-preserved c =
     let before = left c.loop-node.node-iterator in
     let rest = left c.next.new.self in
     record {
-      meant = collected_as (spec.meant_in p) (option_map meant_view) c.loop-node.meant.items c.push-in-loop-node.new.self.items
-          (node_view node) c.in_ok-meaning.meaning before rest (nodes_of p) c.in-Some.ensures.steps c.in_ok-push-2.ensures.items
-          (c.in_ok-meaning.ensures node.number) c.loop-node.invariant.meant;
+      meant = collected_as (spec.meant_in p) (option_map (λ m. meant_view m.now)) c.loop-node.meant.items c.push-in-loop-node.new.self.items
+          (node_view node) c.meaning_of-meaning.result before rest (nodes_of p) c.in-Some.ensures.steps c.in_ok-push-2.ensures.items
+          (c.meaning_of-meaning.ensures p node.number c.requires.named) c.loop-node.invariant.meant;
       targets = collected (λ q. option_map number_in (spec.target_of p q)) c.loop-node.targets.items c.push.new.self.items
           (node_view node) c.target_of.result before rest (nodes_of p) c.in-Some.ensures.steps c.in_ok-push.ensures.items
-          (c.target_of.ensures node.number (c.in_ok-meaning.ensures node.number)) c.loop-node.invariant.targets;
+          (c.target_of.ensures node.number (c.meaning_of-meaning.ensures p node.number c.requires.named)) c.loop-node.invariant.targets;
     }

@@ -1,5 +1,5 @@
 use Rattle.std.proofs.Common.{ap}
-use Rattle.yschema.specs.Told.{break_view}
+use Rattle.ylink.specs.Told.{break_view}
 use Rattle.yschema.proofs.ToldLemmas.{passed}
 use Rattle.yschema.proofs.building.at_last.Goals as goal
 

@@ -73,8 +73,11 @@ loop-number-preserved c =
           ∙ ap₂ (λ ns r. if e == number then option_map_or (known_in_row set ns) r unknown else table e) names row);
     }
 
-pub returns : goal.returns
-returns c number =
+pub returns-clause-meanings : goal.returns-clause-meanings
+returns-clause-meanings c = c.loop-number.invariant.meant
+
+pub returns-clause-known : goal.returns-clause-known
+returns-clause-known c number =
     let set = view c.args.sources.now in
     let f = forest_in c.args.sources.now.table in
     let nodes = c.deref-number-items.result.now in

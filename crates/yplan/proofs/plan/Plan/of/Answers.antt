@@ -10,7 +10,7 @@ use Rattle.yplan.proofs.plan.Plan.of.Goals as goal
 
 pub invariant_of-result : goal.invariant_of-result
 invariant_of-result c = record {
-  prefixed = c.in_ok-prefixes.ensures;
+  prefixed = c.requires;
   laid_out = (shown planned_view (planned 0 at_top (parts_of_modules (link.view c.args.sources.now))) (rows_in c.in_ok-table.table) c.in_ok-table.ensures).1;
   named = c.in_ok-index.ensures.texts;
   indexed = c.in_ok-index.ensures.nodes;

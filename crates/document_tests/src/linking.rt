@@ -1,0 +1,206 @@
+//! What the names and types of linked statements mean.
+
+use crate::building::modules_of;
+use crate::telling::{is_refusal_of_modules, number_of};
+use std::alloc::{AllocError, Global};
+use ylink::{Linked, Statements, StmtId, link};
+use ytext::Module;
+use ytype::Raw;
+
+// Statements 0 to 17.
+const USING: &str = "module a {
+  yang-version 1.1; namespace 'urn:a'; prefix a;
+  import b { prefix x; }
+  typedef t { type x:u; }
+  typedef r { type leafref { path /a:l; } }
+  leaf l { type t; }
+  leaf m { type r; }
+  leaf n { type uint8 { range 1..5; } }
+}";
+
+// Statements 18 to 27; the extension's isn't one.
+const USED: &str = "module b {
+  yang-version 1.1; namespace 'urn:b'; prefix b;
+  typedef u { type int8 { range 0..7; } }
+  grouping g { leaf k { type u; b:note 'x'; } }
+}";
+
+fn linked_of<'t>(alloc: Global, modules: &'t [Module]) -> Option<Linked<'t>> {
+    link(alloc, modules).ok()
+}
+
+// `-` is nothing, else it is a number.
+fn is_number(found: Option<usize>, wanted: &str) -> Option<bool> {
+    match found {
+        Some(number) => Some(wanted != "-" && number_of(wanted)? as usize == number),
+        None => Some(wanted == "-"),
+    }
+}
+
+// Of a statement the module, its keyword and what it means: `NUMBER MODULE KEYWORD MEANING`
+fn is_statement(linked: &Linked<'_>, row: &str) -> Option<bool> {
+    let (number, rest) = row.split_once(' ')?;
+    let (module, rest) = rest.split_once(' ')?;
+    let (keyword, meaning) = rest.split_once(' ')?;
+    let id = StmtId(number_of(number)?);
+    let is_there = match linked.statement(id) {
+        Some(statement) => statement.keyword() == keyword,
+        None => keyword == "-",
+    };
+    let meant = match linked.meaning(id) {
+        Some(definition) => Some(definition.0 as usize),
+        None => None,
+    };
+    Some(is_there && is_number(linked.module(id), module)? && is_number(meant, meaning)?)
+}
+
+// Whether a row holds each statement right below one: `NUMBER BELOW BELOW ..`
+fn are_below(linked: &Linked<'_>, row: &str) -> Option<bool> {
+    match row.split_once(' ') {
+        Some((number, below)) => are(linked.substatements(StmtId(number_of(number)?)), below),
+        None => Some(linked.substatements(StmtId(number_of(row)?)).next().is_none()),
+    }
+}
+
+// Whether these statements are those of a row.
+fn are(statements: Statements<'_, '_>, row: &str) -> Option<bool> {
+    let mut left = statements;
+    for number in row.split(' ') {
+        match left.next() {
+            Some(id) if id.0 == number_of(number)? => {}
+            _ => return Some(false),
+        }
+    }
+    Some(left.next().is_none())
+}
+
+fn one_line(alloc: Global, statements: &str) -> Option<String> {
+    let mut text = String::from_str(alloc, "module m { namespace 'u'; prefix p; ").ok()?;
+    text.push_str(statements).ok()?;
+    text.push_str(" }").ok()?;
+    Some(text)
+}
+
+// What a prefix names in a module: `MODULE PREFIX NAMED`
+fn is_prefix(linked: &Linked<'_>, row: &str) -> Option<bool> {
+    let (module, rest) = row.split_once(' ')?;
+    let (prefix, named) = rest.split_once(' ')?;
+    is_number(linked.prefix(number_of(module)? as usize, prefix), named)
+}
+
+// Whether the type of a statement takes a number: `STATEMENT NUMBER yes`, `no`, or `-` where it has none of its own.
+fn is_typed(alloc: Global, linked: &Linked<'_>, row: &str) -> Option<bool> {
+    let (number, rest) = row.split_once(' ')?;
+    let (value, wanted) = rest.split_once(' ')?;
+    let raw = Raw::Int(i128::from(number_of(value)?));
+    match linked.typed(StmtId(number_of(number)?)) {
+        Some(value_type) => match value_type.check(alloc, &raw) {
+            Ok(_) => Some(wanted == "yes"),
+            Err(_) => Some(wanted == "no"),
+        },
+        None => Some(wanted == "-"),
+    }
+}
+
+#[test]
+fn linked_statements(rt: HostRuntime) {
+    let rows = "0 0 module -
+5 0 prefix -
+7 0 type 22
+12 0 type 6
+14 0 type 8
+16 0 type -
+24 1 range -
+27 1 type 22
+28 - - -";
+    let modules = modules_of(rt.alloc(), &[USING, USED]).unwrap_or(Vec::new(rt.alloc()));
+    match linked_of(rt.alloc(), &modules) {
+        Some(linked) => {
+            for row in rows.lines() {
+                assert!(rt; is_statement(&linked, row) == Some(true), "{row:?}");
+            }
+        }
+        None => assert!(rt; false, "linked"),
+    }
+}
+
+#[test]
+fn rows_of_statements(rt: HostRuntime) {
+    let rows = "4 5
+6 7
+8 9
+9 10
+17
+18 19 20 21 22 25
+26 27
+28";
+    let modules = modules_of(rt.alloc(), &[USING, USED]).unwrap_or(Vec::new(rt.alloc()));
+    match linked_of(rt.alloc(), &modules) {
+        Some(linked) => {
+            for row in rows.lines() {
+                assert!(rt; are_below(&linked, row) == Some(true), "{row:?}");
+            }
+            assert!(rt; are(linked.modules(), "0 18") == Some(true), "modules");
+        }
+        None => assert!(rt; false, "linked"),
+    }
+}
+
+#[test]
+fn prefixes_and_types(rt: HostRuntime) {
+    let modules = modules_of(rt.alloc(), &[USING, USED]).unwrap_or(Vec::new(rt.alloc()));
+    match linked_of(rt.alloc(), &modules) {
+        Some(linked) => {
+            for row in "0 x 1
+0 a 0
+0 b -
+1 b 1
+1 x -
+2 b -".lines() {
+                assert!(rt; is_prefix(&linked, row) == Some(true), "{row:?}");
+            }
+            for row in "12 7 yes
+12 8 no
+7 7 yes
+23 8 no
+16 5 yes
+16 6 no
+9 7 -
+14 7 -
+17 7 -
+28 7 -".lines() {
+                assert!(rt; is_typed(rt.alloc(), &linked, row) == Some(true), "{row:?}");
+            }
+        }
+        None => assert!(rt; false, "linked"),
+    }
+}
+
+// The least of the first phase that has one is told, as by `compile`.
+fn is_refused(alloc: Global, text: &str, told: &str) -> Option<bool> {
+    let modules = modules_of(alloc, &[text])?;
+    match link(alloc, &modules) {
+        Ok(_) => Some(told == "-"),
+        Err(fault) => is_refusal_of_modules(alloc, fault, 0, told),
+    }
+}
+
+#[test]
+fn refused_links(rt: HostRuntime) {
+    for row in "C4:1/
+C1:1/yang-version 1.1; must x;
+C6:1/yang-version 1.1; leaf l { type q:t; }
+C8:1/yang-version 1.1; leaf l { type t; }
+C10:1/yang-version 1.1; leaf l { type union; }
+-/yang-version 1.1; leaf l { type string; } leaf l { type string; }
+-/yang-version 1.1; leaf l { type leafref { path /p:x; } }".lines() {
+        let told = match row.split_once('/') {
+            Some((told, statements)) => match one_line(rt.alloc(), statements) {
+                Some(text) => is_refused(rt.alloc(), text.as_str(), told),
+                None => None,
+            },
+            None => Some(false),
+        };
+        assert!(rt; told == Some(true), "{row:?}");
+    }
+}

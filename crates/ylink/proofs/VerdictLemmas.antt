@@ -1,0 +1,91 @@
+-- Verdicts in a table, and on the members of a union, one after another.
+use Rattle.std.proofs.Common.{◌≡◌, ℕ, Bool, true, false, cond, List, [], ◌∷◌, ◌++◌, length, Option, Some, None, map, refl, sym, ap, ap₂, ◌∙◌}
+use Rattle.std.specs.Prelude.{slice_get, slice_set, option_map, option_and_then}
+use Rattle.std.specs.List.{flat_map}
+use Rattle.std.proofs.lemmas.List.{append_assoc, append-nil}
+use Rattle.std.proofs.lemmas.Option.{slice_get-map}
+use Rattle.std.proofs.Math.Seq.{set-append_seam}
+use Rattle.yspec.specs.Forest.{Forest, end, node, preorder}
+use Rattle.yspec.specs.linking.Keyword.{type_word}
+use Rattle.yspec.specs.linking.Source.{Source, is_source_of}
+use Rattle.yspec.specs.linking.Scopes.{Placed, statements_of}
+use Rattle.yspec.specs.linking.TypeStatements as spec
+use Rattle.yspec.specs.linking.TypeStatements.{verdict, verdicts}
+use Rattle.yspec.specs.linking.DerivedTypes.{verdict_by, known_named, verdict_of, meant_by, type_meant, type_break, type_breaks}
+use Rattle.ypreorder.specs.Layout.{numbered_by}
+use Rattle.ygrammar.specs.declared.source.Source as held
+use Rattle.ygrammar.specs.SourceView.{source_view}
+use Rattle.ynames.proofs.NumberedLemmas.{by_number_from}
+use Rattle.ylink.specs.VerdictView.{members_in, members_below, judged, verdict_held, told_by}
+use Rattle.ylink.proofs.PlacedLemmas.{found_at}
+use Rattle.ylink.proofs.TypeLemmas.{no_verdict, next_verdict, no_more_verdicts}
+
+-- what was pushed first is set once what stands below it is pushed
+pub seam : {A : Type 0} (so_far mid full new inner : List A) (y x : A) (n : ℕ) → mid ≡ so_far ++ y ∷ [] → full ≡ mid ++ inner
+    → n ≡ length so_far → new ≡ slice_set full n x → new ≡ (so_far ++ x ∷ []) ++ inner
+seam so_far mid full new inner y x n mid_is full_is n_is new_is =
+    new_is ∙ (ap (λ k. slice_set full k x) n_is
+    ∙ (ap (λ l. slice_set l (length so_far) x) (full_is ∙ (ap (λ l. l ++ inner) mid_is ∙ append_assoc so_far (y ∷ []) inner))
+    ∙ (set-append_seam so_far y inner x ∙ sym (append_assoc so_far (x ∷ []) inner))))
+
+module _ (modules : Forest Source) (named : ℕ → spec.Verdict) (s : Source) (below after before : Forest Source) (first : before ≡ node s below after) where
+  pub no_member : (u : Bool) (so_far whole : List spec.Verdict) → is_source_of type_word s ≡ false
+      → so_far ++ members_below modules named u before ≡ whole → so_far ++ members_below modules named u after ≡ whole
+  no_member true so_far whole other made = no_verdict modules named s below after before first so_far whole other made
+  no_member false so_far whole other made = made
+
+  pub next_member : (u : Bool) (so_far more : List spec.Verdict) (v : spec.Verdict) (whole : List spec.Verdict) → is_source_of type_word s ≡ true
+      → more ≡ so_far ++ members_in u v → v ≡ verdict modules named u s below (verdicts modules named below)
+      → so_far ++ members_below modules named u before ≡ whole → more ++ members_below modules named u after ≡ whole
+  next_member true so_far more v whole stands added is made = next_verdict modules named s below after before first so_far more v whole stands added is made
+  next_member false so_far more v whole stands added is made = ap (λ l. l ++ []) (added ∙ append-nil so_far) ∙ made
+
+pub all_members : (modules : Forest Source) (named : ℕ → spec.Verdict) (u : Bool) (left : Forest Source) (so_far whole : List spec.Verdict) → left ≡ end
+    → so_far ++ members_below modules named u left ≡ whole → so_far ≡ whole
+all_members modules named true left so_far whole ended made = no_more_verdicts modules named left so_far whole ended made
+all_members modules named false left so_far whole ended made = sym (append-nil so_far) ∙ made
+
+-- ---- what verdicts tell
+
+one_told : (s : Source) (v : spec.Verdict) (b : Bool) → told_by s (cond b (Some v) None) ≡ cond b (spec.told s v) []
+one_told s v true = refl
+one_told s v false = refl
+
+all_told : (modules : Forest Source) (ps : List Placed)
+    → flat_map (λ p. told_by p.source (judged modules (verdict_by (known_named modules)) p)) ps ≡ flat_map (type_break modules) ps
+all_told modules [] = refl
+all_told modules (p ∷ ps) =
+    ap₂ (λ a l. a ++ l) (one_told p.source (verdict_of modules p) (is_source_of type_word p.source)) (all_told modules ps)
+
+pub all_judged : (f : Forest held.Source) (table : List (Option spec.Verdict))
+    → table ≡ map (judged (numbered_by source_view 0 f) (verdict_by (known_named (numbered_by source_view 0 f)))) (statements_of (numbered_by source_view 0 f))
+    → flat_map (λ s. told_by s (verdict_held table s.number)) (preorder (numbered_by source_view 0 f)) ≡ type_breaks (numbered_by source_view 0 f)
+all_judged f table are =
+    let modules = numbered_by source_view 0 f in
+    let one = judged modules (verdict_by (known_named modules)) in
+    by_number_from one (λ s v. told_by s (option_and_then (λ o. o) v)) table [] 0 f [] [] refl (are ∙ sym (append-nil (map one (statements_of modules))))
+    ∙ all_told modules (statements_of modules)
+
+-- ---- what a statement of a number means
+
+pub meant_held : (f : Forest held.Source) (table : List (Option spec.Verdict))
+    → table ≡ map (judged (numbered_by source_view 0 f) (verdict_by (known_named (numbered_by source_view 0 f)))) (statements_of (numbered_by source_view 0 f))
+    → (n : ℕ) → option_and_then spec.meaning_of (verdict_held table n) ≡ type_meant (numbered_by source_view 0 f) n
+meant_held f table are n =
+    ap (λ l. option_and_then spec.meaning_of (option_and_then (λ v. v) (slice_get l n))) are
+    ∙ (ap (λ o. option_and_then spec.meaning_of (option_and_then (λ v. v) o)) (slice_get-map one (statements_of modules) n)
+    ∙ (by (slice_get (statements_of modules) n) ∙ ap (option_and_then (meant_by modules)) (sym (found_at f n))))
+  where
+    modules : Forest Source
+    modules = numbered_by source_view 0 f
+
+    one : Placed → Option spec.Verdict
+    one = judged modules (verdict_by (known_named modules))
+
+    of_one : (v : spec.Verdict) (b : Bool) → option_and_then spec.meaning_of (cond b (Some v) None) ≡ cond b (spec.meaning_of v) None
+    of_one v true = refl
+    of_one v false = refl
+
+    by : (o : Option Placed) → option_and_then spec.meaning_of (option_and_then (λ v. v) (option_map one o)) ≡ option_and_then (meant_by modules) o
+    by None = refl
+    by (Some p) = of_one (verdict_of modules p) (is_source_of type_word p.source)

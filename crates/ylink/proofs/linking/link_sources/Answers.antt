@@ -1,0 +1,31 @@
+use Rattle.std.proofs.Common.{sym, ap, subst, ◌∙◌}
+use Rattle.ytext.specs.View.{modules_view}
+use Rattle.yspec.specs.Results.{Fails}
+use Rattle.yspec.specs.linking.Compiling.{linked}
+use Rattle.ygrammar.specs.LinkView as statements
+use Rattle.ylink.specs.Told.{seen, told_by, break_view}
+use Rattle.ylink.proofs.LinkingLemmas.{in_names, in_meanings, no_circles}
+use Rattle.ylink.proofs.linking.link_sources.Goals as goal
+
+pub returns-in-Some : goal.returns-in-Some
+returns-in-Some c =
+    let f = modules_view c.args.modules.now in
+    let s = statements.view c.args.sources in
+    subst (λ fault. Fails (told_by fault) (linked f)) (sym c.from.ensures)
+    (in_names f s c.requires.made c.requires.first (break_view c.in-Some.found) (sym (ap seen c.in-Some.is) ∙ c.in_ok-found.ensures))
+
+pub returns-in-Some-2 : goal.returns-in-Some-2
+returns-in-Some-2 c =
+    let f = modules_view c.args.modules.now in
+    let s = statements.view c.args.sources in
+    let meant = c.in_ok-found-2.ensures (c.deref.ensures.value ∙ c.in_ok-holders.ensures)
+    (c.deref-2.ensures.value ∙ c.in_ok-meanings.ensures c.in_ok-prefixes.ensures) in
+    subst (λ fault. Fails (told_by fault) (linked f)) (sym c.from-in-Some-2.ensures)
+    (in_meanings f s c.requires.made c.requires.first (sym (ap seen c.in_default.is) ∙ c.in_ok-found.ensures)
+    (break_view c.in-Some-2.found) (sym (ap seen c.in-Some-2.is) ∙ meant))
+
+pub of-requires-2-clause-straight : goal.of-requires-2-clause-straight
+of-requires-2-clause-straight c =
+    let meant = c.in_ok-found-2.ensures (c.deref.ensures.value ∙ c.in_ok-holders.ensures)
+    (c.deref-2.ensures.value ∙ c.in_ok-meanings.ensures c.in_ok-prefixes.ensures) in
+    no_circles (statements.view c.args.sources) (sym (ap seen c.in_default-2.is) ∙ meant)

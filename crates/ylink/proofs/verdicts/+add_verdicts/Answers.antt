@@ -1,0 +1,116 @@
+use Rattle.std.proofs.Common.{◌≡◌, ◌∷◌, [], ◌++◌, true, false, cond, List, Option, Some, None, length, map, refl, ap, sym, ◌∙◌, rules, arith}
+use Rattle.std.proofs.lemmas.List.{map_push, length-map}
+use Rattle.yspec.specs.Forest.{Forest, size}
+use Rattle.yspec.specs.linking.DerivedTypes.{is_member}
+use Rattle.yspec.specs.linking.Keyword.{same_keyword, type_word}
+use Rattle.yspec.specs.linking.Scopes.{placed}
+use Rattle.yspec.specs.linking.Source.{Source}
+use Rattle.yspec.specs.linking.TypeStatements.{Verdict, verdict, verdicts, verdict_on}
+use Rattle.ypreorder.specs.View.{row_by, label_by}
+use Rattle.ypreorder.proofs.RowLemmas.{takes_by, takes_none_by}
+use Rattle.yword.specs.KeywordView.{keyword_view}
+use Rattle.ygrammar.specs.LinkView.{view}
+use Rattle.ygrammar.specs.SourceView.{source_view}
+use Rattle.ynames.specs.ScopeView.{placed_at}
+use Rattle.ynames.proofs.MeaningLemmas.{next_meant, all_meant}
+use Rattle.ylink.specs.TypeView.{verdict_view}
+use Rattle.ylink.specs.TypedefView.{verdicts_in}
+use Rattle.ylink.specs.VerdictView.{judged, held_view, members_in, members_below, table_view}
+use Rattle.ylink.proofs.VerdictLemmas.{seam, no_member, next_member, all_members}
+use Rattle.ylink.proofs.verdicts.+add_verdicts.Goals as goal
+
+pub loop-statement-preserved-then-not-is_type : goal.loop-statement-preserved-then-not-is_type
+loop-statement-preserved-then-not-is_type t c =
+    let modules = view c.args.sources.now in
+    let named = verdicts_in c.args.typedefs.now in
+    let taken = c.in-Some.ensures.steps in
+    let before = c.loop-statement.statement-iterator in
+    let after = row_by source_view c.next.new.self in
+    let s = label_by source_view c.in-Some.statement in
+    let below = row_by source_view c.in-Some.statement.children in
+    let sized = ap size taken.0 in
+    let first = takes_by source_view before c.next.new.self c.in-Some.statement taken in
+    let keyword : c.is-is_type.result ≡ same_keyword type_word s.keyword =
+    c.is-is_type.ensures ∙ ap (λ l. same_keyword type_word (keyword_view l.keyword)) c.label.ensures in
+    let so_far = table_view c.loop-statement.table.items in
+    let pushed = table_view c.push.new.self.items in
+    let full = table_view c.add_verdicts.new.table.items in
+    let mid : pushed ≡ so_far ++ None ∷ [] =
+    ap table_view c.in_ok-push.ensures.items ∙ map_push held_view c.loop-statement.table.items None in
+    let inner : (ancestors : List (Source × Forest Source)) → full ≡ pushed ++ map (judged modules named) (placed ((s, below) ∷ ancestors) below) =
+    λ ancestors. c.in_ok-inner.ensures.table ((s, below) ∷ ancestors) keyword
+    ∙ ap (λ n. pushed ++ map (judged modules named) (placed ((s, below) ∷ ancestors) (row_by source_view n))) c.children-below.ensures in
+    let other : same_keyword type_word s.keyword ≡ false = sym keyword ∙ first_of (search rules, cc) in
+    record {
+      more = tt;
+      ends = tt;
+      smaller = omega (arith, sized, c.loop-statement.invariant.smaller);
+      members = no_member modules named s below after (row_by source_view before) first c.args.in_union (map verdict_view c.loop-statement.members.items) _ other c.loop-statement.invariant.members;
+      table = λ ancestors in_union.
+          next_meant (judged modules named) ancestors s below after (row_by source_view before) first so_far pushed full _ None mid
+          (sym (ap (λ b. cond b (Some (verdict_on modules named (is_member ancestors) s below)) None) other)) (inner ancestors)
+          (c.loop-statement.invariant.table ancestors in_union);
+    }
+
+pub loop-statement-preserved : goal.loop-statement-preserved
+loop-statement-preserved t c =
+    let modules = view c.args.sources.now in
+    let named = verdicts_in c.args.typedefs.now in
+    let taken = c.in-Some.ensures.steps in
+    let before = c.loop-statement.statement-iterator in
+    let after = row_by source_view c.next.new.self in
+    let s = label_by source_view c.in-Some.statement in
+    let below = row_by source_view c.in-Some.statement.children in
+    let sized = ap size taken.0 in
+    let first = takes_by source_view before c.next.new.self c.in-Some.statement taken in
+    let keyword : c.is-is_type.result ≡ same_keyword type_word s.keyword =
+    c.is-is_type.ensures ∙ ap (λ l. same_keyword type_word (keyword_view l.keyword)) c.label.ensures in
+    let so_far = table_view c.loop-statement.table.items in
+    let pushed = table_view c.push.new.self.items in
+    let full = table_view c.add_verdicts.new.table.items in
+    let mid : pushed ≡ so_far ++ None ∷ [] =
+    ap table_view c.in_ok-push.ensures.items ∙ map_push held_view c.loop-statement.table.items None in
+    let inner : (ancestors : List (Source × Forest Source)) → full ≡ pushed ++ map (judged modules named) (placed ((s, below) ∷ ancestors) below) =
+    λ ancestors. c.in_ok-inner.ensures.table ((s, below) ∷ ancestors) keyword
+    ∙ ap (λ n. pushed ++ map (judged modules named) (placed ((s, below) ∷ ancestors) (row_by source_view n))) c.children-below.ensures in
+    let is_type : c.is-is_type.result ≡ true = first_of (search rules, cc) in
+    let stands : same_keyword type_word s.keyword ≡ true = sym keyword ∙ is_type in
+    let members : map verdict_view c.in_ok-inner.inner.items ≡ verdicts modules named below =
+    c.in_ok-inner.ensures.members
+    ∙ (ap (λ b. members_below modules named b (row_by source_view c.children-below.result)) is_type
+    ∙ ap (λ n. verdicts modules named (row_by source_view n)) c.children-below.ensures) in
+    let v : Verdict = verdict modules named c.args.in_union s below (verdicts modules named below) in
+    let judged_so : verdict_view c.in_ok-verdict.verdict ≡ v =
+    c.in_ok-verdict.ensures ∙ ap (verdict modules named c.args.in_union s below) members in
+    let new = table_view c.set_verdict.new.table.items in
+    let count : c.len-number.result ≡ length so_far = c.len-number.ensures ∙ (c.loop-statement.table.ok.0 ∙ sym (length-map c.loop-statement.table.items held_view)) in
+    record {
+      more = tt;
+      ends = tt;
+      smaller = omega (arith, sized, c.loop-statement.invariant.smaller);
+      members = next_member modules named s below after (row_by source_view before) first c.args.in_union (map verdict_view c.loop-statement.members.items)
+          (map verdict_view c.add_member.new.members.items) v _ stands
+          (c.in_ok-add_member.ensures ∙ ap (λ x. map verdict_view c.loop-statement.members.items ++ members_in c.args.in_union x) judged_so)
+          refl c.loop-statement.invariant.members;
+      table = λ ancestors in_union.
+          let under = map (judged modules named) (placed ((s, below) ∷ ancestors) below) in
+          let own : Option Verdict = Some (verdict_view c.in_ok-verdict.verdict) in
+          let is : own ≡ judged modules named (placed_at s below ancestors) =
+          ap Some (judged_so ∙ ap (λ u. verdict_on modules named u s below) in_union)
+          ∙ sym (ap (λ b. cond b (Some (verdict_on modules named (is_member ancestors) s below)) None) stands) in
+          next_meant (judged modules named) ancestors s below after (row_by source_view before) first so_far (so_far ++ own ∷ []) new _ own refl is
+          (seam so_far pushed full new under None own c.len-number.result mid (inner ancestors) count c.in_ok-set_verdict.ensures)
+          (c.loop-statement.invariant.table ancestors in_union);
+    }
+
+pub returns-clause-members : goal.returns-clause-members
+returns-clause-members t c =
+    let before = c.loop-statement.statement-iterator in
+    let ended = (takes_none_by source_view before c.next.new.self c.in-None.ensures.steps).0 in
+    all_members (view c.args.sources.now) (verdicts_in c.args.typedefs.now) c.args.in_union (row_by source_view before) (map verdict_view c.loop-statement.members.items) _ ended c.loop-statement.invariant.members
+
+pub returns-clause-table : goal.returns-clause-table
+returns-clause-table t c ancestors in_union =
+    let before = c.loop-statement.statement-iterator in
+    let ended = (takes_none_by source_view before c.next.new.self c.in-None.ensures.steps).0 in
+    all_meant (judged (view c.args.sources.now) (verdicts_in c.args.typedefs.now)) ancestors (row_by source_view before) (table_view c.loop-statement.table.items) _ ended (c.loop-statement.invariant.table ancestors in_union)

@@ -1,0 +1,177 @@
+//! The statements of a set of modules that links, and what can be asked of them.
+
+ghost use Rattle.ygrammar.specs.LinkView as statements;
+ghost use Rattle.ynames.specs.MeaningView.{AreMeanings};
+ghost use Rattle.ynames.specs.PrefixView as prefix;
+ghost use Rattle.ylink.specs.TypedefView as typedef;
+ghost use Rattle.ylink.specs.VerdictView.{AreVerdicts};
+
+use crate::statements::Statements;
+use crate::typedefs::Typedefs;
+use crate::types::{Meant, Verdict};
+use crate::verdicts::verdict_held;
+use ygrammar::{Source, Sources};
+use ynames::Prefixes;
+use ytext::Stmt;
+use ytype::YType;
+
+/// A statement of a set of modules, named by its number in preorder over all those that linking looks at, modules as given.
+#[derive(Clone, Copy, Debug, PartialEq, Eq, PartialOrd, Ord, Hash)]
+pub struct StmtId(pub u32);
+
+/// The statements of a set of modules, with what their names and types mean (RFC 7950, 5.1, 5.5 and 7.4).
+#[derive(Drop)]
+pub struct Linked<'t> {
+    sources: Sources<'t>,
+    prefixes: Prefixes<'t>,
+    typedefs: Typedefs<'t>,
+    // The verdict on each `type` statement, by its number.
+    verdicts: Vec<Option<Box<Verdict<'t>>>>,
+    ghost prefixed: { prefix.IsOf prefixes (statements.view sources) },
+    ghost named: { typedef.IsOf typedefs (statements.view sources) },
+    ghost meant: { AreMeanings typedefs.meanings.items (statements.view sources) },
+    ghost judged: { AreVerdicts verdicts.items (statements.view sources) },
+}
+
+impl<'t> Linked<'t> {
+    ghost use Rattle.std.specs.Prelude.{◌≡◌, option_map};
+    ghost use Rattle.std.specs.Option.{option_map_or};
+    ghost use Rattle.yspec.specs.Forest.{end};
+    ghost use Rattle.yspec.specs.linking.DerivedTypes as types;
+    ghost use Rattle.yspec.specs.linking.Imports as imports;
+    ghost use Rattle.yspec.specs.linking.Scopes.{statement_at};
+    ghost use Rattle.ytext.specs.View as text;
+    ghost use Rattle.ygrammar.specs.LinkView as statements;
+    ghost use Rattle.ygrammar.specs.SourceView.{source_view};
+    ghost use Rattle.ynames.specs.MeaningView.{AreMeanings};
+    ghost use Rattle.ynames.specs.PrefixView as prefix;
+    ghost use Rattle.ylink.specs.TypedefView as typedef;
+    ghost use Rattle.ylink.specs.TypeView.{meant_view};
+    ghost use Rattle.ylink.specs.VerdictView.{AreVerdicts};
+    ghost use Rattle.ylink.specs.LinkedView.{view};
+    ghost use Rattle.ylink.specs.StatementsView.{left, numbers_of};
+
+    /// What a set of statements is linked to, once it is known that they break no rule.
+    pub(crate) fn new(
+        sources: Sources<'t>,
+        prefixes: Prefixes<'t>,
+        typedefs: Typedefs<'t>,
+        verdicts: Vec<Option<Box<Verdict<'t>>>>,
+    ) -> Linked<'t>
+        requires prefixed { prefix.IsOf prefixes (statements.view sources) }
+        requires named { typedef.IsOf typedefs (statements.view sources) }
+        requires meant { AreMeanings typedefs.meanings.items (statements.view sources) }
+        requires judged { AreVerdicts verdicts.items (statements.view sources) }
+        ensures { view result ≡ statements.view sources.entry }
+    {
+        Linked {
+            sources,
+            prefixes,
+            typedefs,
+            verdicts,
+        }
+    }
+
+    /// The statements, in a table.
+    pub fn sources(&self) -> &Sources<'t>
+        ensures { statements.view result.now ≡ view self.now }
+    {
+        &self.sources
+    }
+
+    /// What prefixes stand for.
+    pub fn prefixes(&self) -> &Prefixes<'t>
+        ensures { prefix.IsOf result.now (view self.now) }
+    {
+        &self.prefixes
+    }
+
+    fn source(&self, id: StmtId) -> Option<&Source<'t>>
+        ensures { option_map (λ s. source_view id.0 s.now) result
+            ≡ option_map (λ p. p.source) (statement_at (view self.now) id.0) }
+    {
+        match self.sources.rows().get(id.0 as usize) {
+            Some(row) => Some(&row.label),
+            None => None,
+        }
+    }
+
+    /// A statement; nothing of a number that none has.
+    pub fn statement(&self, id: StmtId) -> Option<&'t Stmt>
+        ensures { option_map (λ s. (text.view s.now).0) result
+            ≡ option_map (λ p. p.source.statement) (statement_at (view self.now) id.0) }
+    {
+        match self.source(id) {
+            Some(source) => Some(source.statement),
+            None => None,
+        }
+    }
+
+    /// The place of its module in the set.
+    pub fn module(&self, id: StmtId) -> Option<usize>
+        ensures { result ≡ option_map (λ p. p.source.home) (statement_at (view self.now) id.0) }
+    {
+        match self.source(id) {
+            Some(source) => Some(source.home),
+            None => None,
+        }
+    }
+
+    /// The `module` statements, in order.
+    pub fn modules(&self) -> Statements<'_, 't>
+        ensures { left result ≡ numbers_of (view self.now) }
+    {
+        Statements::new(self.sources.modules())
+    }
+
+    /// The statements right below one, in order; none of a number that none has.
+    pub fn substatements(&self, id: StmtId) -> Statements<'_, 't>
+        ensures { left result ≡ numbers_of
+            (option_map_or (λ p. p.below) (statement_at (view self.now) id.0) end) }
+    {
+        Statements::new(self.sources.below(id.0))
+    }
+
+    /// The typedef or grouping that a `type` or `uses` statement names; none for a built-in type.
+    pub fn meaning(&self, id: StmtId) -> Option<StmtId>
+        ensures { option_map (λ d. d.0) result ≡ types.number_named (view self.now) id.0 }
+    {
+        match self.typedefs.meaning(id.0) {
+            Some(number) => Some(StmtId(number)),
+            None => None,
+        }
+    }
+
+    /// The place of the module that a prefix names in the module at a place.
+    pub fn prefix(&self, module: usize, name: &str) -> Option<usize>
+        ensures { result ≡ imports.module_meant (view self.now) «module» name.now }
+    {
+        self.prefixes.module_meant(module, name)
+    }
+
+    /// What the `type` statement of a number means.
+    pub fn meant(&self, number: u32) -> Option<&Meant<'t>>
+        ensures { option_map (λ m. meant_view m.now) result
+            ≡ types.type_meant (view self.now) number }
+    {
+        match verdict_held(&self.verdicts, number as usize) {
+            Some(verdict) => verdict.meaning(),
+            None => None,
+        }
+    }
+
+    /// The type of a `type` statement; none of a leafref, nor of a type derived from one.
+    pub fn typed(&self, id: StmtId) -> Option<&YType>
+        ensures { option_map (λ t. t.now) result ≡ types.type_stated (view self.now) id.0 }
+    {
+        self.meant(id.0)?.own()
+    }
+
+    /// The default of the typedef that the statement of a number names, or else of its type.
+    pub fn default_named(&self, number: u32) -> Option<&'t str>
+        ensures { option_map (λ t. t.now) result
+            ≡ (types.known_named (view self.now) number).default }
+    {
+        self.typedefs.default_named(number)
+    }
+}

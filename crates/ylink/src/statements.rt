@@ -1,0 +1,40 @@
+//! The statements of a row, one after another.
+
+use crate::linked::StmtId;
+use ygrammar::Source;
+use ypreorder::Nodes;
+
+/// The statements of a row, in order.
+#[derive(Clone, Copy)]
+pub struct Statements<'a, 't> {
+    nodes: Nodes<'a, Source<'t>>,
+}
+
+impl<'a, 't> Statements<'a, 't> {
+    ghost use Rattle.std.specs.Prelude.{◌≡◌};
+    ghost use Rattle.ypreorder.specs.View.{row_by};
+    ghost use Rattle.ygrammar.specs.SourceView.{source_view};
+    ghost use Rattle.ylink.specs.StatementsView.{left, numbers_of};
+
+    /// Those of a row.
+    pub(crate) fn new(nodes: Nodes<'a, Source<'t>>) -> Statements<'a, 't>
+        ensures { left result ≡ numbers_of (row_by source_view nodes.entry) }
+    {
+        Statements { nodes }
+    }
+}
+
+impl<'a, 't> Iterator for Statements<'a, 't> {
+    type Item = StmtId;
+
+    ghost use Rattle.std.specs.Iterator.{YieldsFirstBy, item_count};
+    ghost use Rattle.ylink.specs.StatementsView.{left, number_of};
+
+    ghost next_gives = { YieldsFirstBy number_of left };
+
+    ghost remaining = { item_count left };
+
+    fn next(&mut self) -> Option<StmtId> {
+        Some(StmtId(self.nodes.next()?.number()))
+    }
+}

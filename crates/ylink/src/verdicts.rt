@@ -1,0 +1,121 @@
+//! The verdict on each `type` statement of a set, by the statement's number (RFC 7950, 7.4 and 9).
+
+ghost use Rattle.std.specs.Prelude.{◌≡◌, ◌++◌, List, Some, IfOk, OnOk, map, option_map, slice_set};
+ghost use Rattle.yspec.specs.linking.DerivedTypes.{is_member};
+ghost use Rattle.yspec.specs.linking.Scopes.{placed};
+ghost use Rattle.ypreorder.specs.View.{row_by};
+ghost use Rattle.ygrammar.specs.LinkView.{view};
+ghost use Rattle.ygrammar.specs.SourceView.{source_view};
+ghost use Rattle.ylink.specs.TypeView.{verdict_view};
+ghost use Rattle.ylink.specs.TypedefView.{verdicts_in, IsOf};
+ghost use Rattle.ylink.specs.VerdictView.{judged, members_below, members_in, table_view, verdict_held, AreVerdicts};
+
+use crate::typedefs::Typedefs;
+use crate::types::{Verdict, judge_type};
+use std::alloc::{AllocError, Global};
+use ygrammar::{Source, Sources};
+use ypreorder::Nodes;
+use yword::Keyword;
+
+/// Sets what a table holds of the statement of a number.
+fn set_verdict<'t>(
+    alloc: Global,
+    table: &mut Vec<Option<Box<Verdict<'t>>>>,
+    number: usize,
+    verdict: Verdict<'t>,
+) -> Result<(), AllocError>
+    ensures { OnOk result (table_view table.new.items
+        ≡ slice_set (table_view table.old.items) number (Some (verdict_view verdict.entry))) }
+{
+    let held = Box::new(alloc, verdict)?;
+    if let Some(place) = table.get_mut(number) {
+        *place = Some(held);
+    }
+    Ok(())
+}
+
+/// Adds a verdict to those on the members of a union, where it is on one.
+fn add_member<'t>(
+    is_member: bool,
+    verdict: &Verdict<'t>,
+    members: &mut Vec<Verdict<'t>>,
+) -> Result<(), AllocError>
+    ensures { OnOk result (map verdict_view members.new.items
+        ≡ map verdict_view members.old.items ++ members_in is_member (verdict_view verdict.now)) }
+{
+    if is_member {
+        members.push(verdict.copy()?)?;
+    }
+    Ok(())
+}
+
+/// Adds the verdicts on the `type` statements among the statements of a row, and below it, to a table; it answers those of
+/// the row itself, where they are members of a union.
+fn add_verdicts<'t>(
+    alloc: Global,
+    sources: &Sources<'t>,
+    typedefs: &Typedefs<'t>,
+    in_union: bool,
+    statements: Nodes<'_, Source<'t>>,
+    table: &mut Vec<Option<Box<Verdict<'t>>>>,
+) -> Result<Vec<Verdict<'t>>, AllocError>
+    ensures members { IfOk result (λ members. map verdict_view members.items
+        ≡ members_below (view sources.now) (verdicts_in typedefs.now) in_union
+        (row_by source_view statements.entry)) }
+    ensures table { (ancestors : List _) → in_union ≡ is_member ancestors
+        → OnOk result (table_view table.new.items ≡ table_view table.old.items
+        ++ map (judged (view sources.now) (verdicts_in typedefs.now))
+        (placed ancestors (row_by source_view statements.entry))) }
+{
+    let mut members = Vec::new(alloc);
+    for statement in statements {
+        let is_type = Keyword::Type.is(statement.label().keyword);
+        let number = table.len();
+        table.push(None)?;
+        let below = statement.children();
+        let inner = add_verdicts(alloc, sources, typedefs, is_type, below, table)?;
+        if !is_type {
+            continue;
+        }
+        let verdict = judge_type(alloc, sources, typedefs, in_union, statement, inner)?;
+        add_member(in_union, &verdict, &mut members)?;
+        set_verdict(alloc, table, number, verdict)?;
+    }
+    Ok(members)
+}
+
+/// The verdicts on the `type` statements of a set, given its typedefs.
+pub(crate) fn verdicts_of<'t>(
+    alloc: Global,
+    sources: &Sources<'t>,
+    typedefs: &Typedefs<'t>,
+) -> Result<Vec<Option<Box<Verdict<'t>>>>, AllocError>
+    ensures { IsOf typedefs.now (view sources.now)
+        → IfOk result (λ table. AreVerdicts table.items (view sources.now)) }
+{
+    let mut table = Vec::new(alloc);
+    add_verdicts(
+        alloc,
+        sources,
+        typedefs,
+        false,
+        sources.modules(),
+        &mut table,
+    )?;
+    table.shrink_to_fit();
+    Ok(table)
+}
+
+/// The verdict that a table holds of the statement of a number.
+pub(crate) fn verdict_held<'v, 't>(
+    table: &'v [Option<Box<Verdict<'t>>>],
+    number: usize,
+) -> Option<&'v Verdict<'t>>
+    ensures { option_map (λ v. verdict_view v.now) result
+        ≡ verdict_held (table_view table.entry.now) number }
+{
+    match table.get(number) {
+        Some(Some(verdict)) => Some(&**verdict),
+        _ => None,
+    }
+}
