@@ -27,10 +27,7 @@ pub(crate) struct Meanings<'l, 't> {
 }
 
 /// What the `type` statement of a node means; nothing where it has none that is right.
-fn meaning_of<'l, 't>(
-    linked: &'l Linked<'t>,
-    planned: &Planned<'_, 't>,
-) -> Option<&'l Meant<'t>>
+fn meaning_of<'l, 't>(linked: &'l Linked<'t>, planned: &Planned<'_, 't>) -> Option<&'l Meant<'t>>
     ensures { (plan : spec.Plan) (number : _) → IsOf linked.entry.now plan.modules
         → option_map (λ m. meant_view m.now) result
         ≡ meant_in plan (planned_view number planned.now) }
@@ -125,7 +122,7 @@ pub(crate) fn meanings_of<'l, 't>(
     plan: &Plan<'_, 't>,
     linked: &'l Linked<'t>,
 ) -> Result<Meanings<'l, 't>, AllocError>
-    requires named { IsOf linked.entry.now (view plan.now).modules }
+    requires named { IsOf linked.now (view plan.now).modules }
     ensures meant { IfOk result (λ m. meants_view m.meant.items
         ≡ map (meant_in (view plan.now)) (nodes_of (view plan.now))) }
     ensures targets { let p = view plan.now in IfOk result (λ m. m.targets.items

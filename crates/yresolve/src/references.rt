@@ -50,7 +50,11 @@ fn is_wrong_meant<'a, 't>(
 }
 
 /// Whether the type that a node states is a wrong reference.
-fn is_wrong_stated<'a, 't>(plan: &Plan<'a, 't>, types: &Types<'_, '_>, node: PlanNode<'a, 't>) -> bool
+fn is_wrong_stated<'a, 't>(
+    plan: &Plan<'a, 't>,
+    types: &Types<'_, '_>,
+    node: PlanNode<'a, 't>,
+) -> bool
     requires typed { AreOf types.now (view plan.now) }
     requires stands { slice_get (spec.nodes_of (view plan.now)) node.number
         ≡ Some (node_view node) }

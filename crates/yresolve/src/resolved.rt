@@ -31,7 +31,7 @@ impl<'l, 't> Resolved<'l, 't> {
         plan: &Plan<'_, 't>,
         linked: &'l Linked<'t>,
     ) -> Result<Resolved<'l, 't>, AllocError>
-        requires named { linked_as.IsOf linked.entry.now (view plan.now).modules }
+        requires named { linked_as.IsOf linked.now (view plan.now).modules }
         ensures { IfOk result (λ resolved. IsOf resolved (view plan.now)) }
     {
         Ok(Resolved {

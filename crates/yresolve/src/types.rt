@@ -140,7 +140,7 @@ pub fn types_of<'l, 't>(
     plan: &Plan<'_, 't>,
     linked: &'l Linked<'t>,
 ) -> Result<Types<'l, 't>, AllocError>
-    requires named { IsOf linked.entry.now (view plan.now).modules }
+    requires named { IsOf linked.now (view plan.now).modules }
     ensures { IfOk result (λ types. AreOf types (view plan.now)) }
 {
     let meanings = meanings_of(alloc, plan, linked)?;
