@@ -25,9 +25,7 @@ ghost use Rattle.ymodel.specs.View.{view, module_view};
 use crate::limits::{LEVEL_LIMIT, NODE_LIMIT};
 use crate::making::rows_of;
 use std::alloc::{AllocError, Global};
-use ygrammar::{
-    BrokenRule, CompileCode, Source, Sources, argument_of, argument_with, broken,
-};
+use ygrammar::{BrokenRule, CompileCode, Source, Sources, argument_of, argument_with, broken};
 use ylink::{CompileFault, Linked, link};
 use ymodel::{Schema, SchemaModule};
 use yplan::{Plan, broken_name_rule};

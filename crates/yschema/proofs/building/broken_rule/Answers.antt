@@ -5,7 +5,7 @@ use Rattle.yspec.specs.linking.NodeBreaks.{node_breaks}
 use Rattle.ytext.specs.View.{modules_view}
 use Rattle.yplan.specs.PlanView as plans
 use Rattle.ylink.specs.Told.{seen}
-use Rattle.yschema.proofs.ToldLemmas.{told_later, told_last}
+use Rattle.ylink.proofs.PhaseLemmas.{told_later, told_last}
 use Rattle.yschema.proofs.building.broken_rule.Goals as goal
 
 pub returns : goal.returns
