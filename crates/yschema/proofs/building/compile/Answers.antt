@@ -1,12 +1,13 @@
 use Rattle.std.proofs.Common.{sym, ap, subst, ◌∙◌}
 use Rattle.ytext.specs.View.{modules_view}
 use Rattle.yspec.specs.linking.Compiling.{linked}
+use Rattle.ylink.specs.Told.{told_by}
 use Rattle.ymodel.proofs.CallerLemmas.{names_differ, leafs_are_bare, not_deep}
 use Rattle.yschema.proofs.ToldLemmas.{refused_linking, if_ok_any}
 use Rattle.yschema.proofs.building.compile.Goals as goal
 
 pub returns-in-Err-clause-exact : goal.returns-in-Err-clause-exact
-returns-in-Err-clause-exact c = refused_linking (modules_view c.args.modules.now) c.in-Err.fault _
+returns-in-Err-clause-exact c = refused_linking (modules_view c.args.modules.now) (told_by c.in-Err.fault) c.in-Err.ensures
 
 pub returns-in-Ok-clause-names : goal.returns-in-Ok-clause-names
 returns-in-Ok-clause-names c = if_ok_any _ names_differ c.compile_linked.result

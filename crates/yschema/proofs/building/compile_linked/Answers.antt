@@ -17,3 +17,11 @@ returns-in-Some c =
     subst (λ fault. Fails (told_by fault) (compiled f)) (sym c.from.ensures)
     (in_plan f (plans.view c.in_ok-plan.plan) made known.0
     (break_view c.in-Some.found) (sym (ap seen c.in-Some.is) ∙ c.broken_plan_rule.ensures))
+
+pub compile_rules-requires-clause-made : goal.compile_rules-requires-clause-made
+compile_rules-requires-clause-made c =
+    let known = passed (modules_view c.args.modules.now) (statements.view c.args.linked.now) c.requires.links in
+    c.in_ok-plan.ensures ∙ ap plan_of (c.sources.ensures ∙ known.1)
+
+pub compile_rules-requires-clause-first : goal.compile_rules-requires-clause-first
+compile_rules-requires-clause-first c = (passed (modules_view c.args.modules.now) (statements.view c.args.linked.now) c.requires.links).0
