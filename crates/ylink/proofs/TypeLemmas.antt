@@ -126,6 +126,10 @@ no_more_types modules named is_member left so_far whole ended made = sym (ap (λ
 
 -- ---- which are wrong
 
+pub is_some_map : {A B : Type 0} (f : A → B) (o : Option A) → is_some o ≡ is_some (option_map f o)
+is_some_map f None = refl
+is_some_map f (Some x) = refl
+
 pub wrong_own : (made : Option YangType) → is_wrong (option_map_or (λ type. spec.means (spec.own type)) made spec.wrong) ≡ not (is_some made)
 wrong_own None = refl
 wrong_own (Some type) = refl

@@ -7,6 +7,10 @@ use Rattle.yspec.specs.linking.SchemaNodes.{is_mandatory, least_of, number_in}
 use Rattle.yspec.specs.linking.NodeBreaks.{must_be, has_mandatory, row_below, is_wrong_case}
 use Rattle.yspec.specs.schema.Schema.{Amount}
 
+pub is_some_map : {A B : Type 0} (f : A → B) (o : Option A) → is_some o ≡ is_some (option_map f o)
+is_some_map f (Some x) = refl
+is_some_map f None = refl
+
 pub unwrap_map : {A B : Type 0} (f : A → B) (o : Option A) (x : A) → f (unwrap_or o x) ≡ unwrap_or (option_map f o) (f x)
 unwrap_map f (Some y) x = refl
 unwrap_map f None x = refl

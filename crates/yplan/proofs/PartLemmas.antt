@@ -95,6 +95,16 @@ pub own-argument : (k : Keyword) → defines_node k ≡ false → (f : Forest sp
 own-argument k other f =
     ap (option_map argument_in) (own-same k other (first_with k) (λ s below rest. Some s) (λ s below after. refl) f)
 
+-- the first of a row, without what stands below it
+pub first_found : (k : Keyword) (f : Forest spec.Source) → option_map (λ s. s.0) (found_with k f) ≡ first_with k f
+first_found k end = refl
+first_found k (node s below after) = by (is_source_of k s) (first_found k after)
+  where
+    by : (b : Bool) → option_map (λ s. s.0) (found_with k after) ≡ first_with k after
+        → option_map (λ s. s.0) (cond b (Some (s, below)) (found_with k after)) ≡ cond b (Some s) (first_with k after)
+    by true h = refl
+    by false h = h
+
 -- ---- one after another
 
 abbrev pub chosen : Bool → Forest Part → Forest Part

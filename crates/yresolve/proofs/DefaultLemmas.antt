@@ -19,7 +19,7 @@ use Rattle.yspec.specs.linking.Keyword.{Keyword, same_keyword, leaf_word, leaf_l
 use Rattle.yspec.specs.linking.Planned.{Planned, Plan, stated_in, type_of}
 use Rattle.yspec.specs.linking.SchemaNodes.{is_mandatory, least_of, is_key, own_defaults, type_default, default_texts, default_case}
 use Rattle.yspec.specs.linking.NodeBreaks.{is_empty, is_refused, has_equal, is_wrong_default, are_wrong_defaults, is_wrong_case, is_default_wrong}
-use Rattle.ygrammar.proofs.SourceLemmas.{first_found}
+use Rattle.yplan.proofs.PartLemmas.{first_found}
 use Rattle.yresolve.specs.Values.{comes_twice, wrong_leaf, wrong_leaf_list}
 
 -- ---- values that were seen

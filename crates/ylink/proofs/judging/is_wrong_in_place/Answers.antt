@@ -3,12 +3,11 @@ use Rattle.std.proofs.Math.Bool.{not-not}
 use Rattle.yspec.specs.linking.Keyword.{type_word}
 use Rattle.yspec.specs.linking.Source.{first_with}
 use Rattle.yspec.specs.linking.TypeStatements as spec
-use Rattle.yspec.proofs.BasicLemmas.{is_some_map}
 use Rattle.ypreorder.specs.View.{row_by, label_by}
 use Rattle.ygrammar.specs.SourceView.{source_view}
 use Rattle.yword.specs.BuiltInView.{built_in_view}
 use Rattle.ylink.specs.TypeView.{is_wrong}
-use Rattle.ylink.proofs.TypeLemmas.{wrong_union}
+use Rattle.ylink.proofs.TypeLemmas.{is_some_map, wrong_union}
 use Rattle.ylink.proofs.judging.is_wrong_in_place.Goals as goal
 
 pub returns-in-Union : goal.returns-in-Union
