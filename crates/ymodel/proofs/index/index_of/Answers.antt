@@ -1,9 +1,8 @@
-use Rattle.std.proofs.Common.{◌≡◌, ℕ, ◌+◌, ◌<◌, Some, None, true, [], ◌∷◌, ◌++◌, take, length, refl, sym, ap, ap₂, subst, ◌∙◌, arith, length-take}
+use Rattle.std.proofs.Common.{◌≡◌, ◌+◌, ◌<◌, Some, None, [], ◌∷◌, ◌++◌, take, length, refl, sym, ap, ap₂, ◌∙◌, arith, length-take}
 use Rattle.std.specs.Prelude.{if◌then◌else◌, option_map, slice_get, string_bytes, unwrap_or}
 use Rattle.std.proofs.lemmas.List.{length-map, take_more, take_all}
 use Rattle.std.proofs.lemmas.Option.{slice_get-get_or, slice_get-map, slice_get_read}
 use Rattle.yspec.specs.Forest.{first_of}
-use Rattle.yspec.specs.text.Text.{Text}
 use Rattle.yspec.specs.schema.Schema.{is_called}
 use Rattle.yindex.specs.Names.{found_by, is_at, number_among, text_in}
 use Rattle.yindex.specs.declared.keys.Among.TheVariants.{Children, DataNodes}
