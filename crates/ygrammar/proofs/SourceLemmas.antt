@@ -1,11 +1,12 @@
 -- Statements that are kept, one after another, as they come into the table.
-use Rattle.std.proofs.Common.{◌≡◌, ℕ, suc, ◌+◌, ◌≤◌, ◌<◌, List, [], ◌∷◌, ◌++◌, length, drop, get_or, Option, Some, None, refl, sym, ap, ap₂, ◌∙◌, append_assoc, arith, length-append}
+use Rattle.std.proofs.Common.{◌≡◌, ℕ, suc, ◌+◌, ◌≤◌, ◌<◌, Bool, true, false, cond, List, [], ◌∷◌, ◌++◌, length, drop, get_or, Option, Some, None, refl, sym, ap, ap₂, ◌∙◌, append_assoc, arith, length-append}
+use Rattle.std.specs.Prelude.{option_map}
 use Rattle.std.proofs.lemmas.List.{append-nil, at_drop_all, at_drop_more}
 use Rattle.yspec.specs.Forest.{Forest, node, end, size, join}
 use Rattle.yspec.specs.text.Statement.{Statement}
 use Rattle.yspec.specs.linking.Keyword.{Keyword}
 use Rattle.yspec.specs.linking.Source as spec
-use Rattle.yspec.specs.linking.Source.{kept, kept_at, kept_keyword, numbered, sources_from, sources_of}
+use Rattle.yspec.specs.linking.Source.{first_with, found_with, is_source_of, kept, kept_at, kept_keyword, numbered, sources_from, sources_of}
 use Rattle.ytext.specs.View.{view, row_view, modules_view}
 use Rattle.ytext.specs.declared.statement.Stmt.{Stmt}
 use Rattle.ytext.specs.declared.statement.Module.{Module}
@@ -148,3 +149,13 @@ added old mid full new p h l n w s f mid_is n_is full_is new_is label_is =
     (ap₂ (λ x m. record { parent = p; label = x; below = m } ∷ places (Some n) (n + 1) (numbered h (length (rows_in mid)) f)) label_is (size-numbered h (length (rows_in mid)) f)
     ∙ (ap₂ (λ m j. record { parent = p; label = label; below = size f } ∷ places (Some m) (m + 1) (numbered h j f)) n_is next
     ∙ sym (listed-one p h k w s f)))
+
+-- the first of a row, without what stands below it
+pub first_found : (k : Keyword) (f : Forest spec.Source) → option_map (λ s. s.0) (found_with k f) ≡ first_with k f
+first_found k end = refl
+first_found k (node s below after) = by (is_source_of k s) (first_found k after)
+  where
+    by : (b : Bool) → option_map (λ s. s.0) (found_with k after) ≡ first_with k after
+        → option_map (λ s. s.0) (cond b (Some (s, below)) (found_with k after)) ≡ cond b (Some s) (first_with k after)
+    by true h = refl
+    by false h = h

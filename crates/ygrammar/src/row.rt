@@ -1,6 +1,6 @@
 //! Questions to a row of statements.
 
-ghost use Rattle.std.specs.Prelude.{◌≡◌, option_and_then, option_map};
+ghost use Rattle.std.specs.Prelude.{◌≡◌, option_map};
 ghost use Rattle.yspec.specs.linking.Source as spec;
 ghost use Rattle.ypreorder.specs.View.{row_by, label_by};
 ghost use Rattle.yword.specs.KeywordView.{keyword_view};
@@ -20,12 +20,7 @@ pub fn first_with<'a, 't>(
     ensures { option_map (label_by source_view) result
         ≡ spec.first_with (keyword_view keyword) (row_by source_view statements.entry) }
 {
-    for statement in statements {
-        if keyword.is(statement.label().keyword) {
-            return Some(statement);
-        }
-    }
-    None
+    found_with(keyword, statements)
 }
 
 /// The argument of a statement; no text where there is none.
@@ -50,18 +45,6 @@ pub fn argument_with<'a, 't>(keyword: Keyword, statements: Nodes<'a, Source<'t>>
 {
     match first_with(keyword, statements) {
         Some(statement) => Some(argument_of(statement)),
-        None => None,
-    }
-}
-
-/// The built-in type that the argument of the first statement of a row with a keyword names.
-pub fn built_in_with(keyword: Keyword, statements: Nodes<'_, Source<'_>>) -> Option<BuiltIn>
-    ensures { option_map built_in_view result
-        ≡ option_and_then built_in_named
-        (spec.argument_with (keyword_view keyword) (row_by source_view statements.entry)) }
-{
-    match first_with(keyword, statements) {
-        Some(statement) => built_in_of(statement),
         None => None,
     }
 }

@@ -7,4 +7,4 @@ mod names;
 
 pub use index::NodeIndex;
 pub use keys::{Among, FirstNodes, IndexedNode, Key};
-pub use names::Names;
+pub use names::{Named, Names, number_named};

@@ -39,12 +39,30 @@ fn number_in_turn<'t>(
     Ok(node)
 }
 
-/// The text of a number; no text where there is none.
-fn text_at<'a, 't>(texts: &'a [&'t str], number: u32) -> &'t str
-    ensures { result.now ≡ text_in (map (λ t. t.now) texts.now) number }
+/// What has a name.
+pub trait Named {
+    /// The name.
+    ghost text: { Self → Text };
+
+    /// Its name.
+    fn name(&self) -> &str
+        ensures { result.now ≡ text self.now };
+}
+
+impl<'t> Named for &'t str {
+    ghost text = { λ t. t.now };
+
+    fn name(&self) -> &str {
+        self
+    }
+}
+
+/// The name of what has a number; no text where nothing has.
+fn name_at<'a, T: Named>(named: &'a [T], number: u32) -> &'a str
+    ensures { result.now ≡ text_in (map T.text named.now) number }
 {
-    match texts.get(number as usize) {
-        Some(text) => *text,
+    match named.get(number as usize) {
+        Some(one) => one.name(),
         None => "",
     }
 }
@@ -53,7 +71,7 @@ fn text_at<'a, 't>(texts: &'a [&'t str], number: u32) -> &'t str
 fn sorted_names<'a, 't>(
     alloc: Global,
     texts: &'a [&'t str],
-) -> Result<Vec<(&'t str, u32)>, AllocError>
+) -> Result<Vec<(&'a str, u32)>, AllocError>
     requires { length texts.now < 2 ^ 32 }
     ensures own { IfOk result (λ names. AreOwn (text_in (map (λ t. t.now) texts.now)) names.items) }
     ensures below { IfOk result (λ names. AreBelow (length texts.now) names.items) }
@@ -62,7 +80,7 @@ fn sorted_names<'a, 't>(
 {
     let mut names = Vec::with_capacity(alloc, texts.len())?;
     for node in 0..texts.len() {
-        let text = text_at(texts, node as u32);
+        let text = name_at(texts, node as u32);
         names.push((text, node as u32))?;
     }
     names.sort()?;
@@ -92,17 +110,17 @@ pub(crate) fn names_of<'a, 't>(alloc: Global, texts: &'a [&'t str]) -> Result<Na
     Ok(Names { ordered, of_nodes })
 }
 
-/// The number of a name, of some that ascend.
+/// The number of what has a name, of some whose names ascend.
 #[cycle(halving)]
-pub(crate) fn number_named<'a, 't>(texts: &'a [&'t str], ordered: &[u32], name: &str) -> Option<u32>
-    ensures { ascends (text_in (map (λ t. t.now) texts.now)) ordered.now ≡ true
-        → result ≡ number_among (text_in (map (λ t. t.now) texts.now)) ordered.now name.now }
+pub fn number_named<T: Named>(named: &[T], ordered: &[u32], name: &str) -> Option<u32>
+    ensures { ascends (text_in (map T.text named.now)) ordered.now ≡ true
+        → result ≡ number_among (text_in (map T.text named.now)) ordered.now name.now }
 {
     let (before, from) = ordered.split_at(ordered.len() / 2);
     let (number, after) = from.split_first()?;
-    match name.cmp(text_at(texts, *number)) {
-        Ordering::Less => number_named(texts, before, name),
+    match name.cmp(name_at(named, *number)) {
+        Ordering::Less => number_named(named, before, name),
         Ordering::Equal => Some(*number),
-        Ordering::Greater => number_named(texts, after, name),
+        Ordering::Greater => number_named(named, after, name),
     }
 }

@@ -1,17 +1,15 @@
 -- What an index finds of the places of rows, once one more is added.
-use Rattle.std.proofs.Common.{◌≡◌, ℕ, suc, length, Bool, true, false, cond, ◌&&◌, List, [], ◌∷◌, ◌++◌, Option, Some, None, refl, sym, ap, ap₂, ◌∙◌}
-use Rattle.std.specs.Prelude.{◌==◌, option_map, slice_get, string_bytes, unwrap_or}
-use Rattle.std.specs.Option.{option_map_or}
-use Rattle.std.proofs.lemmas.Option.{slice_get-map}
+use Rattle.std.proofs.Common.{◌≡◌, ℕ, Bool, true, false, cond, ◌&&◌, List, [], ◌∷◌, ◌++◌, Option, Some, None, refl, sym, ap, ap₂, ◌∙◌}
+use Rattle.std.specs.Prelude.{◌==◌, string_bytes}
 use Rattle.yspec.specs.Forest.{first_of}
 use Rattle.yspec.specs.text.Text.{Text, is_text}
 use Rattle.yspec.specs.linking.Planned.{same_number}
 use Rattle.yspec.specs.schema.Schema.{is_data, is_called}
-use Rattle.yindex.specs.Names.{is_at, text_in}
+use Rattle.yindex.specs.Names.{is_at}
 use Rattle.yindex.specs.declared.keys.Among.TheVariants.{Children, DataNodes}
 use Rattle.ymodel.specs.declared.children.Row.{Row}
 use Rattle.ymodel.specs.Layout.{Place, data_place_of, kind_view, place_of}
-use Rattle.ymodel.specs.Lookup.{first_below, indexed, is_data_called, name_at, names_in}
+use Rattle.ymodel.specs.Lookup.{first_below, indexed, is_data_called}
 use Rattle.ymodel.proofs.ChildLemmas.{first_below-append}
 
 module _ (above : Option ℕ) (m : ℕ) (t : Text) where
@@ -34,19 +32,3 @@ module _ (above : Option ℕ) (m : ℕ) (t : Text) where
       ∙ (ap₂ (λ (o : Option ℕ) (b : Bool). first_of o (cond b (Some i) None)) was
       (turned (is_data (kind_view r.node.kind)) (same_number above data_above) (m == r.node.«module» && is_text t (string_bytes r.node.name)))
       ∙ sym (first_below-append above (is_data_called m t) ps (data_place_of data_above i r ∷ [])))
-
--- ---- names
-
-pub names_at : (rows : List Row) → text_in (names_in rows) ≡ name_at rows
-names_at rows = λ i n. by n i
-  where
-    told : (o : Option Row) → unwrap_or (option_map (λ r. string_bytes r.node.name) o) [] ≡ option_map_or (λ r. string_bytes r.node.name) o []
-    told None = refl
-    told (Some r) = refl
-
-    by : (n : ℕ) → text_in (names_in rows) n ≡ name_at rows n
-    by n = ap (λ o. unwrap_or o []) (slice_get-map (λ r. string_bytes r.node.name) rows n) ∙ told (slice_get rows n)
-
-pub count_of_names : (rows : List Row) → length (names_in rows) ≡ length rows
-count_of_names [] = refl
-count_of_names (r ∷ rows) = ap suc (count_of_names rows)

@@ -1,11 +1,10 @@
 -- What the index of a schema finds.
-use Rattle.std.specs.Prelude.{◌≡◌, ℕ, ◌==◌, ◌&&◌, Bool, true, List, [], ◌∷◌, Option, Some, None, option_and_then, map, slice_get, string_bytes, if◌then◌else◌}
-use Rattle.std.specs.Option.{option_map_or}
+use Rattle.std.specs.Prelude.{◌≡◌, ℕ, ◌==◌, ◌&&◌, Bool, true, List, [], ◌∷◌, Option, Some, None, option_and_then, map, string_bytes, if◌then◌else◌}
 use Rattle.std.specs.Option.{option_eq}
 use Rattle.yspec.specs.text.Text.{Text}
 use Rattle.yspec.specs.schema.Schema as spec
 use Rattle.yspec.specs.schema.Schema.{is_data, is_called, is_written, node_at}
-use Rattle.yindex.specs.Names.{ascends, found_by, number_among}
+use Rattle.yindex.specs.Names.{ascends, found_by, number_among, text_in}
 use Rattle.yindex.specs.declared.keys.Among.TheVariants.{Children, DataNodes}
 use Rattle.yindex.specs.declared.keys.IndexedNode.{IndexedNode}
 use Rattle.ymodel.specs.declared.children.Row.{Row}
@@ -18,20 +17,16 @@ first_below parent test [] = None
 first_below parent test (p ∷ ps) =
     if option_eq (λ a b. a == b) parent p.parent && test p.label then Some p.label.number else first_below parent test ps
 
--- the name of the node of a number; no text where there is none
-abbrev pub name_at : List Row → ℕ → Text
-name_at rows number = option_map_or (λ r. string_bytes r.node.name) (slice_get rows number) []
-
 -- the names of the nodes, by number
 abbrev pub names_in : List Row → List Text
 names_in rows = map (λ r. string_bytes r.node.name) rows
 
 -- the number of a name: that of the first node that has it
 abbrev pub number_among_names : Index → List Row → Text → Option ℕ
-number_among_names x rows = number_among (name_at rows) x.names.items
+number_among_names x rows = number_among (text_in (names_in rows)) x.names.items
 
 abbrev pub names_ascend : Index → List Row → Bool
-names_ascend x rows = ascends (name_at rows) x.names.items
+names_ascend x rows = ascends (text_in (names_in rows)) x.names.items
 
 -- a row's node, with the data node above it
 abbrev pub indexed : ℕ → Row → Option ℕ → IndexedNode

@@ -8,12 +8,11 @@ ghost use Rattle.ymodel.specs.Layout.{number_of, node_view, data_at, data_above,
 ghost use Rattle.ymodel.specs.Lookup.{indexed, names_in, FindsNamed, FindsWritten};
 
 use crate::children::Row;
-use crate::names::number_of;
 use crate::node::SchemaId;
 use crate::schema::SchemaModule;
 use crate::written::meant_name;
 use std::alloc::{AllocError, Global};
-use yindex::{Among, FirstNodes, IndexedNode, Key, Names};
+use yindex::{Among, FirstNodes, IndexedNode, Key, Named, Names, number_named};
 
 /// How the nodes that lie in rows are found below a node, or at the top.
 #[derive(Drop)]
@@ -22,6 +21,16 @@ pub(crate) struct Index {
     names: Vec<u32>,
     /// By these, by their modules and by what stands above them.
     nodes: FirstNodes,
+}
+
+impl Named for Row {
+    ghost use Rattle.std.specs.Prelude.{string_bytes};
+
+    ghost text = { λ r. string_bytes r.node.name };
+
+    fn name(&self) -> &str {
+        self.node.name.as_str()
+    }
 }
 
 /// The index of the nodes that lie in rows, given their names.
@@ -131,7 +140,7 @@ impl Index {
         ensures { result ≡ found_by (number_among_names self.now rows.now) self.now.nodes
             among above «module» name.now }
     {
-        let name = number_of(rows, &self.names, name)?;
+        let name = number_named(rows, &self.names, name)?;
         let key = Key {
             above,
             module,

@@ -3,7 +3,6 @@
 
 mod children;
 mod index;
-mod names;
 mod node;
 mod references;
 mod schema;

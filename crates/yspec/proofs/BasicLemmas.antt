@@ -1,5 +1,6 @@
 -- Of tests, results, texts and forests, whatever they stand for.
-use Rattle.std.proofs.Common.{◌≡◌, ◌≢◌, ℕ, ◌<◌, Bool, true, false, cond, ◌||◌, [], ◌∷◌, Option, Some, None, Result, Ok, Err, IsUtf8, refl, sym, ◌∙◌, subst, arith}
+use Rattle.std.proofs.Common.{◌≡◌, ◌≢◌, ℕ, ◌<◌, Bool, true, false, cond, ◌||◌, [], ◌∷◌, Option, Some, None, Result, Ok, Err, IsUtf8, is_some, refl, sym, ◌∙◌, subst, arith}
+use Rattle.std.specs.Prelude.{option_map}
 use Rattle.std.proofs.lemmas.Slice.Eq.{bytes_eq-Decides}
 use Rattle.std.proofs.lemmas.Str.{IsUtf8-encode, encode_ascii}
 use lib.Utf8.{low_scalar}
@@ -19,6 +20,10 @@ bind_ok (Err d) f y e = absurd cc
 pub first_of_none : {X : Type 0} (o : Option X) → first_of o None ≡ o
 first_of_none (Some x) = refl
 first_of_none None = refl
+
+pub is_some_map : {A B : Type 0} (f : A → B) (o : Option A) → is_some o ≡ is_some (option_map f o)
+is_some_map f (Some x) = refl
+is_some_map f None = refl
 
 -- what holds of both arms
 pub of_either : {A : Type 0} (P : A → Type 0) (b : Bool) (x y : A) → (b ≡ true → P x) → (b ≡ false → P y) → P (cond b x y)

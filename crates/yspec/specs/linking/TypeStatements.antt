@@ -1,8 +1,8 @@
 -- The types that `type` statements mean, and where one breaks a rule of its own (RFC 7950, 7.3, 7.4 and 9).
-use Rattle.std.specs.Prelude.{ℕ, ℤ, pos, ◌++◌, ◌&&◌, Bool, true, false, not, List, [], ◌∷◌, map, codes, Option, Some, None, find, is_some, option_map, option_and_then, unwrap_or, if◌then◌else◌}
-use Rattle.std.specs.List.{list_all, flat_map}
+use Rattle.std.specs.Prelude.{ℕ, ℤ, pos, ◌++◌, ◌&&◌, Bool, true, false, List, [], ◌∷◌, map, codes, Option, Some, None, find, option_map, option_and_then, unwrap_or, if◌then◌else◌}
+use Rattle.std.specs.List.{list_all}
 use Rattle.std.specs.Option.{option_map_or}
-use Rattle.yspec.specs.Forest.{Forest, end, node, row, preorder}
+use Rattle.yspec.specs.Forest.{Forest, end, node, row}
 use Rattle.yspec.specs.text.Text.{Text, is_text}
 use Rattle.yspec.specs.types.Ranges.{Span}
 use Rattle.yspec.specs.types.Names.{Naming, Assigned, enum_names, bit_names}
@@ -12,7 +12,7 @@ use Rattle.yspec.specs.linking.Keyword.{Keyword}
 use Rattle.yspec.specs.linking.Keyword as word
 use Rattle.yspec.specs.linking.Arguments.{Name, spans_of, leafref_path_of, value_of, count_of, fraction_digits_of}
 use Rattle.yspec.specs.linking.Source.{Source, is_source_of, argument_in, argument_with, found_with}
-use Rattle.yspec.specs.schema.Breaks.{Break, broken, when}
+use Rattle.yspec.specs.schema.Breaks.{Break, broken}
 
 -- ---- built-in types
 

@@ -1,10 +1,11 @@
 use Rattle.std.proofs.Common.{length, sym, arith, rules}
 use Rattle.std.proofs.lemmas.Bool.{eqb-true}
+use Rattle.std.proofs.lemmas.Result.{IfOk-weaker}
 use Rattle.ytext.specs.View.{view, row_view}
 use Rattle.yword.specs.KeywordView.{keyword_view}
 use Rattle.ygrammar.specs.TableView.{allowed_views, rule_view}
 use Rattle.ygrammar.specs.BreakView.{seen}
-use Rattle.ygrammar.proofs.GrammarLemmas.{if_ok_then, judged_known, judged_leaf, judged_row, not_prefixed}
+use Rattle.ygrammar.proofs.GrammarLemmas.{judged_known, judged_leaf, judged_row, not_prefixed}
 use Rattle.ygrammar.proofs.grammar.+judge.Goals as goal
 
 pub judge-returns-then-is_empty : goal.judge-returns-then-is_empty
@@ -19,7 +20,7 @@ judge-returns-then-is_empty t c =
 pub judge-returns-else-is_empty : goal.judge-returns-else-is_empty
 judge-returns-else-is_empty t c =
     let s = c.args.statement.now in
-    if_ok_then _ _ c.judge_row.result
+    IfOk-weaker c.judge_row.result _ _
     (λ u e. judged_known c.args.«module» (allowed_views c.args.allowed.now) (view s).0 (view s).1 (row_view c.substatements-below.result.now)
     (keyword_view c.in-Some.keyword) (rule_view c.rule_of-rule.result) (seen c.args.told.now) (seen c.judge_alone.new.told) (seen c.judge_row.new.told)
     (not_prefixed (allowed_views c.args.allowed.now) (view s).0.keyword (keyword_view c.in-Some.keyword) c.in-Some.ensures) c.in-Some.ensures

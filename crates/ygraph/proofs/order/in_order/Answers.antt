@@ -1,4 +1,5 @@
-use Rattle.std.proofs.Common.{List, ℕ, ◌≡◌, false, get_or, length, map, Result, Ok, Err, IfOk, ap, sym, subst, ◌∙◌}
+use Rattle.std.proofs.Common.{List, ℕ, ◌≡◌, false, get_or, length, map, IfOk, ap, sym, subst, ◌∙◌}
+use Rattle.std.proofs.lemmas.Result.{IfOk-weaker}
 use Rattle.std.specs.List.{range_with_len}
 use Rattle.std.specs.List.Sorted.{IsPermutation, IsNonDecreasingBy}
 use Rattle.std.specs.declared.alloc.Global.{Global}
@@ -9,10 +10,6 @@ use Rattle.ygraph.specs.Edges.{edge_view}
 use Rattle.ygraph.specs.Search.{Rows, TargetsWithin, IsRanking}
 use Rattle.ygraph.proofs.EdgeLemmas.{rows_within, stands_before}
 use Rattle.ygraph.proofs.order.in_order.Goals as goal
-
-ok_more : {T E : Type 0} (r : Result T E) (P Q : T → Type 0) → IfOk r P → ((x : T) → P x → Q x) → IfOk r Q
-ok_more (Ok x) P Q h f = f x h
-ok_more (Err e) P Q h f = h
 
 pub ranks-requires : goal.ranks-requires
 ranks-requires c = record {
@@ -26,10 +23,10 @@ returns-clause-all c = subst (λ (k : ℕ). IfOk c.by_rank.result (λ (nodes : V
     c.by_rank.ensures.all
 
 pub returns-clause-behind : goal.returns-clause-behind
-returns-clause-behind c = ok_more c.by_rank.result (λ (nodes : Vec ℕ Global). IsNonDecreasingBy (λ v. get_or c.as_slice-2.result.now v 0) nodes.items)
+returns-clause-behind c = IfOk-weaker c.by_rank.result (λ (nodes : Vec ℕ Global). IsNonDecreasingBy (λ v. get_or c.as_slice-2.result.now v 0) nodes.items)
     (λ (nodes : Vec ℕ Global). (a b : ℕ) → HasEdge (map edge_view c.args.edges.now) a b
     → is_on_circle (map edge_view c.args.edges.now) (record { source = a; target = b }) ≡ false → StandsBefore nodes.items b a)
-    c.by_rank.ensures.rising
     (λ nodes rising a b has off. stands_before c.args.count c.args.edges.now c.requires c.in_ok-rows.rows.items c.in_ok-rows.ensures
     c.as_slice-2.result.now (subst (λ (x : List ℕ). IsRanking c.in_ok-rows.rows.items x) (sym c.as_slice-2.ensures.value)
     (subst (λ (x : Rows). IsRanking x c.in_ok-ranks.ranks.items) c.as_slice.ensures.value c.in_ok-ranks.ensures)) a b has off nodes.items rising)
+    c.by_rank.ensures.rising

@@ -1,12 +1,9 @@
-use Rattle.std.proofs.Common.{◌≡◌, ◌∙◌, ap, map, Result, Ok, Err, IfOk, arith, rules}
+use Rattle.std.proofs.Common.{◌≡◌, ◌∙◌, ap, map, arith, rules}
+use Rattle.std.proofs.lemmas.Result.{IfOk-weaker}
 use Rattle.ygraph.specs.Search.{IsRanking, rank_of}
 use Rattle.ygraph.proofs.RankLemmas.{is_ranking, no_path}
 use Rattle.ygraph.proofs.WorkLemmas.{first_sound, first_counted}
 use Rattle.ygraph.proofs.search.ranks.Goals as goal
-
-ok_more : {T E : Type 0} (r : Result T E) (P Q : T → Type 0) → IfOk r P → ((x : T) → P x → Q x) → IfOk r Q
-ok_more (Ok x) P Q h f = f x h
-ok_more (Err e) P Q h f = h
 
 pub enter-requires-clause-reached : goal.enter-requires-clause-reached
 enter-requires-clause-reached c = λ i h. absurd (no_path c.args.graph.now c.loop-node.search.states.items c.loop-node.search.path.items
@@ -23,7 +20,8 @@ loop-node-init c = record {
 }
 
 pub returns : goal.returns
-returns c = ok_more c.numbers.result (λ ranks. ranks.items ≡ map rank_of c.as_slice.result.now) (λ ranks. IsRanking c.args.graph.now ranks.items) c.numbers.ensures
+returns c = IfOk-weaker c.numbers.result (λ ranks. ranks.items ≡ map rank_of c.as_slice.result.now) (λ ranks. IsRanking c.args.graph.now ranks.items)
     (λ ranks is. is_ranking c.args.graph.now c.loop-node.search.states.items c.loop-node.search.path.items c.loop-node.search.segments.items
     c.loop-node.search.waiting.items c.loop-node.search.known c.loop-node.invariant.sound c.loop-node.invariant.ended
     (λ v h. c.loop-node.invariant.seen v (omega arith)) ranks.items (is ∙ ap (map rank_of) c.as_slice.ensures.value))
+    c.numbers.ensures

@@ -6,7 +6,7 @@ use Rattle.yindex.specs.Names.{text_in}
 use Rattle.yindex.proofs.names.+halving.Goals as goal
 
 pub returns-in-Less : goal.returns-in-Less
-returns-in-Less t c e =
+returns-in-Less g t c e =
     let names = c.args.ordered.now in
     let before = c.split_at.result.0.now in
     let from = c.split_at.result.1.now in
@@ -14,12 +14,12 @@ returns-in-Less t c e =
     let after = c.in_ok-number.after.now in
     let cut : names ≡ before ++ from = search rules in
     let split : from ≡ n ∷ after = search rules in
-    let step = halved (text_in (map (λ t. t.now) c.args.texts.now)) c.args.name.now names before from after n e cut split in
-    let less = ap (slice_cmp nat_cmp c.args.name.now) (sym c.text_at.ensures) ∙ (sym c.cmp.ensures ∙ c.in-Less.is) in
+    let step = halved (text_in (map g.T.Named.text c.args.named.now)) c.args.name.now names before from after n e cut split in
+    let less = ap (slice_cmp nat_cmp c.args.name.now) (sym c.name_at.ensures) ∙ (sym c.cmp.ensures ∙ c.in-Less.is) in
     c.number_named.ensures step.first_ascends ∙ sym (step.is_less less)
 
 pub returns-in-Equal : goal.returns-in-Equal
-returns-in-Equal t c e =
+returns-in-Equal g t c e =
     let names = c.args.ordered.now in
     let before = c.split_at.result.0.now in
     let from = c.split_at.result.1.now in
@@ -27,12 +27,12 @@ returns-in-Equal t c e =
     let after = c.in_ok-number.after.now in
     let cut : names ≡ before ++ from = search rules in
     let split : from ≡ n ∷ after = search rules in
-    let step = halved (text_in (map (λ t. t.now) c.args.texts.now)) c.args.name.now names before from after n e cut split in
-    let same = ap (slice_cmp nat_cmp c.args.name.now) (sym c.text_at.ensures) ∙ (sym c.cmp.ensures ∙ c.in-Equal.is) in
+    let step = halved (text_in (map g.T.Named.text c.args.named.now)) c.args.name.now names before from after n e cut split in
+    let same = ap (slice_cmp nat_cmp c.args.name.now) (sym c.name_at.ensures) ∙ (sym c.cmp.ensures ∙ c.in-Equal.is) in
     sym (step.is_equal same)
 
 pub returns-in-Greater : goal.returns-in-Greater
-returns-in-Greater t c e =
+returns-in-Greater g t c e =
     let names = c.args.ordered.now in
     let before = c.split_at.result.0.now in
     let from = c.split_at.result.1.now in
@@ -40,6 +40,6 @@ returns-in-Greater t c e =
     let after = c.in_ok-number.after.now in
     let cut : names ≡ before ++ from = search rules in
     let split : from ≡ n ∷ after = search rules in
-    let step = halved (text_in (map (λ t. t.now) c.args.texts.now)) c.args.name.now names before from after n e cut split in
-    let greater = ap (slice_cmp nat_cmp c.args.name.now) (sym c.text_at.ensures) ∙ (sym c.cmp.ensures ∙ c.in-Greater.is) in
+    let step = halved (text_in (map g.T.Named.text c.args.named.now)) c.args.name.now names before from after n e cut split in
+    let greater = ap (slice_cmp nat_cmp c.args.name.now) (sym c.name_at.ensures) ∙ (sym c.cmp.ensures ∙ c.in-Greater.is) in
     c.number_named-in-Greater.ensures step.second_ascends ∙ sym (step.is_greater greater)

@@ -1,25 +1,24 @@
-use Rattle.std.proofs.Common.{◌≡◌, ℕ, ◌+◌, ◌<◌, Some, None, true, [], ◌∷◌, ◌++◌, take, length, refl, sym, ap, ap₂, subst, ◌∙◌, arith, length-take}
-use Rattle.std.specs.Prelude.{if◌then◌else◌, slice_get, string_bytes}
-use Rattle.std.specs.Option.{option_map_or}
-use Rattle.std.proofs.lemmas.List.{take_more, take_all}
-use Rattle.std.proofs.lemmas.Option.{slice_get-get_or, slice_get_read}
+use Rattle.std.proofs.Common.{◌≡◌, ◌+◌, ◌<◌, Some, None, [], ◌∷◌, ◌++◌, take, length, refl, sym, ap, ap₂, ◌∙◌, arith, length-take}
+use Rattle.std.specs.Prelude.{if◌then◌else◌, option_map, slice_get, string_bytes, unwrap_or}
+use Rattle.std.proofs.lemmas.List.{length-map, take_more, take_all}
+use Rattle.std.proofs.lemmas.Option.{slice_get-get_or, slice_get-map, slice_get_read}
 use Rattle.yspec.specs.Forest.{first_of}
-use Rattle.yspec.specs.text.Text.{Text}
 use Rattle.yspec.specs.schema.Schema.{is_called}
-use Rattle.yindex.specs.Names.{ascends, found_by, is_at, number_among}
+use Rattle.yindex.specs.Names.{found_by, is_at, number_among, text_in}
 use Rattle.yindex.specs.declared.keys.Among.TheVariants.{Children, DataNodes}
 use Rattle.yindex.proofs.NameLemmas.{apart_among, found_after, none_found}
+use Rattle.ymodel.specs.declared.children.Row.{Row}
 use Rattle.ymodel.specs.Layout.{Place, laid, place_of, number_of, data_at, data_above, data_place_of}
-use Rattle.ymodel.specs.Lookup.{first_below, is_data_called, name_at}
+use Rattle.ymodel.specs.Lookup.{first_below, is_data_called, names_in}
 use Rattle.ymodel.proofs.LayoutLemmas.{laid_push}
 use Rattle.ymodel.proofs.NearestLemmas.{nearest_of, handed_on, handed, handed-last, handed_laid, map-append}
-use Rattle.ymodel.proofs.FindLemmas.{child_added, count_of_names, data_added, names_at}
+use Rattle.ymodel.proofs.FindLemmas.{child_added, data_added}
 use Rattle.ymodel.proofs.index.index_of.Goals as goal
 
 pub loop-number-init : goal.loop-number-init
 unfolding handed
 loop-number-init c =
-    let numbers = number_among (name_at c.args.rows.now) c.args.names.ordered.items in
+    let numbers = number_among (text_in (names_in c.args.rows.now)) c.args.names.ordered.items in
     record {
       children = λ parent m t. none_found numbers c.in_ok-nodes.nodes Children parent m t (c.in_ok-nodes.ensures Children);
       data_nodes = λ above m t. none_found numbers c.in_ok-nodes.nodes DataNodes above m t (c.in_ok-nodes.ensures DataNodes);
@@ -48,24 +47,25 @@ loop-number-preserved c =
     ap (λ q. places ++ data_place_of q i row ∷ []) above ∙ sym all in
     let name = string_bytes row.node.name in
     let inside : i < length rows = omega arith in
-    let there : name_at rows i ≡ name = ap (λ o. option_map_or (λ r. string_bytes r.node.name) o []) (slice_get-get_or rows i row inside)
+    let there : text_in (names_in rows) i ≡ name = ap (λ o. unwrap_or o []) (slice_get-map (λ r. string_bytes r.node.name) rows i
+    ∙ ap (option_map (λ r. string_bytes r.node.name)) (slice_get-get_or rows i row inside))
     ∙ ap (λ r. string_bytes r.node.name) (sym c.index-rows-number.is) in
     let ordered = c.args.names.ordered.items in
-    let numbers = number_among (name_at rows) ordered in
+    let numbers = number_among (text_in (names_in rows)) ordered in
     let given = c.index.result.now in
-    let kept : slice_get c.args.names.of_nodes.items i ≡ Some given = slice_get_read c.args.names.of_nodes.items (length c.args.names.of_nodes.items) i given refl (omega (arith, c.requires.names.0, count_of_names rows)) c.index.ensures in
-    let named : numbers name ≡ Some given = ap numbers (sym there) ∙ subst (λ (f : ℕ → Text). number_among f ordered (f i) ≡ Some given) (names_at rows) (c.requires.names.2 i given kept) in
+    let kept : slice_get c.args.names.of_nodes.items i ≡ Some given = slice_get_read c.args.names.of_nodes.items (length c.args.names.of_nodes.items) i given refl (omega (arith, c.requires.names.0, length-map rows (λ (r : Row). string_bytes r.node.name))) c.index.ensures in
+    let named : numbers name ≡ Some given = ap numbers (sym there) ∙ c.requires.names.2 i given kept in
     let after = c.add.new.self in
     let found = found_by numbers in
     let node = c.indexed_node-node.result in
     record {
       children = λ parent m t. child_added parent m t (laid 0 done) i row data_parent (found c.loop-number.nodes Children parent m t) (found after Children parent m t)
-          (found_after node name Children parent m numbers given c.loop-number.nodes after (apart_among (name_at rows) ordered) named (c.in_ok-add.ensures.added Children) t
+          (found_after node name Children parent m numbers given c.loop-number.nodes after (apart_among (text_in (names_in rows)) ordered) named (c.in_ok-add.ensures.added Children) t
           ∙ ap (λ n. first_of (found c.loop-number.nodes Children parent m t) (if is_at Children parent m t n name then Some n.number else None)) c.indexed_node-node.ensures)
           (c.loop-number.invariant.children parent m t)
           ∙ ap (first_below parent (is_called m t)) (sym step);
       data_nodes = λ q m t. data_added q m t places i row data_parent (found c.loop-number.nodes DataNodes q m t) (found after DataNodes q m t)
-          (found_after node name DataNodes q m numbers given c.loop-number.nodes after (apart_among (name_at rows) ordered) named (c.in_ok-add.ensures.added DataNodes) t
+          (found_after node name DataNodes q m numbers given c.loop-number.nodes after (apart_among (text_in (names_in rows)) ordered) named (c.in_ok-add.ensures.added DataNodes) t
           ∙ ap (λ n. first_of (found c.loop-number.nodes DataNodes q m t) (if is_at DataNodes q m t n name then Some n.number else None)) c.indexed_node-node.ensures)
           (c.loop-number.invariant.data_nodes q m t)
           ∙ ap (first_below q (is_data_called m t)) added;
@@ -79,7 +79,7 @@ returns-clause-named c =
     let rows = c.args.rows.now in
     let i = c.loop-number.number in
     let all = take_all i rows (omega arith) in (
-      subst (λ (f : ℕ → Text). ascends f c.args.names.ordered.items ≡ true) (names_at rows) c.requires.names.1,
+      c.requires.names.1,
       λ parent m t. c.loop-number.invariant.children parent m t ∙ ap (λ rs. first_below parent (is_called m t) (laid 0 rs)) all,
     )
 

@@ -1,10 +1,10 @@
 use Rattle.std.proofs.Common.{◌≡◌, ℕ, Option, [], take}
 use Rattle.yspec.specs.text.Text.{Text}
 use Rattle.yspec.specs.schema.Schema.{is_called}
-use Rattle.yindex.specs.Names.{found_by, number_among}
+use Rattle.yindex.specs.Names.{found_by, number_among, text_in}
 use Rattle.yindex.specs.declared.keys.Among.TheVariants.{Children, DataNodes}
 use Rattle.ymodel.specs.Layout.{laid}
-use Rattle.ymodel.specs.Lookup.{first_below, is_data_called, name_at}
+use Rattle.ymodel.specs.Lookup.{first_below, is_data_called, names_in}
 use Rattle.ymodel.proofs.NearestLemmas.{nearest_of, handed}
 use Rattle.ymodel.proofs.index.index_of.Given as goal
 
@@ -12,7 +12,7 @@ abbrev pub invariant-loop-number : goal.invariant-loop-number
 invariant-loop-number l =
     let done = laid 0 (take l.number l.rows) in
     let places = handed [] done in
-    let numbers = number_among (name_at l.rows) l.ordered.items in
+    let numbers = number_among (text_in (names_in l.rows)) l.ordered.items in
     record {
       children : (parent : Option ℕ) (m : ℕ) (t : Text) → found_by numbers l.nodes Children parent m t ≡ first_below parent (is_called m t) done;
       data_nodes : (above : Option ℕ) (m : ℕ) (t : Text) → found_by numbers l.nodes DataNodes above m t ≡ first_below above (is_data_called m t) places;

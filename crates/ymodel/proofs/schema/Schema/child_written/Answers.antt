@@ -3,7 +3,7 @@ use Rattle.yspec.specs.schema.Schema.{is_written}
 use Rattle.yspec.specs.document.Writing.{ModulesDiffer, NodesAreNamed}
 use Rattle.yspec.proofs.LinkingProofs.LinkedSchemaLemmas.{modules_differ_of, nodes_named_of}
 use Rattle.ymodel.specs.Layout.{data_places, forest_of, number_of, schema_view}
-use Rattle.ymodel.specs.Lookup.{first_below, is_stored_as}
+use Rattle.ymodel.specs.Lookup.{first_below, is_stored_as, FindsWritten}
 use Rattle.ymodel.specs.View.{view}
 use Rattle.ymodel.proofs.DataChildLemmas.{first_data_child}
 use Rattle.ymodel.proofs.schema.Schema.child_written.Goals as goal
@@ -29,3 +29,8 @@ written-requires-clause-nodes_named c =
     let schema = c.args.self.now in
     subst (λ modules. NodesAreNamed (schema_view modules c.deref-in-None-2.result.now) (forest_of 0 c.deref-in-None-2.result.now)) (sym c.deref-in-None.ensures.value)
     (subst (λ rows. NodesAreNamed (schema_view schema.modules.items rows) (forest_of 0 rows)) (sym c.deref-in-None-2.ensures.value) (nodes_named_of (view schema) schema.compiled))
+
+pub written-requires-clause-written : goal.written-requires-clause-written
+written-requires-clause-written c =
+    let schema = c.args.self.now in
+    subst (λ rows. FindsWritten schema.index rows (data_places None (forest_of 0 rows))) (sym c.deref-in-None-2.ensures.value) schema.written
