@@ -8,3 +8,4 @@ pub mod LinkedLemmas
 pub mod LinkedNameLemmas
 pub mod LinkedSchemaLemmas
 pub mod LinkedTextLemmas
+pub mod NewestLemmas

@@ -1,11 +1,11 @@
 //! Worked examples of commands: what is printed of the nodes of modules, and of documents after scripts of edits.
 
 ghost use Rattle.std.specs.Prelude.{◌≡◌, ◌++◌, [], ◌∷◌, codes};
-ghost use Rattle.yspec.specs.linking.CompilingSamples.{net_module, k_module};
+ghost use Rattle.yspec.specs.linking.CompilingSamples.{net_module, k_module, t_module, restricted_module};
 ghost use Rattle.yspec.specs.program.Output.{failed, found};
 ghost use Rattle.yspec.specs.program.Script.{lines_of};
 ghost use Rattle.yspec.specs.program.SchemaExamples.{hosts, one_host};
-ghost use Rattle.yspec.specs.program.Examples.{counted, drawn_as, dumped, faulty, module_p, module_text, scripted, shown, without_faults};
+ghost use Rattle.yspec.specs.program.Examples.{counted, drawn_as, dumped, faulty, module_p, module_text, scripted, shown, shown_of_two, without_faults};
 
 /// How many nodes modules define.
 pub fn counts()
@@ -118,4 +118,30 @@ pub fn defaults_of_types()
         (codes "{\"m:b\":3}") ≡ found 1 (codes "V11 data-missing instance-required /m:b -\n1 faults\n") }
     ensures range_of_the_typedef { shown (module_text (codes "m") (codes "  typedef t { type uint8 { range 0..9; } }\n  leaf a { type t; }\n"))
         (codes "{\"m:a\":10}") ≡ found 1 (codes "V1 invalid-value - /m:a -\n1 faults\n") }
+{}
+
+/// A range within that of the typedef before it, or wider; documents of the module that compiles.
+pub fn restricted_typedefs()
+    ensures within { counted t_module ≡ found 0 (codes "1 nodes\n") }
+    ensures wider { counted (restricted_module (codes "0..10")) ≡ failed 2 (codes "m.yang:6: C10") }
+    ensures greatest { shown t_module (codes "{\"t:d\":\"9.223372036854775807\"}") ≡ without_faults }
+    ensures too_great { shown t_module (codes "{\"t:d\":\"9.223372036854775808\"}")
+        ≡ found 1 (codes "V1 invalid-value - /t:d -\n1 faults\n") }
+{}
+
+/// Values by way of typedefs: in a scope, of a leafref, members of a union, of another module.
+pub fn derived_values()
+    ensures in_a_container { shown (module_text (codes "m") (codes "  container c { typedef t { type uint8 { range 1..5; } } leaf a { type t; } }\n"))
+        (codes "{\"m:c\":{\"a\":6}}") ≡ found 1 (codes "V1 invalid-value - /m:c/a -\n1 faults\n") }
+    ensures reference { shown (module_text (codes "m") (codes "  typedef r { type leafref { path /m:b; } }\n  leaf a { type r; }\n  leaf b { type string; }\n"))
+        (codes "{\"m:a\":\"x\"}")
+        ≡ found 1 (codes "V11 data-missing instance-required /m:a -\n1 faults\n") }
+    ensures members { shown (module_text (codes "m") (codes "  typedef s { type string { length 1; } }\n  typedef n { type uint8 { range 2..20; } }\n  typedef u { type union { type n; type s; } }\n  leaf-list a { type u; }\n"))
+        (codes "{\"m:a\":[2,\"2\",\"22\",1]}")
+        ≡ found 1 (codes "V1 invalid-value - /m:a[3] -\nV1 invalid-value - /m:a[4] -\n2 faults\n") }
+    ensures of_another { shown_of_two
+        (module_text (codes "u") (codes "  import s { prefix x; }\n  typedef t { type string; }\n  leaf v { type x:t; }\n  leaf w { type t; }\n"))
+        (module_text (codes "s") (codes "  typedef t { type uint8 { range 0..9; } default 4; }\n"))
+        (codes "{\"u:v\":10,\"u:w\":\"a\"}")
+        ≡ found 1 (codes "V1 invalid-value - /u:v -\n1 faults\n") }
 {}

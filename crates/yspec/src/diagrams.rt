@@ -1,8 +1,9 @@
 //! Worked examples of tree diagrams, from modules' texts.
 
-ghost use Rattle.std.specs.Prelude.{◌≡◌, ◌++◌, codes};
+ghost use Rattle.std.specs.Prelude.{◌≡◌, ◌++◌, [], ◌∷◌, codes};
 ghost use Rattle.yspec.specs.linking.CompilingSamples.{net_module, k_module, v_module, w_module};
-ghost use Rattle.yspec.specs.program.DiagramExamples.{diagram_of, diagram_lines, diagram_of_two};
+ghost use Rattle.yspec.specs.program.DiagramExamples.{diagram_of, diagram_lines, diagram_among, diagram_of_two};
+ghost use Rattle.yspec.specs.program.Examples.{module_text};
 
 /// Every kind of node, with keys, options, references and types in columns of their rows.
 pub fn network()
@@ -49,6 +50,9 @@ pub fn modules()
 
 /// A type is shown by its name as its statement has it; a typedef of a leafref isn't shown by the path.
 pub fn derived_types()
-    ensures { diagram_lines (codes "typedef t { type uint8; } typedef r { type leafref { path /m:a; } } leaf a { type t; } leaf b { type m:t; } leaf c { type r; }")
+    ensures of_another { diagram_among (module_text (codes "u") (codes "  import s { prefix x; }\n  typedef t { type string; }\n  leaf v { type x:t; }\n  leaf w { type t; }\n")
+        ∷ module_text (codes "s") (codes "  typedef t { type uint8; }\n") ∷ []) 0
+        ≡ codes "module: u\n  +--rw v?   x:t\n  +--rw w?   t\n" }
+    ensures own { diagram_lines (codes "typedef t { type uint8; } typedef r { type leafref { path /m:a; } } leaf a { type t; } leaf b { type m:t; } leaf c { type r; }")
         ≡ codes "module: m\n  +--rw a?   t\n  +--rw b?   m:t\n  +--rw c?   r\n" }
 {}

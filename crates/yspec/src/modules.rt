@@ -3,7 +3,7 @@
 ghost use Rattle.std.specs.Prelude.{◌≡◌, [], ◌∷◌, codes, true, false, Some, None, Ok};
 ghost use Rattle.yspec.specs.Forest.{end, node};
 ghost use Rattle.yspec.specs.program.SchemaExamples.{net_schema, k_schema, v_schema, y_schema, t_schema, node_of, state_node, of_base, any_amount, number_value_of};
-ghost use Rattle.yspec.specs.schema.Schema.{leaf, list, choice, case, allowed, default_used, mandatory, key};
+ghost use Rattle.yspec.specs.schema.Schema.{leaf, leaf_list, list, choice, case, allowed, default_used, mandatory, key};
 ghost use Rattle.yspec.specs.types.Types.{integer_base, string_base, uint8};
 ghost use Rattle.yspec.specs.linking.CompilingSamples.{compiled_texts, compiled_lines, told_at, nodes_in, net_module, k_module, v_module, y_module, t_module};
 
@@ -108,6 +108,16 @@ pub fn derived_leafs()
     ensures unused_default { compiled_lines (codes "  typedef t { type uint8; default 300; }\n  leaf a { type leafref { path /m:b; } }\n") ≡ told_at 17 6 }
     ensures lost_in_a_grouping { compiled_lines
         (codes "  grouping g { typedef t { type u; } }\n") ≡ told_at 8 5 }
+    ensures circular { compiled_lines (codes "  typedef a { type b; }\n  typedef b { type a; }\n")
+        ≡ told_at 9 5 }
+    ensures no_default_of_items_that_are_due { nodes_in (compiled_lines
+        (codes "  typedef t { type uint8; default 3; }\n  leaf-list a { type t; min-elements 1; }\n"))
+        ≡ Some (node (node_of 0 (codes "a") (leaf_list (of_base (codes "t") (integer_base uint8)) []
+        (record { least = 1; most = None }))) end end) }
+    ensures default_of_items { nodes_in (compiled_lines
+        (codes "  typedef t { type uint8; default 3; }\n  leaf-list a { type t; }\n"))
+        ≡ Some (node (node_of 0 (codes "a") (leaf_list (of_base (codes "t") (integer_base uint8))
+        (number_value_of 3 ∷ []) any_amount)) end end) }
     ensures reference_at_the_leaf { compiled_lines
         (codes "  typedef t { type leafref { path /m:b; } }\n  leaf a { type t; }\n") ≡ told_at 17 6 }
 {}

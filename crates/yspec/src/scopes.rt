@@ -1,16 +1,20 @@
 //! Worked examples of linking: imports, what names mean where they stand, circles, and types by way of typedefs.
 
 ghost use Rattle.std.specs.Prelude.{◌≡◌, ◌++◌, [], ◌∷◌, codes, pos, true, false, Some, None};
-ghost use Rattle.yspec.specs.program.Examples.{module_text};
+ghost use Rattle.yspec.specs.program.Examples.{counted, module_text};
+ghost use Rattle.yspec.specs.program.Output.{found};
 ghost use Rattle.yspec.specs.types.Types.{integer_base, uint8, single};
 ghost use Rattle.yspec.specs.linking.TypeStatements.{own, of_target};
 ghost use Rattle.yspec.specs.linking.Circles.{import_circles, definition_circles};
-ghost use Rattle.yspec.specs.linking.ScopeSamples.{told_of_names, told_line, all_told, named_at, type_at, default_at, circular};
+ghost use Rattle.yspec.specs.linking.CompilingSamples.{compiled_lines, told_at};
+ghost use Rattle.yspec.specs.linking.ScopeSamples.{told_of_names, told_line, all_told, named_at, type_at, default_at, chained, circular};
 
 /// Imports of what is in the set, or isn't, and of the newest revision or another.
 pub fn imports()
     ensures met { told_of_names (module_text (codes "a") (codes "  import b { prefix x; }\n")
         ∷ module_text (codes "b") [] ∷ []) ≡ None }
+    ensures met_before { told_of_names (module_text (codes "b") []
+        ∷ module_text (codes "a") (codes "  import b { prefix x; }\n") ∷ []) ≡ None }
     ensures missing { told_of_names (module_text (codes "a") (codes "  import c {\n    prefix x; }\n")
         ∷ module_text (codes "b") [] ∷ []) ≡ Some (5, (0, 5)) }
     ensures newest { told_of_names
@@ -44,6 +48,15 @@ pub fn circles_of_imports()
         ∷ module_text (codes "c") (codes "  import d { prefix d; }\n")
         ∷ module_text (codes "e") (codes "  import a { prefix a; }\n") ∷ [])
         ≡ (9, (0, 5)) ∷ (9, (1, 6)) ∷ [] }
+    ensures first_of_two { told_of_names (module_text (codes "a") (codes "  import b { prefix b; }\n")
+        ∷ module_text (codes "b") (codes "\n  import a { prefix a; }\n") ∷ []) ≡ Some (9, (0, 5)) }
+    ensures first_of_two_turned { told_of_names
+        (module_text (codes "b") (codes "\n  import a { prefix a; }\n")
+        ∷ module_text (codes "a") (codes "  import b { prefix b; }\n") ∷ []) ≡ Some (9, (0, 6)) }
+    ensures first_of_three { told_of_names (module_text (codes "d") (codes "  import a { prefix a; }\n")
+        ∷ module_text (codes "c") (codes "\n\n  import a { prefix a; }\n")
+        ∷ module_text (codes "a") (codes "  import b { prefix b; }\n")
+        ∷ module_text (codes "b") (codes "\n  import c { prefix c; }\n") ∷ []) ≡ Some (9, (1, 7)) }
 {}
 
 /// Edges on circles, between circles, and off them.
@@ -65,6 +78,9 @@ pub fn taken_names()
         ≡ Some (7, 6) }
     ensures kinds_apart { told_line (codes "  typedef t { type string; }\n  grouping t;\n") ≡ None }
     ensures groupings { told_line (codes "  grouping g;\n  grouping g;\n") ≡ Some (7, 6) }
+    ensures outer_before { told_line
+        (codes "  typedef t { type string; }\n  container c {\n    typedef t { type string; }\n  }\n")
+        ≡ Some (7, 7) }
     ensures outer_behind { told_line
         (codes "  container c {\n    typedef t { type string; }\n  }\n  typedef t { type string; }\n")
         ≡ Some (7, 6) }
@@ -136,6 +152,8 @@ pub fn derived_types()
         ≡ Some (10, 6) }
     ensures not_judged_behind { told_line (codes "  typedef b { type a { range 0..11; } }\n  typedef a { type int32 { range 10..1; } }\n")
         ≡ Some (10, 6) }
+    ensures in_a_list_of_a_grouping { told_line (codes "  grouping g {\n    list l {\n      key k;\n      typedef t { type uint8 { range 1..5; } }\n      leaf k { type t { range 2..6; } } } }\n")
+        ≡ Some (10, 9) }
     ensures length_of_a_number { told_line (codes "  typedef a { type int32; }\n  leaf b { type a { length 1; } }\n")
         ≡ Some (10, 6) }
     ensures enum_of_a_derived_type { told_line (codes "  typedef a { type enumeration { enum x; } }\n  leaf b { type a { enum x; } }\n")
@@ -149,6 +167,14 @@ pub fn derived_types()
     ensures path_of_another { type_at (module_text (codes "a") (codes "  import b { prefix x; }\n  leaf c { type x:r; }\n")
         ∷ module_text (codes "b") (codes "  typedef r { type leafref { path /x; } }\n") ∷ []) 7
         ≡ Some (of_target 1 (record { prefix = None; identifier = codes "x" } ∷ []) true) }
+{}
+
+/// A chain of twenty typedefs, whose range and default are judged by way of all.
+pub fn long_chains()
+    ensures whole { told_line (chained 20 (codes "100")) ≡ None }
+    ensures counted { counted (module_text (codes "m") (chained 20 (codes "100")))
+        ≡ found 0 (codes "1 nodes\n") }
+    ensures default_refused { compiled_lines (chained 20 (codes "101")) ≡ told_at 11 26 }
 {}
 
 /// The default that a type has: the nearest typedef's that states one.

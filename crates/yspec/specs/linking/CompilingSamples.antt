@@ -51,5 +51,10 @@ w_module = module_text (codes "w") (codes "  container c {\n    presence on;\n  
     ++ (codes "    leaf up { status deprecated; config false; type boolean; }\n  }\n"
     ++ codes "  list log { config false; leaf at { type uint64; mandatory true; } }\n"))
 
+-- a typedef that restricts another to a range, and a number of 18 digits behind the point
+abbrev pub restricted_module : Text → Text
+restricted_module range = module_text (codes "t") (codes "  typedef a { type int32 { range 1..10; } }\n  typedef b { type a { range "
+    ++ (range ++ codes "; } }\n  leaf d { type decimal64 { fraction-digits 18; } }\n"))
+
 abbrev pub t_module : Text
-t_module = module_text (codes "t") (codes "  leaf d { type decimal64 { fraction-digits 18; } }\n")
+t_module = restricted_module (codes "1..10")

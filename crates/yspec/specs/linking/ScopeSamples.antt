@@ -1,5 +1,6 @@
 -- Worked examples: what names and types of modules' texts mean, and what is told where they mean nothing.
-use Rattle.std.specs.Prelude.{ℕ, Bool, List, [], ◌∷◌, codes, map, Option, option_map, option_and_then}
+use Rattle.std.specs.Prelude.{ℕ, zero, suc, Bool, List, [], ◌∷◌, ◌++◌, codes, map, Option, option_map, option_and_then}
+use Rattle.std.specs.Fmt.{decimal}
 use Rattle.yspec.specs.Forest.{Forest}
 use Rattle.yspec.specs.text.Text.{Text}
 use Rattle.yspec.specs.program.Examples.{module_text}
@@ -45,6 +46,21 @@ type_at texts number = type_meant (sources_in texts) number
 
 abbrev pub default_at : List Text → ℕ → Option Text
 default_at texts number = asked_at (λ modules p. default_meant modules p.source) texts number
+
+-- ---- chains of typedefs, each of the one before
+
+abbrev pub numbered_type : ℕ → Text
+numbered_type n = codes "t" ++ decimal n
+
+abbrev pub chain_from : ℕ → ℕ → Text
+chain_from n zero = []
+chain_from n (suc more) = codes "  typedef " ++ (numbered_type (suc n) ++ (codes " { type " ++ (numbered_type n
+    ++ (codes "; }\n" ++ chain_from (suc n) more))))
+
+-- numbers up to 100, so many typedefs more, and a leaf of the last with a default
+abbrev pub chained : ℕ → Text → Text
+chained more default = codes "  typedef t0 { type uint8 { range 0..100; } }\n" ++ (chain_from 0 more
+    ++ (codes "  leaf a { type " ++ (numbered_type more ++ (codes "; default " ++ (default ++ codes "; }\n")))))
 
 -- ---- graphs
 

@@ -1,5 +1,5 @@
 -- Worked examples: the diagrams of modules whose texts are given.
-use Rattle.std.specs.Prelude.{ℕ, [], ◌∷◌, codes, Result, Ok, Err}
+use Rattle.std.specs.Prelude.{ℕ, List, [], ◌∷◌, codes, Result, Ok, Err}
 use Rattle.yspec.specs.text.Text.{Text}
 use Rattle.yspec.specs.schema.Breaks.{Break}
 use Rattle.yspec.specs.schema.Schema.{Schema}
@@ -19,7 +19,11 @@ diagram_of text = diagram_in 0 (compiled_texts (text ∷ []))
 abbrev pub diagram_lines : Text → Text
 diagram_lines lines = diagram_of (module_text (codes "m") lines)
 
+-- that of the module at a place, of several
+abbrev pub diagram_among : List Text → ℕ → Text
+diagram_among texts shown = diagram_in shown (compiled_texts texts)
+
 -- one of two modules
 abbrev pub diagram_of_two : ℕ → Text
-diagram_of_two shown = diagram_in shown (compiled_texts
-    (module_text (codes "a") (codes "leaf x { type string; } container y { leaf w { type int64; } }") ∷ module_text (codes "b") (codes "leaf-list z { type enumeration { enum q; } }") ∷ []))
+diagram_of_two shown = diagram_among
+    (module_text (codes "a") (codes "leaf x { type string; } container y { leaf w { type int64; } }") ∷ module_text (codes "b") (codes "leaf-list z { type enumeration { enum q; } }") ∷ []) shown

@@ -4,4 +4,4 @@ use Rattle.yspec.proofs.diagrams.derived_types.Goals as goal
 
 pub returns : goal.returns
 unfolding yspec_on_literals
-returns c = refl
+returns c = record { of_another = refl; own = refl }
