@@ -8,3 +8,5 @@ pub mod LinkedLemmas
 pub mod LinkedNameLemmas
 pub mod LinkedSchemaLemmas
 pub mod LinkedTextLemmas
+pub mod ExpansionLemmas
+pub mod UnusedLemmas

@@ -18,6 +18,7 @@ pub mod NodeBreaks
 pub mod Compiling
 pub mod Expansion
 pub mod NodeCounts
+pub mod Rewriting
 pub mod ExpandedCompiling
 pub mod LinkingSamples
 pub mod ScopeSamples
