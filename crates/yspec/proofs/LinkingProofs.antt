@@ -10,3 +10,4 @@ pub mod LinkedSchemaLemmas
 pub mod LinkedTextLemmas
 pub mod ExpansionLemmas
 pub mod UnusedLemmas
+pub mod RightExpandedLemmas
