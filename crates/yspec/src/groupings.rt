@@ -12,13 +12,13 @@ ghost use Rattle.yspec.specs.linking.ExpansionSamples.{expanded_texts, expanded_
 /// A grouping of another module: its types are those of that module, its nodes belong to the one that uses it.
 pub fn groupings_of_another_module()
     ensures nodes { nodes_in (expanded_texts (s_module ∷ u_module ∷ [])) ≡ Some (node (record {
-          number = 0;
-          module_number = 1;
-          name = codes "v";
-          config = true;
-          status = current;
-          kind = leaf (own_type (codes "t") (unrestricted (limited_to (integer_base uint8) (within 0 9 ∷ []) None))) allowed;
-        }) end end) }
+      number = 0;
+      module_number = 1;
+      name = codes "v";
+      config = true;
+      status = current;
+      kind = leaf (own_type (codes "t") (unrestricted (limited_to (integer_base uint8) (within 0 9 ∷ []) None))) allowed;
+    }) end end) }
     ensures diagram { drawn 1 (expanded_texts (s_module ∷ u_module ∷ []))
         ≡ codes "module: u\n  +--rw v?   t\n" }
     ensures no_diagram { drawn 0 (expanded_texts (s_module ∷ u_module ∷ [])) ≡ codes "module: s\n" }

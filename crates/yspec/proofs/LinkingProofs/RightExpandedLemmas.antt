@@ -1,11 +1,11 @@
 -- The expanded parts of legal modules: each is named by an identifier, a leaf has nothing below it, and a choice has cases alone.
-use Rattle.std.proofs.Common.{◌≡◌, ℕ, zero, suc, ◌+◌, ◌<◌, Bool, true, false, not, cond, ◌&&◌, ◌||◌, List, [], ◌∷◌, ◌++◌, length, Option, Some, None, refl, sym, ap, ap₂, ◌∙◌, subst, arith}
+use Rattle.std.proofs.Common.{◌≡◌, ℕ, zero, suc, ◌+◌, ◌<◌, Bool, true, false, not, cond, ◌||◌, List, [], ◌∷◌, ◌++◌, length, Option, Some, None, refl, sym, ap, ◌∙◌, subst, arith}
 use Rattle.std.specs.Prelude.{find, ◌==◌}
 use Rattle.std.specs.List.{filter_map, list_all, cons_option}
 use Rattle.std.specs.Option.{option_map_or}
 use Rattle.yspec.specs.Forest.{Forest, end, node, join}
 use Rattle.yspec.specs.text.Text.{is_identifier}
-use Rattle.yspec.specs.linking.Keyword.{Keyword, same_keyword, keywords, leaf_word, leaf_list_word, choice_word, case_word, module_word, uses_word, grouping_word}
+use Rattle.yspec.specs.linking.Keyword.{Keyword, same_keyword, keywords, choice_word, case_word, module_word, uses_word, grouping_word}
 use Rattle.yspec.specs.linking.Arguments.{fits}
 use Rattle.yspec.specs.linking.Table.{Allowed, rule_of}
 use Rattle.yspec.specs.linking.StatementBreaks.{is_allowed}
@@ -16,9 +16,8 @@ use Rattle.yspec.specs.linking.Parts.{Part, defines_node, part_of, case_for, as_
 use Rattle.yspec.specs.linking.Compiling.{schema_modules}
 use Rattle.yspec.specs.linking.Expansion.{Grouping, laid, is_uses, grouping_at, groupings_of, row_in, row_used, refined, owned_by, replaced, stands_for, expanded_from, expanded_parts}
 use Rattle.yspec.proofs.LinkingProofs.KeywordLemmas.{of_each, same_is, by_definition, named_by_identifier}
-use Rattle.yspec.proofs.LinkingProofs.LegalLemmas.{IsLegal, AreModules, identifier_fits}
-use Rattle.yspec.proofs.LinkingProofs.RightPartLemmas.{is_leaf_word, AllCases, IsRightAt, AreRight, all_cases, right_joined}
-use Rattle.yspec.proofs.LinkingProofs.UnusedLemmas.{AreAt}
+use Rattle.yspec.proofs.LinkingProofs.LegalLemmas.{IsLegal, AreModules, AreAt, identifier_fits}
+use Rattle.yspec.proofs.LinkingProofs.RightPartLemmas.{is_leaf_word, AllCases, AreRight, all_cases, right_joined}
 use Rattle.yspec.proofs.LinkingProofs.ExpansionLemmas.{Nodes, SameNodes, same_refined}
 
 -- ---- what may stand below leafs and choices

@@ -1,6 +1,5 @@
 -- Of modules without `uses` the expanded parts are the parts, and the phases tell the same.
-use Rattle.std.proofs.Common.{◌≡◌, ℕ, suc, ◌+◌, Bool, true, false, not, cond, ◌&&◌, ◌||◌, List, [], ◌∷◌, ◌++◌, length, Option, Some, None, Result, Ok, Err, refl, sym, ap, ap₂, ◌∙◌, subst}
-use Rattle.std.proofs.lemmas.Bool.{and_parts}
+use Rattle.std.proofs.Common.{◌≡◌, ℕ, ◌+◌, Bool, true, false, not, cond, ◌||◌, List, [], ◌∷◌, ◌++◌, length, Option, Some, None, Result, Ok, Err, refl, sym, ap, ap₂, ◌∙◌, subst}
 use Rattle.std.specs.Prelude.{nat_lt}
 use Rattle.std.specs.List.{list_any, flat_map}
 use Rattle.std.specs.Option.{option_map_or}
@@ -13,20 +12,20 @@ use Rattle.yspec.specs.schema.Schema.{Schema}
 use Rattle.yspec.specs.linking.Keyword.{Keyword, same_keyword, module_word, uses_word, refine_word, choice_word, case_word}
 use Rattle.yspec.specs.linking.Arguments.{Name}
 use Rattle.yspec.specs.linking.Table.{Allowed, rule_of}
-use Rattle.yspec.specs.linking.Source.{Source, is_source_of, sources_from, sources_of, kept, numbered, argument_in}
-use Rattle.yspec.specs.linking.StatementBreaks.{is_allowed, statement_phase, top_breaks, breaks_from}
+use Rattle.yspec.specs.linking.Source.{Source, is_source_of, sources_of, argument_in}
+use Rattle.yspec.specs.linking.StatementBreaks.{is_allowed, statement_phase}
 use Rattle.yspec.specs.linking.DerivedTypes.{type_breaks}
 use Rattle.yspec.specs.linking.Prefixes.{is_unknown_prefix}
 use Rattle.yspec.specs.linking.Parts.{Part, defines_node, part_of, case_for, as_cases, within, parts, parts_of_modules}
 use Rattle.yspec.specs.linking.Planned.{Plan, at_top, planned}
 use Rattle.yspec.specs.linking.NodeBreaks.{name_breaks, node_breaks}
-use Rattle.yspec.specs.linking.Compiling.{plan_of, schema_of_plan, schema_of, is_too_deep, names_phase, meanings_phase, phases, phases_of_plan, compiled}
+use Rattle.yspec.specs.linking.Compiling.{plan_of, schema_of_plan, schema_of, is_too_deep, names_phase, meanings_phase, compiled}
 use Rattle.yspec.specs.linking.Expansion.{Grouping, laid, is_uses, expanded, expanded_from, expanded_parts, groupings_of, stands_for, unfit_in, unfit_for, unfit_from, unfit_breaks}
 use Rattle.yspec.specs.linking.NodeCounts.{node_count}
-use Rattle.yspec.specs.linking.ExpandedCompiling.{expanded_plan_of, expanded_schema_of, names_used, used_prefix_break, used_prefix_breaks, expanded_phases, expanded_compiled}
-use Rattle.yspec.proofs.LinkingProofs.BreakLemmas.{none_first, none_second, some_told}
+use Rattle.yspec.specs.linking.ExpandedCompiling.{expanded_schema_of, names_used, used_prefix_break, used_prefix_breaks, expanded_compiled}
+use Rattle.yspec.proofs.LinkingProofs.BreakLemmas.{some_told}
 use Rattle.yspec.proofs.LinkingProofs.KeywordLemmas.{of_each, same_is}
-use Rattle.yspec.proofs.LinkingProofs.LegalLemmas.{IsLegal, AreModules, IsModule, is_module, sources_first, are_modules}
+use Rattle.yspec.proofs.LinkingProofs.LegalLemmas.{IsLegal, AreModules, AreAt, are_modules, are_at}
 use Rattle.yspec.proofs.LinkingProofs.LinkedLemmas.{planned-size}
 use Rattle.yspec.proofs.LinkingProofs.ExpansionLemmas.{Nodes, IsPlain, plain_stays, counted_all}
 
@@ -97,20 +96,6 @@ laid_parts home allowed (node s below after) none legal =
     by false false is inner rest = rest
 
 -- ---- whole modules
-
--- `module` statements of the modules from one on
-abbrev pub AreAt : ℕ → Forest Source → Type 0
-AreAt home end = Unit {0}
-AreAt home (node s below after) = (s.keyword ≡ module_word) × (s.home ≡ home) × AreAt (home + 1) after
-
-pub are_at : (home : ℕ) (modules : Forest Statement) → breaks_from home modules ≡ [] → (number : ℕ) → AreAt home (sources_from home number modules)
-unfolding sources_from breaks_from
-are_at home end e number = tt
-are_at home (node s below after) e number =
-    let here = is_module home s below (none_first (top_breaks home s below) (breaks_from (home + 1) after) e) in
-    subst (AreAt home) (sym (sources_first home number s below after here.keyword)) (
-      refl, refl, are_at (home + 1) after (none_second (top_breaks home s below) (breaks_from (home + 1) after) e) _,
-    )
 
 expanded_unused : (modules : Forest Source) (groupings : List Grouping) (home : ℕ) (f : Forest Source) → AreModules home f → AreAt home f
     → expanded_from modules groupings f ≡ parts_of_modules f
@@ -207,8 +192,8 @@ abbrev told_by : Forest Statement → Forest Source → List Break → List Brea
 told_by modules sources first fit count nodes =
     let plan : Plan = record { modules = sources; nodes = planned 0 at_top nodes } in
     first_broken (first ∷ meanings_phase sources ∷ type_breaks sources
-        ∷ limit_breaks (nat_lt node_limit count) modules ∷ fit
-        ∷ name_breaks plan ∷ node_breaks plan ∷ limit_breaks (is_too_deep plan.nodes) modules ∷ [])
+    ∷ limit_breaks (nat_lt node_limit count) modules ∷ fit
+    ∷ name_breaks plan ∷ node_breaks plan ∷ limit_breaks (is_too_deep plan.nodes) modules ∷ [])
 
 made_of : Forest Source → Forest Part → Schema
 made_of sources nodes = schema_of_plan (record { modules = sources; nodes = planned 0 at_top nodes })

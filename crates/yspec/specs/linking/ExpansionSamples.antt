@@ -1,5 +1,5 @@
 -- Worked examples: modules whose groupings are used, and the schema that they make or what is told of them.
-use Rattle.std.specs.Prelude.{ℕ, zero, suc, List, [], ◌∷◌, ◌++◌, codes, decimal, map, length, Option, Some, None, Result, Ok, Err}
+use Rattle.std.specs.Prelude.{ℕ, zero, suc, List, [], ◌∷◌, ◌++◌, codes, decimal, map, Result, Ok, Err}
 use Rattle.std.specs.Option.{option_map_or}
 use Rattle.yspec.specs.Forest.{Forest, preorder}
 use Rattle.yspec.specs.text.Text.{Text}

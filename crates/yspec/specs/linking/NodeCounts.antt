@@ -1,5 +1,5 @@
 -- How many nodes a set of modules defines, counted without expanding (RFC 7950, 7.13).
-use Rattle.std.specs.Prelude.{ℕ, zero, suc, ◌+◌, ◌==◌, List, [], ◌∷◌, map, length, find, if◌then◌else◌}
+use Rattle.std.specs.Prelude.{ℕ, zero, suc, ◌+◌, ◌==◌, List, [], map, length, find, if◌then◌else◌}
 use Rattle.std.specs.Option.{option_map_or}
 use Rattle.yspec.specs.Forest.{Forest, end, node}
 use Rattle.yspec.specs.linking.Source.{Source}

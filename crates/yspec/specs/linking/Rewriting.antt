@@ -19,7 +19,7 @@ pub data Step (modules : Forest Source) (groupings : List Grouping) (owner : ℕ
   replacing : (u : Part) → (below after : Forest Part) → is_uses u ≡ true
       → is_settled (row_used modules groupings u) ≡ true
       → Step modules groupings owner (node u below after)
-        (join (refined modules owner u.own (settled owner (row_used modules groupings u))) after)
+      (join (refined modules owner u.own (settled owner (row_used modules groupings u))) after)
   inside : (p : Part) → (below changed after : Forest Part) → is_uses p ≡ false
       → Step modules groupings owner below changed
       → Step modules groupings owner (node p below after) (node p changed after)

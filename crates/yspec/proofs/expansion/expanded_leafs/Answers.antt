@@ -1,8 +1,7 @@
 use Rattle.yspec.specs.linking.Source.{sources_of}
 use Rattle.yspec.specs.linking.ExpandedCompiling.{expanded_plan_of}
-use Rattle.yspec.proofs.LinkingProofs.LegalLemmas.{are_modules}
+use Rattle.yspec.proofs.LinkingProofs.LegalLemmas.{are_modules, are_at}
 use Rattle.yspec.proofs.LinkingProofs.RightPartLemmas.{bare_of}
-use Rattle.yspec.proofs.LinkingProofs.UnusedLemmas.{are_at}
 use Rattle.yspec.proofs.LinkingProofs.RightExpandedLemmas.{right_expanded}
 use Rattle.yspec.proofs.expansion.expanded_leafs.Goals as goal
 
