@@ -11,3 +11,4 @@ pub mod LinkedTextLemmas
 pub mod ExpansionLemmas
 pub mod UnusedLemmas
 pub mod RightExpandedLemmas
+pub mod StepLemmas

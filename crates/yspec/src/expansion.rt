@@ -21,6 +21,13 @@ pub fn replaced_by_steps()
         → replaced (stands_for modules groupings owner depth) owner nodes ≡ settled owner last }
 {}
 
+/// Such steps can be taken until no `uses` is left.
+pub fn steps_end()
+    ensures { (modules : Forest Source) (owner depth : ℕ) (groupings : List Grouping) (nodes : Forest Part)
+        → Ends modules groupings depth
+        → (last : Forest Part) × Rewritten modules owner groupings nodes last × (is_settled last ≡ true) }
+{}
+
 /// Counting without expanding gives the number of nodes that expanding makes.
 pub fn counted_nodes()
     ensures { (modules : Forest Source) → node_count modules ≡ size (expanded_parts modules) }
