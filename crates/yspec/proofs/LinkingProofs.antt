@@ -12,3 +12,4 @@ pub mod ExpansionLemmas
 pub mod UnusedLemmas
 pub mod RightExpandedLemmas
 pub mod StepLemmas
+pub mod RefineLemmas

@@ -1,16 +1,18 @@
 //! Laws of groupings in use.
 
-ghost use Rattle.std.specs.Prelude.{◌≡◌, ℕ, List, [], true};
-ghost use Rattle.yspec.specs.Forest.{Forest, size};
+ghost use Rattle.std.specs.Prelude.{◌≡◌, ℕ, List, [], true, if◌then◌else◌};
+ghost use Rattle.std.specs.List.{list_any};
+ghost use Rattle.yspec.specs.Forest.{Forest, end, first_of, join, row, size};
 ghost use Rattle.yspec.specs.document.Fitting.{LeafsAreBare};
-ghost use Rattle.yspec.specs.linking.Source.{Source};
+ghost use Rattle.yspec.specs.linking.Source.{Source, all_with, found_with, is_source_of};
+ghost use Rattle.yspec.specs.linking.Keyword.{Keyword};
 ghost use Rattle.yspec.specs.linking.Parts.{Part};
-ghost use Rattle.yspec.specs.linking.Expansion.{Grouping, expanded_parts, replaced, stands_for};
+ghost use Rattle.yspec.specs.linking.Expansion.{Grouping, expanded_parts, others, replaced, stands_for};
 ghost use Rattle.yspec.specs.text.Statement.{Statement};
 ghost use Rattle.yspec.specs.linking.StatementBreaks.{statement_phase};
 ghost use Rattle.yspec.specs.linking.Compiling.{compiled};
 ghost use Rattle.yspec.specs.linking.ExpandedCompiling.{expanded_compiled, expanded_schema_of};
-ghost use Rattle.yspec.specs.linking.NodeCounts.{node_count};
+ghost use Rattle.yspec.specs.linking.NodeCounts.{count_used, counts_within, node_count};
 ghost use Rattle.yspec.specs.linking.Rewriting.{Ends, Rewritten, is_settled, settled};
 
 /// In whatever order each `uses` is replaced whose grouping holds none: once none is left, the nodes are those of the
@@ -31,6 +33,21 @@ pub fn steps_end()
 /// Counting without expanding gives the number of nodes that expanding makes.
 pub fn counted_nodes()
     ensures { (modules : Forest Source) → node_count modules ≡ size (expanded_parts modules) }
+{}
+
+/// A `uses` that is counted as none stands for nothing, so nothing of it needs to be expanded.
+pub fn nothing_counted()
+    ensures { (modules : Forest Source) (groupings : List Grouping) (owner depth : ℕ) (u : Part)
+        → count_used modules (counts_within modules groupings depth) u ≡ 0
+        → stands_for modules groupings owner depth u ≡ end }
+{}
+
+/// After a refine a node states of each keyword what the refine gives, or where it gives none what it stated before.
+pub fn stated_after_refines()
+    ensures first { (k : Keyword) (given own : Forest Source)
+        → found_with k (join (others given own) given) ≡ first_of (found_with k given) (found_with k own) }
+    ensures all { (k : Keyword) (given own : Forest Source) → all_with k (join (others given own) given)
+        ≡ (if list_any (is_source_of k) (row given) then all_with k given else all_with k own) }
 {}
 
 /// As long as the table lets no `uses` through, the phases tell what they told before, and schemas are the same.

@@ -317,3 +317,8 @@ counted_all modules groupings (node s below after) =
     ap₂ (λ m n. m + n) (counted_is_size s.home (count_used modules counts) meant (count_is_size modules groupings s.home (length groupings)) (laid below))
     (counted_all modules groupings after)
     ∙ sym (size_join (expanded modules groupings s.home (laid below)) (expanded_from modules groupings after))
+
+-- a row of no nodes is empty
+pub none_in : {n : ℕ} (f : Nodes) → n ≡ size f → n ≡ 0 → f ≡ end
+none_in end is none = refl
+none_in (node p below after) is none = absurd (omega (arith, is, none))
