@@ -1,7 +1,12 @@
 //! Worked examples of groupings: what is used, refined, counted and refused.
 
-ghost use Rattle.std.specs.Prelude.{◌≡◌, ◌++◌, [], ◌∷◌, codes, true, false, Some, None, Err};
-ghost use Rattle.yspec.specs.Forest.{end, node};
+ghost use Rattle.std.specs.Prelude.{◌≡◌, ◌++◌, [], ◌∷◌, codes, true, false, Some, None, Err, nat_lt};
+ghost use Rattle.yspec.specs.Forest.{Forest, end, node};
+ghost use Rattle.yspec.specs.text.Statement.{Statement};
+ghost use Rattle.yspec.specs.schema.Breaks.{first_broken, node_limit};
+ghost use Rattle.yspec.specs.linking.Planned.{Plan};
+ghost use Rattle.yspec.specs.linking.NodeCounts.{node_count};
+ghost use Rattle.yspec.specs.linking.ExpandedCompiling.{expanded_phases_of_plan};
 ghost use Rattle.yspec.specs.program.Examples.{module_text};
 ghost use Rattle.yspec.specs.program.SchemaExamples.{of_base, any_amount, number_value_of, referring, limited_to, unrestricted, within};
 ghost use Rattle.yspec.specs.schema.Schema.{container, leaf, leaf_list, list, choice, case, own_type, current, allowed, default_used, mandatory, key};
@@ -132,6 +137,9 @@ pub fn nested_refines()
     ensures of_the_grouping { expanded_texts (module_text (codes "s") (codes "  grouping g { leaf a { type uint8; } }\n  grouping h {\n    uses g { refine s:a { default 7; } } }\n  uses h;\n")
         ∷ module_text (codes "u") (codes "  import s { prefix s; }\n  uses s:h;\n") ∷ [])
         ≡ Err (record { code = 14; module_number = 0; line = 7 }) }
+    ensures by_its_own_prefixes { expanded_texts (module_text (codes "s") (codes "  grouping g { leaf a { type uint8; } }\n  grouping h { uses g { refine s:a { default 7; } } }\n")
+        ∷ codes "module u {\n  yang-version 1.1;\n  namespace \"urn:u\";\n  prefix s;\n  import s { prefix x; }\n  uses x:h;\n}\n" ∷ [])
+        ≡ Err (record { code = 14; module_number = 0; line = 6 }) }
 {}
 
 /// Refines without a target, or with one that may not bear what they give.
@@ -161,6 +169,10 @@ pub fn unfit_refines()
 pub fn counted_nodes()
     ensures doubled { count_of_texts (doubling_module 40 ∷ []) ≡ 3298534883326 }
     ensures limit { expanded_texts (doubling_module 17 ∷ []) ≡ Err (record { code = 18; module_number = 0; line = 1 }) }
+    ensures before_refines { (s : Statement) (below : Forest Statement) (plan : Plan)
+        → nat_lt node_limit (node_count plan.modules) ≡ true
+        → first_broken (expanded_phases_of_plan (node s below end) plan)
+        ≡ Some (record { code = 18; module_number = 0; line = s.line }) }
     ensures made { count_of_texts (doubling_module 3 ∷ []) ≡ 22 }
     ensures implied_cases { count_of_texts (module_text (codes "m") (codes "  grouping g { choice c { leaf a { type string; } case b { leaf b { type string; } } } }\n  grouping h { leaf x { type string; } }\n  container d { uses g; }\n  uses g;\n") ∷ []) ≡ 11 }
 {}
