@@ -13,3 +13,4 @@ pub mod UnusedLemmas
 pub mod RightExpandedLemmas
 pub mod StepLemmas
 pub mod RefineLemmas
+pub mod GroupingLemmas

@@ -285,6 +285,24 @@ table_row modules counts (g ∷ groupings) number = by (g.number == number) (tab
     by true rest = refl
     by false rest = rest
 
+-- what a grouping holds, before refines
+abbrev inner_row : Forest Source → List Grouping → ℕ → ℕ → Part → Nodes
+inner_row modules groupings owner depth u = replaced (stands_for modules groupings owner depth) owner (row_used modules groupings u)
+
+by_row : (modules : Forest Source) (groupings : List Grouping) (owner depth : ℕ) (u : Part)
+    → ((v : Part) → count_used modules (counts_within modules groupings depth) v ≡ size (stands_for modules groupings owner depth v))
+    → count_used modules (counts_within modules groupings (suc depth)) u ≡ size (inner_row modules groupings owner depth u)
+unfolding counts_within counted replaced
+by_row modules groupings owner depth u inner = used (number_named modules u.source.number)
+    ∙ counted_is_size owner (count_used modules counts) (stands_for modules groupings owner depth) inner (row_used modules groupings u)
+  where
+    counts : List GroupingCount
+    counts = counts_within modules groupings depth
+
+    used : (o : Option ℕ) → option_map_or (count_in (map (counted_by modules counts) groupings)) o 0 ≡ counted (count_used modules counts) (option_map_or (row_in groupings) o end)
+    used None = refl
+    used (Some number) = table_row modules counts groupings number
+
 pub count_is_size : (modules : Forest Source) (groupings : List Grouping) (owner depth : ℕ) (u : Part)
     → count_used modules (counts_within modules groupings depth) u ≡ size (stands_for modules groupings owner depth u)
 unfolding counts_within stands_for counted replaced
@@ -293,20 +311,13 @@ count_is_size modules groupings owner zero u = none (number_named modules u.sour
     none : (o : Option ℕ) → option_map_or (count_in []) o 0 ≡ 0
     none None = refl
     none (Some number) = refl
-count_is_size modules groupings owner (suc depth) u =
-    used (number_named modules u.source.number)
-    ∙ (counted_is_size owner (count_used modules counts) (stands_for modules groupings owner depth) (count_is_size modules groupings owner depth) (row_used modules groupings u)
-    ∙ same_size inner (refined modules owner u.own inner) (same_refined modules owner u.own inner))
-  where
-    counts : List GroupingCount
-    counts = counts_within modules groupings depth
+count_is_size modules groupings owner (suc depth) u = by_row modules groupings owner depth u (count_is_size modules groupings owner depth)
+    ∙ same_size (inner_row modules groupings owner depth u) (refined modules owner u.own (inner_row modules groupings owner depth u))
+    (same_refined modules owner u.own (inner_row modules groupings owner depth u))
 
-    inner : Nodes
-    inner = replaced (stands_for modules groupings owner depth) owner (row_used modules groupings u)
-
-    used : (o : Option ℕ) → option_map_or (count_in (map (counted_by modules counts) groupings)) o 0 ≡ counted (count_used modules counts) (option_map_or (row_in groupings) o end)
-    used None = refl
-    used (Some number) = table_row modules counts groupings number
+pub count_used_is_size : (modules : Forest Source) (groupings : List Grouping) (owner depth : ℕ) (u : Part)
+    → count_used modules (counts_within modules groupings (suc depth)) u ≡ size (inner_row modules groupings owner depth u)
+count_used_is_size modules groupings owner depth u = by_row modules groupings owner depth u (count_is_size modules groupings owner depth)
 
 pub counted_all : (modules : Forest Source) (groupings : List Grouping) (f : Forest Source)
     → counted_from modules (counts_within modules groupings (length groupings)) f ≡ size (expanded_from modules groupings f)

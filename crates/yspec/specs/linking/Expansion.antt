@@ -151,6 +151,12 @@ refine_breaks modules owner (node s given after) nodes =
     when (is_refine s && not (is_fit modules owner s given nodes)) (broken 14 s.home s.statement.line)
     ++ refine_breaks modules owner after (after_refine modules owner s given nodes)
 
+-- all refines of a row, as where there is no node that they could refine
+abbrev pub all_refine_breaks : Forest Source → List Break
+all_refine_breaks end = []
+all_refine_breaks (node s given after) =
+    when (is_refine s) (broken 14 s.home s.statement.line) ++ all_refine_breaks after
+
 -- those of a row, given those of each `uses`
 unfoldable pub unfit_in : (Part → List Break) → Forest Part → List Break
 unfit_in told end = []

@@ -27,7 +27,8 @@ pub data Step (modules : Forest Source) (groupings : List Grouping) (owner : ℕ
       → Step modules groupings owner (node p below after) (node p below changed)
 
 -- the same in the row of one grouping of a list
-pub data GroupingStep (modules : Forest Source) (groupings : List Grouping) (owner : ℕ) : List Grouping → List Grouping → Type 0 where
+pub data GroupingStep (modules : Forest Source) (groupings : List Grouping) (owner : ℕ)
+    : List Grouping → List Grouping → Type 0 where
   in_first : (g : Grouping) → (changed : Forest Part) → (others : List Grouping)
       → Step modules groupings owner g.row changed
       → GroupingStep modules groupings owner (g ∷ others) (record g { row = changed } ∷ others)
