@@ -193,6 +193,10 @@ pub fn nested_refines()
         (codes "  grouping g { leaf a { type uint8; } }\n")
         (codes "  uses s:g { refine u:a { default 7; } }\n")))
         ≡ number_leaf (codes "a") (used_number 7) ∷ [] }
+    ensures of_whoever_uses_it { kinds_in (expanded_texts (s_and_u
+        (codes "  grouping g { leaf a { type uint8; } }\n"
+        ++ codes "  grouping h { uses g { refine a { default 7; } } }\n") (codes "  uses s:h;\n")))
+        ≡ number_leaf (codes "a") (used_number 7) ∷ [] }
     ensures of_the_grouping { expanded_texts (s_and_u
         (codes "  grouping g { leaf a { type uint8; } }\n  grouping h {\n"
         ++ codes "    uses g { refine s:a { default 7; } } }\n  uses h;\n")
