@@ -278,18 +278,17 @@ pub fn unfit_refines()
 /// Nodes are counted without expanding, before refines are judged; groupings that nobody uses count nothing.
 pub fn counted_nodes()
     ensures doubled { count_of_texts (doubling_module 40 ∷ []) ≡ 3298534883326 }
+    ensures before_refines { (s : Statement) (below : Forest Statement) (plan : Plan)
+        → nat_lt node_limit (node_count plan.modules) ≡ true
+        → first_broken (expanded_phases_of_plan (node s below end) plan)
+        ≡ Some (record { code = 18; module_number = 0; line = s.line }) }
     ensures limit_of_forty { told_of_nodes (doubling_module 40 ∷ [])
         ≡ Some (record { code = 18; module_number = 0; line = 1 }) }
     ensures limit { expanded_texts (doubling_module 17 ∷ []) ≡ told_in 0 18 1 }
-    ensures before_refines { (s : Statement) (below : Forest Statement) (plan : Plan)
-        → nat_lt node_limit (node_count plan.modules)
-        ≡ true → first_broken (expanded_phases_of_plan (node s below end) plan)
-        ≡ Some (record { code = 18; module_number = 0; line = s.line }) }
     ensures made { count_of_texts (doubling_module 3 ∷ []) ≡ 22 }
     ensures implied_cases { count_of_texts (module_text (codes "m")
-        (codes "  grouping g { choice c { leaf a { type string; } case b { leaf b { type"
-        ++ (codes " string; } } } }\n" ++
-        (codes "  grouping h { leaf x { type string; } }\n  container d { uses g; }\n"
-        ++ codes "  uses g;\n"))) ∷ [])
+        (codes "  grouping g { choice c { leaf a { type string; } case b { container b; } } }\n"
+        ++ (codes "  grouping h { leaf x { type string; } }\n  container d { uses g; }\n"
+        ++ codes "  uses g;\n")) ∷ [])
         ≡ 11 }
 {}
