@@ -9,3 +9,9 @@ pub mod LinkedNameLemmas
 pub mod LinkedSchemaLemmas
 pub mod LinkedTextLemmas
 pub mod NewestLemmas
+pub mod ExpansionLemmas
+pub mod UnusedLemmas
+pub mod RightExpandedLemmas
+pub mod StepLemmas
+pub mod RefineLemmas
+pub mod GroupingLemmas

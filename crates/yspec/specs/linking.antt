@@ -16,7 +16,12 @@ pub mod Planned
 pub mod SchemaNodes
 pub mod NodeBreaks
 pub mod Compiling
+pub mod Expansion
+pub mod NodeCounts
+pub mod Rewriting
+pub mod ExpandedCompiling
 pub mod LinkingSamples
 pub mod ScopeSamples
 pub mod CompilingSamples
+pub mod ExpansionSamples
 pub mod TableSamples

@@ -13,6 +13,8 @@ pub mod documents;
 pub mod dumping;
 pub mod editing;
 pub mod examples;
+pub mod expansion;
+pub mod groupings;
 pub mod linking;
 pub mod modules;
 pub mod reading;

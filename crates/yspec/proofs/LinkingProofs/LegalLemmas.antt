@@ -136,3 +136,19 @@ are_modules home (node s below after) e number =
       legal_from home (rule_of module_word).substatements below here.inner (number + 1),
       are_modules (home + 1) after (none_second (top_breaks home s below) (breaks_from (home + 1) after) e) _,
     )
+
+-- `module` statements of the modules from one on
+abbrev pub AreAt : ℕ → Forest Source → Type 0
+AreAt home end = Unit {0}
+AreAt home (node s below after) = (s.keyword ≡ module_word) × (s.home ≡ home) × AreAt (home + 1) after
+
+pub are_at : (home : ℕ) (modules : Forest Statement) → breaks_from home modules ≡ [] → (number : ℕ) → AreAt home (sources_from home number modules)
+unfolding sources_from breaks_from
+are_at home end e number = tt
+are_at home (node s below after) e number =
+    let here = is_module home s below (none_first (top_breaks home s below) (breaks_from (home + 1) after) e) in
+    subst (AreAt home) (sym (sources_first home number s below after here.keyword)) (
+      refl,
+      refl,
+      are_at (home + 1) after (none_second (top_breaks home s below) (breaks_from (home + 1) after) e) _,
+    )

@@ -109,7 +109,7 @@ module _ {L M : Type 0} where
   relabelled-levels label (node l below after) =
       let inner = relabelled-levels label below in let rest = relabelled-levels label after in omega (arith, inner, rest)
 
-planned-size : (next : ℕ) (around : Around) (f : Forest Part) → size (planned next around f) ≡ size f
+pub planned-size : (next : ℕ) (around : Around) (f : Forest Part) → size (planned next around f) ≡ size f
 unfolding planned
 planned-size next around end = refl
 planned-size next around (node p below after) =

@@ -61,7 +61,7 @@ no_parts home allowed (node s below after) none legal = by (defines_node s.keywo
 
 -- ---- cases
 
-all_cases : (f : Forest Part) → AllCases (as_cases f)
+pub all_cases : (f : Forest Part) → AllCases (as_cases f)
 all_cases end = tt
 all_cases (node p below after) = by (same_keyword case_word p.source.keyword) refl (all_cases after)
   where
@@ -120,7 +120,7 @@ right_parts count home allowed (node s below after) few legal =
     )
     by false defines inner rest none = rest
 
-right_joined : (count : ℕ) (f g : Forest Part) → AreRight count f → AreRight count g → AreRight count (join f g)
+pub right_joined : (count : ℕ) (f g : Forest Part) → AreRight count f → AreRight count g → AreRight count (join f g)
 right_joined count end g first second = second
 right_joined count (node p below after) g first second = (first.0, first.1, right_joined count after g first.2 second)
 
