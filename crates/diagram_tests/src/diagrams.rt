@@ -76,7 +76,7 @@ pub(crate) fn schema_of(alloc: Global, first: &str, second: &str) -> Option<Sche
     compile(alloc, &modules).ok()
 }
 
-// Whether that is the diagram of the module at a place, through a sink that takes so many bytes a call.
+// Whether that is the diagram of the module of a number, through a sink that takes so many bytes a call.
 fn shows(alloc: Global, place: usize, bytes_per_call: usize, wanted: &str) -> Option<bool> {
     let schema = schema_of(alloc, NETWORK, STATE)?;
     let mut sink = Cut::new(alloc, 4096, bytes_per_call, None).ok()?;

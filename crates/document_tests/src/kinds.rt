@@ -27,9 +27,9 @@ fn leaf_text(alloc: Global, leaf_type: &LeafType, absence: &Absence) -> Result<S
 }
 
 fn amount_text(alloc: Global, amount: &Amount) -> Result<String, AllocError> {
-    match amount.most {
-        Some(most) => format!(in alloc; " {} to {most}", amount.least),
-        None => format!(in alloc; " {} on", amount.least),
+    match amount.max_elements {
+        Some(most) => format!(in alloc; " {} to {most}", amount.min_elements),
+        None => format!(in alloc; " {} on", amount.min_elements),
     }
 }
 

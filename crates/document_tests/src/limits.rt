@@ -17,8 +17,8 @@ fn document(alloc: Global, more: u32) -> Result<String, AllocError> {
 
 // Whether so many nodes are stored, the one at the top with all others in the row below it.
 fn has_nodes(tree: &Tree, nodes: usize) -> bool {
-    match tree.nodes().first() {
-        Some(top) => tree.nodes().len() == 1 && top.below().len().checked_add(1) == Some(nodes),
+    match tree.roots().first() {
+        Some(top) => tree.roots().len() == 1 && top.below().len().checked_add(1) == Some(nodes),
         None => false,
     }
 }

@@ -58,7 +58,12 @@ fn is_statement(linked: &Linked<'_>, row: &str) -> Option<bool> {
 fn are_below(linked: &Linked<'_>, row: &str) -> Option<bool> {
     match row.split_once(' ') {
         Some((number, below)) => are(linked.substatements(StmtId(number_of(number)?)), below),
-        None => Some(linked.substatements(StmtId(number_of(row)?)).next().is_none()),
+        None => Some(
+            linked
+                .substatements(StmtId(number_of(row)?))
+                .next()
+                .is_none(),
+        ),
     }
 }
 
@@ -156,7 +161,9 @@ fn prefixes_and_types(rt: HostRuntime) {
 0 b -
 1 b 1
 1 x -
-2 b -".lines() {
+2 b -"
+                .lines()
+            {
                 assert!(rt; is_prefix(&linked, row) == Some(true), "{row:?}");
             }
             for row in "12 7 yes
@@ -168,7 +175,9 @@ fn prefixes_and_types(rt: HostRuntime) {
 9 7 -
 14 7 -
 17 7 -
-28 7 -".lines() {
+28 7 -"
+                .lines()
+            {
                 assert!(rt; is_typed(rt.alloc(), &linked, row) == Some(true), "{row:?}");
             }
         }
@@ -193,7 +202,9 @@ C6:1/yang-version 1.1; leaf l { type q:t; }
 C8:1/yang-version 1.1; leaf l { type t; }
 C10:1/yang-version 1.1; leaf l { type union; }
 -/yang-version 1.1; leaf l { type string; } leaf l { type string; }
--/yang-version 1.1; leaf l { type leafref { path /p:x; } }".lines() {
+-/yang-version 1.1; leaf l { type leafref { path /p:x; } }"
+        .lines()
+    {
         let told = match row.split_once('/') {
             Some((told, statements)) => match one_line(rt.alloc(), statements) {
                 Some(text) => is_refused(rt.alloc(), text.as_str(), told),

@@ -13,7 +13,7 @@ pub(crate) fn is_text(made: Result<String, AllocError>, wanted: &str) -> Option<
     Some(made.ok()?.as_str() == wanted)
 }
 
-/// Whether the module at a place in the set is refused so, as in `C4:1`: the code and the line. Nothing for want of
+/// Whether the module of a number in the set is refused so, as in `C4:1`: the code and the line. Nothing for want of
 /// memory.
 pub(crate) fn is_refusal_of_modules(
     alloc: Global,

@@ -25,7 +25,7 @@ use youtput::{Sink, SinkFault, write_texts};
 pub enum Report {
     /// How many nodes modules define.
     Nodes(usize),
-    /// The diagram of a module, which is given by its place in the set.
+    /// The diagram of a module, which is given by its number in the set.
     Diagram { schema: Schema, module: usize },
     Document(DocumentReport),
 }

@@ -11,7 +11,7 @@ use Rattle.yspec.specs.document.Play.{stored_among, stored_cases, or_default, is
 use Rattle.yspec.specs.document.Sorting.{StartsAt, IsSorted, from_number}
 use Rattle.yspec.proofs.DocumentProofs.CursorLemmas.{sorted_left}
 use Rattle.yspec.proofs.DocumentProofs.FittingLemmas.{eqb_other, instances-cons, none_of_others}
-use Rattle.ymodel.specs.declared.children.Row.{Row}
+use Rattle.ymodel.specs.declared.children.Slot.{Slot}
 use Rattle.ymodel.specs.declared.children.Children.{Children}
 use Rattle.ymodel.specs.declared.node.SchemaId.{SchemaId}
 use Rattle.ymodel.specs.Layout.{forest_within}
@@ -27,7 +27,7 @@ use Rattle.ycheck.specs.Cases.{one_more, how_many, Chooses}
 
 -- ---- rows of schema nodes
 
-numbered_within : (n k : ℕ) (rows : List Row) → length rows ≤ n → IsNumbered k (forest_within n k rows)
+numbered_within : (n k : ℕ) (rows : List Slot) → length rows ≤ n → IsNumbered k (forest_within n k rows)
 unfolding forest_within
 numbered_within zero k rows within = tt
 numbered_within (suc n) k [] within = tt

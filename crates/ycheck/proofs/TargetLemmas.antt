@@ -113,7 +113,7 @@ module _ (number : ℕ) (v : Val) where
   both first second x none so = sum_by-append (times_in_use number v) first second ∙ omega (arith, none, so)
 
   amount_weighs : (steps : List Step) (amount : Amount) (count : ℕ) → sum_by (times_in_use number v) (amount_faults steps amount count) ≡ 0
-  amount_weighs steps amount count = by (ltb count amount.least) (exceeds count amount.most)
+  amount_weighs steps amount count = by (ltb count amount.min_elements) (exceeds count amount.max_elements)
     where
       by : (a b : Bool) → sum_by (times_in_use number v) (cond a (tell (plain_fault V6 steps) ∷ []) (cond b (tell (plain_fault V7 steps) ∷ []) [])) ≡ 0
       by true b = one_item (tell (plain_fault V6 steps))

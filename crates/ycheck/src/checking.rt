@@ -121,7 +121,7 @@ pub fn faults(alloc: Global, schema: &Schema, tree: &Tree) -> Result<Vec<Fault>,
         steps: Vec::new(alloc),
         faults: Vec::new(alloc),
     };
-    let nodes = tree.nodes();
+    let nodes = tree.roots();
     check_row(
         schema,
         &targets,
@@ -291,9 +291,9 @@ fn tell_amount(
     ensures { OnOk result (Adds findings.old findings.new
         (wrong_amount id.0 (amount_view amount) count)) }
 {
-    if count < amount.least as usize {
+    if count < amount.min_elements as usize {
         tell_below(id, FaultCode::V6, findings)
-    } else if exceeds(count, amount.most) {
+    } else if exceeds(count, amount.max_elements) {
         tell_below(id, FaultCode::V7, findings)
     } else {
         Ok(())

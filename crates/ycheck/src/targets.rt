@@ -43,7 +43,7 @@ impl Targets {
         };
         keep_targets(alloc, schema.roots(), &mut targets)?;
         if !targets.sets.is_empty() {
-            add_row(alloc, schema, schema.roots(), tree.nodes(), &mut targets)?;
+            add_row(alloc, schema, schema.roots(), tree.roots(), &mut targets)?;
         }
         Ok(targets)
     }

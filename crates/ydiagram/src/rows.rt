@@ -130,14 +130,14 @@ fn write_node<W: Sink>(
     write_row(schema, shown, &inner, None, child.children(), sink)
 }
 
-/// The name of the module at a place of the set, or no text.
+/// The name of the module of a number in the set, or no text.
 fn module_name(schema: &Schema, shown: usize) -> &str
     ensures { result.now ≡ module_name (view schema.now) shown }
 {
     schema.module_name(shown).unwrap_or("")
 }
 
-/// Writes the diagram of the module at a place of the set (RFC 8340). It takes no memory.
+/// Writes the diagram of the module of a number in the set (RFC 8340). It takes no memory.
 pub fn write<W: Sink>(schema: &Schema, module: usize, sink: &mut W) -> Result<(), DiagramFault>
     ensures { Writes (side W.taken W.failures sink.old) (side W.taken W.failures sink.new)
         (spec.diagram (view schema.now) «module») result }

@@ -28,11 +28,6 @@ use Rattle.ytext.proofs.ViewLemmas.{row_view_at}
 use Rattle.ygrammar.specs.Counts.{AreOf, allowed_word, are_apart, count_at, has_word, is_miscounted_by, lacks, needs}
 use Rattle.yword.proofs.KeywordLemmas.{text_of_named}
 
--- what a fallible call answers, where that is another way to say it
-pub if_ok_then : {A E : Type 0} (P Q : A → Type 0) (r : Result A E) → ((x : A) → P x → Q x) → IfOk r P → IfOk r Q
-if_ok_then P Q (Ok x) h p = h x p
-if_ok_then P Q (Err e) h p = tt
-
 -- ---- how many there are of each
 
 pub number_below : (k : Keyword) → keyword_number k < 46

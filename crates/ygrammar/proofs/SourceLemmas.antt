@@ -12,7 +12,7 @@ use Rattle.ytext.specs.declared.statement.Stmt.{Stmt}
 use Rattle.ytext.specs.declared.statement.Module.{Module}
 use Rattle.ytext.proofs.ViewLemmas.{row_view_at}
 use Rattle.ypreorder.specs.Layout.{Place, places, laid, opened, closed}
-use Rattle.ypreorder.specs.View.{rows_in}
+use Rattle.ypreorder.specs.View.{slots_in}
 use Rattle.ypreorder.specs.declared.table.Table.{Table}
 use Rattle.ypreorder.proofs.LayoutLemmas.{length-places, places-join, length-laid, length-seen, grown}
 use Rattle.ygrammar.specs.declared.source.Source.{Source}
@@ -64,37 +64,37 @@ listed-one p h k w s below =
 
 -- how many rows there are behind what is added
 pub length_added : (old new : Table Source) (more : List (Place _)) → seen_rows new ≡ seen_rows old ++ more
-    → length (rows_in new) ≡ length (rows_in old) + length more
+    → length (slots_in new) ≡ length (slots_in old) + length more
 length_added old new more added =
     let whole = ap length added ∙ length-append (seen_rows old) more in
-    omega (arith, whole, length-seen source_view 0 (laid (rows_in new)), length-laid (rows_in new), length-seen source_view 0 (laid (rows_in old)), length-laid (rows_in old))
+    omega (arith, whole, length-seen source_view 0 (laid (slots_in new)), length-laid (slots_in new), length-seen source_view 0 (laid (slots_in old)), length-laid (slots_in old))
 
 -- some are added, and others follow
 pub then_others : (old new : Table Source) (p : Option ℕ) (h : ℕ) (f g : Forest (Keyword × Statement)) (whole : List (Place _))
-    → seen_rows new ≡ seen_rows old ++ listed p h (length (rows_in old)) f
-    → seen_rows old ++ listed p h (length (rows_in old)) (join f g) ≡ whole
-    → seen_rows new ++ listed p h (length (rows_in new)) g ≡ whole
+    → seen_rows new ≡ seen_rows old ++ listed p h (length (slots_in old)) f
+    → seen_rows old ++ listed p h (length (slots_in old)) (join f g) ≡ whole
+    → seen_rows new ++ listed p h (length (slots_in new)) g ≡ whole
 then_others old new p h f g whole added so =
-    let count : length (rows_in new) ≡ length (rows_in old) + size f = length_added old new (listed p h (length (rows_in old)) f) added
-    ∙ ap (λ n. length (rows_in old) + n) (length-places p (length (rows_in old)) (numbered h (length (rows_in old)) f) ∙ size-numbered h (length (rows_in old)) f) in
+    let count : length (slots_in new) ≡ length (slots_in old) + size f = length_added old new (listed p h (length (slots_in old)) f) added
+    ∙ ap (λ n. length (slots_in old) + n) (length-places p (length (slots_in old)) (numbered h (length (slots_in old)) f) ∙ size-numbered h (length (slots_in old)) f) in
     ap₂ (λ a n. a ++ listed p h n g) added count
-    ∙ (append_assoc (seen_rows old) (listed p h (length (rows_in old)) f) (listed p h (length (rows_in old) + size f) g)
-    ∙ (ap (λ rest. seen_rows old ++ rest) (sym (listed-join p h (length (rows_in old)) f g)) ∙ so))
+    ∙ (append_assoc (seen_rows old) (listed p h (length (slots_in old)) f) (listed p h (length (slots_in old) + size f) g)
+    ∙ (ap (λ rest. seen_rows old ++ rest) (sym (listed-join p h (length (slots_in old)) f g)) ∙ so))
 
 pub next_statement : (ss : List Stmt) (i : ℕ) (s : Stmt) (old new : Table Source) (p : Option ℕ) (h : ℕ) (whole : List (Place _))
     → i < length ss → s ≡ get_or ss i s
-    → seen_rows new ≡ seen_rows old ++ listed p h (length (rows_in old)) (kept (node (view s).0 (view s).1 end))
-    → seen_rows old ++ listed p h (length (rows_in old)) (kept (row_view (drop i ss))) ≡ whole
-    → seen_rows new ++ listed p h (length (rows_in new)) (kept (row_view (drop (i + 1) ss))) ≡ whole
+    → seen_rows new ≡ seen_rows old ++ listed p h (length (slots_in old)) (kept (node (view s).0 (view s).1 end))
+    → seen_rows old ++ listed p h (length (slots_in old)) (kept (row_view (drop i ss))) ≡ whole
+    → seen_rows new ++ listed p h (length (slots_in new)) (kept (row_view (drop (i + 1) ss))) ≡ whole
 next_statement ss i s old new p h whole within is added so =
     then_others old new p h (kept (node (view s).0 (view s).1 end)) (kept (row_view (drop (i + 1) ss))) whole added
-    (ap (λ f. seen_rows old ++ listed p h (length (rows_in old)) f) (sym (ap kept (row_view_at ss i s within is) ∙ kept-first (view s).0 (view s).1 (row_view (drop (i + 1) ss)))) ∙ so)
+    (ap (λ f. seen_rows old ++ listed p h (length (slots_in old)) f) (sym (ap kept (row_view_at ss i s within is) ∙ kept-first (view s).0 (view s).1 (row_view (drop (i + 1) ss)))) ∙ so)
 
 pub all_statements : (ss : List Stmt) (i : ℕ) (rows : Table Source) (p : Option ℕ) (h : ℕ) (whole : List (Place _)) → length ss ≤ i
-    → seen_rows rows ++ listed p h (length (rows_in rows)) (kept (row_view (drop i ss))) ≡ whole → seen_rows rows ≡ whole
+    → seen_rows rows ++ listed p h (length (slots_in rows)) (kept (row_view (drop i ss))) ≡ whole → seen_rows rows ≡ whole
 unfolding kept numbered
 all_statements ss i rows p h whole ended so =
-    sym (append-nil (seen_rows rows)) ∙ (ap (λ f. seen_rows rows ++ listed p h (length (rows_in rows)) (kept f)) (sym (at_drop_all row_view ss i ended)) ∙ so)
+    sym (append-nil (seen_rows rows)) ∙ (ap (λ f. seen_rows rows ++ listed p h (length (slots_in rows)) (kept f)) (sym (at_drop_all row_view ss i ended)) ∙ so)
 
 -- ---- modules
 
@@ -105,15 +105,15 @@ modules_view_at ms i m within is =
 
 pub next_module : (ms : List Module) (i : ℕ) (m : Module) (old new : Table Source) (whole : List (Place _))
     → i < length ms → m ≡ get_or ms i m
-    → seen_rows new ≡ seen_rows old ++ listed None i (length (rows_in old)) (kept (node (view m.top).0 (view m.top).1 end))
-    → seen_rows old ++ places None (length (rows_in old)) (sources_from i (length (rows_in old)) (modules_view (drop i ms))) ≡ whole
-    → seen_rows new ++ places None (length (rows_in new)) (sources_from (i + 1) (length (rows_in new)) (modules_view (drop (i + 1) ms))) ≡ whole
+    → seen_rows new ≡ seen_rows old ++ listed None i (length (slots_in old)) (kept (node (view m.top).0 (view m.top).1 end))
+    → seen_rows old ++ places None (length (slots_in old)) (sources_from i (length (slots_in old)) (modules_view (drop i ms))) ≡ whole
+    → seen_rows new ++ places None (length (slots_in new)) (sources_from (i + 1) (length (slots_in new)) (modules_view (drop (i + 1) ms))) ≡ whole
 unfolding sources_from
 next_module ms i m old new whole within is added so =
     let row = kept (node (view m.top).0 (view m.top).1 end) in
-    let n = length (rows_in old) in
+    let n = length (slots_in old) in
     let rest = modules_view (drop (i + 1) ms) in
-    let count : length (rows_in new) ≡ n + size row = length_added old new (listed None i n row) added
+    let count : length (slots_in new) ≡ n + size row = length_added old new (listed None i n row) added
     ∙ ap (λ k. n + k) (length-places None n (numbered i n row) ∙ size-numbered i n row) in
     let split : places None n (sources_from i n (modules_view (drop i ms))) ≡ listed None i n row ++ places None (n + size row) (sources_from (i + 1) (n + size row) rest) =
     ap (λ f. places None n (sources_from i n f)) (modules_view_at ms i m within is)
@@ -124,10 +124,10 @@ next_module ms i m old new whole within is added so =
     ∙ (ap (λ ps. seen_rows old ++ ps) (sym split) ∙ so))
 
 pub all_modules : (ms : List Module) (i : ℕ) (rows : Table Source) (whole : List (Place _)) → length ms ≤ i
-    → seen_rows rows ++ places None (length (rows_in rows)) (sources_from i (length (rows_in rows)) (modules_view (drop i ms))) ≡ whole → seen_rows rows ≡ whole
+    → seen_rows rows ++ places None (length (slots_in rows)) (sources_from i (length (slots_in rows)) (modules_view (drop i ms))) ≡ whole → seen_rows rows ≡ whole
 unfolding sources_from
 all_modules ms i rows whole ended so =
-    sym (append-nil (seen_rows rows)) ∙ (ap (λ f. seen_rows rows ++ places None (length (rows_in rows)) (sources_from i (length (rows_in rows)) f)) (sym (at_drop_all modules_view ms i ended)) ∙ so)
+    sym (append-nil (seen_rows rows)) ∙ (ap (λ f. seen_rows rows ++ places None (length (slots_in rows)) (sources_from i (length (slots_in rows)) f)) (sym (at_drop_all modules_view ms i ended)) ∙ so)
 
 pub listed-none : (p : Option ℕ) (h k : ℕ) (f : Forest (Keyword × Statement)) → f ≡ end → listed p h k f ≡ []
 unfolding numbered
@@ -135,18 +135,18 @@ listed-none p h k f none = ap (listed p h k) none
 
 -- a statement is opened, all below it is added, and it is closed
 pub added : (old mid full new : Table Source) (p : Option ℕ) (h : ℕ) (l : Source) (n : ℕ) (w : Keyword) (s : Statement) (f : Forest (Keyword × Statement))
-    → laid (rows_in mid) ≡ laid (rows_in old) ++ opened p l ∷ [] → n ≡ length (rows_in old)
-    → seen_rows full ≡ seen_rows mid ++ listed (Some n) h (length (rows_in mid)) f
-    → laid (rows_in new) ≡ closed n (laid (rows_in full))
-    → source_view (length (rows_in old)) l ≡ record { keyword = w; statement = s; number = length (rows_in old); home = h }
-    → seen_rows new ≡ seen_rows old ++ listed p h (length (rows_in old)) (node (w, s) f end)
+    → laid (slots_in mid) ≡ laid (slots_in old) ++ opened p l ∷ [] → n ≡ length (slots_in old)
+    → seen_rows full ≡ seen_rows mid ++ listed (Some n) h (length (slots_in mid)) f
+    → laid (slots_in new) ≡ closed n (laid (slots_in full))
+    → source_view (length (slots_in old)) l ≡ record { keyword = w; statement = s; number = length (slots_in old); home = h }
+    → seen_rows new ≡ seen_rows old ++ listed p h (length (slots_in old)) (node (w, s) f end)
 added old mid full new p h l n w s f mid_is n_is full_is new_is label_is =
-    let k = length (rows_in old) in
+    let k = length (slots_in old) in
     let label : spec.Source = record { keyword = w; statement = s; number = k; home = h } in
-    let next : length (rows_in mid) ≡ k + 1 = sym (length-laid (rows_in mid)) ∙ (ap length mid_is ∙ (length-append (laid (rows_in old)) (opened p l ∷ []) ∙ omega (arith, length-laid (rows_in old)))) in
-    grown source_view (rows_in old) (rows_in mid) (rows_in full) (rows_in new) p l n (numbered h (length (rows_in mid)) f) mid_is n_is full_is new_is
+    let next : length (slots_in mid) ≡ k + 1 = sym (length-laid (slots_in mid)) ∙ (ap length mid_is ∙ (length-append (laid (slots_in old)) (opened p l ∷ []) ∙ omega (arith, length-laid (slots_in old)))) in
+    grown source_view (slots_in old) (slots_in mid) (slots_in full) (slots_in new) p l n (numbered h (length (slots_in mid)) f) mid_is n_is full_is new_is
     ∙ ap (λ ps. seen_rows old ++ ps)
-    (ap₂ (λ x m. record { parent = p; label = x; below = m } ∷ places (Some n) (n + 1) (numbered h (length (rows_in mid)) f)) label_is (size-numbered h (length (rows_in mid)) f)
+    (ap₂ (λ x m. record { parent = p; label = x; below = m } ∷ places (Some n) (n + 1) (numbered h (length (slots_in mid)) f)) label_is (size-numbered h (length (slots_in mid)) f)
     ∙ (ap₂ (λ m j. record { parent = p; label = label; below = size f } ∷ places (Some m) (m + 1) (numbered h j f)) n_is next
     ∙ sym (listed-one p h k w s f)))
 

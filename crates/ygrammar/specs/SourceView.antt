@@ -7,8 +7,8 @@ use Rattle.yspec.specs.linking.Source as spec_source
 use Rattle.yspec.specs.linking.Source.{numbered}
 use Rattle.ytext.specs.View as text
 use Rattle.ypreorder.specs.Layout.{Place, places, laid, seen}
-use Rattle.ypreorder.specs.View.{rows_in, row_by, label_by}
-use Rattle.ypreorder.specs.declared.nodes.Node.{Node}
+use Rattle.ypreorder.specs.View.{slots_in, row_by, label_by}
+use Rattle.ypreorder.specs.declared.siblings.Node.{Node}
 use Rattle.ypreorder.specs.declared.table.Table.{Table}
 use Rattle.yword.specs.KeywordView.{keyword_view}
 use Rattle.ygrammar.specs.declared.source.Source.{Source}
@@ -23,7 +23,7 @@ source_view number s = record {
 }
 
 abbrev pub seen_rows : Table Source → List (Place spec_source.Source)
-seen_rows t = seen source_view 0 (laid (rows_in t))
+seen_rows t = seen source_view 0 (laid (slots_in t))
 
 -- how statements that are kept lie below one, from a number on
 abbrev pub listed : Option ℕ → ℕ → ℕ → Forest (spec.Keyword × Statement) → List (Place spec_source.Source)

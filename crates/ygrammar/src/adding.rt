@@ -6,7 +6,7 @@ ghost use Rattle.yspec.specs.linking.Source as spec;
 ghost use Rattle.yspec.specs.linking.Source.{kept};
 ghost use Rattle.ytext.specs.View as text;
 ghost use Rattle.ytext.specs.View.{row_view};
-ghost use Rattle.ypreorder.specs.View.{rows_in};
+ghost use Rattle.ypreorder.specs.View.{slots_in};
 ghost use Rattle.yword.specs.KeywordView.{keyword_view};
 ghost use Rattle.ygrammar.specs.SourceView.{seen_rows, listed};
 
@@ -35,7 +35,8 @@ fn add_statements<'a>(
     statements: &'a [Stmt],
 ) -> Result<(), AllocError>
     ensures { OnOk result (seen_rows table.new ≡ seen_rows table.old
-        ++ listed parent home (length (rows_in table.old)) (kept (row_view statements.entry.now))) }
+        ++ listed parent home (length (slots_in table.old))
+        (kept (row_view statements.entry.now))) }
 {
     for statement in statements {
         add_statement(table, parent, home, statement)?;
@@ -53,7 +54,7 @@ pub(crate) fn add_statement<'a>(
 ) -> Result<(), AllocError>
     ensures { let s = text.view statement.entry.now in
         OnOk result (seen_rows table.new ≡ seen_rows table.old
-        ++ listed parent home (length (rows_in table.old)) (kept (node s.0 s.1 end))) }
+        ++ listed parent home (length (slots_in table.old)) (kept (node s.0 s.1 end))) }
 {
     let Some(keyword) = kept_keyword(statement) else {
         return Ok(());

@@ -8,9 +8,9 @@ ghost use Rattle.yspec.specs.edit.EditText.{behind};
 ghost use Rattle.yspec.specs.linking.Arguments.{after_white, before_white, trimmed, cut_at_dots};
 ghost use Rattle.ygrammar.specs.Cut.{sides, parts_of};
 
-use ytext::{is_white, parts_around, place_of};
+use ytext::{is_white, offset_of, parts_around};
 
-fn white_place(bytes: &[u8]) -> Option<usize>
+fn white_offset(bytes: &[u8]) -> Option<usize>
     ensures value { result ≡ position is_white bytes.now }
     ensures within { IfSome result
         (λ n. (n < length bytes.now) × (is_white (slice_index bytes.now n) ≡ true)) }
@@ -25,7 +25,7 @@ pub(crate) fn cut(text: &str, stop: u8) -> Option<(&str, &str)>
         ≡ parts_of (λ x. x == stop) text.now (option_map sides result) }
     ensures shorter { IfSome result (λ p. length p.1.now < length text.now) }
 {
-    let at = place_of(text.as_bytes(), stop)?;
+    let at = offset_of(text.as_bytes(), stop)?;
     Some(parts_around(text, at))
 }
 
@@ -35,7 +35,7 @@ pub(crate) fn cut_at_white(text: &str) -> Option<(&str, &str)>
         ≡ parts_of is_white text.now (option_map sides result) }
     ensures shorter { IfSome result (λ p. length p.1.now < length text.now) }
 {
-    let at = white_place(text.as_bytes())?;
+    let at = white_offset(text.as_bytes())?;
     Some(parts_around(text, at))
 }
 
@@ -108,7 +108,7 @@ fn are_dots(first: u8, second: u8) -> bool
 }
 
 /// Where the first `..` stands.
-fn dots_place(bytes: &[u8]) -> Option<usize>
+fn dots_offset(bytes: &[u8]) -> Option<usize>
     ensures value { option_map (λ n. (take n bytes.now, drop (n + 2) bytes.now)) result
         ≡ cut_at_dots bytes.now }
     ensures within { IfSome result (λ n. n + 1 < length bytes.now) }
@@ -129,6 +129,6 @@ fn dots_place(bytes: &[u8]) -> Option<usize>
 pub(crate) fn cut_at_dots(text: &str) -> Option<(&str, &str)>
     ensures { option_map sides result ≡ cut_at_dots text.now }
 {
-    let at = dots_place(text.as_bytes())?;
+    let at = dots_offset(text.as_bytes())?;
     Some((parts_around(text, at).0, parts_around(text, at + 1).1))
 }

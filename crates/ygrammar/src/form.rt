@@ -5,7 +5,7 @@ ghost use Rattle.yspec.specs.linking.Arguments as spec;
 ghost use Rattle.ygrammar.specs.FormView.{form_view};
 
 use crate::name::{absolute_path, key_names, leafref_path, relative_path, unique_paths};
-use crate::number::{count, enum_value, fraction_digits, most};
+use crate::number::{count, enum_value, fraction_digits, max_elements};
 use crate::span::spans;
 use std::alloc::{AllocError, Global};
 use ytext::{is_identifier, is_name};
@@ -26,7 +26,7 @@ pub(crate) enum Form {
     Status,
     OrderedBy,
     Count,
-    Most,
+    MaxElements,
     Value,
     FractionDigits,
     Spans,
@@ -50,7 +50,7 @@ pub(crate) fn fits(alloc: Global, form: Form, text: &str) -> Result<bool, AllocE
         Form::Status => status_of(text).is_some(),
         Form::OrderedBy => ordered_by_of(text).is_some(),
         Form::Count => count(text).is_some(),
-        Form::Most => most(text).is_some(),
+        Form::MaxElements => max_elements(text).is_some(),
         Form::Value => enum_value(text).is_some(),
         Form::FractionDigits => fraction_digits(text).is_some(),
         Form::Spans => spans(alloc, text)?.is_some(),

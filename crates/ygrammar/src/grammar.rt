@@ -18,7 +18,7 @@ ghost use Rattle.ygrammar.specs.BreakView.{break_view, seen};
 
 use crate::fault::{BrokenRule, CompileCode, least, least_when};
 use crate::form::{Form, fits};
-use crate::name::colon_place;
+use crate::name::colon_offset;
 use crate::table::{Allowed, Count, needs_of, rule_of};
 use std::alloc::{AllocError, Global};
 use ytext::{Module, Stmt};
@@ -42,7 +42,7 @@ pub fn broken(code: CompileCode, module: usize, statement: &Stmt) -> BrokenRule
 fn is_prefixed(statement: &Stmt) -> bool
     ensures { result ≡ spec.is_prefixed (view statement.now).0.keyword }
 {
-    colon_place(statement.keyword().as_bytes()).is_some()
+    colon_offset(statement.keyword().as_bytes()).is_some()
 }
 
 fn has_keyword(statement: &Stmt, keyword: Keyword) -> bool

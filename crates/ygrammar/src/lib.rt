@@ -20,7 +20,7 @@ pub use grammar::{broken, broken_statement_rule};
 pub use name::{
     Name, absolute_path, key_names, leafref_path, name_of, relative_path, unique_paths,
 };
-pub use number::{count, enum_value, fraction_digits, most};
+pub use number::{count, enum_value, fraction_digits, max_elements};
 pub use row::{argument_of, argument_with, built_in_of, first_with, found_with};
 pub use source::Source;
 pub use sources::Sources;

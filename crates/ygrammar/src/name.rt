@@ -17,7 +17,7 @@ pub struct Name<'a> {
     pub identifier: &'a str,
 }
 
-pub(crate) fn colon_place(bytes: &[u8]) -> Option<usize>
+pub(crate) fn colon_offset(bytes: &[u8]) -> Option<usize>
     ensures value { result ≡ position (λ x. x == colon) bytes.now }
     ensures within { IfSome result (λ n. (n < length bytes.now) × (slice_index bytes.now n ≡ 58)) }
 {
@@ -31,7 +31,7 @@ pub fn name_of<'a>(text: &'a str) -> Option<Name<'a>>
     if !is_name(text) {
         return None;
     }
-    match colon_place(text.as_bytes()) {
+    match colon_offset(text.as_bytes()) {
         None => Some(Name {
             prefix: None,
             identifier: text,

@@ -98,8 +98,8 @@ pub fn count(text: &str) -> Option<u32>
 }
 
 /// The number of `max-elements`; none inside where it is unbounded.
-pub fn most(text: &str) -> Option<Option<u32>>
-    ensures { result ≡ spec.most_of text.now }
+pub fn max_elements(text: &str) -> Option<Option<u32>>
+    ensures { result ≡ spec.max_elements_of text.now }
 {
     if text == "unbounded" {
         return Some(None);

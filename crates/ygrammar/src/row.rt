@@ -9,13 +9,13 @@ ghost use Rattle.ygrammar.specs.SourceView.{source_view, node_view};
 ghost use Rattle.yword.specs.BuiltInView.{built_in_view};
 
 use crate::source::Source;
-use ypreorder::{Node, Nodes};
+use ypreorder::{Node, Siblings};
 use yword::{BuiltIn, Keyword};
 
 /// The first statement of a row with a keyword.
 pub fn first_with<'a, 't>(
     keyword: Keyword,
-    statements: Nodes<'a, Source<'t>>,
+    statements: Siblings<'a, Source<'t>>,
 ) -> Option<Node<'a, Source<'t>>>
     ensures { option_map (label_by source_view) result
         ≡ spec.first_with (keyword_view keyword) (row_by source_view statements.entry) }
@@ -39,7 +39,10 @@ pub fn built_in_of(statement: Node<'_, Source<'_>>) -> Option<BuiltIn>
 }
 
 /// The argument of the first statement of a row with a keyword.
-pub fn argument_with<'a, 't>(keyword: Keyword, statements: Nodes<'a, Source<'t>>) -> Option<&'t str>
+pub fn argument_with<'a, 't>(
+    keyword: Keyword,
+    statements: Siblings<'a, Source<'t>>,
+) -> Option<&'t str>
     ensures { option_map (λ text. text.now) result
         ≡ spec.argument_with (keyword_view keyword) (row_by source_view statements.entry) }
 {
@@ -52,7 +55,7 @@ pub fn argument_with<'a, 't>(keyword: Keyword, statements: Nodes<'a, Source<'t>>
 /// The first statement of a row with a keyword, with what stands below it.
 pub fn found_with<'a, 't>(
     keyword: Keyword,
-    statements: Nodes<'a, Source<'t>>,
+    statements: Siblings<'a, Source<'t>>,
 ) -> Option<Node<'a, Source<'t>>>
     ensures { option_map node_view result
         ≡ spec.found_with (keyword_view keyword) (row_by source_view statements.entry) }

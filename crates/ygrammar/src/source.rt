@@ -9,7 +9,7 @@ ghost use Rattle.yword.specs.BuiltInView.{built_in_view};
 use ytext::Stmt;
 use yword::{BuiltIn, Keyword};
 
-/// A statement of the table of statements, and the place of its module in the set.
+/// A statement of the table of statements, and the number of its module in the set.
 #[derive(Clone, Copy)]
 pub struct Source<'a> {
     pub keyword: Keyword,
@@ -41,7 +41,7 @@ impl<'a> Source<'a> {
     ghost use Rattle.ygrammar.specs.SourceView.{source_view};
     ghost use Rattle.yword.specs.BuiltInView.{built_in_view};
 
-    /// A statement of a keyword, in the module at a place of the set.
+    /// A statement of a keyword, in the module of a number in the set.
     pub(crate) fn new(keyword: Keyword, statement: &'a Stmt, home: usize) -> Source<'a>
         ensures { (number : ℕ) → source_view number result
             ≡ record {

@@ -1,19 +1,19 @@
 //! The statements that linking stands on: those of the table, each with its keyword.
 
 ghost use Rattle.ypreorder.specs.Layout.{IsLaidOut};
-ghost use Rattle.ypreorder.specs.View.{rows_in};
+ghost use Rattle.ypreorder.specs.View.{slots_in};
 
 use crate::adding::add_statement;
 use crate::source::Source;
 use std::alloc::{AllocError, Global};
-use ypreorder::{Nodes, Row, Table};
+use ypreorder::{Siblings, Slot, Table};
 use ytext::Module;
 
 /// The statements of a set of modules that a compiler looks at, in preorder: each of the table, but for `extension`.
 #[derive(Drop)]
 pub struct Sources<'a> {
     table: Table<Source<'a>>,
-    ghost laid_out: { IsLaidOut (rows_in table) },
+    ghost laid_out: { IsLaidOut (slots_in table) },
 }
 
 impl<'a> Sources<'a> {
@@ -22,7 +22,7 @@ impl<'a> Sources<'a> {
     ghost use Rattle.yspec.specs.linking.Source.{sources_of};
     ghost use Rattle.ypreorder.specs.Layout.{forest_of, numbered_by};
     ghost use Rattle.ytext.specs.View.{modules_view};
-    ghost use Rattle.ypreorder.specs.View.{row_by, rows_in};
+    ghost use Rattle.ypreorder.specs.View.{row_by, slots_in};
     ghost use Rattle.ygrammar.specs.SourceView.{source_view};
     ghost use Rattle.ygrammar.specs.LinkView.{view};
 
@@ -39,27 +39,27 @@ impl<'a> Sources<'a> {
     }
 
     /// The `module` statements, in order.
-    pub fn modules(&self) -> Nodes<'_, Source<'a>>
+    pub fn modules(&self) -> Siblings<'_, Source<'a>>
         ensures { row_by source_view result ≡ view self.now }
     {
-        self.table.nodes()
+        self.table.roots()
     }
 
     /// The statements right below that of a number, in order; none of a number that none has.
-    pub fn below(&self, number: u32) -> Nodes<'_, Source<'a>>
-        ensures row { (r : Row Source) → slice_get (rows_in self.now.table) number ≡ Some r
+    pub fn below(&self, number: u32) -> Siblings<'_, Source<'a>>
+        ensures row { (r : Slot Source) → slice_get (slots_in self.now.table) number ≡ Some r
             → row_by source_view result ≡ numbered_by source_view (number + 1)
-            (forest_of (take r.below (drop (number + 1) (rows_in self.now.table)))) }
-        ensures none { slice_get (rows_in self.now.table) number ≡ None
+            (forest_of (take r.below (drop (number + 1) (slots_in self.now.table)))) }
+        ensures none { slice_get (slots_in self.now.table) number ≡ None
             → row_by source_view result ≡ end }
     {
         self.table.children(number)
     }
 
     /// All statements, as they lie in the table.
-    pub fn rows(&self) -> &[Row<Source<'a>>]
-        ensures { result.now ≡ rows_in self.now.table }
+    pub fn slots(&self) -> &[Slot<Source<'a>>]
+        ensures { result.now ≡ slots_in self.now.table }
     {
-        self.table.rows()
+        self.table.slots()
     }
 }

@@ -11,7 +11,7 @@ use crate::number::{after_minus, digits_from, is_negative, number_of_sign, whole
 use std::alloc::{AllocError, Global};
 use ynumber::{Bound, Span};
 
-fn point_place(bytes: &[u8]) -> Option<usize>
+fn point_offset(bytes: &[u8]) -> Option<usize>
     ensures value { result ≡ position is_point bytes.now }
     ensures within { IfSome result (λ n. n < length bytes.now) }
 {
@@ -56,7 +56,7 @@ fn magnitude_bound(is_negative: bool, text: &[u8]) -> Option<Bound>
     ensures { option_map bound_of result
         ≡ spec.bound_cut is_negative text.now (position is_point text.now) }
 {
-    match point_place(text) {
+    match point_offset(text) {
         None => Some(number_bound(is_negative, whole_of(text)?, 0)),
         Some(at) => {
             let digits = &text[at + 1..];

@@ -273,7 +273,7 @@ pub(crate) fn rule_of(keyword: Keyword) -> Rule
         Keyword::Mandatory => (Form::Flag, &[]),
         Keyword::Presence => (Form::Any, &[]),
         Keyword::MinElements => (Form::Count, &[]),
-        Keyword::MaxElements => (Form::Most, &[]),
+        Keyword::MaxElements => (Form::MaxElements, &[]),
         Keyword::OrderedBy => (Form::OrderedBy, &[]),
         Keyword::Status => (Form::Status, &[]),
         Keyword::Key => (Form::Key, &[]),

@@ -4,7 +4,7 @@ use Rattle.std.specs.Prelude.{unwrap_or, nat_lt, if◌then◌else◌}
 use Rattle.yspec.specs.Results.{◌>>=◌}
 use Rattle.yspec.specs.schema.Schema.{Schema, SchemaNode, node_at, keys_in}
 use Rattle.yspec.specs.document.Document.{Tree, Step, step_to, step_at, instances_in}
-use Rattle.yspec.specs.edit.Edit.{place_of}
+use Rattle.yspec.specs.edit.Edit.{instance_index}
 use Rattle.yspec.specs.edit.EditText.{Predicate, unsaid, at_position, with_keys}
 use Rattle.yspec.specs.edit.Editing.{EditRefusal, BoundStep, Target, refused, instance_meant, the_one, positions_where, fits_keys, row_at, lower, target}
 use Rattle.yspec.proofs.SchemaProofs.NumberLemmas.{number_at}
@@ -44,19 +44,19 @@ target_further : (s : Schema) (so_far : List Step) (row : Tree) (steps : List Bo
 target_further s so_far row [] = refl
 target_further s so_far row (b ∷ []) = ap (λ xs. Ok (record { above = xs; row = row; last = b })) (nothing_behind so_far)
 target_further s so_far row (b ∷ c ∷ bs) =
-    by (instance_meant s 4 row b.schema_node b.predicate) (λ step. target_further s (so_far ++ step ∷ []) (row_at step.schema_number (place_of step) row) (c ∷ bs))
+    by (instance_meant s 4 row b.schema_node b.predicate) (λ step. target_further s (so_far ++ step ∷ []) (row_at step.schema_number (instance_index step) row) (c ∷ bs))
   where
     same : (step : Step) (r : Result Target EditRefusal) → r >>= (λ t. Ok (record t { above = (so_far ++ step ∷ []) ++ t.above }))
         ≡ (r >>= (λ t. Ok (lower step t))) >>= (λ t. Ok (record t { above = so_far ++ t.above }))
     same step (Ok t) = ap (λ xs. Ok (record t { above = xs })) (behind_one so_far step t.above)
     same step (Err e) = refl
 
-    by : (r : Result Step EditRefusal) → ((step : Step) → target_on s (so_far ++ step ∷ []) (row_at step.schema_number (place_of step) row) (c ∷ bs)
-        ≡ target s (row_at step.schema_number (place_of step) row) (c ∷ bs) >>= (λ t. Ok (record t { above = (so_far ++ step ∷ []) ++ t.above })))
-        → r >>= (λ step. target_on s (so_far ++ step ∷ []) (row_at step.schema_number (place_of step) row) (c ∷ bs))
-        ≡ (r >>= (λ step. target s (row_at step.schema_number (place_of step) row) (c ∷ bs) >>= (λ t. Ok (lower step t)))) >>= (λ t. Ok (record t { above = so_far ++ t.above }))
+    by : (r : Result Step EditRefusal) → ((step : Step) → target_on s (so_far ++ step ∷ []) (row_at step.schema_number (instance_index step) row) (c ∷ bs)
+        ≡ target s (row_at step.schema_number (instance_index step) row) (c ∷ bs) >>= (λ t. Ok (record t { above = (so_far ++ step ∷ []) ++ t.above })))
+        → r >>= (λ step. target_on s (so_far ++ step ∷ []) (row_at step.schema_number (instance_index step) row) (c ∷ bs))
+        ≡ (r >>= (λ step. target s (row_at step.schema_number (instance_index step) row) (c ∷ bs) >>= (λ t. Ok (lower step t)))) >>= (λ t. Ok (record t { above = so_far ++ t.above }))
     by (Err e) h = refl
-    by (Ok step) h = h step ∙ same step (target s (row_at step.schema_number (place_of step) row) (c ∷ bs))
+    by (Ok step) h = h step ∙ same step (target s (row_at step.schema_number (instance_index step) row) (c ∷ bs))
 
 -- from the top on
 pub target_at : (s : Schema) (row : Tree) (steps : List BoundStep) → target_on s [] row steps ≡ target s row steps

@@ -9,23 +9,23 @@ use Rattle.yspec.specs.edit.Edit.{is_of, change_below}
 use Rattle.yspec.specs.edit.Editing.{Branch, with_branch}
 use Rattle.ytree.specs.View.{Labelled, view, row_view}
 use Rattle.ytree.specs.Walk.{before_first, from_first}
-use Rattle.yinst.specs.Rows.{number_of, is_behind, nth_place, change_first, behind_first, branch_view}
+use Rattle.yinst.specs.Rows.{number_of, is_behind, nth_index, change_first, behind_first, branch_view}
 use Rattle.ytree.specs.declared.tree.Stored.{Stored}
 use Rattle.yspec.proofs.ForestLemmas.{join_end}
 use Rattle.ytree.proofs.RowLemmas.{join_last}
 
 -- a change of an instance is one of the first node from its place on
 pub nth_parts : (n k : ℕ) (change : document.Stored → Tree → Tree → Tree) (xs : List Stored) → change_nth (is_of n) k change (row_view xs)
-    ≡ join (row_view (take (nth_place n k xs) xs)) (change_first change (row_view (drop (nth_place n k xs) xs)))
+    ≡ join (row_view (take (nth_index n k xs) xs)) (change_first change (row_view (drop (nth_index n k xs) xs)))
 nth_parts n k change [] = refl
 nth_parts n zero change (x ∷ xs) = by (number_of x == n) (nth_parts n zero change xs)
   where
     by : (b : Bool) → change_nth (is_of n) zero change (row_view xs)
-        ≡ join (row_view (take (nth_place n zero xs) xs)) (change_first change (row_view (drop (nth_place n zero xs) xs)))
+        ≡ join (row_view (take (nth_index n zero xs) xs)) (change_first change (row_view (drop (nth_index n zero xs) xs)))
         → cond b (change (view x).0 (view x).1 (row_view xs)) (node (view x).0 (view x).1 (change_nth (is_of n) zero change (row_view xs)))
-        ≡ join (row_view (take (cond b 0 (1 + nth_place n zero xs)) (x ∷ xs))) (change_first change (row_view (drop (cond b 0 (1 + nth_place n zero xs)) (x ∷ xs))))
+        ≡ join (row_view (take (cond b 0 (1 + nth_index n zero xs)) (x ∷ xs))) (change_first change (row_view (drop (cond b 0 (1 + nth_index n zero xs)) (x ∷ xs))))
     by true h = refl
-    by false h = let next : 1 + nth_place n zero xs ≡ suc (nth_place n zero xs) = omega arith in
+    by false h = let next : 1 + nth_index n zero xs ≡ suc (nth_index n zero xs) = omega arith in
         ap (node (view x).0 (view x).1) h ∙ sym (ap (λ j. join (row_view (take j (x ∷ xs))) (change_first change (row_view (drop j (x ∷ xs))))) next)
 nth_parts n (suc k) change (x ∷ xs) = by (number_of x == n) (nth_parts n k change xs) (nth_parts n (suc k) change xs)
   where
@@ -34,12 +34,12 @@ nth_parts n (suc k) change (x ∷ xs) = by (number_of x == n) (nth_parts n k cha
     one j t h = let next : 1 + j ≡ suc j = omega arith in
         ap (node (view x).0 (view x).1) h ∙ sym (ap (λ m. join (row_view (take m (x ∷ xs))) (change_first change (row_view (drop m (x ∷ xs))))) next)
 
-    by : (b : Bool) → change_nth (is_of n) k change (row_view xs) ≡ join (row_view (take (nth_place n k xs) xs)) (change_first change (row_view (drop (nth_place n k xs) xs)))
-        → change_nth (is_of n) (suc k) change (row_view xs) ≡ join (row_view (take (nth_place n (suc k) xs) xs)) (change_first change (row_view (drop (nth_place n (suc k) xs) xs)))
+    by : (b : Bool) → change_nth (is_of n) k change (row_view xs) ≡ join (row_view (take (nth_index n k xs) xs)) (change_first change (row_view (drop (nth_index n k xs) xs)))
+        → change_nth (is_of n) (suc k) change (row_view xs) ≡ join (row_view (take (nth_index n (suc k) xs) xs)) (change_first change (row_view (drop (nth_index n (suc k) xs) xs)))
         → cond b (node (view x).0 (view x).1 (change_nth (is_of n) k change (row_view xs))) (node (view x).0 (view x).1 (change_nth (is_of n) (suc k) change (row_view xs)))
-        ≡ join (row_view (take (1 + cond b (nth_place n k xs) (nth_place n (suc k) xs)) (x ∷ xs))) (change_first change (row_view (drop (1 + cond b (nth_place n k xs) (nth_place n (suc k) xs)) (x ∷ xs))))
-    by true here later = one (nth_place n k xs) _ here
-    by false here later = one (nth_place n (suc k) xs) _ later
+        ≡ join (row_view (take (1 + cond b (nth_index n k xs) (nth_index n (suc k) xs)) (x ∷ xs))) (change_first change (row_view (drop (1 + cond b (nth_index n k xs) (nth_index n (suc k) xs)) (x ∷ xs))))
+    by true here later = one (nth_index n k xs) _ here
+    by false here later = one (nth_index n (suc k) xs) _ later
 
 -- a branch stands in front of the first node behind its schema node
 pub branch_parts : (p : Branch) (xs : List Stored) → let test = is_behind p.label.schema_number in
@@ -81,21 +81,21 @@ branch_put p row before from nodes i i_is before_is from_is nodes_are =
 
 -- the nodes before the place, and what becomes of those from it on
 pub changed_at : (n k : ℕ) (change : document.Stored → Tree → Tree → Tree) (row before from nodes : List Stored) (t : Tree)
-    → before ≡ take (nth_place n k row) row → from ≡ drop (nth_place n k row) row → row_view nodes ≡ row_view before
+    → before ≡ take (nth_index n k row) row → from ≡ drop (nth_index n k row) row → row_view nodes ≡ row_view before
     → t ≡ change_first change (row_view from) → join (row_view nodes) t ≡ change_nth (is_of n) k change (row_view row)
 changed_at n k change row before from nodes t before_is from_is nodes_are t_is =
     ap₂ join (nodes_are ∙ ap row_view before_is) (t_is ∙ ap (λ f. change_first change (row_view f)) from_is) ∙ sym (nth_parts n k change row)
 
 -- where the place is behind all nodes
 pub nothing_changed : (n k : ℕ) (change : document.Stored → Tree → Tree → Tree) (row before from nodes : List Stored)
-    → before ≡ take (nth_place n k row) row → from ≡ drop (nth_place n k row) row → row_view nodes ≡ row_view before
+    → before ≡ take (nth_index n k row) row → from ≡ drop (nth_index n k row) row → row_view nodes ≡ row_view before
     → length from ≡ 0 → row_view nodes ≡ change_nth (is_of n) k change (row_view row)
 nothing_changed n k change row before from nodes before_is from_is nodes_are none =
     sym (join_end (row_view nodes))
     ∙ changed_at n k change row before from nodes end before_is from_is nodes_are (sym (ap (λ f. change_first change (row_view f)) (nothing_left from none)))
 
 pub below_changed : (n k : ℕ) (f : Tree → Tree) (row before from nodes after : List Stored) (s w : Stored) (t u : Tree)
-    → before ≡ take (nth_place n k row) row → from ≡ drop (nth_place n k row) row → row_view nodes ≡ row_view before
+    → before ≡ take (nth_index n k row) row → from ≡ drop (nth_index n k row) row → row_view nodes ≡ row_view before
     → from ≡ s ∷ after → view w ≡ ((view s).0, u) → u ≡ f t → t ≡ (view s).1
     → join (row_view nodes) (node (view w).0 (view w).1 (row_view after)) ≡ change_below n k f (row_view row)
 below_changed n k f row before from nodes after s w t u before_is from_is nodes_are parts w_is u_is t_is =
@@ -104,7 +104,7 @@ below_changed n k f row before from nodes after s w t u before_is from_is nodes_
     ∙ ap (λ g. change_first (λ l below later. node l (f below) later) (row_view g)) (sym parts))
 
 pub put_instead : (n k : ℕ) (p : Stored) (row before from nodes after : List Stored) (s : Stored)
-    → before ≡ take (nth_place n k row) row → from ≡ drop (nth_place n k row) row → row_view nodes ≡ row_view before → from ≡ s ∷ after
+    → before ≡ take (nth_index n k row) row → from ≡ drop (nth_index n k row) row → row_view nodes ≡ row_view before → from ≡ s ∷ after
     → join (row_view nodes) (node (view p).0 (view p).1 (row_view after))
     ≡ change_nth (is_of n) k (λ l below later. node (branch_view p).label (branch_view p).below later) (row_view row)
 put_instead n k p row before from nodes after s before_is from_is nodes_are parts =
@@ -112,7 +112,7 @@ put_instead n k p row before from nodes after s before_is from_is nodes_are part
     before_is from_is nodes_are (ap (λ g. change_first (λ l below later. node (branch_view p).label (branch_view p).below later) (row_view g)) (sym parts))
 
 pub node_taken : (n k : ℕ) (row before from nodes after : List Stored)
-    → before ≡ take (nth_place n k row) row → from ≡ drop (nth_place n k row) row → row_view nodes ≡ row_view before
+    → before ≡ take (nth_index n k row) row → from ≡ drop (nth_index n k row) row → row_view nodes ≡ row_view before
     → row_view after ≡ behind_first (row_view from)
     → join (row_view nodes) (row_view after) ≡ change_nth (is_of n) k (λ l below later. later) (row_view row)
 node_taken n k row before from nodes after before_is from_is nodes_are after_is =

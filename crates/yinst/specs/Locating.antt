@@ -3,7 +3,7 @@ use Rattle.std.specs.Prelude.{ℕ, Bool, List, [], ◌∷◌, ◌++◌, map, Opt
 use Rattle.yspec.specs.Results.{◌>>=◌}
 use Rattle.yspec.specs.schema.Schema.{Schema, keys_in}
 use Rattle.yspec.specs.document.Document.{Tree, Step, step_to, step_at, instances_in, stored_in}
-use Rattle.yspec.specs.edit.Edit.{place_of}
+use Rattle.yspec.specs.edit.Edit.{instance_index}
 use Rattle.yspec.specs.edit.EditText.{Key, Predicate, unsaid, at_position, with_keys}
 use Rattle.yspec.specs.edit.Editing as spec
 use Rattle.yspec.specs.edit.Editing.{EditRefusal, Target, refused}
@@ -46,4 +46,4 @@ abbrev pub target_on : Schema → List Step → Tree → List spec.BoundStep →
 target_on schema so_far row [] = refused 1
 target_on schema so_far row (b ∷ []) = Ok (record { above = so_far; row = row; last = b })
 target_on schema so_far row (b ∷ c ∷ bs) = spec.instance_meant schema 4 row b.schema_node b.predicate >>= (λ step.
-    target_on schema (so_far ++ step ∷ []) (spec.row_at step.schema_number (place_of step) row) (c ∷ bs))
+    target_on schema (so_far ++ step ∷ []) (spec.row_at step.schema_number (instance_index step) row) (c ∷ bs))

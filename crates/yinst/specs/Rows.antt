@@ -22,12 +22,12 @@ is_behind number s = nat_lt number (number_of s)
 abbrev pub branch_view : Stored → Branch
 branch_view s = record { label = (view s).0; below = (view s).1 }
 
--- the place in a row of the instance of a schema node at a place among those of that node, or the row's length
-abbrev pub nth_place : ℕ → ℕ → List Stored → ℕ
-nth_place number place [] = 0
-nth_place number zero (s ∷ ss) = if has_number number s then 0 else 1 + nth_place number zero ss
-nth_place number (suc place) (s ∷ ss) =
-    1 + (if has_number number s then nth_place number place ss else nth_place number (suc place) ss)
+-- the index in a row of the instance of a schema node that has an index among those of that node, or the row's length
+abbrev pub nth_index : ℕ → ℕ → List Stored → ℕ
+nth_index number place [] = 0
+nth_index number zero (s ∷ ss) = if has_number number s then 0 else 1 + nth_index number zero ss
+nth_index number (suc place) (s ∷ ss) =
+    1 + (if has_number number s then nth_index number place ss else nth_index number (suc place) ss)
 
 -- a row with its first node changed, given what stands below and after it
 abbrev pub change_first : (document.Stored → Tree → Tree → Tree) → Tree → Tree

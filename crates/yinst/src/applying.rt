@@ -73,7 +73,7 @@ fn target_of<'t, 'e>(
         (spec.target_of s (tree_view tree.entry.now) is_create (path_view path.entry.now)) }
 {
     match bind_path(alloc, schema, is_create, path) {
-        Ok(bound) => locate(alloc, schema, tree.nodes(), bound.steps.as_slice()),
+        Ok(bound) => locate(alloc, schema, tree.roots(), bound.steps.as_slice()),
         Err(fault) => Err(fault),
     }
 }
@@ -188,7 +188,7 @@ fn with_row(alloc: Global, tree: &Tree, above: &[Spot], change: Change) -> Resul
     ensures { IfOk result (λ t. tree_view t
         ≡ edit_at (spots_view above.now) (change_view change) (tree_view tree.now)) }
 {
-    Ok(Tree::new(changed_row(alloc, tree.nodes(), above, change)?))
+    Ok(Tree::new(changed_row(alloc, tree.roots(), above, change)?))
 }
 
 /// The same, where the document has room for it: E11.
@@ -208,7 +208,7 @@ fn tree_within_limit(
 fn within_limit(tree: Tree) -> Result<Tree, EditFault>
     ensures { Gives tree_view told_by result (spec.within_limit (tree_view tree)) }
 {
-    if is_over(tree.nodes(), DOCUMENT_LIMIT) {
+    if is_over(tree.roots(), DOCUMENT_LIMIT) {
         Err(refused(EditCode::E11))
     } else {
         Ok(tree)

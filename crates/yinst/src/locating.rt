@@ -7,7 +7,7 @@ ghost use Rattle.ytype.specs.View.{raw_of};
 ghost use Rattle.yspec.specs.schema.Schema.{keys_in};
 ghost use Rattle.yspec.specs.document.Document as document;
 ghost use Rattle.yspec.specs.document.Document.{instances_in};
-ghost use Rattle.yspec.specs.edit.Edit.{place_of};
+ghost use Rattle.yspec.specs.edit.Edit.{instance_index};
 ghost use Rattle.yspec.specs.edit.Editing as spec;
 ghost use Rattle.ymodel.specs.Layout.{numbers_of};
 ghost use Rattle.ymodel.specs.View as schema_view;
@@ -41,9 +41,9 @@ pub(crate) struct Located<'t, 'e> {
     pub last: BoundStep<'e>,
 }
 
-/// The place of a spot among the instances of its schema node, from 0.
-pub(crate) fn place_of(spot: Spot) -> usize
-    ensures { result ≡ place_of (spot_view spot) }
+/// The index of a spot among the instances of its schema node, from 0.
+pub(crate) fn instance_index(spot: Spot) -> usize
+    ensures { result ≡ instance_index (spot_view spot) }
 {
     match spot.position {
         Some(position) => position.saturating_sub(1),
@@ -92,7 +92,7 @@ fn locate_on<'t, 'e>(
                     alloc,
                     schema,
                     above,
-                    row_at(row, spot.id, place_of(spot)),
+                    row_at(row, spot.id, instance_index(spot)),
                     more,
                 )
             }
@@ -101,7 +101,7 @@ fn locate_on<'t, 'e>(
     }
 }
 
-/// The row below the instance of a schema node at a place among those of that node, from 0.
+/// The row below the instance of a schema node that has an index among those of that node, from 0.
 fn row_at(row: &[Stored], id: SchemaId, place: usize) -> &[Stored]
     ensures { row_view result.now ≡ spec.row_at id.0 place (row_view row.entry.now) }
 {

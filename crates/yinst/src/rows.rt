@@ -11,7 +11,7 @@ ghost use Rattle.ytree.specs.Walk.{before_first, from_first};
 ghost use Rattle.yinst.specs.Rows.{is_behind, branch_view, change_view, behind_first};
 ghost use Rattle.yinst.specs.Rows as rows;
 
-use crate::locating::{Spot, place_of};
+use crate::locating::{Spot, instance_index};
 use std::alloc::{AllocError, Global};
 use ymodel::SchemaId;
 use ytree::Stored;
@@ -29,20 +29,21 @@ pub(crate) enum Change {
 
 /// The nodes of a row before the one that a spot means, and those from it on.
 fn split_at_spot(row: &[Stored], spot: Spot) -> (&[Stored], &[Stored])
-    ensures before { result.0.now ≡ take (rows.nth_place spot.id.0
-        (edits.place_of (spot_view spot)) row.entry.now) row.entry.now }
-    ensures from { result.1.now ≡ drop (rows.nth_place spot.id.0
-        (edits.place_of (spot_view spot)) row.entry.now) row.entry.now }
+    ensures before { result.0.now ≡ take (rows.nth_index spot.id.0
+        (edits.instance_index (spot_view spot)) row.entry.now) row.entry.now }
+    ensures from { result.1.now ≡ drop (rows.nth_index spot.id.0
+        (edits.instance_index (spot_view spot)) row.entry.now) row.entry.now }
 {
-    row.split_at(nth_place(row, spot))
+    row.split_at(nth_index(row, spot))
 }
 
-/// The place in a row of the node that a spot means, or the row's length.
-fn nth_place(row: &[Stored], spot: Spot) -> usize
-    ensures place { result ≡ rows.nth_place spot.id.0 (edits.place_of (spot_view spot)) row.now }
+/// The index in a row of the node that a spot means, or the row's length.
+fn nth_index(row: &[Stored], spot: Spot) -> usize
+    ensures place { result
+        ≡ rows.nth_index spot.id.0 (edits.instance_index (spot_view spot)) row.now }
     ensures within { result ≤ length row.now }
 {
-    let mut left = place_of(spot);
+    let mut left = instance_index(spot);
     let mut at = 0;
     for stored in row {
         if stored.id() == spot.id {
@@ -61,10 +62,10 @@ fn split_behind(row: &[Stored], id: SchemaId) -> (&[Stored], &[Stored])
     ensures before { result.0.now ≡ before_first (is_behind id.0) row.entry.now }
     ensures from { result.1.now ≡ from_first (is_behind id.0) row.entry.now }
 {
-    row.split_at(place_behind(row, id).unwrap_or(row.len()))
+    row.split_at(index_behind(row, id).unwrap_or(row.len()))
 }
 
-fn place_behind(row: &[Stored], id: SchemaId) -> Option<usize>
+fn index_behind(row: &[Stored], id: SchemaId) -> Option<usize>
     ensures place { result ≡ position (is_behind id.0) row.now }
     ensures within { IfSome result (λ n. n < length row.now) }
 {
@@ -98,7 +99,7 @@ fn changed_below(
     change: Change,
 ) -> Result<Vec<Stored>, AllocError>
     ensures { IfOk result (λ nodes. row_view nodes.items
-        ≡ change_below spot.id.0 (edits.place_of (spot_view spot))
+        ≡ change_below spot.id.0 (edits.instance_index (spot_view spot))
         (edit_at (spots_view rest.now) (change_view change)) (row_view row.now)) }
 {
     let (before, from) = split_at_spot(row, spot);

@@ -8,7 +8,7 @@ use Rattle.std.proofs.lemmas.Option.{slice_get-map, slice_get_within}
 use Rattle.yspec.specs.Forest.{Forest, end, node, size, preorder}
 use Rattle.yspec.specs.linking.Source.{Source}
 use Rattle.yspec.specs.linking.Scopes.{Placed, placed, statements_of, statement_at}
-use Rattle.ypreorder.specs.declared.row.Row.{Row}
+use Rattle.ypreorder.specs.declared.slot.Slot.{Slot}
 use Rattle.ypreorder.specs.Layout.{Place, places, laid, seen, numbered_by, forest_of, labels_by, IsLaidOut}
 use Rattle.ypreorder.proofs.LabelLemmas.{preorder_by, label_at, size-by}
 use Rattle.ypreorder.proofs.LayoutLemmas.{parts_of, forest_seen, length-places, seen-append}
@@ -27,8 +27,8 @@ sources_placed ancestors (node s below after) =
     ap (λ l. s ∷ l) (map-append (λ (p : Placed). p.source) under behind
     ∙ ap₂ (λ a b. a ++ b) (sources_placed ((s, below) ∷ ancestors) below) (sources_placed ancestors after))
 
-pub source_at : (rows : List (Row held.Source)) (n : ℕ)
-    → option_map (λ (r : Row held.Source). source_view n r.label) (slice_get rows n)
+pub source_at : (rows : List (Slot held.Source)) (n : ℕ)
+    → option_map (λ (r : Slot held.Source). source_view n r.label) (slice_get rows n)
     ≡ option_map (λ (p : Placed). p.source) (statement_at (numbered_by source_view 0 (forest_of rows)) n)
 source_at rows n =
     let modules = numbered_by source_view 0 (forest_of rows) in
@@ -37,7 +37,7 @@ source_at rows n =
     sym (ap (option_map source) (found_at (forest_of rows) n)
     ∙ (sym (slice_get-map source (statements_of modules) n)
     ∙ (ap (λ l. slice_get l n) (sources_placed [] modules ∙ preorder_by source_view rows)
-    ∙ (label_at source_view 0 rows n ∙ ap (λ m. option_map (λ (r : Row held.Source). source_view m r.label) (slice_get rows n)) number))))
+    ∙ (label_at source_view 0 rows n ∙ ap (λ m. option_map (λ (r : Slot held.Source). source_view m r.label) (slice_get rows n)) number))))
 
 -- ---- what stands below it
 
@@ -110,11 +110,11 @@ module _ {L M : Type 0} (see : ℕ → L → M) where
       ∙ ap (λ n. places p (k + suc n) (numbered_by see (k + suc (size below)) after)) (sym (size-by see (k + 1) below)))))
 
   -- what stands below the row of a number ends where its own row says
-  abbrev pub Below : ℕ → ℕ → Row L → List (Row L) → List (Forest M) → Type 0
+  abbrev pub Below : ℕ → ℕ → Slot L → List (Slot L) → List (Forest M) → Type 0
   Below k i r rows fs = (suc i + r.below ≤ length rows) × (slice_get fs i ≡ Some (numbered_by see (k + suc i) (forest_of (take r.below (drop (suc i) rows)))))
 
-  below_at : (f : Forest M) (p : Option ℕ) (k : ℕ) (rows : List (Row L)) → seen see k (laid rows) ≡ places p k f
-      → (i : ℕ) (r : Row L) → slice_get rows i ≡ Some r → Below k i r rows (belows f)
+  below_at : (f : Forest M) (p : Option ℕ) (k : ℕ) (rows : List (Slot L)) → seen see k (laid rows) ≡ places p k f
+      → (i : ℕ) (r : Slot L) → slice_get rows i ≡ Some r → Below k i r rows (belows f)
   below_at end p k [] e i r at = absurd cc
   below_at end p k (x ∷ rows) e i r at = absurd cc
   below_at (node l below after) p k [] e i r at = absurd cc
@@ -123,7 +123,7 @@ module _ {L M : Type 0} (see : ℕ → L → M) where
       let same : x ≡ r = cc in
       let inside = forest_seen see below (Some k) (k + 1) (take x.below rows) parts.0 in
       let within = parts.2 in
-      subst (λ (y : Row L). Below k 0 y (x ∷ rows) (below ∷ (belows below ++ belows after))) same (omega (arith, within), ap Some (sym inside.0))
+      subst (λ (y : Slot L). Below k 0 y (x ∷ rows) (below ∷ (belows below ++ belows after))) same (omega (arith, within), ap Some (sym inside.0))
   below_at (node l below after) p k (x ∷ rows) e (suc j) r at =
       let parts = parts_of see l below after p k x rows e in
       let within = parts.2 in
@@ -167,7 +167,7 @@ module _ {L M : Type 0} (see : ℕ → L → M) where
                 (drop_drop x.below (suc (j - x.below)) rows ∙ ap (λ n. drop n rows) next))),
           )
 
-pub row_below : (rows : List (Row held.Source)) (n : ℕ) (r : Row held.Source) → IsLaidOut rows → slice_get rows n ≡ Some r
+pub row_below : (rows : List (Slot held.Source)) (n : ℕ) (r : Slot held.Source) → IsLaidOut rows → slice_get rows n ≡ Some r
     → option_map (λ (p : Placed). p.below) (statement_at (numbered_by source_view 0 (forest_of rows)) n)
     ≡ Some (numbered_by source_view (n + 1) (forest_of (take r.below (drop (n + 1) rows))))
 row_below rows n r laid_out at =
@@ -182,8 +182,8 @@ row_below rows n r laid_out at =
     ∙ (ap (λ l. slice_get l n) (belows_placed [] modules)
     ∙ (found.1 ∙ ap₂ (λ m k. Some (numbered_by source_view m (forest_of (take r.below (drop k rows))))) number next)))
 
-pub below_found : (rows : List (Row held.Source)) (n : ℕ) (b : Forest Source) → IsLaidOut rows
-    → ((r : Row held.Source) → slice_get rows n ≡ Some r → b ≡ numbered_by source_view (n + 1) (forest_of (take r.below (drop (n + 1) rows))))
+pub below_found : (rows : List (Slot held.Source)) (n : ℕ) (b : Forest Source) → IsLaidOut rows
+    → ((r : Slot held.Source) → slice_get rows n ≡ Some r → b ≡ numbered_by source_view (n + 1) (forest_of (take r.below (drop (n + 1) rows))))
     → (slice_get rows n ≡ None → b ≡ end)
     → b ≡ option_map_or (λ (p : Placed). p.below) (statement_at (numbered_by source_view 0 (forest_of rows)) n) end
 below_found rows n b laid_out some none = by (slice_get rows n) refl
@@ -196,7 +196,7 @@ below_found rows n b laid_out some none = by (slice_get rows n) refl
     nowhere None e = refl
     nowhere (Some p) e = absurd cc
 
-    by : (o : Option (Row held.Source)) → slice_get rows n ≡ o → b ≡ option_map_or (λ (p : Placed). p.below) (statement_at (numbered_by source_view 0 (forest_of rows)) n) end
+    by : (o : Option (Slot held.Source)) → slice_get rows n ≡ o → b ≡ option_map_or (λ (p : Placed). p.below) (statement_at (numbered_by source_view 0 (forest_of rows)) n) end
     by (Some r) at = some r at ∙ there (statement_at (numbered_by source_view 0 (forest_of rows)) n) _ (row_below rows n r laid_out at)
     by None at = none at ∙ nowhere (statement_at (numbered_by source_view 0 (forest_of rows)) n)
-        (ap (option_map (λ (r : Row held.Source). source_view n r.label)) (sym at) ∙ source_at rows n)
+        (ap (option_map (λ (r : Slot held.Source). source_view n r.label)) (sym at) ∙ source_at rows n)

@@ -22,7 +22,7 @@ use Rattle.ygraph.specs.Reaching.{leads, has_edge, HasEdge, StandsBefore}
 use Rattle.ypreorder.specs.Layout.{numbered_by}
 use Rattle.ypreorder.specs.View.{row_by}
 use Rattle.ypreorder.proofs.LabelLemmas.{size-by}
-use Rattle.ypreorder.specs.declared.nodes.Nodes.{Nodes}
+use Rattle.ypreorder.specs.declared.siblings.Siblings.{Siblings}
 use Rattle.ygrammar.specs.declared.source.Source as held
 use Rattle.ygrammar.specs.SourceView.{source_view}
 use Rattle.ynames.specs.MeaningView.{meaning_at, AreMeanings}
@@ -168,7 +168,7 @@ pub straight : (modules : Forest Source) → definition_circles modules ≡ [] �
 straight modules none a b edge = no_circle (definition_edges modules) (definition_edge modules) a b (statements_of modules) none edge
 
 -- as many rows as statements
-pub rows_count : (f : Forest held.Source) (rows : List (Option (Nodes held.Source))) → AreRows rows (numbered_by source_view 0 f) → length rows ≡ size f
+pub rows_count : (f : Forest held.Source) (rows : List (Option (Siblings held.Source))) → AreRows rows (numbered_by source_view 0 f) → length rows ≡ size f
 rows_count f rows are =
     let statements = statements_of (numbered_by source_view 0 f) in
     sym (length-map rows (option_map (row_by source_view))) ∙ (ap length are ∙ (length-map statements row_at ∙ length_placed source_view [] 0 f))

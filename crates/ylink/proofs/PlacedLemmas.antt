@@ -13,7 +13,7 @@ use Rattle.yspec.specs.linking.Scopes.{Placed, placed, statements_of, statement_
 use Rattle.yspec.specs.linking.DerivedTypes.{number_named, typedef_row}
 use Rattle.ypreorder.specs.Layout.{numbered_by}
 use Rattle.ypreorder.specs.View.{row_by}
-use Rattle.ypreorder.specs.declared.nodes.Nodes.{Nodes}
+use Rattle.ypreorder.specs.declared.siblings.Siblings.{Siblings}
 use Rattle.ygrammar.specs.declared.source.Source as held
 use Rattle.ygrammar.specs.SourceView.{source_view}
 use Rattle.ynames.specs.MeaningView.{number_meant, meaning_at, AreMeanings}
@@ -114,7 +114,7 @@ module _ (f : Forest held.Source) where
       by None = refl
       by (Some p) = refl
 
-  pub row_found : (rows : List (Option (Nodes held.Source))) → AreRows rows modules → (n : ℕ)
+  pub row_found : (rows : List (Option (Siblings held.Source))) → AreRows rows modules → (n : ℕ)
       → option_map (row_by source_view) (option_and_then (λ r. r) (slice_get rows n)) ≡ typedef_row modules n
   row_found rows are n =
       let ps = statements_of modules in
@@ -122,7 +122,7 @@ module _ (f : Forest held.Source) where
       ∙ (ap (option_and_then (λ r. r)) (sym (slice_get-map (option_map (row_by source_view)) rows n) ∙ (ap (λ l. slice_get l n) are ∙ slice_get-map row_at ps n))
       ∙ (all (slice_get ps n) ∙ ap (option_and_then row_at) (sym (found_at n))))
     where
-      by : (o : Option (Option (Nodes held.Source))) → option_map (row_by source_view) (option_and_then (λ r. r) o)
+      by : (o : Option (Option (Siblings held.Source))) → option_map (row_by source_view) (option_and_then (λ r. r) o)
           ≡ option_and_then (λ r. r) (option_map (option_map (row_by source_view)) o)
       by None = refl
       by (Some r) = refl

@@ -8,7 +8,7 @@ use Rattle.yspec.specs.linking.Scopes.{Placed, statements_of}
 use Rattle.yspec.specs.linking.TypeStatements.{Verdict, unjudged}
 use Rattle.yspec.specs.linking.DerivedTypes as spec
 use Rattle.ypreorder.specs.View.{row_by}
-use Rattle.ypreorder.specs.declared.nodes.Nodes.{Nodes}
+use Rattle.ypreorder.specs.declared.siblings.Siblings.{Siblings}
 use Rattle.ygrammar.specs.SourceView.{source_view}
 use Rattle.ygrammar.specs.declared.source.Source as held
 use Rattle.ynames.specs.MeaningView.{meaning_at}
@@ -40,9 +40,9 @@ IsOf t modules = (number : ℕ) → names_in t number ≡ spec.known_named modul
 abbrev pub row_at : Placed → Option (Forest Source)
 row_at p = if is_source_of typedef_word p.source then Some p.below else None
 
-abbrev pub rows_view : List (Option (Nodes held.Source)) → List (Option (Forest Source))
+abbrev pub rows_view : List (Option (Siblings held.Source)) → List (Option (Forest Source))
 rows_view rows = map (option_map (row_by source_view)) rows
 
 -- the table holds the row below each statement of a set that is a typedef
-abbrev pub AreRows : List (Option (Nodes held.Source)) → Forest Source → Type 0
+abbrev pub AreRows : List (Option (Siblings held.Source)) → Forest Source → Type 0
 AreRows rows modules = rows_view rows ≡ map row_at (statements_of modules)

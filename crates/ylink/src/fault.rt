@@ -6,7 +6,7 @@ use std::alloc::AllocError;
 use thiserror::Error;
 use ygrammar::{BrokenRule, CompileCode};
 
-/// Why a set of modules isn't compiled: the rule, the module by its place in the set, and the line, counted from 1.
+/// Why a set of modules isn't compiled: the rule, the module by its number in the set, and the line, counted from 1.
 #[derive(Clone, Copy, Debug, PartialEq, Eq, Error)]
 pub enum CompileFault {
     #[error("{code}")]

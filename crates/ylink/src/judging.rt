@@ -38,7 +38,7 @@ pub(crate) fn broken_type_rule(
         → seen result ≡ least_from None (type_breaks (view sources.now)) }
 {
     let mut told = None;
-    for (number, row) in sources.rows().iter().enumerate() {
+    for (number, row) in sources.slots().iter().enumerate() {
         told = judge_verdict(&row.label, verdict_held(verdicts, number), told);
     }
     told

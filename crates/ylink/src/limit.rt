@@ -16,7 +16,7 @@ ghost use Rattle.ylink.specs.KindView.{word_of, restriction_by};
 
 use std::alloc::{AllocError, Global};
 use ygrammar::{Source, argument_of, argument_with, found_with, spans};
-use ypreorder::{Node, Nodes};
+use ypreorder::{Node, Siblings};
 use ytype::{NarrowFault, Restriction, Span, YType};
 use yword::Keyword;
 
@@ -56,7 +56,7 @@ impl SpanRestriction {
     }
 }
 
-fn app_tag(alloc: Global, below: Nodes<'_, Source<'_>>) -> Result<Option<String>, AllocError>
+fn app_tag(alloc: Global, below: Siblings<'_, Source<'_>>) -> Result<Option<String>, AllocError>
     ensures { IfOk result (λ tag. text_of tag
         ≡ sources.argument_with word.error_app_tag_word (row_by source_view below.entry)) }
 {
@@ -94,7 +94,7 @@ fn restriction_by(
 fn restriction_stated(
     alloc: Global,
     kind: SpanRestriction,
-    below: Nodes<'_, Source<'_>>,
+    below: Siblings<'_, Source<'_>>,
 ) -> Result<Option<Restriction>, AllocError>
     ensures { IfOk result (λ r. option_map restriction_of r
         ≡ spec.stated (word_of kind) (restriction_by kind) (row_by source_view below.entry)) }
@@ -135,7 +135,7 @@ fn limited_type(
 fn restricted_type(
     alloc: Global,
     kind: SpanRestriction,
-    below: Nodes<'_, Source<'_>>,
+    below: Siblings<'_, Source<'_>>,
     outer: Result<YType, NarrowFault>,
 ) -> Result<Option<YType>, AllocError>
     ensures { (type : YangType) → outer ≡ Ok type → IfOk result (λ t. t
@@ -151,7 +151,7 @@ fn restricted_type(
 /// What the range of a row makes of a type.
 pub(crate) fn ranged_type(
     alloc: Global,
-    below: Nodes<'_, Source<'_>>,
+    below: Siblings<'_, Source<'_>>,
     outer: Result<YType, NarrowFault>,
 ) -> Result<Option<YType>, AllocError>
     ensures { (type : YangType) → outer ≡ Ok type
@@ -163,7 +163,7 @@ pub(crate) fn ranged_type(
 /// What the length of a row makes of a type.
 pub(crate) fn measured_type(
     alloc: Global,
-    below: Nodes<'_, Source<'_>>,
+    below: Siblings<'_, Source<'_>>,
     outer: Result<YType, NarrowFault>,
 ) -> Result<Option<YType>, AllocError>
     ensures { (type : YangType) → outer ≡ Ok type → IfOk result (λ t. t ≡ spec.limited

@@ -90,7 +90,7 @@ impl<'t> Linked<'t> {
         ensures { option_map (λ s. source_view id.0 s.now) result
             ≡ option_map (λ p. p.source) (statement_at (view self.now) id.0) }
     {
-        match self.sources.rows().get(id.0 as usize) {
+        match self.sources.slots().get(id.0 as usize) {
             Some(row) => Some(&row.label),
             None => None,
         }
@@ -107,7 +107,7 @@ impl<'t> Linked<'t> {
         }
     }
 
-    /// The place of its module in the set.
+    /// The number of its module in the set.
     pub fn module(&self, id: StmtId) -> Option<usize>
         ensures { result ≡ option_map (λ p. p.source.home) (statement_at (view self.now) id.0) }
     {
@@ -142,7 +142,7 @@ impl<'t> Linked<'t> {
         }
     }
 
-    /// The place of the module that a prefix names in the module at a place.
+    /// The number of the module that a prefix names in the module of a number.
     pub fn prefix(&self, module: usize, name: &str) -> Option<usize>
         ensures { result ≡ imports.module_meant (view self.now) «module» name.now }
     {

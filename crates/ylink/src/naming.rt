@@ -13,17 +13,17 @@ ghost use Rattle.ylink.specs.KindView.{naming_word, number_by};
 use crate::limit::accepted_type;
 use std::alloc::{AllocError, Global};
 use ygrammar::{Source, argument_of, argument_with, count, enum_value};
-use ypreorder::{Node, Nodes};
+use ypreorder::{Node, Siblings};
 use ytype::{Naming, YType};
 use yword::Keyword;
 
-fn value_stated(below: Nodes<'_, Source<'_>>) -> Option<i64>
+fn value_stated(below: Siblings<'_, Source<'_>>) -> Option<i64>
     ensures { result ≡ spec.value_stated (row_by source_view below.entry) }
 {
     enum_value(argument_with(Keyword::Value, below)?)
 }
 
-fn position_stated(below: Nodes<'_, Source<'_>>) -> Option<i64>
+fn position_stated(below: Siblings<'_, Source<'_>>) -> Option<i64>
     ensures { result ≡ spec.position_stated (row_by source_view below.entry) }
 {
     Some(i64::from(count(argument_with(Keyword::Position, below)?)?))
@@ -54,7 +54,7 @@ impl NamingKind {
     }
 
     /// The number that one states, given what stands below it.
-    fn number_stated(self, below: Nodes<'_, Source<'_>>) -> Option<i64>
+    fn number_stated(self, below: Siblings<'_, Source<'_>>) -> Option<i64>
         ensures { result ≡ number_by self (row_by source_view below.entry) }
     {
         match self {
@@ -83,7 +83,7 @@ fn naming(
 fn namings(
     alloc: Global,
     kind: NamingKind,
-    below: Nodes<'_, Source<'_>>,
+    below: Siblings<'_, Source<'_>>,
 ) -> Result<Vec<Naming>, AllocError>
     ensures { IfOk result (λ namings. namings.items
         ≡ spec.namings (naming_word kind) (number_by kind) (row_by source_view below.entry)) }
@@ -104,7 +104,7 @@ fn namings(
 /// The enumeration whose enums a row gives.
 pub(crate) fn enumeration(
     alloc: Global,
-    below: Nodes<'_, Source<'_>>,
+    below: Siblings<'_, Source<'_>>,
 ) -> Result<Option<YType>, AllocError>
     ensures { IfOk result (λ type. type ≡ spec.of_names enumeration_base names.enum_names
         (spec.namings word.enum_word spec.value_stated (row_by source_view below.entry))) }
@@ -117,7 +117,10 @@ pub(crate) fn enumeration(
 }
 
 /// The bits that a row gives.
-pub(crate) fn bits(alloc: Global, below: Nodes<'_, Source<'_>>) -> Result<Option<YType>, AllocError>
+pub(crate) fn bits(
+    alloc: Global,
+    below: Siblings<'_, Source<'_>>,
+) -> Result<Option<YType>, AllocError>
     ensures { IfOk result (λ type. type ≡ spec.of_names bits_base names.bit_names
         (spec.namings word.bit_word spec.position_stated (row_by source_view below.entry))) }
 {

@@ -2,12 +2,12 @@
 
 use crate::linked::StmtId;
 use ygrammar::Source;
-use ypreorder::Nodes;
+use ypreorder::Siblings;
 
 /// The statements of a row, in order.
 #[derive(Clone, Copy)]
 pub struct Statements<'a, 't> {
-    nodes: Nodes<'a, Source<'t>>,
+    nodes: Siblings<'a, Source<'t>>,
 }
 
 impl<'a, 't> Statements<'a, 't> {
@@ -17,7 +17,7 @@ impl<'a, 't> Statements<'a, 't> {
     ghost use Rattle.ylink.specs.StatementsView.{left, numbers_of};
 
     /// Those of a row.
-    pub(crate) fn new(nodes: Nodes<'a, Source<'t>>) -> Statements<'a, 't>
+    pub(crate) fn new(nodes: Siblings<'a, Source<'t>>) -> Statements<'a, 't>
         ensures { left result ≡ numbers_of (row_by source_view nodes.entry) }
     {
         Statements { nodes }

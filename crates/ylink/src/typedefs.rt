@@ -12,7 +12,7 @@ use std::alloc::{AllocError, Global};
 use ygrammar::{Source, Sources, argument_with, found_with};
 use ygraph::in_order;
 use ynames::{definition_edges_of, meaning_at};
-use ypreorder::{Node, Nodes};
+use ypreorder::{Node, Siblings};
 use yword::Keyword;
 
 /// What is known of a typedef.
@@ -34,7 +34,7 @@ pub(crate) struct Typedefs<'t> {
 }
 
 /// The row below a statement, where it is a typedef.
-fn typedef_row<'a, 't>(statement: Node<'a, Source<'t>>) -> Option<Nodes<'a, Source<'t>>>
+fn typedef_row<'a, 't>(statement: Node<'a, Source<'t>>) -> Option<Siblings<'a, Source<'t>>>
     ensures { (ancestors : List _) → option_map (row_by source_view) result ≡ row_at (record {
       source = label_by source_view statement.entry;
       below = row_by source_view statement.entry.children;
@@ -50,8 +50,8 @@ fn typedef_row<'a, 't>(statement: Node<'a, Source<'t>>) -> Option<Nodes<'a, Sour
 
 /// Adds the rows below the typedefs among the statements of a row, and below it.
 fn add_typedef_rows<'a, 't>(
-    statements: Nodes<'a, Source<'t>>,
-    made: &mut Vec<Option<Nodes<'a, Source<'t>>>>,
+    statements: Siblings<'a, Source<'t>>,
+    made: &mut Vec<Option<Siblings<'a, Source<'t>>>>,
 ) -> Result<(), AllocError>
     ensures { (ancestors : List _) → OnOk result (rows_view made.new.items
         ≡ rows_view made.old.items
@@ -68,7 +68,7 @@ fn add_typedef_rows<'a, 't>(
 fn typedef_rows<'a, 't>(
     alloc: Global,
     sources: &'a Sources<'t>,
-) -> Result<Vec<Option<Nodes<'a, Source<'t>>>>, AllocError>
+) -> Result<Vec<Option<Siblings<'a, Source<'t>>>>, AllocError>
     ensures { IfOk result (λ rows. AreRows rows.items (view sources.entry.now)) }
 {
     let mut made = Vec::new(alloc);
@@ -78,9 +78,9 @@ fn typedef_rows<'a, 't>(
 
 /// What a table of rows holds of the statement of a number.
 fn row_of<'a, 't>(
-    rows: &[Option<Nodes<'a, Source<'t>>>],
+    rows: &[Option<Siblings<'a, Source<'t>>>],
     number: usize,
-) -> Option<Nodes<'a, Source<'t>>>
+) -> Option<Siblings<'a, Source<'t>>>
     ensures { result ≡ option_and_then (λ row. row) (slice_get rows.now number) }
 {
     match rows.get(number) {
@@ -141,7 +141,7 @@ impl<'t> Typedefs<'t> {
         &self,
         alloc: Global,
         sources: &Sources<'t>,
-        row: Nodes<'_, Source<'t>>,
+        row: Siblings<'_, Source<'t>>,
         type_statement: Node<'_, Source<'t>>,
     ) -> Result<Known<'t>, AllocError>
         ensures { IfOk result (λ known. known_view known ≡ spec.known_by (view sources.now)
@@ -160,7 +160,7 @@ impl<'t> Typedefs<'t> {
         &self,
         alloc: Global,
         sources: &Sources<'t>,
-        row: Option<Nodes<'_, Source<'t>>>,
+        row: Option<Siblings<'_, Source<'t>>>,
     ) -> Result<Option<Known<'t>>, AllocError>
         ensures { IfOk result (λ known. option_map_or known_view known spec.unknown
             ≡ option_map_or (spec.known_in_row (view sources.now) (names_in self.now))
@@ -181,7 +181,7 @@ impl<'t> Typedefs<'t> {
         alloc: Global,
         sources: &Sources<'t>,
         number: usize,
-        row: Option<Nodes<'_, Source<'t>>>,
+        row: Option<Siblings<'_, Source<'t>>>,
     ) -> Result<(), AllocError>
         ensures meanings { self.new.meanings ≡ self.old.meanings }
         ensures count { OnOk result (length self.new.known.items ≡ length self.old.known.items) }

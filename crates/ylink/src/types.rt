@@ -22,7 +22,7 @@ use crate::naming::{bits, enumeration};
 use crate::typedefs::{Known, Typedefs};
 use std::alloc::{AllocError, Global};
 use ygrammar::{Name, Source, Sources, argument_of, argument_with, fraction_digits, leafref_path};
-use ypreorder::{Node, Nodes};
+use ypreorder::{Node, Siblings};
 use ytype::{FractionDigits, YType};
 use yword::{BuiltIn, Keyword};
 
@@ -80,7 +80,7 @@ fn built_in_meant(sources: &Sources<'_>, number: u32, statement: &Source<'_>) ->
     statement.built_in()
 }
 
-fn are_in_place(type_name: BuiltIn, below: Nodes<'_, Source<'_>>) -> bool
+fn are_in_place(type_name: BuiltIn, below: Siblings<'_, Source<'_>>) -> bool
     ensures { result ≡ spec.are_in_place (built_in_view type_name)
         (row_by source_view below.entry) }
 {
@@ -92,14 +92,14 @@ fn are_in_place(type_name: BuiltIn, below: Nodes<'_, Source<'_>>) -> bool
     true
 }
 
-fn digits_stated(below: Nodes<'_, Source<'_>>) -> Option<FractionDigits>
+fn digits_stated(below: Siblings<'_, Source<'_>>) -> Option<FractionDigits>
     ensures { result ≡ option_and_then fraction_digits_of
         (sources.argument_with word.fraction_digits_word (row_by source_view below.entry)) }
 {
     FractionDigits::new(fraction_digits(argument_with(Keyword::FractionDigits, below)?)?)
 }
 
-fn decimal(alloc: Global, below: Nodes<'_, Source<'_>>) -> Result<Option<YType>, AllocError>
+fn decimal(alloc: Global, below: Siblings<'_, Source<'_>>) -> Result<Option<YType>, AllocError>
     ensures { IfOk result (λ type. type
         ≡ spec.single_type spec.decimal64 (row_by source_view below.entry)) }
 {
@@ -113,7 +113,7 @@ fn decimal(alloc: Global, below: Nodes<'_, Source<'_>>) -> Result<Option<YType>,
 fn single_type(
     alloc: Global,
     type_name: BuiltIn,
-    below: Nodes<'_, Source<'_>>,
+    below: Siblings<'_, Source<'_>>,
 ) -> Result<Option<YType>, AllocError>
     ensures { IfOk result (λ type. type
         ≡ spec.single_type (built_in_view type_name) (row_by source_view below.entry)) }
@@ -137,7 +137,7 @@ fn single_type(
     }
 }
 
-fn is_required(below: Nodes<'_, Source<'_>>) -> bool
+fn is_required(below: Siblings<'_, Source<'_>>) -> bool
     ensures { result ≡ spec.is_required (row_by source_view below.entry) }
 {
     match argument_with(Keyword::RequireInstance, below) {
@@ -149,7 +149,7 @@ fn is_required(below: Nodes<'_, Source<'_>>) -> bool
 /// The path of a leafref, where it has one.
 fn path_stated<'t>(
     alloc: Global,
-    below: Nodes<'_, Source<'t>>,
+    below: Siblings<'_, Source<'t>>,
 ) -> Result<Option<Vec<Name<'t>>>, AllocError>
     ensures { IfOk result (λ path. option_map (λ p. names_view p.items) path
         ≡ option_and_then leafref_path_of
@@ -281,7 +281,7 @@ fn restricted_by<'t>(
 fn restricted_in<'t>(
     alloc: Global,
     meant: Meant<'t>,
-    below: Nodes<'_, Source<'t>>,
+    below: Siblings<'_, Source<'t>>,
 ) -> Result<Option<Meant<'t>>, AllocError>
     ensures { IfOk result (λ made. option_map meant_view made
         ≡ spec.restricted_in (row_by source_view below.entry) (meant_view meant.entry)) }
@@ -301,7 +301,7 @@ fn derived<'t>(
     alloc: Global,
     is_member: bool,
     named: Option<&Known<'t>>,
-    below: Nodes<'_, Source<'t>>,
+    below: Siblings<'_, Source<'t>>,
 ) -> Result<Verdict<'t>, AllocError>
     ensures { IfOk result (λ verdict. verdict_view verdict
         ≡ spec.derived is_member (row_by source_view below.entry)
@@ -351,7 +351,7 @@ fn member_verdicts<'t>(
     alloc: Global,
     sources: &Sources<'t>,
     typedefs: &Typedefs<'t>,
-    statements: Nodes<'_, Source<'t>>,
+    statements: Siblings<'_, Source<'t>>,
 ) -> Result<Vec<Verdict<'t>>, AllocError>
     ensures { IfOk result (λ found. map verdict_view found.items ≡ spec.verdicts
         (view sources.now) (verdicts_in typedefs.now) (row_by source_view statements.entry)) }

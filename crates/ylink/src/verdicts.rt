@@ -14,7 +14,7 @@ use crate::typedefs::Typedefs;
 use crate::types::{Verdict, judge_type};
 use std::alloc::{AllocError, Global};
 use ygrammar::{Source, Sources};
-use ypreorder::Nodes;
+use ypreorder::Siblings;
 use yword::Keyword;
 
 /// Sets what a table holds of the statement of a number.
@@ -56,7 +56,7 @@ fn add_verdicts<'t>(
     sources: &Sources<'t>,
     typedefs: &Typedefs<'t>,
     in_union: bool,
-    statements: Nodes<'_, Source<'t>>,
+    statements: Siblings<'_, Source<'t>>,
     table: &mut Vec<Option<Box<Verdict<'t>>>>,
 ) -> Result<Vec<Verdict<'t>>, AllocError>
     ensures members { IfOk result (λ members. map verdict_view members.items

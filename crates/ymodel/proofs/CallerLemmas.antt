@@ -11,7 +11,7 @@ use Rattle.ymodel.proofs.ChildLemmas.{numbered_laid}
 
 -- its nodes are numbered in preorder
 pub numbered : (s : Schema) → IsNumbered 0 (view s).nodes
-numbered s = numbered_laid (forest_of 0 s.rows.items) None 0 s.rows.items s.laid_out
+numbered s = numbered_laid (forest_of 0 s.slots.items) None 0 s.slots.items s.laid_out
 
 -- no two siblings are written with one name
 pub names_differ : (s : Schema) → NamesDiffer (view s)

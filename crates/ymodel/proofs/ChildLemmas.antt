@@ -1,4 +1,4 @@
--- The first row below a node is the first of the node's children: each number stands once.
+-- The first slot below a node is the first of the node's children: each number stands once.
 use Rattle.std.proofs.Common.{◌≡◌, ℕ, ◌+◌, ◌<◌, ◌≤◌, Bool, true, false, cond, ◌&&◌, List, [], ◌∷◌, ◌++◌, length, take, drop, Option, Some, None, refl, sym, ap, ap₂, ◌∙◌, arith}
 use Rattle.std.specs.Prelude.{◌==◌, unwrap_or, find, nat_lt}
 use Rattle.std.proofs.lemmas.Bool.{eq-eqb, ne_eqb, ltb-true, ltb-false}
@@ -6,7 +6,7 @@ use Rattle.std.proofs.lemmas.Bool.Decides.{Decides-eqb, nat_tests}
 use Rattle.yspec.specs.Forest.{Forest, node, end, size, row, first_of, find_below, joined_below}
 use Rattle.yspec.specs.schema.Schema.{SchemaNode, row_at, first_in_row}
 use Rattle.yspec.specs.document.Fitting.{IsNumbered}
-use Rattle.ymodel.specs.declared.children.Row.{Row}
+use Rattle.ymodel.specs.declared.children.Slot.{Slot}
 use Rattle.ymodel.specs.declared.schema.SchemaModule.{SchemaModule}
 use Rattle.ymodel.specs.Layout.{Place, places, laid, forest_of, schema_view, IsLaidOut}
 use Rattle.ymodel.specs.Lookup.{first_below}
@@ -15,16 +15,16 @@ use Rattle.yspec.proofs.SchemaProofs.NodeLemmas.{map_cond}
 use Rattle.yspec.specs.linking.Planned.{same_number}
 use Rattle.yspec.proofs.BasicLemmas.{first_of_none}
 
-pub numbered_laid : (f : Forest SchemaNode) (p : Option ℕ) (k : ℕ) (rows : List Row) → laid k rows ≡ places p f → IsNumbered k f
-numbered_laid end p k rows e = tt
+pub numbered_laid : (f : Forest SchemaNode) (p : Option ℕ) (k : ℕ) (slots : List Slot) → laid k slots ≡ places p f → IsNumbered k f
+numbered_laid end p k slots e = tt
 numbered_laid (node l below after) p k [] e = absurd cc
-numbered_laid (node l below after) p k (r ∷ rows) e =
-    let parts = laid_parts l below after p k r rows e in
-    let inner = take r.below rows in
+numbered_laid (node l below after) p k (r ∷ slots) e =
+    let parts = laid_parts l below after p k r slots e in
+    let inner = take r.below slots in
     let sized : length inner ≡ size below = sym (length-laid (k + 1) inner) ∙ (ap length parts.0 ∙ length-places (Some l.number) below) in (
       sym (ap (λ (n : SchemaNode). n.number) parts.3),
       numbered_laid below (Some l.number) (k + 1) inner parts.0,
-      numbered_laid after p (k + 1 + size below) (drop r.below rows) (ap (λ n. laid (k + 1 + n) (drop r.below rows)) (sym sized) ∙ parts.1),
+      numbered_laid after p (k + 1 + size below) (drop r.below slots) (ap (λ n. laid (k + 1 + n) (drop r.below slots)) (sym sized) ∙ parts.1),
     )
 
 -- no node has that number
@@ -51,7 +51,7 @@ same_itself (Some j) = eq-eqb j j refl
 pub turned : (a b : ℕ) → (a == b) ≡ (b == a)
 turned a b = grind (arith, nat_tests)
 
--- ---- rows below a node
+-- ---- slots below a node
 
 pub first_below-append : (p : Option ℕ) (test : SchemaNode → Bool) (ps qs : List Place) → first_below p test (ps ++ qs) ≡ first_of (first_below p test ps) (first_below p test qs)
 first_below-append p test [] qs = refl
@@ -128,8 +128,8 @@ children_found k j q test (node l below after) numbered other =
         ap₂ first_of (no_child (Some j) (Some l.number) test below none (turned j l.number ∙ e)) rest
         ∙ ap (λ o. first_in_row test (unwrap_or (joined_below o (find_below (λ n. n.number == j) after)) end)) (sym (no_below j below none))
 
-pub first_child : (modules : List SchemaModule) (rows : List Row) (p : Option ℕ) (test : SchemaNode → Bool)
-    → IsLaidOut rows → first_below p test (laid 0 rows) ≡ first_in_row test (row_at (schema_view modules rows) p)
-first_child modules rows None test laid_out = ap (first_below None test) laid_out ∙ children_first None test (forest_of 0 rows) (avoids_top (forest_of 0 rows))
-first_child modules rows (Some j) test laid_out =
-    ap (first_below (Some j) test) laid_out ∙ children_found 0 j None test (forest_of 0 rows) (numbered_laid (forest_of 0 rows) None 0 rows laid_out) refl
+pub first_child : (modules : List SchemaModule) (slots : List Slot) (p : Option ℕ) (test : SchemaNode → Bool)
+    → IsLaidOut slots → first_below p test (laid 0 slots) ≡ first_in_row test (row_at (schema_view modules slots) p)
+first_child modules slots None test laid_out = ap (first_below None test) laid_out ∙ children_first None test (forest_of 0 slots) (avoids_top (forest_of 0 slots))
+first_child modules slots (Some j) test laid_out =
+    ap (first_below (Some j) test) laid_out ∙ children_found 0 j None test (forest_of 0 slots) (numbered_laid (forest_of 0 slots) None 0 slots laid_out) refl

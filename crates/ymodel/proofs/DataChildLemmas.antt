@@ -9,7 +9,7 @@ use Rattle.yspec.specs.schema.Schema.{SchemaNode, is_data, data_row, row_at, nod
 use Rattle.yspec.specs.document.Fitting.{IsNumbered}
 use Rattle.yspec.proofs.BasicLemmas.{first_of_none}
 use Rattle.yspec.specs.linking.Planned.{same_number}
-use Rattle.ymodel.specs.declared.children.Row.{Row}
+use Rattle.ymodel.specs.declared.children.Slot.{Slot}
 use Rattle.ymodel.specs.declared.schema.SchemaModule.{SchemaModule}
 use Rattle.ymodel.specs.Layout.{data_at, data_places, forest_of, schema_view, IsLaidOut}
 use Rattle.ymodel.specs.Lookup.{first_below, module_passed}
@@ -117,10 +117,10 @@ not_passed (Some n) e = by (is_data n.kind) e
     by true e = refl
     by false e = absurd cc
 
-pub first_data_child : (modules : List SchemaModule) (rows : List Row) (p : Option ℕ) (test : SchemaNode → Bool)
-    → IsLaidOut rows → module_passed (schema_view modules rows) p ≡ None
-    → first_below p (Stored test) (data_places None (forest_of 0 rows)) ≡ first_in_row test (data_row (row_at (schema_view modules rows) p))
-first_data_child modules rows None test laid_out passed = data_children_first None test (forest_of 0 rows) (avoids_top (forest_of 0 rows))
-first_data_child modules rows (Some j) test laid_out passed =
-    data_children_found 0 j None test (forest_of 0 rows) (numbered_laid (forest_of 0 rows) None 0 rows laid_out) refl
-    (not_passed (node_at (schema_view modules rows) j) passed)
+pub first_data_child : (modules : List SchemaModule) (slots : List Slot) (p : Option ℕ) (test : SchemaNode → Bool)
+    → IsLaidOut slots → module_passed (schema_view modules slots) p ≡ None
+    → first_below p (Stored test) (data_places None (forest_of 0 slots)) ≡ first_in_row test (data_row (row_at (schema_view modules slots) p))
+first_data_child modules slots None test laid_out passed = data_children_first None test (forest_of 0 slots) (avoids_top (forest_of 0 slots))
+first_data_child modules slots (Some j) test laid_out passed =
+    data_children_found 0 j None test (forest_of 0 slots) (numbered_laid (forest_of 0 slots) None 0 slots laid_out) refl
+    (not_passed (node_at (schema_view modules slots) j) passed)

@@ -1,4 +1,4 @@
--- What an index finds of the places of rows, once one more is added.
+-- What an index finds of the places of slots, once one more is added.
 use Rattle.std.proofs.Common.{◌≡◌, ℕ, Bool, true, false, cond, ◌&&◌, List, [], ◌∷◌, ◌++◌, Option, Some, None, refl, sym, ap, ap₂, ◌∙◌}
 use Rattle.std.specs.Prelude.{◌==◌, string_bytes}
 use Rattle.yspec.specs.Forest.{first_of}
@@ -7,13 +7,13 @@ use Rattle.yspec.specs.linking.Planned.{same_number}
 use Rattle.yspec.specs.schema.Schema.{is_data, is_called}
 use Rattle.yindex.specs.Names.{is_at}
 use Rattle.yindex.specs.declared.keys.Among.TheVariants.{Children, DataNodes}
-use Rattle.ymodel.specs.declared.children.Row.{Row}
+use Rattle.ymodel.specs.declared.children.Slot.{Slot}
 use Rattle.ymodel.specs.Layout.{Place, data_place_of, kind_view, place_of}
 use Rattle.ymodel.specs.Lookup.{first_below, indexed, is_data_called}
 use Rattle.ymodel.proofs.ChildLemmas.{first_below-append}
 
 module _ (above : Option ℕ) (m : ℕ) (t : Text) where
-  pub child_added : (ps : List Place) (i : ℕ) (r : Row) (data_above before after : Option ℕ)
+  pub child_added : (ps : List Place) (i : ℕ) (r : Slot) (data_above before after : Option ℕ)
       → after ≡ first_of before (cond (is_at Children above m t (indexed i r data_above) (string_bytes r.node.name)) (Some i) None)
       → before ≡ first_below above (is_called m t) ps → after ≡ first_below above (is_called m t) (ps ++ place_of i r ∷ [])
   child_added ps i r data_above before after added was =
@@ -24,7 +24,7 @@ module _ (above : Option ℕ) (m : ℕ) (t : Text) where
   turned false true c = refl
   turned false false c = refl
 
-  pub data_added : (ps : List Place) (i : ℕ) (r : Row) (data_above before after : Option ℕ)
+  pub data_added : (ps : List Place) (i : ℕ) (r : Slot) (data_above before after : Option ℕ)
       → after ≡ first_of before (cond (is_at DataNodes above m t (indexed i r data_above) (string_bytes r.node.name)) (Some i) None)
       → before ≡ first_below above (is_data_called m t) ps → after ≡ first_below above (is_data_called m t) (ps ++ data_place_of data_above i r ∷ [])
   data_added ps i r data_above before after added was =

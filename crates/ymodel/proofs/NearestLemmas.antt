@@ -1,11 +1,11 @@
--- The data node above each node, as a pass over the rows works it out from the nodes before.
+-- The data node above each node, as a pass over the slots works it out from the nodes before.
 use Rattle.std.proofs.Common.{◌≡◌, ℕ, zero, suc, ◌+◌, ◌<◌, ◌≤◌, map, List, [], ◌∷◌, ◌++◌, length, Option, Some, None, refl, sym, ap, ap₂, ◌∙◌, append_assoc, subst, arith, length-append}
 use Rattle.std.specs.Prelude.{option_and_then, slice_get}
 use Rattle.std.proofs.lemmas.List.{length-map}
 use Rattle.yspec.specs.Forest.{Forest, node, end, size}
 use Rattle.yspec.specs.schema.Schema.{SchemaNode}
 use Rattle.yspec.specs.document.Fitting.{IsNumbered}
-use Rattle.ymodel.specs.declared.children.Row.{Row}
+use Rattle.ymodel.specs.declared.children.Slot.{Slot}
 use Rattle.ymodel.specs.Layout.{Place, places, laid, forest_of, data_at, data_above, data_places, IsLaidOut}
 use Rattle.ymodel.proofs.ChildLemmas.{numbered_laid}
 
@@ -101,7 +101,7 @@ handed_places (node l below after) p done numbered before =
     numbered_at : (f : Forest SchemaNode) (k m : ℕ) → m ≡ k → IsNumbered k f → IsNumbered m f
     numbered_at f k m is numbered = subst (λ n. IsNumbered n f) (sym is) numbered
 
--- all rows that are laid out
-pub handed_laid : (rows : List Row) → IsLaidOut rows → handed [] (laid 0 rows) ≡ data_places None (forest_of 0 rows)
-handed_laid rows laid_out =
-    ap (handed []) laid_out ∙ handed_places (forest_of 0 rows) None [] (numbered_laid (forest_of 0 rows) None 0 rows laid_out) tt
+-- all slots that are laid out
+pub handed_laid : (slots : List Slot) → IsLaidOut slots → handed [] (laid 0 slots) ≡ data_places None (forest_of 0 slots)
+handed_laid slots laid_out =
+    ap (handed []) laid_out ∙ handed_places (forest_of 0 slots) None [] (numbered_laid (forest_of 0 slots) None 0 slots laid_out) tt

@@ -1,4 +1,4 @@
--- What is found in a forest by its number, from the rows that it lies in.
+-- What is found in a forest by its number, from the slots that it lies in.
 use Rattle.std.proofs.Common.{◌≡◌, ℕ, zero, suc, ◌+◌, ◌-◌, ◌≤◌, ◌≢◌, Bool, true, cond, not, ◌&&◌, min, List, [], ◌∷◌, ◌++◌, length, take, drop, map, Option, Some, None, refl, sym, ap, ap₂, ◌∙◌, arith, length-append, length-take, length-drop}
 use Rattle.std.specs.Prelude.{◌==◌, option_map, find, slice_get, nat_le, nat_lt, position}
 use Rattle.std.specs.List.{position_or_len}
@@ -8,25 +8,25 @@ use Rattle.std.proofs.lemmas.Option.{slice_get_past}
 use Rattle.yspec.specs.Forest.{Forest, node, end, size, find_label, find_below}
 use Rattle.yspec.specs.schema.Schema.{SchemaNode, module_at}
 use Rattle.yspec.proofs.SchemaProofs.NodeLemmas.{Found, all_below, find_label-is, find_below-is}
-use Rattle.ymodel.specs.declared.children.Row.{Row}
+use Rattle.ymodel.specs.declared.children.Slot.{Slot}
 use Rattle.ymodel.specs.Layout.{node_view, places, laid, fits_within, schema_view, IsLaidOut}
 use Rattle.ymodel.specs.declared.schema.SchemaModule.{SchemaModule}
 use Rattle.ymodel.specs.View.{forest_within, forest_of}
 use Rattle.ymodel.proofs.RowLemmas.{forest_of-cons, no_node}
 use Rattle.ymodel.proofs.LayoutLemmas.{laid_parts}
 
--- ---- the same, row by row
+-- ---- the same, slot by slot
 
-unfoldable pub pairs : ℕ → List Row → List Found
+unfoldable pub pairs : ℕ → List Slot → List Found
 pairs k [] = []
-pairs k (r ∷ rows) = (node_view k r.node, forest_of (k + 1) (take r.below rows)) ∷ pairs (k + 1) rows
+pairs k (r ∷ slots) = (node_view k r.node, forest_of (k + 1) (take r.below slots)) ∷ pairs (k + 1) slots
 
--- no row claims more rows below it than there are
-is_short : List Row → Bool
+-- no slot claims more slots below it than there are
+is_short : List Slot → Bool
 is_short [] = true
-is_short (r ∷ rows) = nat_le r.below (length rows) && is_short rows
+is_short (r ∷ slots) = nat_le r.below (length slots) && is_short slots
 
-is_short-append : (xs ys : List Row) → is_short xs ≡ true → is_short ys ≡ true → is_short (xs ++ ys) ≡ true
+is_short-append : (xs ys : List Slot) → is_short xs ≡ true → is_short ys ≡ true → is_short (xs ++ ys) ≡ true
 unfolding is_short
 is_short-append [] ys e f = f
 is_short-append (x ∷ xs) ys e f =
@@ -35,26 +35,26 @@ is_short-append (x ∷ xs) ys e f =
     (le-leb x.below (length (xs ++ ys)) (omega (arith, leb-true x.below (length xs) parts.0, length-append xs ys)))
     (is_short-append xs ys parts.1 f)
 
-is_short-fits : (n : ℕ) (rows : List Row) → length rows ≤ n → fits_within n rows ≡ true → is_short rows ≡ true
+is_short-fits : (n : ℕ) (slots : List Slot) → length slots ≤ n → fits_within n slots ≡ true → is_short slots ≡ true
 unfolding is_short
 is_short-fits zero [] h e = refl
-is_short-fits zero (r ∷ rows) h e = absurd (omega arith)
+is_short-fits zero (r ∷ slots) h e = absurd (omega arith)
 is_short-fits (suc n) [] h e = refl
-is_short-fits (suc n) (r ∷ rows) h e =
-    let parts = and_parts (nat_le r.below (length rows)) (fits_within n (take r.below rows) && fits_within n (drop r.below rows)) e in
-    let inner = and_parts (fits_within n (take r.below rows)) (fits_within n (drop r.below rows)) parts.1 in
-    and_from (nat_le r.below (length rows)) (is_short rows) parts.0
-    (ap is_short (sym (take-append-drop r.below rows))
-    ∙ is_short-append (take r.below rows) (drop r.below rows)
-    (is_short-fits n (take r.below rows) (omega (arith, length-take r.below rows)) inner.0)
-    (is_short-fits n (drop r.below rows) (omega (arith, length-drop r.below rows)) inner.1))
+is_short-fits (suc n) (r ∷ slots) h e =
+    let parts = and_parts (nat_le r.below (length slots)) (fits_within n (take r.below slots) && fits_within n (drop r.below slots)) e in
+    let inner = and_parts (fits_within n (take r.below slots)) (fits_within n (drop r.below slots)) parts.1 in
+    and_from (nat_le r.below (length slots)) (is_short slots) parts.0
+    (ap is_short (sym (take-append-drop r.below slots))
+    ∙ is_short-append (take r.below slots) (drop r.below slots)
+    (is_short-fits n (take r.below slots) (omega (arith, length-take r.below slots)) inner.0)
+    (is_short-fits n (drop r.below slots) (omega (arith, length-drop r.below slots)) inner.1))
 
-take-append-within : (n : ℕ) (xs ys : List Row) → n ≤ length xs → take n (xs ++ ys) ≡ take n xs
+take-append-within : (n : ℕ) (xs ys : List Slot) → n ≤ length xs → take n (xs ++ ys) ≡ take n xs
 take-append-within zero xs ys h = refl
 take-append-within (suc n) [] ys h = absurd (omega arith)
 take-append-within (suc n) (x ∷ xs) ys h = ap (λ rest. x ∷ rest) (take-append-within n xs ys (omega arith))
 
-pairs-append : (k : ℕ) (xs ys : List Row) → is_short xs ≡ true → pairs k (xs ++ ys) ≡ pairs k xs ++ pairs (k + length xs) ys
+pairs-append : (k : ℕ) (xs ys : List Slot) → is_short xs ≡ true → pairs k (xs ++ ys) ≡ pairs k xs ++ pairs (k + length xs) ys
 unfolding pairs is_short
 pairs-append k [] ys e = ap (λ n. pairs n ys) (omega arith)
 pairs-append k (x ∷ xs) ys e =
@@ -64,35 +64,35 @@ pairs-append k (x ∷ xs) ys e =
     (take-append-within x.below xs ys (leb-true x.below (length xs) parts.0))
     (pairs-append (k + 1) xs ys parts.1 ∙ ap (λ n. pairs (k + 1) xs ++ pairs n ys) here)
 
-pub all_below-forest : (n k : ℕ) (rows : List Row) → length rows ≤ n → fits_within n rows ≡ true → all_below (forest_of k rows) ≡ pairs k rows
+pub all_below-forest : (n k : ℕ) (slots : List Slot) → length slots ≤ n → fits_within n slots ≡ true → all_below (forest_of k slots) ≡ pairs k slots
 unfolding all_below pairs
 all_below-forest zero k [] h e = ap all_below (no_node k [] refl)
-all_below-forest zero k (r ∷ rows) h e = absurd (omega arith)
+all_below-forest zero k (r ∷ slots) h e = absurd (omega arith)
 all_below-forest (suc n) k [] h e = ap all_below (no_node k [] refl)
-all_below-forest (suc n) k (r ∷ rows) h e =
-    let parts = and_parts (nat_le r.below (length rows)) (fits_within n (take r.below rows) && fits_within n (drop r.below rows)) e in
-    let inner = and_parts (fits_within n (take r.below rows)) (fits_within n (drop r.below rows)) parts.1 in
-    let front : length (take r.below rows) ≤ n = omega (arith, length-take r.below rows) in
-    let back : length (drop r.below rows) ≤ n = omega (arith, length-drop r.below rows) in
-    ap all_below (forest_of-cons k r rows)
-    ∙ ap (λ rest. (node_view k r.node, forest_of (k + 1) (take r.below rows)) ∷ rest)
-    (ap₂ (λ a b. a ++ b) (all_below-forest n (k + 1) (take r.below rows) front inner.0)
-    (all_below-forest n (k + 1 + length (take r.below rows)) (drop r.below rows) back inner.1)
-    ∙ (sym (pairs-append (k + 1) (take r.below rows) (drop r.below rows) (is_short-fits n (take r.below rows) front inner.0))
-    ∙ ap (pairs (k + 1)) (take-append-drop r.below rows)))
+all_below-forest (suc n) k (r ∷ slots) h e =
+    let parts = and_parts (nat_le r.below (length slots)) (fits_within n (take r.below slots) && fits_within n (drop r.below slots)) e in
+    let inner = and_parts (fits_within n (take r.below slots)) (fits_within n (drop r.below slots)) parts.1 in
+    let front : length (take r.below slots) ≤ n = omega (arith, length-take r.below slots) in
+    let back : length (drop r.below slots) ≤ n = omega (arith, length-drop r.below slots) in
+    ap all_below (forest_of-cons k r slots)
+    ∙ ap (λ rest. (node_view k r.node, forest_of (k + 1) (take r.below slots)) ∷ rest)
+    (ap₂ (λ a b. a ++ b) (all_below-forest n (k + 1) (take r.below slots) front inner.0)
+    (all_below-forest n (k + 1 + length (take r.below slots)) (drop r.below slots) back inner.1)
+    ∙ (sym (pairs-append (k + 1) (take r.below slots) (drop r.below slots) (is_short-fits n (take r.below slots) front inner.0))
+    ∙ ap (pairs (k + 1)) (take-append-drop r.below slots)))
 
-found_at : (k j id : ℕ) (rows : List Row) → id ≡ k + j
-    → find (λ p. p.0.number == id) (pairs k rows) ≡ option_map (λ r. (node_view id r.node, forest_of (id + 1) (take r.below (drop (suc j) rows)))) (slice_get rows j)
+found_at : (k j id : ℕ) (slots : List Slot) → id ≡ k + j
+    → find (λ p. p.0.number == id) (pairs k slots) ≡ option_map (λ r. (node_view id r.node, forest_of (id + 1) (take r.below (drop (suc j) slots)))) (slice_get slots j)
 unfolding pairs
 found_at k j id [] e = refl
-found_at k zero id (r ∷ rows) e =
+found_at k zero id (r ∷ slots) e =
     let same : k ≡ id = omega arith in
-    ap (λ b. cond b (Some (node_view k r.node, forest_of (k + 1) (take r.below rows))) (find (λ p. p.0.number == id) (pairs (k + 1) rows))) (eq-eqb k id same)
-    ∙ ap (λ n. Some (node_view n r.node, forest_of (n + 1) (take r.below rows))) same
-found_at k (suc j) id (r ∷ rows) e =
+    ap (λ b. cond b (Some (node_view k r.node, forest_of (k + 1) (take r.below slots))) (find (λ p. p.0.number == id) (pairs (k + 1) slots))) (eq-eqb k id same)
+    ∙ ap (λ n. Some (node_view n r.node, forest_of (n + 1) (take r.below slots))) same
+found_at k (suc j) id (r ∷ slots) e =
     let other : k ≢ id = omega arith in
-    ap (λ b. cond b (Some (node_view k r.node, forest_of (k + 1) (take r.below rows))) (find (λ p. p.0.number == id) (pairs (k + 1) rows))) (ne_eqb k id other)
-    ∙ found_at (k + 1) j id rows (omega arith)
+    ap (λ b. cond b (Some (node_view k r.node, forest_of (k + 1) (take r.below slots))) (find (λ p. p.0.number == id) (pairs (k + 1) slots))) (ne_eqb k id other)
+    ∙ found_at (k + 1) j id slots (omega arith)
 
 map_map : {X Y Z : Type 0} (f : Y → Z) (g : X → Y) (o : Option X) → option_map f (option_map g o) ≡ option_map (λ x. f (g x)) o
 map_map f g (Some x) = refl
@@ -100,85 +100,85 @@ map_map f g None = refl
 
 -- ---- the two questions
 
-pub label_at : (rows : List Row) (id : ℕ) → fits_within (length rows) rows ≡ true
-    → find_label (λ n. n.number == id) (forest_of 0 rows) ≡ option_map (λ r. node_view id r.node) (slice_get rows id)
-label_at rows id fits =
-    find_label-is (λ n. n.number == id) (forest_of 0 rows)
-    ∙ (ap (λ ps. option_map (λ p. p.0) (find (λ p. p.0.number == id) ps)) (all_below-forest (length rows) 0 rows (omega arith) fits)
-    ∙ (ap (option_map (λ p. p.0)) (found_at 0 id id rows (omega arith))
-    ∙ map_map (λ p. p.0) (λ r. (node_view id r.node, forest_of (id + 1) (take r.below (drop (suc id) rows)))) (slice_get rows id)))
+pub label_at : (slots : List Slot) (id : ℕ) → fits_within (length slots) slots ≡ true
+    → find_label (λ n. n.number == id) (forest_of 0 slots) ≡ option_map (λ r. node_view id r.node) (slice_get slots id)
+label_at slots id fits =
+    find_label-is (λ n. n.number == id) (forest_of 0 slots)
+    ∙ (ap (λ ps. option_map (λ p. p.0) (find (λ p. p.0.number == id) ps)) (all_below-forest (length slots) 0 slots (omega arith) fits)
+    ∙ (ap (option_map (λ p. p.0)) (found_at 0 id id slots (omega arith))
+    ∙ map_map (λ p. p.0) (λ r. (node_view id r.node, forest_of (id + 1) (take r.below (drop (suc id) slots)))) (slice_get slots id)))
 
-pub below_at : (rows : List Row) (id : ℕ) → fits_within (length rows) rows ≡ true
-    → find_below (λ n. n.number == id) (forest_of 0 rows) ≡ option_map (λ r. forest_of (id + 1) (take r.below (drop (suc id) rows))) (slice_get rows id)
-below_at rows id fits =
-    find_below-is (λ n. n.number == id) (forest_of 0 rows)
-    ∙ (ap (λ ps. option_map (λ p. p.1) (find (λ p. p.0.number == id) ps)) (all_below-forest (length rows) 0 rows (omega arith) fits)
-    ∙ (ap (option_map (λ p. p.1)) (found_at 0 id id rows (omega arith))
-    ∙ map_map (λ p. p.1) (λ r. (node_view id r.node, forest_of (id + 1) (take r.below (drop (suc id) rows)))) (slice_get rows id)))
+pub below_at : (slots : List Slot) (id : ℕ) → fits_within (length slots) slots ≡ true
+    → find_below (λ n. n.number == id) (forest_of 0 slots) ≡ option_map (λ r. forest_of (id + 1) (take r.below (drop (suc id) slots))) (slice_get slots id)
+below_at slots id fits =
+    find_below-is (λ n. n.number == id) (forest_of 0 slots)
+    ∙ (ap (λ ps. option_map (λ p. p.1) (find (λ p. p.0.number == id) ps)) (all_below-forest (length slots) 0 slots (omega arith) fits)
+    ∙ (ap (option_map (λ p. p.1)) (found_at 0 id id slots (omega arith))
+    ∙ map_map (λ p. p.1) (λ r. (node_view id r.node, forest_of (id + 1) (take r.below (drop (suc id) slots)))) (slice_get slots id)))
 
 -- ---- how many nodes there are
 
-pub size_of_forest : (n k : ℕ) (rows : List Row) → length rows ≤ n → size (forest_within n k rows) ≡ length rows
+pub size_of_forest : (n k : ℕ) (slots : List Slot) → length slots ≤ n → size (forest_within n k slots) ≡ length slots
 unfolding forest_within
 size_of_forest zero k [] h = refl
-size_of_forest zero k (r ∷ rows) h = absurd (omega arith)
+size_of_forest zero k (r ∷ slots) h = absurd (omega arith)
 size_of_forest (suc n) k [] h = refl
-size_of_forest (suc n) k (r ∷ rows) h =
-    let front = size_of_forest n (k + 1) (take r.below rows) (omega (arith, length-take r.below rows)) in
-    let back = size_of_forest n (k + 1 + length (take r.below rows)) (drop r.below rows) (omega (arith, length-drop r.below rows)) in
-    omega (arith, front, back, length-take r.below rows, length-drop r.below rows)
+size_of_forest (suc n) k (r ∷ slots) h =
+    let front = size_of_forest n (k + 1) (take r.below slots) (omega (arith, length-take r.below slots)) in
+    let back = size_of_forest n (k + 1 + length (take r.below slots)) (drop r.below slots) (omega (arith, length-drop r.below slots)) in
+    omega (arith, front, back, length-take r.below slots, length-drop r.below slots)
 
--- ---- rows that lie as a forest does
+-- ---- slots that lie as a forest does
 
-pub fits_laid : (f : Forest SchemaNode) (p : Option ℕ) (n k : ℕ) (rows : List Row) → length rows ≤ n → laid k rows ≡ places p f → fits_within n rows ≡ true
+pub fits_laid : (f : Forest SchemaNode) (p : Option ℕ) (n k : ℕ) (slots : List Slot) → length slots ≤ n → laid k slots ≡ places p f → fits_within n slots ≡ true
 fits_laid f p zero k [] h e = refl
-fits_laid f p zero k (r ∷ rows) h e = absurd (omega arith)
+fits_laid f p zero k (r ∷ slots) h e = absurd (omega arith)
 fits_laid f p (suc n) k [] h e = refl
-fits_laid end p (suc n) k (r ∷ rows) h e = absurd cc
-fits_laid (node l below after) p (suc n) k (r ∷ rows) h e =
-    let parts = laid_parts l below after p k r rows e in
-    and_from (nat_le r.below (length rows)) (fits_within n (take r.below rows) && fits_within n (drop r.below rows))
-    (le-leb r.below (length rows) parts.2)
-    (and_from (fits_within n (take r.below rows)) (fits_within n (drop r.below rows))
-    (fits_laid below (Some l.number) n (k + 1) (take r.below rows) (omega (arith, length-take r.below rows)) parts.0)
-    (fits_laid after p n (k + 1 + length (take r.below rows)) (drop r.below rows) (omega (arith, length-drop r.below rows)) parts.1))
+fits_laid end p (suc n) k (r ∷ slots) h e = absurd cc
+fits_laid (node l below after) p (suc n) k (r ∷ slots) h e =
+    let parts = laid_parts l below after p k r slots e in
+    and_from (nat_le r.below (length slots)) (fits_within n (take r.below slots) && fits_within n (drop r.below slots))
+    (le-leb r.below (length slots) parts.2)
+    (and_from (fits_within n (take r.below slots)) (fits_within n (drop r.below slots))
+    (fits_laid below (Some l.number) n (k + 1) (take r.below slots) (omega (arith, length-take r.below slots)) parts.0)
+    (fits_laid after p n (k + 1 + length (take r.below slots)) (drop r.below slots) (omega (arith, length-drop r.below slots)) parts.1))
 
--- ---- the rows below one
+-- ---- the slots below one
 
-pub rows_below : (rows from rest inner : List Row) (first : Row) (id b : ℕ) (below : Forest SchemaNode)
-    → fits_within (length rows) rows ≡ true → from ≡ drop (min id (length rows)) rows → from ≡ first ∷ rest → b ≡ min first.below (length rest)
+pub rows_below : (slots from rest inner : List Slot) (first : Slot) (id b : ℕ) (below : Forest SchemaNode)
+    → fits_within (length slots) slots ≡ true → from ≡ drop (min id (length slots)) slots → from ≡ first ∷ rest → b ≡ min first.below (length rest)
     → inner ≡ take b rest → below ≡ forest_of (id + 1) inner
-    → Some below ≡ find_below (λ n. n.number == id) (forest_of 0 rows)
-rows_below rows from rest inner first id b below fits from_is split b_is inner_is below_is =
-    let some : suc (length rest) ≡ length rows - min id (length rows) = ap length (sym split ∙ from_is) ∙ length-drop (min id (length rows)) rows in
-    let within : min id (length rows) ≡ id = omega (arith, some) in
-    let here : drop id rows ≡ first ∷ rest = ap (λ n. drop n rows) (sym within) ∙ (sym from_is ∙ split) in
-    let parts = drop_parts rows id first rest here in
-    let taken : inner ≡ take first.below (drop (suc id) rows) = inner_is ∙ (ap (λ n. take n rest) b_is ∙ (take_min first.below rest ∙ ap (take first.below) (sym parts.1))) in
+    → Some below ≡ find_below (λ n. n.number == id) (forest_of 0 slots)
+rows_below slots from rest inner first id b below fits from_is split b_is inner_is below_is =
+    let some : suc (length rest) ≡ length slots - min id (length slots) = ap length (sym split ∙ from_is) ∙ length-drop (min id (length slots)) slots in
+    let within : min id (length slots) ≡ id = omega (arith, some) in
+    let here : drop id slots ≡ first ∷ rest = ap (λ n. drop n slots) (sym within) ∙ (sym from_is ∙ split) in
+    let parts = drop_parts slots id first rest here in
+    let taken : inner ≡ take first.below (drop (suc id) slots) = inner_is ∙ (ap (λ n. take n rest) b_is ∙ (take_min first.below rest ∙ ap (take first.below) (sym parts.1))) in
     ap Some (below_is ∙ ap (forest_of (id + 1)) taken)
-    ∙ (sym (ap (option_map (λ r. forest_of (id + 1) (take r.below (drop (suc id) rows)))) parts.0) ∙ sym (below_at rows id fits))
+    ∙ (sym (ap (option_map (λ r. forest_of (id + 1) (take r.below (drop (suc id) slots)))) parts.0) ∙ sym (below_at slots id fits))
   where
-    drop_parts : (xs : List Row) (i : ℕ) (y : Row) (ys : List Row) → drop i xs ≡ y ∷ ys → (slice_get xs i ≡ Some y) × (drop (suc i) xs ≡ ys)
+    drop_parts : (xs : List Slot) (i : ℕ) (y : Slot) (ys : List Slot) → drop i xs ≡ y ∷ ys → (slice_get xs i ≡ Some y) × (drop (suc i) xs ≡ ys)
     drop_parts [] zero y ys e = absurd cc
     drop_parts [] (suc i) y ys e = absurd cc
     drop_parts (x ∷ xs) zero y ys e = (cc, cc)
     drop_parts (x ∷ xs) (suc i) y ys e = drop_parts xs i y ys e
 
-pub no_rows_below : (rows from : List Row) (id : ℕ) → fits_within (length rows) rows ≡ true → from ≡ drop (min id (length rows)) rows → length from ≡ 0
-    → None ≡ find_below (λ n. n.number == id) (forest_of 0 rows)
-no_rows_below rows from id fits from_is empty =
-    let none : length rows - min id (length rows) ≡ 0 = sym (length-drop (min id (length rows)) rows) ∙ (ap length (sym from_is) ∙ empty) in
-    let past : length rows ≤ id = omega (arith, none) in
-    sym (ap (option_map (λ r. forest_of (id + 1) (take r.below (drop (suc id) rows)))) (slice_get_past rows id past)) ∙ sym (below_at rows id fits)
+pub no_rows_below : (slots from : List Slot) (id : ℕ) → fits_within (length slots) slots ≡ true → from ≡ drop (min id (length slots)) slots → length from ≡ 0
+    → None ≡ find_below (λ n. n.number == id) (forest_of 0 slots)
+no_rows_below slots from id fits from_is empty =
+    let none : length slots - min id (length slots) ≡ 0 = sym (length-drop (min id (length slots)) slots) ∙ (ap length (sym from_is) ∙ empty) in
+    let past : length slots ≤ id = omega (arith, none) in
+    sym (ap (option_map (λ r. forest_of (id + 1) (take r.below (drop (suc id) slots)))) (slice_get_past slots id past)) ∙ sym (below_at slots id fits)
 
-pub laid_out_fits : (rows : List Row) → IsLaidOut rows → fits_within (length rows) rows ≡ true
-laid_out_fits rows laid_out = fits_laid (forest_of 0 rows) None (length rows) 0 rows (omega arith) laid_out
+pub laid_out_fits : (slots : List Slot) → IsLaidOut slots → fits_within (length slots) slots ≡ true
+laid_out_fits slots laid_out = fits_laid (forest_of 0 slots) None (length slots) 0 slots (omega arith) laid_out
 
 -- the module of a node
-pub module_of_row : (modules : List SchemaModule) (rows : List Row) (id : ℕ) → IsLaidOut rows
-    → module_at (schema_view modules rows) (Some id) ≡ option_map (λ r. r.node.«module») (slice_get rows id)
-module_of_row modules rows id laid_out =
-    ap (option_map (λ n. n.module_number)) (label_at rows id (laid_out_fits rows laid_out)) ∙ map_map (λ n. n.module_number) (λ r. node_view id r.node) (slice_get rows id)
+pub module_of_row : (modules : List SchemaModule) (slots : List Slot) (id : ℕ) → IsLaidOut slots
+    → module_at (schema_view modules slots) (Some id) ≡ option_map (λ r. r.node.«module») (slice_get slots id)
+module_of_row modules slots id laid_out =
+    ap (option_map (λ n. n.module_number)) (label_at slots id (laid_out_fits slots laid_out)) ∙ map_map (λ n. n.module_number) (λ r. node_view id r.node) (slice_get slots id)
 
 -- ---- the place of a module
 

@@ -6,7 +6,7 @@ use Rattle.std.proofs.lemmas.List.{append-nil}
 use Rattle.yspec.specs.Forest.{Forest, node, end, size}
 use Rattle.yspec.specs.schema.Schema.{SchemaNode, ways, way_to, node_at}
 use Rattle.yspec.specs.document.Fitting.{IsNumbered}
-use Rattle.ymodel.specs.declared.children.Row.{Row}
+use Rattle.ymodel.specs.declared.children.Slot.{Slot}
 use Rattle.ymodel.specs.declared.node.SchemaId.{SchemaId}
 use Rattle.ymodel.specs.declared.schema.SchemaModule.{SchemaModule}
 use Rattle.ymodel.specs.Layout.{Place, place_of, places, laid, forest_of, node_view, number_of, schema_view, IsLaidOut}
@@ -112,52 +112,52 @@ way_of_place f i p numbered e =
 
 -- ---- in a schema
 
-laid_at : (k i : ℕ) (rows : List Row) → slice_get (laid k rows) i ≡ option_map (place_of (k + i)) (slice_get rows i)
+laid_at : (k i : ℕ) (slots : List Slot) → slice_get (laid k slots) i ≡ option_map (place_of (k + i)) (slice_get slots i)
 laid_at k i [] = refl
-laid_at k zero (r ∷ rows) = let none : k ≡ k + 0 = omega arith in ap (λ m. Some (place_of m r)) none
-laid_at k (suc i) (r ∷ rows) = let past : k + 1 + i ≡ k + suc i = omega arith in
-    laid_at (k + 1) i rows ∙ ap (λ m. option_map (place_of m) (slice_get rows i)) past
+laid_at k zero (r ∷ slots) = let none : k ≡ k + 0 = omega arith in ap (λ m. Some (place_of m r)) none
+laid_at k (suc i) (r ∷ slots) = let past : k + 1 + i ≡ k + suc i = omega arith in
+    laid_at (k + 1) i slots ∙ ap (λ m. option_map (place_of m) (slice_get slots i)) past
 
 above_id : (k : ℕ) (o : Option SchemaId) → IsAbove k (number_of o) → IfSome o (λ p. p.0 < k)
 above_id k None a = tt
 above_id k (Some p) a = a
 
-past_end : (rows : List Row) (id : ℕ) → slice_get rows id ≡ None → length rows ≤ id
+past_end : (slots : List Slot) (id : ℕ) → slice_get slots id ≡ None → length slots ≤ id
 past_end [] id e = omega arith
-past_end (r ∷ rows) zero e = absurd cc
-past_end (r ∷ rows) (suc id) e = omega (arith, past_end rows id e)
+past_end (r ∷ slots) zero e = absurd cc
+past_end (r ∷ slots) (suc id) e = omega (arith, past_end slots id e)
 
-abbrev pub IsParent : List SchemaModule → List Row → ℕ → Option SchemaId → Type 0
-IsParent modules rows id o = (way_to (schema_view modules rows) id ≡ way_above (schema_view modules rows) (number_of o) ++ alone (node_at (schema_view modules rows) id))
+abbrev pub IsParent : List SchemaModule → List Slot → ℕ → Option SchemaId → Type 0
+IsParent modules slots id o = (way_to (schema_view modules slots) id ≡ way_above (schema_view modules slots) (number_of o) ++ alone (node_at (schema_view modules slots) id))
     × IfSome o (λ p. p.0 < id)
 
--- the way to the node of a row
-pub way_of_row : (modules : List SchemaModule) (rows : List Row) (id : ℕ) (r : Row) → IsLaidOut rows → slice_get rows id ≡ Some r
-    → IsParent modules rows id r.parent
-way_of_row modules rows id r laid_out there =
-    let f = forest_of 0 rows in
+-- the way to the node of a slot
+pub way_of_row : (modules : List SchemaModule) (slots : List Slot) (id : ℕ) (r : Slot) → IsLaidOut slots → slice_get slots id ≡ Some r
+    → IsParent modules slots id r.parent
+way_of_row modules slots id r laid_out there =
+    let f = forest_of 0 slots in
     let start : 0 + id ≡ id = omega arith in
     let placed : slice_get (places None f) id ≡ Some (place_of id r) = ap (λ ps. slice_get ps id) (sym laid_out)
-    ∙ (laid_at 0 id rows ∙ (ap (λ m. option_map (place_of m) (slice_get rows id)) start ∙ ap (option_map (place_of id)) there)) in
-    let found = way_of_place f id (place_of id r) (numbered_laid f None 0 rows laid_out) placed in
-    let here : node_at (schema_view modules rows) id ≡ Some (node_view id r.node) =
-    label_at rows id (laid_out_fits rows laid_out) ∙ ap (option_map (λ x. node_view id x.node)) there in (
-      ap (λ o. unwrap_or o []) found.0 ∙ (way_in-is modules rows (number_of r.parent) (node_view id r.node)
-          ∙ ap (λ o. way_above (schema_view modules rows) (number_of r.parent) ++ alone o) (sym here)),
+    ∙ (laid_at 0 id slots ∙ (ap (λ m. option_map (place_of m) (slice_get slots id)) start ∙ ap (option_map (place_of id)) there)) in
+    let found = way_of_place f id (place_of id r) (numbered_laid f None 0 slots laid_out) placed in
+    let here : node_at (schema_view modules slots) id ≡ Some (node_view id r.node) =
+    label_at slots id (laid_out_fits slots laid_out) ∙ ap (option_map (λ x. node_view id x.node)) there in (
+      ap (λ o. unwrap_or o []) found.0 ∙ (way_in-is modules slots (number_of r.parent) (node_view id r.node)
+          ∙ ap (λ o. way_above (schema_view modules slots) (number_of r.parent) ++ alone o) (sym here)),
       above_id id r.parent found.1,
     )
   where
-    way_in-is : (modules : List SchemaModule) (rows : List Row) (o : Option ℕ) (n : SchemaNode)
-        → way_in (ways [] (forest_of 0 rows)) o ++ n ∷ [] ≡ way_above (schema_view modules rows) o ++ n ∷ []
-    way_in-is modules rows None n = refl
-    way_in-is modules rows (Some number) n = refl
+    way_in-is : (modules : List SchemaModule) (slots : List Slot) (o : Option ℕ) (n : SchemaNode)
+        → way_in (ways [] (forest_of 0 slots)) o ++ n ∷ [] ≡ way_above (schema_view modules slots) o ++ n ∷ []
+    way_in-is modules slots None n = refl
+    way_in-is modules slots (Some number) n = refl
 
 -- nothing leads to a number that no node has
-pub no_way : (modules : List SchemaModule) (rows : List Row) (id : ℕ) → IsLaidOut rows → slice_get rows id ≡ None → IsParent modules rows id None
-no_way modules rows id laid_out there =
-    let f = forest_of 0 rows in
-    let count : length (ways [] f) ≡ length rows = length-ways [] f ∙ (sym (length-places None f) ∙ (ap length (sym laid_out) ∙ length-laid 0 rows)) in
-    let here : node_at (schema_view modules rows) id ≡ None = label_at rows id (laid_out_fits rows laid_out) ∙ ap (option_map (λ x. node_view id x.node)) there in (
-      ap (λ o. unwrap_or o []) (slice_get_past (ways [] f) id (omega (arith, count, past_end rows id there))) ∙ ap alone (sym here),
+pub no_way : (modules : List SchemaModule) (slots : List Slot) (id : ℕ) → IsLaidOut slots → slice_get slots id ≡ None → IsParent modules slots id None
+no_way modules slots id laid_out there =
+    let f = forest_of 0 slots in
+    let count : length (ways [] f) ≡ length slots = length-ways [] f ∙ (sym (length-places None f) ∙ (ap length (sym laid_out) ∙ length-laid 0 slots)) in
+    let here : node_at (schema_view modules slots) id ≡ None = label_at slots id (laid_out_fits slots laid_out) ∙ ap (option_map (λ x. node_view id x.node)) there in (
+      ap (λ o. unwrap_or o []) (slice_get_past (ways [] f) id (omega (arith, count, past_end slots id there))) ∙ ap alone (sym here),
       tt,
     )

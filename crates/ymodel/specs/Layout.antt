@@ -1,4 +1,4 @@
--- How the nodes of a schema lie in rows: each before those below it, with how many these are.
+-- How the nodes of a schema lie in slots: each before those below it, with how many these are.
 use Rattle.std.specs.Prelude.{ℕ, zero, suc, ◌+◌, Bool, true, ◌&&◌, nat_le, length, take, drop, map, List, [], ◌∷◌, ◌++◌, Option, Some, None, option_map, option_and_then, slice_get, if◌then◌else◌, string_bytes, ◌≡◌}
 use Rattle.yspec.specs.Forest.{Forest, end, node, size}
 use Rattle.yspec.specs.text.Text.{Text}
@@ -17,7 +17,7 @@ use Rattle.ymodel.specs.declared.node.Absence.{Absence}
 use Rattle.ymodel.specs.declared.node.Absence.TheVariants as absences
 use Rattle.ymodel.specs.declared.node.Amount.{Amount}
 use Rattle.ymodel.specs.declared.node.Tuples.{Tuples}
-use Rattle.ymodel.specs.declared.children.Row.{Row}
+use Rattle.ymodel.specs.declared.children.Slot.{Slot}
 use Rattle.ymodel.specs.declared.schema.SchemaModule.{SchemaModule}
 
 abbrev pub number_of : Option SchemaId → Option ℕ
@@ -43,7 +43,7 @@ absence_view absences.Mandatory = spec.mandatory
 absence_view absences.Key = spec.key
 
 abbrev pub amount_view : Amount → spec.Amount
-amount_view a = record { least = a.least; most = a.most }
+amount_view a = record { min_elements = a.min_elements; max_elements = a.max_elements }
 
 abbrev pub tuples_view : Tuples → spec.Tuples
 tuples_view t = record {
@@ -83,7 +83,7 @@ places parent end = []
 places parent (node l below after) =
     record { parent = parent; label = l; below = size below } ∷ (places (Some l.number) below ++ places parent after)
 
-abbrev pub place_of : ℕ → Row → Place
+abbrev pub place_of : ℕ → Slot → Place
 place_of number r =
     record { parent = number_of r.parent; label = node_view number r.node; below = r.below }
 
@@ -105,41 +105,41 @@ abbrev pub data_above : List (Option ℕ) → Option ℕ → Option ℕ
 data_above nearest None = None
 data_above nearest (Some parent) = option_and_then (λ above. above) (slice_get nearest parent)
 
--- ---- rows
+-- ---- slots
 
-abbrev pub data_place_of : Option ℕ → ℕ → Row → Place
+abbrev pub data_place_of : Option ℕ → ℕ → Slot → Place
 data_place_of above number r = record { parent = above; label = node_view number r.node; below = r.below }
 
--- what lies in rows, the first of which has that number
-abbrev pub laid : ℕ → List Row → List Place
+-- what lies in slots, the first of which has that number
+abbrev pub laid : ℕ → List Slot → List Place
 laid number [] = []
-laid number (r ∷ rows) = place_of number r ∷ laid (number + 1) rows
+laid number (r ∷ slots) = place_of number r ∷ laid (number + 1) slots
 
--- whether the rows below each row lie within those of the row above it; there are at most so many rows
-abbrev pub fits_within : ℕ → List Row → Bool
-fits_within zero rows = true
+-- whether the slots below each one lie within those of the one above it; there are at most so many slots
+abbrev pub fits_within : ℕ → List Slot → Bool
+fits_within zero slots = true
 fits_within (suc n) [] = true
-fits_within (suc n) (r ∷ rows) =
-    nat_le r.below (length rows) && (fits_within n (take r.below rows) && fits_within n (drop r.below rows))
+fits_within (suc n) (r ∷ slots) =
+    nat_le r.below (length slots) && (fits_within n (take r.below slots) && fits_within n (drop r.below slots))
 
 -- The forest whose nodes lie there in preorder, each before those below it. The first has a number, and the others
--- count on from it. There are at most so many rows.
-unfoldable pub forest_within : ℕ → ℕ → List Row → Forest spec.SchemaNode
-forest_within zero number rows = end
+-- count on from it. There are at most so many slots.
+unfoldable pub forest_within : ℕ → ℕ → List Slot → Forest spec.SchemaNode
+forest_within zero number slots = end
 forest_within (suc n) number [] = end
-forest_within (suc n) number (r ∷ rows) = node (node_view number r.node)
-    (forest_within n (number + 1) (take r.below rows)) (forest_within n (number + 1 + length (take r.below rows)) (drop r.below rows))
+forest_within (suc n) number (r ∷ slots) = node (node_view number r.node)
+    (forest_within n (number + 1) (take r.below slots)) (forest_within n (number + 1 + length (take r.below slots)) (drop r.below slots))
 
-abbrev pub forest_of : ℕ → List Row → Forest spec.SchemaNode
-forest_of number rows = forest_within (length rows) number rows
+abbrev pub forest_of : ℕ → List Slot → Forest spec.SchemaNode
+forest_of number slots = forest_within (length slots) number slots
 
 abbrev pub module_view : SchemaModule → spec.SchemaModule
 module_view m = record { name = string_bytes m.name; prefix = string_bytes m.prefix }
 
--- the schema of some modules whose nodes lie in rows
-abbrev pub schema_view : List SchemaModule → List Row → spec.Schema
-schema_view modules rows = record { modules = map module_view modules; nodes = forest_of 0 rows }
+-- the schema of some modules whose nodes lie in slots
+abbrev pub schema_view : List SchemaModule → List Slot → spec.Schema
+schema_view modules slots = record { modules = map module_view modules; nodes = forest_of 0 slots }
 
--- the parent of each row is the node that it stands below
-abbrev pub IsLaidOut : List Row → Type 0
-IsLaidOut rows = laid 0 rows ≡ places None (forest_of 0 rows)
+-- the parent of each slot is the node that it stands below
+abbrev pub IsLaidOut : List Slot → Type 0
+IsLaidOut slots = laid 0 slots ≡ places None (forest_of 0 slots)

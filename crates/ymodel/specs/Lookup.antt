@@ -7,7 +7,7 @@ use Rattle.yspec.specs.schema.Schema.{is_data, is_called, is_written, node_at}
 use Rattle.yindex.specs.Names.{ascends, found_by, number_among, text_in}
 use Rattle.yindex.specs.declared.keys.Among.TheVariants.{Children, DataNodes}
 use Rattle.yindex.specs.declared.keys.IndexedNode.{IndexedNode}
-use Rattle.ymodel.specs.declared.children.Row.{Row}
+use Rattle.ymodel.specs.declared.children.Slot.{Slot}
 use Rattle.ymodel.specs.declared.index.Index.{Index}
 use Rattle.ymodel.specs.Layout.{Place, kind_view, laid, number_of}
 
@@ -18,18 +18,18 @@ first_below parent test (p ∷ ps) =
     if option_eq (λ a b. a == b) parent p.parent && test p.label then Some p.label.number else first_below parent test ps
 
 -- the names of the nodes, by number
-abbrev pub names_in : List Row → List Text
-names_in rows = map (λ r. string_bytes r.node.name) rows
+abbrev pub names_in : List Slot → List Text
+names_in slots = map (λ r. string_bytes r.node.name) slots
 
 -- the number of a name: that of the first node that has it
-abbrev pub number_among_names : Index → List Row → Text → Option ℕ
-number_among_names x rows = number_among (text_in (names_in rows)) x.names.items
+abbrev pub number_among_names : Index → List Slot → Text → Option ℕ
+number_among_names x slots = number_among (text_in (names_in slots)) x.names.items
 
-abbrev pub names_ascend : Index → List Row → Bool
-names_ascend x rows = ascends (text_in (names_in rows)) x.names.items
+abbrev pub names_ascend : Index → List Slot → Bool
+names_ascend x slots = ascends (text_in (names_in slots)) x.names.items
 
--- a row's node, with the data node above it
-abbrev pub indexed : ℕ → Row → Option ℕ → IndexedNode
+-- a slot's node, with the data node above it
+abbrev pub indexed : ℕ → Slot → Option ℕ → IndexedNode
 indexed number r above = record {
   number = number;
   parent = number_of r.parent;
@@ -38,19 +38,19 @@ indexed number r above = record {
   is_data = is_data (kind_view r.node.kind);
 }
 
--- The index finds the nodes of rows by their names.
-abbrev pub FindsNamed : Index → List Row → Type 0
-FindsNamed x rows = (names_ascend x rows ≡ true)
-    × ((parent : Option ℕ) (m : ℕ) (name : Text) → found_by (number_among_names x rows) x.nodes Children parent m name
-    ≡ first_below parent (is_called m name) (laid 0 rows))
+-- The index finds the nodes of slots by their names.
+abbrev pub FindsNamed : Index → List Slot → Type 0
+FindsNamed x slots = (names_ascend x slots ≡ true)
+    × ((parent : Option ℕ) (m : ℕ) (name : Text) → found_by (number_among_names x slots) x.nodes Children parent m name
+    ≡ first_below parent (is_called m name) (laid 0 slots))
 
 -- a data node of a module and a name
 abbrev pub is_data_called : ℕ → Text → spec.SchemaNode → Bool
 is_data_called m name n = is_data n.kind && is_called m name n
 
 -- It finds the data nodes of some places.
-abbrev pub FindsWritten : Index → List Row → List Place → Type 0
-FindsWritten x rows ps = (above : Option ℕ) (m : ℕ) (name : Text) → found_by (number_among_names x rows) x.nodes DataNodes above m name
+abbrev pub FindsWritten : Index → List Slot → List Place → Type 0
+FindsWritten x slots ps = (above : Option ℕ) (m : ℕ) (name : Text) → found_by (number_among_names x slots) x.nodes DataNodes above m name
     ≡ first_below above (is_data_called m name) ps
 
 -- a data node that a document writes so below a node, or at the top

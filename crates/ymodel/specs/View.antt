@@ -10,7 +10,7 @@ use Rattle.ymodel.specs.declared.schema.Schema.{Schema}
 
 -- what is left of a row
 abbrev pub row_view : Children → Forest spec.SchemaNode
-row_view c = forest_of c.number c.rows.now
+row_view c = forest_of c.number c.slots.now
 
 -- a node of a row, and what stands below it
 abbrev pub label_of : Child → spec.SchemaNode
@@ -20,7 +20,7 @@ abbrev pub below_of : Child → Forest spec.SchemaNode
 below_of c = row_view c.children
 
 abbrev pub view : Schema → spec.Schema
-view s = schema_view s.modules.items s.rows.items
+view s = schema_view s.modules.items s.slots.items
 
 -- A step over a row: it gives the first node, with what stands below it, and leaves the others.
 abbrev pub TakesFirst : Children → Option Child → Children → Type 0

@@ -1,4 +1,4 @@
-//! Rows of schema nodes, as they lie in a schema.
+//! Schema nodes as they lie in a schema.
 
 ghost use Rattle.std.specs.Prelude.{◌≡◌, ◌+◌, ◌<◌, ◌^◌, length};
 ghost use Rattle.std.specs.Iterator.{at_most};
@@ -7,7 +7,7 @@ use crate::node::{SchemaId, SchemaNode};
 
 /// A node as a schema holds it, the node above it, and how many nodes stand below it; these follow it.
 #[derive(Debug, Drop)]
-pub struct Row {
+pub struct Slot {
     pub parent: Option<SchemaId>,
     pub node: SchemaNode,
     pub below: usize,
@@ -17,10 +17,10 @@ pub struct Row {
 #[derive(Clone, Copy)]
 pub struct Children<'a> {
     // The nodes and those below them, in preorder.
-    rows: &'a [Row],
+    slots: &'a [Slot],
     // The number of the first of them.
     number: u32,
-    ghost numbered: { number + length rows.now < 2 ^ 32 },
+    ghost numbered: { number + length slots.now < 2 ^ 32 },
 }
 
 /// A node in its row.
@@ -36,11 +36,11 @@ impl<'a> Children<'a> {
     ghost use Rattle.ymodel.specs.View.{row_view, forest_of};
 
     /// The row of the nodes that lie there, the first of which has that number.
-    pub(crate) fn new(rows: &'a [Row], number: u32) -> Children<'a>
-        requires { number + length rows.now < 2 ^ 32 }
-        ensures { row_view result ≡ forest_of number rows.entry.now }
+    pub(crate) fn new(slots: &'a [Slot], number: u32) -> Children<'a>
+        requires { number + length slots.now < 2 ^ 32 }
+        ensures { row_view result ≡ forest_of number slots.entry.now }
     {
-        Children { rows, number }
+        Children { slots, number }
     }
 }
 
@@ -79,14 +79,14 @@ impl<'a> Iterator for Children<'a> {
 
     ghost next_gives = { TakesFirst };
 
-    ghost remaining = { λ c. at_most (length c.rows.now) };
+    ghost remaining = { λ c. at_most (length c.slots.now) };
 
     fn next(&mut self) -> Option<Child<'a>> {
-        let (first, rest) = self.rows.split_first()?;
+        let (first, rest) = self.slots.split_first()?;
         let number = self.number;
         let below = first.below.min(rest.len());
         let (inner, after) = rest.split_at(below);
-        self.rows = after;
+        self.slots = after;
         self.number = number + 1 + below as u32;
         Some(Child {
             id: SchemaId::new(number),

@@ -7,14 +7,14 @@ ghost use Rattle.yindex.specs.Names.{found_by, AreNamesOf};
 ghost use Rattle.ymodel.specs.Layout.{number_of, node_view, data_at, data_above, data_places, laid, forest_of, schema_view, IsLaidOut};
 ghost use Rattle.ymodel.specs.Lookup.{indexed, names_in, FindsNamed, FindsWritten};
 
-use crate::children::Row;
+use crate::children::Slot;
 use crate::node::SchemaId;
 use crate::schema::SchemaModule;
 use crate::written::meant_name;
 use std::alloc::{AllocError, Global};
 use yindex::{Among, FirstNodes, IndexedNode, Key, Named, Names, number_named};
 
-/// How the nodes that lie in rows are found below a node, or at the top.
+/// How the nodes that lie in slots are found below a node, or at the top.
 #[derive(Drop)]
 pub(crate) struct Index {
     /// The first node of each name, in the order of the names.
@@ -23,7 +23,7 @@ pub(crate) struct Index {
     nodes: FirstNodes,
 }
 
-impl Named for Row {
+impl Named for Slot {
     ghost use Rattle.std.specs.Prelude.{string_bytes};
 
     ghost text = { λ r. string_bytes r.node.name };
@@ -33,23 +33,23 @@ impl Named for Row {
     }
 }
 
-/// The index of the nodes that lie in rows, given their names.
-pub(crate) fn index_of(alloc: Global, rows: &[Row], names: Names) -> Result<Index, AllocError>
-    requires numbered { length rows.now < 2 ^ 32 }
-    requires laid_out { IsLaidOut rows.now }
-    requires names { AreNamesOf names (names_in rows.now) }
-    ensures named { IfOk result (λ index. FindsNamed index rows.now) }
-    ensures written { IfOk result (λ index. FindsWritten index rows.now
-        (data_places None (forest_of 0 rows.now))) }
+/// The index of the nodes that lie in slots, given their names.
+pub(crate) fn index_of(alloc: Global, slots: &[Slot], names: Names) -> Result<Index, AllocError>
+    requires numbered { length slots.now < 2 ^ 32 }
+    requires laid_out { IsLaidOut slots.now }
+    requires names { AreNamesOf names (names_in slots.now) }
+    ensures named { IfOk result (λ index. FindsNamed index slots.now) }
+    ensures written { IfOk result (λ index. FindsWritten index slots.now
+        (data_places None (forest_of 0 slots.now))) }
 {
     let Names { ordered, of_nodes } = names;
-    let mut nodes = FirstNodes::with_capacity(alloc, rows.len())?;
-    let mut nearest = Vec::with_capacity(alloc, rows.len())?;
-    for (number, row) in rows.iter().enumerate() {
-        let above = data_parent(&nearest, row.parent);
-        let node = indexed_node(row, number as u32, above);
+    let mut nodes = FirstNodes::with_capacity(alloc, slots.len())?;
+    let mut nearest = Vec::with_capacity(alloc, slots.len())?;
+    for (number, slot) in slots.iter().enumerate() {
+        let above = data_parent(&nearest, slot.parent);
+        let node = indexed_node(slot, number as u32, above);
         nodes.add(node, of_nodes[number])?;
-        nearest.push(nearest_to(row, above, number as u32))?;
+        nearest.push(nearest_to(slot, above, number as u32))?;
     }
     Ok(Index {
         names: ordered,
@@ -58,15 +58,15 @@ pub(crate) fn index_of(alloc: Global, rows: &[Row], names: Names) -> Result<Inde
 }
 
 /// A node with the node above it and the data node above it.
-fn indexed_node(row: &Row, number: u32, above: Option<u32>) -> IndexedNode
-    ensures { result ≡ indexed number row.now above }
+fn indexed_node(slot: &Slot, number: u32, above: Option<u32>) -> IndexedNode
+    ensures { result ≡ indexed number slot.now above }
 {
     IndexedNode {
         number,
-        parent: parent_number(row.parent),
+        parent: parent_number(slot.parent),
         scope: above,
-        module: row.node.module,
-        is_data: row.node.kind.is_data(),
+        module: slot.node.module,
+        is_data: slot.node.kind.is_data(),
     }
 }
 
@@ -78,10 +78,10 @@ fn data_parent(nearest: &[Option<u32>], parent: Option<SchemaId>) -> Option<u32>
 }
 
 /// The data node that a node is, or the one above it.
-fn nearest_to(row: &Row, above: Option<u32>, number: u32) -> Option<u32>
-    ensures { result ≡ data_at above (node_view number row.now.node) }
+fn nearest_to(slot: &Slot, above: Option<u32>, number: u32) -> Option<u32>
+    ensures { result ≡ data_at above (node_view number slot.now.node) }
 {
-    if row.node.kind.is_data() {
+    if slot.node.kind.is_data() {
         Some(number)
     } else {
         above
@@ -109,12 +109,12 @@ pub fn id_of(number: Option<u32>) -> Option<SchemaId>
 }
 
 /// The module of the node above; none at the top.
-fn module_above(rows: &[Row], above: Option<u32>) -> Option<usize>
-    requires { IsLaidOut rows.now }
-    ensures { result ≡ module_at (schema_view [] rows.now) above }
+fn module_above(slots: &[Slot], above: Option<u32>) -> Option<usize>
+    requires { IsLaidOut slots.now }
+    ensures { result ≡ module_at (schema_view [] slots.now) above }
 {
-    match rows.get(above? as usize) {
-        Some(row) => Some(row.node.module),
+    match slots.get(above? as usize) {
+        Some(slot) => Some(slot.node.module),
         None => None,
     }
 }
@@ -130,17 +130,17 @@ impl Index {
     /// The first node of a module and a name among some.
     fn first(
         &self,
-        rows: &[Row],
+        slots: &[Slot],
         among: Among,
         above: Option<u32>,
         module: usize,
         name: &str,
     ) -> Option<u32>
-        requires { names_ascend self.now rows.now ≡ true }
-        ensures { result ≡ found_by (number_among_names self.now rows.now) self.now.nodes
+        requires { names_ascend self.now slots.now ≡ true }
+        ensures { result ≡ found_by (number_among_names self.now slots.now) self.now.nodes
             among above «module» name.now }
     {
-        let name = number_named(rows, &self.names, name)?;
+        let name = number_named(slots, &self.names, name)?;
         let key = Key {
             above,
             module,
@@ -152,37 +152,37 @@ impl Index {
     /// The first node below another, or at the top, of a module and a name.
     pub(crate) fn named(
         &self,
-        rows: &[Row],
+        slots: &[Slot],
         parent: Option<u32>,
         module: usize,
         name: &str,
     ) -> Option<u32>
-        requires { FindsNamed self.now rows.now }
-        ensures { result ≡ first_below parent (is_called «module» name.now) (laid 0 rows.now) }
+        requires { FindsNamed self.now slots.now }
+        ensures { result ≡ first_below parent (is_called «module» name.now) (laid 0 slots.now) }
     {
-        self.first(rows, Among::Children, parent, module, name)
+        self.first(slots, Among::Children, parent, module, name)
     }
 
     /// The first data node below another, or at the top, whose name a document writes so.
     pub(crate) fn written(
         &self,
         modules: &[SchemaModule],
-        rows: &[Row],
+        slots: &[Slot],
         above: Option<u32>,
         name: &str,
     ) -> Option<u32>
-        requires laid_out { IsLaidOut rows.now }
-        requires named { FindsNamed self.now rows.now }
-        requires written { FindsWritten self.now rows.now
-            (data_places None (forest_of 0 rows.now)) }
-        requires modules_differ { ModulesDiffer (schema_view modules.now rows.now) }
-        requires nodes_named { NodesAreNamed (schema_view modules.now rows.now)
-            (forest_of 0 rows.now) }
+        requires laid_out { IsLaidOut slots.now }
+        requires named { FindsNamed self.now slots.now }
+        requires written { FindsWritten self.now slots.now
+            (data_places None (forest_of 0 slots.now)) }
+        requires modules_differ { ModulesDiffer (schema_view modules.now slots.now) }
+        requires nodes_named { NodesAreNamed (schema_view modules.now slots.now)
+            (forest_of 0 slots.now) }
         ensures { result ≡ first_below above (is_stored_as
-            (schema_view modules.now rows.now) above name.now)
-            (data_places None (forest_of 0 rows.now)) }
+            (schema_view modules.now slots.now) above name.now)
+            (data_places None (forest_of 0 slots.now)) }
     {
-        let meant = meant_name(modules, module_above(rows, above), name)?;
-        self.first(rows, Among::DataNodes, above, meant.module, meant.name)
+        let meant = meant_name(modules, module_above(slots, above), name)?;
+        self.first(slots, Among::DataNodes, above, meant.module, meant.name)
     }
 }

@@ -8,7 +8,7 @@ mod references;
 mod schema;
 mod written;
 
-pub use children::{Child, Children, Row};
+pub use children::{Child, Children, Slot};
 pub use index::id_of;
 pub use node::{Absence, Amount, Kind, LeafType, SchemaId, SchemaNode, Tuples, TypeName};
 pub use schema::{Schema, SchemaModule};

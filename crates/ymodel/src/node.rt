@@ -86,8 +86,8 @@ pub enum Absence {
 /// How many entries or items there may be: min-elements and max-elements (RFC 7950, 7.7.5 and 7.7.6).
 #[derive(Clone, Copy, Debug, PartialEq, Eq)]
 pub struct Amount {
-    pub least: u32,
-    pub most: Option<u32>,
+    pub min_elements: u32,
+    pub max_elements: Option<u32>,
 }
 
 /// The leafs of a list whose values tell its entries apart (RFC 7950, 7.8.2 and 7.8.3).
@@ -178,7 +178,7 @@ impl Kind {
     }
 }
 
-/// All that a schema holds of a node. The module is given by its place in the set.
+/// All that a schema holds of a node. The module is given by its number in the set.
 #[derive(Debug, Drop)]
 pub struct SchemaNode {
     pub module: usize,

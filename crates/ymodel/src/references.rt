@@ -4,7 +4,7 @@ ghost use Rattle.std.specs.Prelude.{◌≡◌, ◌<◌, ◌^◌, ◌++◌, ◌�
 ghost use Rattle.ymodel.specs.Layout.{number_of, numbers_of, kind_view, laid, place_of};
 ghost use Rattle.yspec.specs.schema.References as words;
 
-use crate::children::Row;
+use crate::children::Slot;
 use crate::node::{Kind, SchemaId};
 use std::alloc::{AllocError, Global};
 use std::collections::BTreeMap;
@@ -29,17 +29,17 @@ impl References {
     ghost use Rattle.std.specs.Prelude.{◌≡◌, ◌<◌, ◌^◌, ◌++◌, ◌∷◌, ◌==◌, [], if◌then◌else◌, IfOk, OnOk, length};
     ghost use Rattle.ymodel.specs.References.{held, FindsReferences};
 
-    /// Those of the nodes that lie in rows.
-    pub(crate) fn of(alloc: Global, rows: &[Row]) -> Result<References, AllocError>
-        requires { length rows.now < 2 ^ 32 }
-        ensures { IfOk result (λ references. FindsReferences references (laid 0 rows.now)) }
+    /// Those of the nodes that lie in slots.
+    pub(crate) fn of(alloc: Global, slots: &[Slot]) -> Result<References, AllocError>
+        requires { length slots.now < 2 ^ 32 }
+        ensures { IfOk result (λ references. FindsReferences references (laid 0 slots.now)) }
     {
         let mut references = References {
             by_target: BTreeMap::new(alloc),
         };
-        for (number, row) in rows.iter().enumerate() {
+        for (number, slot) in slots.iter().enumerate() {
             let id = SchemaId::new(number as u32);
-            references.add_row(alloc, row, id)?;
+            references.add_slot(alloc, slot, id)?;
         }
         Ok(references)
     }
@@ -54,11 +54,11 @@ impl References {
         }
     }
 
-    fn add_row(&mut self, alloc: Global, row: &Row, id: SchemaId) -> Result<(), AllocError>
+    fn add_slot(&mut self, alloc: Global, slot: &Slot, id: SchemaId) -> Result<(), AllocError>
         ensures { OnOk result ((ps : _) → FindsReferences self.old ps
-            → FindsReferences self.new (ps ++ place_of id.0 row.now ∷ [])) }
+            → FindsReferences self.new (ps ++ place_of id.0 slot.now ∷ [])) }
     {
-        match target_of(&row.node.kind) {
+        match target_of(&slot.node.kind) {
             Some(target) => self.add(alloc, target, id),
             None => Ok(()),
         }

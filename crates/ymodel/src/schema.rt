@@ -7,11 +7,11 @@ ghost use Rattle.ymodel.specs.Layout.{data_places, laid, forest_of, schema_view,
 ghost use Rattle.ymodel.specs.Lookup.{FindsNamed, FindsWritten};
 ghost use Rattle.ymodel.specs.References.{FindsReferences};
 
-use crate::children::{Children, Row};
+use crate::children::{Children, Slot};
 use crate::index::{Index, id_of, index_of, parent_number};
 use crate::node::{SchemaId, SchemaNode};
 use crate::references::References;
-use crate::written::{first_written, other_name, place_of, written_name};
+use crate::written::{first_written, module_named, other_name, written_name};
 use std::alloc::{AllocError, Global};
 use yindex::Names;
 
@@ -26,15 +26,15 @@ pub struct SchemaModule {
 #[derive(Drop)]
 pub struct Schema {
     modules: Vec<SchemaModule>,
-    rows: Vec<Row>,
+    slots: Vec<Slot>,
     index: Index,
     references: References,
-    ghost numbered: { vec_len rows < 2 ^ 32 },
-    ghost laid_out: { IsLaidOut rows.items },
-    ghost named: { FindsNamed index rows.items },
-    ghost written: { FindsWritten index rows.items (data_places None (forest_of 0 rows.items)) },
-    ghost referred: { FindsReferences references (laid 0 rows.items) },
-    ghost compiled: { ∥ IsCompiled (schema_view modules.items rows.items) ∥₁ },
+    ghost numbered: { vec_len slots < 2 ^ 32 },
+    ghost laid_out: { IsLaidOut slots.items },
+    ghost named: { FindsNamed index slots.items },
+    ghost written: { FindsWritten index slots.items (data_places None (forest_of 0 slots.items)) },
+    ghost referred: { FindsReferences references (laid 0 slots.items) },
+    ghost compiled: { ∥ IsCompiled (schema_view modules.items slots.items) ∥₁ },
 }
 
 impl Schema {
@@ -48,24 +48,24 @@ impl Schema {
     ghost use Rattle.yindex.specs.Names.{AreNamesOf};
     ghost use Rattle.ymodel.specs.View.{view, row_view, forest_of};
 
-    /// The schema of some modules whose nodes lie in rows, each before those below it, once a compiler has found no broken
+    /// The schema of some modules whose nodes lie in slots, each before those below it, once a compiler has found no broken
     /// rule, and the names of these nodes.
     pub fn of(
         alloc: Global,
         modules: Vec<SchemaModule>,
-        rows: Vec<Row>,
+        slots: Vec<Slot>,
         names: Names,
     ) -> Result<Schema, AllocError>
-        requires laid_out { IsLaidOut rows.items }
-        requires named { AreNamesOf names (names_in rows.items) }
-        requires compiled { IsCompiled (schema_view modules.items rows.items) }
-        ensures { IfOk result (λ schema. view schema ≡ schema_view modules.items rows.items) }
+        requires laid_out { IsLaidOut slots.items }
+        requires named { AreNamesOf names (names_in slots.items) }
+        requires compiled { IsCompiled (schema_view modules.items slots.items) }
+        ensures { IfOk result (λ schema. view schema ≡ schema_view modules.items slots.items) }
     {
-        let index = index_of(alloc, &rows, names)?;
-        let references = References::of(alloc, &rows)?;
+        let index = index_of(alloc, &slots, names)?;
+        let references = References::of(alloc, &slots)?;
         Ok(Schema {
             modules,
-            rows,
+            slots,
             index,
             references,
         })
@@ -75,14 +75,14 @@ impl Schema {
     pub fn nodes(&self) -> usize
         ensures { result ≡ size (view self.now).nodes }
     {
-        self.rows.len()
+        self.slots.len()
     }
 
     /// All that it holds of a node; nothing of a number that no node has.
     pub fn kind(&self, id: SchemaId) -> Option<&SchemaNode>
         ensures { option_map (λ n. node_view id.0 n.now) result ≡ node_at (view self.now) id.0 }
     {
-        match self.rows.get(id.number()) {
+        match self.slots.get(id.number()) {
             Some(row) => Some(&row.node),
             None => None,
         }
@@ -95,7 +95,7 @@ impl Schema {
         ensures above { IfSome result (λ p. p.0 < id.0) }
         ensures none { node_at (view self.now) id.0 ≡ None → result ≡ None }
     {
-        match self.rows.get(id.number()) {
+        match self.slots.get(id.number()) {
             Some(row) => row.parent,
             None => None,
         }
@@ -105,15 +105,15 @@ impl Schema {
     pub fn roots(&self) -> Children<'_>
         ensures { row_view result ≡ (view self.now).nodes }
     {
-        Children::new(self.rows.as_slice(), 0)
+        Children::new(self.slots.as_slice(), 0)
     }
 
     /// The children of a node, in order of definition; none of a number that no node has.
     pub fn children(&self, id: SchemaId) -> Children<'_>
         ensures { row_view result ≡ children_of (view self.now) id.0 }
     {
-        let rows = self.rows.as_slice();
-        let (_, from) = rows.split_at(id.number().min(rows.len()));
+        let slots = self.slots.as_slice();
+        let (_, from) = slots.split_at(id.number().min(slots.len()));
         match from.split_first() {
             Some((first, rest)) => {
                 let (below, _) = rest.split_at(first.below.min(rest.len()));
@@ -130,7 +130,7 @@ impl Schema {
     {
         id_of(
             self.index
-                .named(&self.rows, parent_number(parent), module, name),
+                .named(&self.slots, parent_number(parent), module, name),
         )
     }
 
@@ -142,7 +142,7 @@ impl Schema {
             Some(module) => first_written(&self.modules, module, self.children(parent?), name),
             None => id_of(
                 self.index
-                    .written(&self.modules, &self.rows, parent_number(parent), name),
+                    .written(&self.modules, &self.slots, parent_number(parent), name),
             ),
         }
     }
@@ -199,14 +199,14 @@ impl Schema {
         self.modules.len()
     }
 
-    /// The place of the module of a name.
+    /// The number of the module of a name.
     pub fn module(&self, name: &str) -> Option<usize>
         ensures { result ≡ position (λ m. is_text m.name name.now) (view self.now).modules }
     {
-        place_of(&self.modules, name)
+        module_named(&self.modules, name)
     }
 
-    /// The name of the module at a place; nothing where the set has fewer.
+    /// The name of the module of a number; nothing where the set has fewer.
     pub fn module_name(&self, module: usize) -> Option<&str>
         ensures { option_map (λ t. t.now) result
             ≡ option_map (λ m. m.name) (slice_get (view self.now).modules «module») }
@@ -214,7 +214,7 @@ impl Schema {
         Some(self.modules.get(module)?.name.as_str())
     }
 
-    /// The prefix of the module at a place, by its own `prefix` statement; nothing where the set has fewer.
+    /// The prefix of the module of a number, by its own `prefix` statement; nothing where the set has fewer.
     pub fn module_prefix(&self, module: usize) -> Option<&str>
         ensures { option_map (λ t. t.now) result
             ≡ option_map (λ m. m.prefix) (slice_get (view self.now).modules «module») }

@@ -137,7 +137,7 @@ fn is_qualified(text: &[u8], module: &[u8], name: &[u8]) -> bool
     }
 }
 
-/// The name of the module at a place, or no text.
+/// The name of the module of a number, or no text.
 fn name_at(modules: &[SchemaModule], module: usize) -> &str
     ensures { result.now ≡ spec.module_name (schema_view modules.now []) «module» }
 {
@@ -147,7 +147,7 @@ fn name_at(modules: &[SchemaModule], module: usize) -> &str
     }
 }
 
-/// A name as it is meant: of a module, by its place.
+/// A name as it is meant: of a module, by its number.
 #[derive(Clone, Copy)]
 pub(crate) struct MeantName<'n> {
     pub module: usize,
@@ -168,7 +168,7 @@ pub(crate) fn meant_name<'n>(
     let Some((module, behind)) = name.split_once(':') else {
         return Some(MeantName { module: own?, name });
     };
-    let module = place_of(modules, module)?;
+    let module = module_named(modules, module)?;
     if own == Some(module) {
         return None;
     }
@@ -178,8 +178,8 @@ pub(crate) fn meant_name<'n>(
     })
 }
 
-/// The place of the first of some modules that has a name.
-pub(crate) fn place_of(modules: &[SchemaModule], name: &str) -> Option<usize>
+/// The number of the first of some modules that has a name.
+pub(crate) fn module_named(modules: &[SchemaModule], name: &str) -> Option<usize>
     ensures { result ≡ position (λ m. is_text (string_bytes m.name) name.now) modules.now }
 {
     modules

@@ -14,13 +14,13 @@ use Rattle.yspec.specs.linking.Source.{Source}
 use Rattle.ygraph.specs.Edges.{edge_view}
 use Rattle.ygraph.specs.declared.circles.Edge.{Edge}
 use Rattle.ypreorder.specs.Layout.{labels_by}
-use Rattle.ypreorder.specs.declared.row.Row.{Row}
+use Rattle.ypreorder.specs.declared.slot.Slot.{Slot}
 use Rattle.ygrammar.specs.declared.source.Source as held
 use Rattle.ygrammar.specs.SourceView.{source_view}
 use Rattle.ynames.specs.EdgeView.{circles_by}
 use Rattle.ynames.proofs.EdgeLemmas.{seen_flags, map_both, present_view, filter_mapped}
 
-module _ (modules : Forest Source) (rows : List (Row held.Source)) (i : ℕ) (so_far : List (Option Edge)) where
+module _ (modules : Forest Source) (rows : List (Slot held.Source)) (i : ℕ) (so_far : List (Option Edge)) where
   pub all_import_edges : (whole : List (Option spec.Edge)) → length rows ≤ i
       → map (option_map edge_view) so_far ++ map (import_edge modules) (labels_by source_view i (drop i rows)) ≡ whole → map (option_map edge_view) so_far ≡ whole
   all_import_edges whole ended made =

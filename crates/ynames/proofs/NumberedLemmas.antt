@@ -8,6 +8,7 @@ use Rattle.yspec.specs.Forest.{Forest, end, node, size, preorder}
 use Rattle.yspec.specs.linking.Source.{Source}
 use Rattle.yspec.specs.linking.Scopes.{Placed, placed, statements_of, meaning, kind_named, names_built_in, lost_break}
 use Rattle.yspec.specs.schema.Breaks.{when, broken}
+use Rattle.yspec.proofs.BasicLemmas.{is_some_map}
 use Rattle.ypreorder.specs.Layout.{numbered_by}
 use Rattle.ygrammar.specs.declared.source.Source as held
 use Rattle.ygrammar.specs.SourceView.{source_view}
@@ -67,10 +68,6 @@ module _ {A B : Type 0} (m : Placed → A) (g : Source → Option A → List B) 
       ∙ sym (flat_map-append (λ p. g p.source (Some (m p))) under others)))
 
 -- ---- names that are lost
-
-pub is_some_map : {A B : Type 0} (f : A → B) (o : Option A) → is_some o ≡ is_some (option_map f o)
-is_some_map f None = refl
-is_some_map f (Some x) = refl
 
 lost_of : (modules : Forest Source) (ps : List Placed)
     → flat_map (λ p. lost_by p.source (number_meant modules p)) ps ≡ flat_map (lost_break modules) ps

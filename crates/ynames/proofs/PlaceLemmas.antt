@@ -1,4 +1,4 @@
--- What a table holds of each module of a set, by its place.
+-- What a table holds of each module of a set, by its number.
 use Rattle.std.proofs.Common.{◌≡◌, ℕ, zero, suc, ◌+◌, List, [], ◌∷◌, ◌++◌, length, map, Option, None, slice_get, option_and_then, sym, ap, ◌∙◌, arith}
 use Rattle.std.proofs.lemmas.List.{append_assoc, append-nil, length-append, map-append}
 use Rattle.yspec.specs.Forest.{Forest, end, node}

@@ -5,13 +5,13 @@ use Rattle.yspec.specs.Forest.{preorder}
 use Rattle.yspec.specs.linking.Source.{Source}
 use Rattle.yspec.specs.schema.Breaks.{Break, least_from}
 use Rattle.ypreorder.specs.Layout.{numbered_by, forest_of}
-use Rattle.ypreorder.specs.declared.row.Row.{Row}
+use Rattle.ypreorder.specs.declared.slot.Slot.{Slot}
 use Rattle.ygrammar.specs.declared.source.Source as held
 use Rattle.ygrammar.specs.SourceView.{source_view}
 use Rattle.ygrammar.proofs.BreakLemmas.{broken_from, next_row, all_rows, in_preorder}
 
-module _ (breaks : Source → List Break) (items rows : List (Row held.Source)) (same : items ≡ rows) where
-  pub next_told : (i : ℕ) (r : Row held.Source) (told result whole : Option Break) → i < length items → r ≡ get_or items i r
+module _ (breaks : Source → List Break) (items rows : List (Slot held.Source)) (same : items ≡ rows) where
+  pub next_told : (i : ℕ) (r : Slot held.Source) (told result whole : Option Break) → i < length items → r ≡ get_or items i r
       → result ≡ least_from told (breaks (source_view i r.label))
       → least_from told (broken_from breaks i (drop i rows)) ≡ whole
       → least_from result (broken_from breaks (i + 1) (drop (i + 1) rows)) ≡ whole

@@ -34,7 +34,7 @@ top_number kind name place f = first_number (kind_word kind) name (row f)
 abbrev pub AreTopsOf : List Definitions → Forest Source → Type 0
 AreTopsOf ds modules = (kind : DefinitionKind) (name : Text) → map (λ d. first_in kind d name) ds ≡ by_place (top_number kind name) 0 modules
 
--- the definition of a kind and name at the top of the module at a place
+-- the definition of a kind and name at the top of the module of a number
 abbrev pub top_in : List Definitions → ℕ → DefinitionKind → Text → Option ℕ
 top_in tops home kind name = option_and_then (λ d. first_in kind d name) (slice_get tops home)
 

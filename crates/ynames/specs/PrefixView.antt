@@ -11,9 +11,9 @@ use Rattle.ynames.specs.declared.first_named.FirstNamed.{FirstNamed}
 use Rattle.ynames.specs.declared.prefix.Prefixes.{Prefixes}
 use Rattle.ynames.specs.declared.prefix.NodeName.{NodeName}
 
--- each name has the place of the module that it names
-abbrev pub ArePlacesOf : FirstNamed ℕ → Forest Source → Type 0
-ArePlacesOf places modules = (name : Text) → named places name ≡ module_called modules name
+-- each name has the number of the module that it names
+abbrev pub AreModulesOf : FirstNamed ℕ → Forest Source → Type 0
+AreModulesOf places modules = (name : Text) → named places name ≡ module_called modules name
 
 -- what an import declares a prefix to stand for
 abbrev pub imported_by : Forest Source → Text → Source → Forest Source → Option (Option ℕ)

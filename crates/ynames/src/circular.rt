@@ -81,7 +81,7 @@ pub(crate) fn least_circle(
         → seen result ≡ least_from (seen so_far) (circles_by flag (view sources.now)) }
 {
     let mut told = so_far;
-    for (number, row) in sources.rows().iter().enumerate() {
+    for (number, row) in sources.slots().iter().enumerate() {
         told = judge_circle(&row.label, flag_at(circular, number), told);
     }
     told

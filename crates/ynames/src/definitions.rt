@@ -11,7 +11,7 @@ ghost use Rattle.ynames.specs.DefinitionView.{AreFirst, AreOf};
 use crate::first_named::FirstNamed;
 use std::alloc::{AllocError, Global};
 use ygrammar::Source;
-use ypreorder::Nodes;
+use ypreorder::Siblings;
 use yword::Keyword;
 
 /// What statements define for others to name.
@@ -45,7 +45,7 @@ pub(crate) enum Scope<'a, 't> {
 fn first_named<'t>(
     alloc: Global,
     keyword: Keyword,
-    statements: Nodes<'_, Source<'t>>,
+    statements: Siblings<'_, Source<'t>>,
 ) -> Result<FirstNamed<'t, u32>, AllocError>
     ensures { IfOk result (λ names. AreFirst names (keyword_view keyword)
         (row (row_by source_view statements.entry))) }
@@ -69,7 +69,7 @@ impl<'t> Definitions<'t> {
     /// The definitions of a row.
     pub(crate) fn of(
         alloc: Global,
-        statements: Nodes<'_, Source<'t>>,
+        statements: Siblings<'_, Source<'t>>,
     ) -> Result<Definitions<'t>, AllocError>
         ensures { IfOk result (λ d. AreOf d (row_by source_view statements.entry)) }
     {

@@ -9,7 +9,7 @@ ghost use Rattle.ygraph.specs.Edges.{edge_view};
 ghost use Rattle.ygrammar.specs.BreakView.{seen};
 ghost use Rattle.ygrammar.specs.LinkView.{view};
 ghost use Rattle.ygrammar.specs.SourceView.{source_view};
-ghost use Rattle.ynames.specs.PrefixView.{ArePlacesOf};
+ghost use Rattle.ynames.specs.PrefixView.{AreModulesOf};
 
 use crate::circular::{flags_by_number, least_circle};
 use crate::first_named::FirstNamed;
@@ -19,7 +19,7 @@ use ygrammar::{BrokenRule, Source, Sources};
 use ygraph::{Edge, on_circles};
 use yword::Keyword;
 
-/// A place in a set as the number of a node. A set has fewer modules than there are numbers.
+/// The number of a module in a set as that of a node. A set has fewer modules than there are numbers.
 fn node_at(place: usize) -> Result<u32, AllocError>
     ensures { IfOk result (λ node. node ≡ place) }
 {
@@ -29,12 +29,12 @@ fn node_at(place: usize) -> Result<u32, AllocError>
     }
 }
 
-/// The edge of an import from its module to the one that it imports, by their places.
+/// The edge of an import from its module to the one that it imports, by their numbers.
 fn import_edge(
     places: &FirstNamed<'_, usize>,
     statement: &Source<'_>,
 ) -> Result<Option<Edge>, AllocError>
-    ensures { (modules : Forest sources.Source) → ArePlacesOf places.now modules → (number : ℕ)
+    ensures { (modules : Forest sources.Source) → AreModulesOf places.now modules → (number : ℕ)
         → IfOk result (λ edge. option_map edge_view edge
         ≡ spec.import_edge modules (source_view number statement.now)) }
 {
@@ -56,12 +56,12 @@ fn import_edges(
     sources: &Sources<'_>,
     places: &FirstNamed<'_, usize>,
 ) -> Result<Vec<Option<Edge>>, AllocError>
-    ensures { IfOk result (λ edges. ArePlacesOf places.now (view sources.now)
+    ensures { IfOk result (λ edges. AreModulesOf places.now (view sources.now)
         → map (option_map edge_view) edges.items
         ≡ map (spec.import_edge (view sources.now)) (preorder (view sources.now))) }
 {
     let mut edges = Vec::new(alloc);
-    for (number, row) in sources.rows().iter().enumerate() {
+    for (number, row) in sources.slots().iter().enumerate() {
         edges.push(import_edge(places, &row.label)?)?;
     }
     Ok(edges)
@@ -74,7 +74,7 @@ pub fn circular_import(
     places: &FirstNamed<'_, usize>,
     so_far: Option<BrokenRule>,
 ) -> Result<Option<BrokenRule>, AllocError>
-    ensures { IfOk result (λ told. ArePlacesOf places.now (view sources.now)
+    ensures { IfOk result (λ told. AreModulesOf places.now (view sources.now)
         → seen told ≡ least_from (seen so_far) (spec.import_circles (view sources.now))) }
 {
     let edges = import_edges(alloc, sources, places)?;

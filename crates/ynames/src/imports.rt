@@ -9,7 +9,7 @@ ghost use Rattle.ypreorder.specs.View.{row_by, label_by};
 ghost use Rattle.ygrammar.specs.BreakView.{seen};
 ghost use Rattle.ygrammar.specs.LinkView.{view};
 ghost use Rattle.ygrammar.specs.SourceView.{source_view};
-ghost use Rattle.ynames.specs.PrefixView.{ArePlacesOf};
+ghost use Rattle.ynames.specs.PrefixView.{AreModulesOf};
 ghost use Rattle.ynames.specs.RevisionView.{date_view, revisions_of, AreRevisionsOf};
 
 use crate::first_named::FirstNamed;
@@ -18,7 +18,7 @@ use std::cmp::Ordering;
 use ygrammar::{
     BrokenRule, CompileCode, Source, Sources, argument_of, argument_with, broken, least_when,
 };
-use ypreorder::{Node, Nodes};
+use ypreorder::{Node, Siblings};
 use yword::Keyword;
 
 /// The later of a date so far and another.
@@ -35,7 +35,7 @@ fn later<'t>(so_far: Option<&'t str>, date: &'t str) -> &'t str
 }
 
 /// The date of the newest revision in the row of a module.
-fn newest_revision<'t>(body: Nodes<'_, Source<'t>>) -> Option<&'t str>
+fn newest_revision<'t>(body: Siblings<'_, Source<'t>>) -> Option<&'t str>
     ensures { date_view result ≡ spec.newest_revision (row_by source_view body.entry) }
 {
     let mut newest = None;
@@ -47,7 +47,7 @@ fn newest_revision<'t>(body: Nodes<'_, Source<'t>>) -> Option<&'t str>
     newest
 }
 
-/// The date of the newest revision of each module, by its place.
+/// The date of the newest revision of each module, by its number.
 fn newest_revisions<'t>(
     alloc: Global,
     sources: &Sources<'t>,
@@ -61,7 +61,7 @@ fn newest_revisions<'t>(
     Ok(newest)
 }
 
-/// The date of the newest revision of the module at a place.
+/// The date of the newest revision of the module of a number.
 fn revision_at<'a, 't>(newest: &'a [Option<&'t str>], place: usize) -> Option<&'t str>
     ensures { (modules : Forest sources.Source) → AreRevisionsOf newest.now modules
         → date_view result ≡ spec.newest_revision (spec.body_at modules place) }
@@ -72,8 +72,8 @@ fn revision_at<'a, 't>(newest: &'a [Option<&'t str>], place: usize) -> Option<&'
     }
 }
 
-/// Whether the module at a place is of the revision that an import wants, given what stands below the import.
-fn is_met(newest: &[Option<&str>], place: usize, below: Nodes<'_, Source<'_>>) -> bool
+/// Whether the module of a number is of the revision that an import wants, given what stands below the import.
+fn is_met(newest: &[Option<&str>], place: usize, below: Siblings<'_, Source<'_>>) -> bool
     ensures { (modules : Forest sources.Source) → AreRevisionsOf newest.now modules
         → result ≡ spec.is_met_by modules (row_by source_view below.entry) place }
 {
@@ -93,7 +93,7 @@ fn is_unmet(
     statement: Node<'_, Source<'_>>,
 ) -> bool
     ensures { (modules : Forest sources.Source) → AreRevisionsOf newest.now modules
-        → ArePlacesOf places.now modules
+        → AreModulesOf places.now modules
         → result ≡ spec.is_unmet modules (label_by source_view statement.entry)
         (row_by source_view statement.entry.children) }
 {
@@ -110,11 +110,11 @@ fn is_unmet(
 fn judge_imports(
     newest: &[Option<&str>],
     places: &FirstNamed<'_, usize>,
-    body: Nodes<'_, Source<'_>>,
+    body: Siblings<'_, Source<'_>>,
     so_far: Option<BrokenRule>,
 ) -> Option<BrokenRule>
     ensures { (modules : Forest sources.Source) → AreRevisionsOf newest.now modules
-        → ArePlacesOf places.now modules → seen result ≡ least_from (seen so_far)
+        → AreModulesOf places.now modules → seen result ≡ least_from (seen so_far)
         (spec.unmet_in modules (row_by source_view body.entry)) }
 {
     let mut told = so_far;
@@ -133,7 +133,7 @@ pub fn unmet_import(
     places: &FirstNamed<'_, usize>,
     so_far: Option<BrokenRule>,
 ) -> Result<Option<BrokenRule>, AllocError>
-    ensures { IfOk result (λ told. ArePlacesOf places.now (view sources.now)
+    ensures { IfOk result (λ told. AreModulesOf places.now (view sources.now)
         → seen told ≡ least_from (seen so_far) (spec.import_breaks (view sources.now))) }
 {
     let newest = newest_revisions(alloc, sources)?;

@@ -12,7 +12,7 @@ use crate::circular::broken_circle_rule;
 use crate::importing::circular_import;
 use crate::imports::unmet_import;
 use crate::lost::broken_lost_rule;
-use crate::prefix::places_of;
+use crate::prefix::modules_by_name;
 use std::alloc::{AllocError, Global};
 use ygrammar::{BrokenRule, Sources};
 
@@ -29,7 +29,7 @@ pub fn broken_meaning_rule(
         → AreMeanings meanings.now (view sources.now)
         → IfOk result (λ told. seen told ≡ least_from None (meanings_phase (view sources.now))) }
 {
-    let places = places_of(alloc, sources)?;
+    let places = modules_by_name(alloc, sources)?;
     let unmet = unmet_import(alloc, sources, &places, None)?;
     let lost = broken_lost_rule(sources, meanings, unmet);
     let circular = circular_import(alloc, sources, &places, lost)?;

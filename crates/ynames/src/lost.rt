@@ -59,7 +59,7 @@ pub fn broken_lost_rule(
         → seen result ≡ least_from (seen so_far) (lost_breaks (view sources.now)) }
 {
     let mut told = so_far;
-    for (number, row) in sources.rows().iter().enumerate() {
+    for (number, row) in sources.slots().iter().enumerate() {
         told = judge_lost(&row.label, meaning_at(meanings, number), told);
     }
     told

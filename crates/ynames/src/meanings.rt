@@ -16,7 +16,7 @@ use crate::prefix::Prefixes;
 use crate::taken::is_built_in;
 use std::alloc::{AllocError, Global};
 use ygrammar::{Name, Source, Sources, name_of};
-use ypreorder::Nodes;
+use ypreorder::Siblings;
 use yword::Keyword;
 
 /// The modules of a set, as prefixes name them, with the definitions at their tops.
@@ -58,7 +58,7 @@ impl<'a, 't> NamedModules<'a, 't> {
         }
     }
 
-    /// The definition of a kind and name in a module, as a scope in the module at a place sees it.
+    /// The definition of a kind and name in a module, as a scope in the module of a number sees it.
     fn defined_in(
         &self,
         scope: &Scope<'_, '_>,
@@ -142,7 +142,7 @@ fn add_meanings<'t>(
     alloc: Global,
     modules: &NamedModules<'_, 't>,
     scope: &Scope<'_, 't>,
-    statements: Nodes<'_, Source<'t>>,
+    statements: Siblings<'_, Source<'t>>,
     made: &mut Vec<Option<u32>>,
 ) -> Result<(), AllocError>
     ensures { (set : Forest sources.Source) (ancestors : List _) → AreModules modules.now set

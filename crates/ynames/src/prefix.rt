@@ -16,7 +16,7 @@ ghost use Rattle.ytext.specs.View as text;
 ghost use Rattle.ygrammar.specs.NameView.{name_view, names_view};
 ghost use Rattle.ygrammar.specs.NamedType.{argument_text};
 ghost use Rattle.ynames.specs.FirstNamedView.{named};
-ghost use Rattle.ynames.specs.PrefixView.{ArePlacesOf, IsOf, declared_by, imported_by};
+ghost use Rattle.ynames.specs.PrefixView.{AreModulesOf, IsOf, declared_by, imported_by};
 ghost use Rattle.ygrammar.specs.SourceView.{source_view};
 
 use crate::first_named::FirstNamed;
@@ -26,28 +26,28 @@ use ygrammar::{
     BrokenRule, CompileCode, Name, Source, Sources, argument_of, argument_with, broken, key_names,
     leafref_path, least, name_of, unique_paths,
 };
-use ypreorder::{Node, Nodes};
+use ypreorder::{Node, Siblings};
 use yword::Keyword;
 
-/// What the prefixes of each module stand for, by its place in the set: the place of a module, where the set has it.
+/// What the prefixes of each module stand for, by its number in the set: the number of a module, where the set has it.
 #[derive(Drop)]
 pub struct Prefixes<'t> {
     declared: Vec<FirstNamed<'t, Option<usize>>>,
 }
 
-/// The name of a schema node: the place of its module, where the prefix names one, and its identifier.
+/// The name of a schema node: the number of its module, where the prefix names one, and its identifier.
 #[derive(Clone, Copy, Debug)]
 pub struct NodeName<'t> {
     pub module: Option<usize>,
     pub name: &'t str,
 }
 
-/// The places of a set's modules, by their names.
-pub fn places_of<'t>(
+/// The numbers of a set's modules, by their names.
+pub fn modules_by_name<'t>(
     alloc: Global,
     sources: &Sources<'t>,
 ) -> Result<FirstNamed<'t, usize>, AllocError>
-    ensures { IfOk result (λ places. ArePlacesOf places (view sources.now)) }
+    ensures { IfOk result (λ places. AreModulesOf places (view sources.now)) }
 {
     let mut places = FirstNamed::new(alloc);
     for top in sources.modules() {
@@ -62,7 +62,7 @@ fn add_import<'t>(
     places: &FirstNamed<'t, usize>,
     statement: Node<'_, Source<'t>>,
 ) -> Result<(), AllocError>
-    ensures { OnOk result ((modules : Forest sources.Source) → ArePlacesOf places.now modules
+    ensures { OnOk result ((modules : Forest sources.Source) → AreModulesOf places.now modules
         → (prefix : _) → named declared.new prefix ≡ first_of (named declared.old prefix)
         (imported_by modules prefix (label_by source_view statement.entry)
         (row_by source_view statement.entry.children))) }
@@ -76,15 +76,15 @@ fn add_import<'t>(
     }
 }
 
-/// What prefixes stand for in a module, which is at a place of the set.
+/// What prefixes stand for in a module, which has a number in the set.
 fn prefixes_of<'t>(
     alloc: Global,
     places: &FirstNamed<'t, usize>,
     home: usize,
-    body: Nodes<'_, Source<'t>>,
+    body: Siblings<'_, Source<'t>>,
 ) -> Result<FirstNamed<'t, Option<usize>>, AllocError>
     ensures { IfOk result (λ declared. (modules : Forest sources.Source)
-        → ArePlacesOf places.now modules → (prefix : _) → named declared prefix
+        → AreModulesOf places.now modules → (prefix : _) → named declared prefix
         ≡ declared_by modules home prefix (row_by source_view body.entry)) }
 {
     let mut declared = FirstNamed::new(alloc);
@@ -111,7 +111,7 @@ impl<'t> Prefixes<'t> {
     pub fn of(alloc: Global, sources: &Sources<'t>) -> Result<Prefixes<'t>, AllocError>
         ensures { IfOk result (λ prefixes. IsOf prefixes (view sources.now)) }
     {
-        let places = places_of(alloc, sources)?;
+        let places = modules_by_name(alloc, sources)?;
         let mut declared = Vec::new(alloc);
         for top in sources.modules() {
             let home = declared.len();
@@ -127,7 +127,7 @@ impl<'t> Prefixes<'t> {
         self.declared.get(home)?.get(prefix)
     }
 
-    /// The place of the module that a prefix names in a module.
+    /// The number of the module that a prefix names in a module.
     pub fn module_meant(&self, home: usize, prefix: &str) -> Option<usize>
         ensures { (modules : Forest sources.Source) → IsOf self.now modules → result
             ≡ imports.module_meant modules home prefix.now }
@@ -271,7 +271,7 @@ fn undeclared_prefix(
         ≡ least_from None (spec.prefix_breaks (view sources.now))) }
 {
     let mut told = None;
-    for row in sources.rows() {
+    for row in sources.slots() {
         told = judge_prefixes(alloc, prefixes, &row.label, told)?;
     }
     Ok(told)

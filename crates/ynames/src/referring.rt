@@ -13,7 +13,7 @@ ghost use Rattle.ynames.specs.ReferringView.{innermost_of, AreReferring};
 
 use std::alloc::{AllocError, Global};
 use ygrammar::{Source, Sources};
-use ypreorder::{Node, Nodes};
+use ypreorder::{Node, Siblings};
 use yword::Keyword;
 
 /// The innermost statement with a keyword around what stands below a statement, given that around it.
@@ -49,7 +49,7 @@ fn holder_of(keyword: Keyword, typedef: Option<u32>, grouping: Option<u32>) -> O
 fn add_holders(
     typedef: Option<u32>,
     grouping: Option<u32>,
-    statements: Nodes<'_, Source<'_>>,
+    statements: Siblings<'_, Source<'_>>,
     made: &mut Vec<Option<u32>>,
 ) -> Result<(), AllocError>
     ensures { (ancestors : List _) → typedef ≡ innermost_of typedef_word ancestors

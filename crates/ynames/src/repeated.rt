@@ -13,14 +13,14 @@ ghost use Rattle.ygrammar.specs.SourceView.{source_view};
 use crate::first_named::FirstNamed;
 use std::alloc::{AllocError, Global};
 use ygrammar::{BrokenRule, CompileCode, Source, Sources, argument_of, broken, least_when};
-use ypreorder::{Node, Nodes};
+use ypreorder::{Node, Siblings};
 use yword::Keyword;
 
 /// Adds the statements of a row with a keyword behind those so far.
 fn add_with<'a, 't>(
     found: &mut Vec<Node<'a, Source<'t>>>,
     keyword: Keyword,
-    statements: Nodes<'a, Source<'t>>,
+    statements: Siblings<'a, Source<'t>>,
 ) -> Result<(), AllocError>
     ensures { OnOk result (map (label_by source_view) found.new.items
         ≡ map (label_by source_view) found.old.items
@@ -37,7 +37,7 @@ fn add_with<'a, 't>(
 /// The `prefix` statements of the row of a module: its own, and those of its imports.
 fn prefix_statements<'a, 't>(
     alloc: Global,
-    body: Nodes<'a, Source<'t>>,
+    body: Siblings<'a, Source<'t>>,
 ) -> Result<Vec<Node<'a, Source<'t>>>, AllocError>
     ensures { IfOk result (λ found. map (label_by source_view) found.items
         ≡ spec.prefix_statements (row_by source_view body.entry)) }

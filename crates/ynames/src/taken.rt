@@ -21,7 +21,7 @@ ghost use Rattle.ynames.specs.ScopeView.{placed_at};
 use crate::definitions::{DefinitionKind, Definitions, Scope};
 use std::alloc::{AllocError, Global};
 use ygrammar::{BrokenRule, CompileCode, Source, Sources, broken, least_when};
-use ypreorder::{Node, Nodes};
+use ypreorder::{Node, Siblings};
 use yword::Keyword;
 
 /// Whether it is the name of a built-in type that isn't compiled.
@@ -69,7 +69,7 @@ fn is_taken(scope: &Scope<'_, '_>, number: u32, statement: &Source<'_>) -> bool
 fn broken_taken_rule_in<'t>(
     alloc: Global,
     scope: &Scope<'_, 't>,
-    statements: Nodes<'_, Source<'t>>,
+    statements: Siblings<'_, Source<'t>>,
     so_far: Option<BrokenRule>,
 ) -> Result<Option<BrokenRule>, AllocError>
     ensures { (ancestors : List _) → IsAround scope.now ancestors

@@ -75,7 +75,7 @@ fn positions_among(
         ≡ positions_of (filter (λ a. holds_word words.now a.name) names.now)) }
 {
     let mut positions = Vec::new(alloc);
-    for (number, name) in names.rows() {
+    for (number, name) in names.by_number() {
         if holds_word(words, name.as_str()) {
             positions.push(*number)?;
         }

@@ -40,7 +40,7 @@ fn names_text(alloc: Global, names: &Names, positions: &BTreeSet<i64>) -> Result
 {
     let mut text = String::new(alloc);
     let mut first = true;
-    for (number, name) in names.rows() {
+    for (number, name) in names.by_number() {
         if holds_position(positions, number) {
             push_name(&mut text, name.as_str(), first)?;
             first = false;

@@ -136,7 +136,7 @@ impl Names {
     }
 
     /// The names by their numbers.
-    pub fn rows(&self) -> &BTreeMap<i64, String>
+    pub fn by_number(&self) -> &BTreeMap<i64, String>
         ensures { assigned result.now.entries ≡ self.now }
     {
         &self.by_number

@@ -26,7 +26,7 @@ fn is_stop(byte: u8, stop: u8, quote: Option<u8>) -> bool
 
 /// Where a byte first stands outside quotes.
 #[tactic(auto, using(crate::proofs::CutLemmas::cut_start, crate::proofs::CutLemmas::cut_more, crate::proofs::CutLemmas::cut_here, crate::proofs::CutLemmas::cut_nowhere))]
-fn stop_place(bytes: &[u8], stop: u8) -> Option<usize>
+fn stop_offset(bytes: &[u8], stop: u8) -> Option<usize>
     ensures value { option_map (λ n. (take n bytes.now, drop (n + 1) bytes.now)) result
         ≡ cut_at stop None bytes.now }
     ensures within { IfSome result
@@ -51,7 +51,7 @@ pub(crate) fn cut(text: &str, stop: u8) -> Option<(&str, &str)>
     ensures sides { option_map sides result ≡ cut_at stop None text.now }
     ensures shorter { IfSome result (λ p. length p.1.now < length text.now) }
 {
-    let at = stop_place(text.as_bytes(), stop)?;
+    let at = stop_offset(text.as_bytes(), stop)?;
     Some(parts_around(text, at))
 }
 

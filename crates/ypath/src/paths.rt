@@ -11,7 +11,7 @@ ghost use Rattle.ypath.specs.declared.edit.EditFault.TheVariants.{Refused};
 use crate::cut::{after_spaces, behind, cut};
 use crate::edit::{Edit, EditCode, EditFault, Key, NamedStep, Path, Predicate};
 use std::alloc::{AllocError, Global};
-use ytext::{is_digit, is_identifier, is_name, place_of};
+use ytext::{is_digit, is_identifier, is_name, offset_of};
 
 fn are_digits(bytes: &[u8]) -> bool
     ensures { result ≡ list_all is_digit bytes.now }
@@ -66,7 +66,7 @@ fn up_to_last(text: &str, quote: u8) -> Option<&str>
     requires { quote < 128 }
     ensures { option_map (λ t. t.now) result ≡ spec.up_to_last quote text.now }
 {
-    let end = place_of(text.as_bytes(), quote)?;
+    let end = offset_of(text.as_bytes(), quote)?;
     if end + 1 == text.len() {
         Some(&text[..end])
     } else {
@@ -157,7 +157,7 @@ fn name_and_predicate(text: &str) -> (&str, &str)
     ensures name { result.0.now ≡ (spec.name_and_predicate text.now).0 }
     ensures predicate { result.1.now ≡ (spec.name_and_predicate text.now).1 }
 {
-    match place_of(text.as_bytes(), b'[') {
+    match offset_of(text.as_bytes(), b'[') {
         Some(at) => (&text[..at], &text[at..]),
         None => (text, ""),
     }
@@ -257,7 +257,7 @@ fn done_by(alloc: Global, verb: &str, value: &str, path: Path) -> Result<Option<
 fn edit_of(alloc: Global, line: &str) -> Result<Option<Edit>, AllocError>
     ensures { IfOk result (λ edit. option_map edit_view edit ≡ spec.edit_of line.now) }
 {
-    if place_of(line.as_bytes(), b'\n').is_some() {
+    if offset_of(line.as_bytes(), b'\n').is_some() {
         return Ok(None);
     }
     let Some((verb, rest)) = cut(line, b' ') else {

@@ -7,7 +7,7 @@ use Rattle.std.proofs.lemmas.Option.{slice_get_past}
 use Rattle.yspec.specs.Forest.{Forest, node, end, size, first_of, find_below, joined_below}
 use Rattle.yspec.specs.linking.Planned.{Planned}
 use Rattle.ypreorder.specs.Layout.{Place, places, laid, forest_of, numbered_by, seen, IsLaidOut}
-use Rattle.ypreorder.specs.declared.row.Row.{Row}
+use Rattle.ypreorder.specs.declared.slot.Slot.{Slot}
 use Rattle.ypreorder.proofs.RowLemmas.{forest_of-cons, no_node, size_forest}
 use Rattle.ypreorder.proofs.LayoutLemmas.{parts_of}
 use Rattle.yplan.specs.PlannedView.{planned_view}
@@ -50,16 +50,16 @@ find_below-is test (node l below after) =
 
 -- ---- the same, row by row
 
-unfoldable pairs : ℕ → List (Row code.Planned) → List Found
+unfoldable pairs : ℕ → List (Slot code.Planned) → List Found
 pairs k [] = []
 pairs k (r ∷ rows) = (planned_view k r.label, numbered_by planned_view (k + 1) (forest_of (take r.below rows))) ∷ pairs (k + 1) rows
 
 -- no row claims more rows below it than there are
-is_short : List (Row code.Planned) → Bool
+is_short : List (Slot code.Planned) → Bool
 is_short [] = true
 is_short (r ∷ rows) = nat_le r.below (length rows) && is_short rows
 
-is_short-append : (xs ys : List (Row code.Planned)) → is_short xs ≡ true → is_short ys ≡ true → is_short (xs ++ ys) ≡ true
+is_short-append : (xs ys : List (Slot code.Planned)) → is_short xs ≡ true → is_short ys ≡ true → is_short (xs ++ ys) ≡ true
 unfolding is_short
 is_short-append [] ys e f = f
 is_short-append (x ∷ xs) ys e f =
@@ -69,13 +69,13 @@ is_short-append (x ∷ xs) ys e f =
     (is_short-append xs ys parts.1 f)
 
 -- in each row those below it fit, and so do they among themselves
-fits_within : ℕ → List (Row code.Planned) → Bool
+fits_within : ℕ → List (Slot code.Planned) → Bool
 fits_within zero rows = true
 fits_within (suc n) [] = true
 fits_within (suc n) (r ∷ rows) =
     nat_le r.below (length rows) && (fits_within n (take r.below rows) && fits_within n (drop r.below rows))
 
-is_short-fits : (n : ℕ) (rows : List (Row code.Planned)) → length rows ≤ n → fits_within n rows ≡ true → is_short rows ≡ true
+is_short-fits : (n : ℕ) (rows : List (Slot code.Planned)) → length rows ≤ n → fits_within n rows ≡ true → is_short rows ≡ true
 unfolding is_short fits_within
 is_short-fits zero [] h e = refl
 is_short-fits zero (r ∷ rows) h e = absurd (omega arith)
@@ -89,12 +89,12 @@ is_short-fits (suc n) (r ∷ rows) h e =
     (is_short-fits n (take r.below rows) (omega (arith, length-take r.below rows)) inner.0)
     (is_short-fits n (drop r.below rows) (omega (arith, length-drop r.below rows)) inner.1))
 
-take-append-within : (n : ℕ) (xs ys : List (Row code.Planned)) → n ≤ length xs → take n (xs ++ ys) ≡ take n xs
+take-append-within : (n : ℕ) (xs ys : List (Slot code.Planned)) → n ≤ length xs → take n (xs ++ ys) ≡ take n xs
 take-append-within zero xs ys h = refl
 take-append-within (suc n) [] ys h = absurd (omega arith)
 take-append-within (suc n) (x ∷ xs) ys h = ap (λ rest. x ∷ rest) (take-append-within n xs ys (omega arith))
 
-pairs-append : (k : ℕ) (xs ys : List (Row code.Planned)) → is_short xs ≡ true → pairs k (xs ++ ys) ≡ pairs k xs ++ pairs (k + length xs) ys
+pairs-append : (k : ℕ) (xs ys : List (Slot code.Planned)) → is_short xs ≡ true → pairs k (xs ++ ys) ≡ pairs k xs ++ pairs (k + length xs) ys
 unfolding pairs is_short
 pairs-append k [] ys e = ap (λ n. pairs n ys) (omega arith)
 pairs-append k (x ∷ xs) ys e =
@@ -104,7 +104,7 @@ pairs-append k (x ∷ xs) ys e =
     (take-append-within x.below xs ys (leb-true x.below (length xs) parts.0))
     (pairs-append (k + 1) xs ys parts.1 ∙ ap (λ n. pairs (k + 1) xs ++ pairs n ys) here)
 
-all_below-forest : (n k : ℕ) (rows : List (Row code.Planned)) → length rows ≤ n → fits_within n rows ≡ true
+all_below-forest : (n k : ℕ) (rows : List (Slot code.Planned)) → length rows ≤ n → fits_within n rows ≡ true
     → all_below (numbered_by planned_view k (forest_of rows)) ≡ pairs k rows
 unfolding all_below pairs fits_within
 all_below-forest zero k [] h e = ap (λ f. all_below (numbered_by planned_view k f)) (no_node {L = code.Planned} [] refl)
@@ -125,7 +125,7 @@ all_below-forest (suc n) k (r ∷ rows) h e =
     ∙ (sym (pairs-append (k + 1) inside behind (is_short-fits n inside front inner.0))
     ∙ ap (pairs (k + 1)) (take-append-drop r.below rows)))
 
-found_at : (k j id : ℕ) (rows : List (Row code.Planned)) → id ≡ k + j
+found_at : (k j id : ℕ) (rows : List (Slot code.Planned)) → id ≡ k + j
     → find (λ p. p.0.number == id) (pairs k rows)
     ≡ option_map (λ r. (planned_view id r.label, numbered_by planned_view (id + 1) (forest_of (take r.below (drop (suc j) rows))))) (slice_get rows j)
 unfolding pairs
@@ -143,7 +143,7 @@ map_map : {X Y Z : Type 0} (f : Y → Z) (g : X → Y) (o : Option X) → option
 map_map f g (Some x) = refl
 map_map f g None = refl
 
-below_at : (rows : List (Row code.Planned)) (id : ℕ) → fits_within (length rows) rows ≡ true
+below_at : (rows : List (Slot code.Planned)) (id : ℕ) → fits_within (length rows) rows ≡ true
     → find_below (λ p. p.number == id) (numbered_by planned_view 0 (forest_of rows))
     ≡ option_map (λ r. numbered_by planned_view (id + 1) (forest_of (take r.below (drop (suc id) rows)))) (slice_get rows id)
 below_at rows id fits =
@@ -161,7 +161,7 @@ as_they_are : (k : ℕ) (ps : List (Place code.Planned)) → seen same k ps ≡ 
 as_they_are k [] = refl
 as_they_are k (p ∷ ps) = ap (λ rest. p ∷ rest) (as_they_are (k + 1) ps)
 
-fits_laid : (f : Forest code.Planned) (p : Option ℕ) (n k : ℕ) (rows : List (Row code.Planned)) → length rows ≤ n
+fits_laid : (f : Forest code.Planned) (p : Option ℕ) (n k : ℕ) (rows : List (Slot code.Planned)) → length rows ≤ n
     → seen same k (laid rows) ≡ places p k f → fits_within n rows ≡ true
 unfolding fits_within
 fits_laid f p zero k [] h e = refl
@@ -176,12 +176,12 @@ fits_laid (node l below after) p (suc n) k (r ∷ rows) h e =
     (fits_laid below (Some k) n (k + 1) (take r.below rows) (omega (arith, length-take r.below rows)) parts.0)
     (fits_laid after p n (k + suc (size below)) (drop r.below rows) (omega (arith, length-drop r.below rows)) parts.1))
 
-laid_out_fits : (rows : List (Row code.Planned)) → IsLaidOut rows → fits_within (length rows) rows ≡ true
+laid_out_fits : (rows : List (Slot code.Planned)) → IsLaidOut rows → fits_within (length rows) rows ≡ true
 laid_out_fits rows laid_out = fits_laid (forest_of rows) None (length rows) 0 rows (omega arith) (as_they_are 0 (laid rows) ∙ laid_out)
 
 -- ---- the two answers
 
-pub rows_below : (rows from rest inner : List (Row code.Planned)) (first : Row code.Planned) (id b : ℕ) (below : Forest Planned)
+pub rows_below : (rows from rest inner : List (Slot code.Planned)) (first : Slot code.Planned) (id b : ℕ) (below : Forest Planned)
     → IsLaidOut rows → from ≡ drop (min id (length rows)) rows → from ≡ first ∷ rest → b ≡ min first.below (length rest)
     → inner ≡ take b rest → below ≡ numbered_by planned_view (id + 1) (forest_of inner)
     → Some below ≡ find_below (λ p. p.number == id) (numbered_by planned_view 0 (forest_of rows))
@@ -194,13 +194,13 @@ rows_below rows from rest inner first id b below laid_out from_is split b_is inn
     ap Some (below_is ∙ ap (λ xs. numbered_by planned_view (id + 1) (forest_of xs)) taken)
     ∙ (sym (ap (option_map (λ r. numbered_by planned_view (id + 1) (forest_of (take r.below (drop (suc id) rows))))) parts.0) ∙ sym (below_at rows id (laid_out_fits rows laid_out)))
   where
-    drop_parts : (xs : List (Row code.Planned)) (i : ℕ) (y : Row code.Planned) (ys : List (Row code.Planned)) → drop i xs ≡ y ∷ ys → (slice_get xs i ≡ Some y) × (drop (suc i) xs ≡ ys)
+    drop_parts : (xs : List (Slot code.Planned)) (i : ℕ) (y : Slot code.Planned) (ys : List (Slot code.Planned)) → drop i xs ≡ y ∷ ys → (slice_get xs i ≡ Some y) × (drop (suc i) xs ≡ ys)
     drop_parts [] zero y ys e = absurd cc
     drop_parts [] (suc i) y ys e = absurd cc
     drop_parts (x ∷ xs) zero y ys e = (cc, cc)
     drop_parts (x ∷ xs) (suc i) y ys e = drop_parts xs i y ys e
 
-pub no_rows_below : (rows from : List (Row code.Planned)) (id : ℕ) → IsLaidOut rows → from ≡ drop (min id (length rows)) rows → length from ≡ 0
+pub no_rows_below : (rows from : List (Slot code.Planned)) (id : ℕ) → IsLaidOut rows → from ≡ drop (min id (length rows)) rows → length from ≡ 0
     → None ≡ find_below (λ p. p.number == id) (numbered_by planned_view 0 (forest_of rows))
 no_rows_below rows from id laid_out from_is empty =
     let none : length rows - min id (length rows) ≡ 0 = sym (length-drop (min id (length rows)) rows) ∙ (ap length (sym from_is) ∙ empty) in

@@ -3,25 +3,21 @@ use Rattle.std.proofs.Common.{◌≡◌, ℕ, Bool, true, not, cond, ◌&&◌, �
 use Rattle.std.specs.Prelude.{option_map, unwrap_or, nat_lt}
 use Rattle.yspec.specs.linking.Keyword.{Keyword, same_keyword, leaf_word, leaf_list_word, list_word, choice_word, container_word, presence_word}
 use Rattle.yspec.specs.linking.Planned.{Planned, Plan, stated_in}
-use Rattle.yspec.specs.linking.SchemaNodes.{is_mandatory, least_of, number_in}
+use Rattle.yspec.specs.linking.SchemaNodes.{is_mandatory, min_elements_of, number_in}
 use Rattle.yspec.specs.linking.NodeBreaks.{must_be, has_mandatory, row_below, is_wrong_case}
 use Rattle.yspec.specs.schema.Schema.{Amount}
-
-pub is_some_map : {A B : Type 0} (f : A → B) (o : Option A) → is_some o ≡ is_some (option_map f o)
-is_some_map f (Some x) = refl
-is_some_map f None = refl
 
 pub unwrap_map : {A B : Type 0} (f : A → B) (o : Option A) (x : A) → f (unwrap_or o x) ≡ unwrap_or (option_map f o) (f x)
 unwrap_map f (Some y) x = refl
 unwrap_map f None x = refl
 
 abbrev pub amount_by : ℕ → Option ℕ → Amount
-amount_by least most = record { least = least; most = most }
+amount_by least most = record { min_elements = least; max_elements = most }
 
 -- by its keyword
 abbrev pub must_by : Planned → Bool → Keyword → Bool
 must_by p inside w = cond (same_keyword leaf_word w || same_keyword choice_word w) (is_mandatory p)
-    (cond (same_keyword leaf_list_word w || same_keyword list_word w) (nat_lt 0 (least_of p))
+    (cond (same_keyword leaf_list_word w || same_keyword list_word w) (nat_lt 0 (min_elements_of p))
     (same_keyword container_word w && (not (is_some (stated_in presence_word p)) && inside)))
 
 pub must_as : (p : Planned) (inside : Bool) (w : Keyword) → w ≡ p.part.source.keyword → must_by p inside w ≡ must_be p inside

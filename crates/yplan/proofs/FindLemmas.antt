@@ -9,7 +9,7 @@ use Rattle.yspec.specs.linking.Planned.{Planned}
 use Rattle.yspec.specs.linking.SchemaNodes.{number_in}
 use Rattle.yspec.specs.linking.Source.{argument_in}
 use Rattle.ypreorder.specs.Layout.{labels_by}
-use Rattle.ypreorder.specs.declared.row.Row.{Row}
+use Rattle.ypreorder.specs.declared.slot.Slot.{Slot}
 use Rattle.yindex.specs.Names.{is_at, text_in}
 use Rattle.yindex.specs.declared.keys.Among.{Among}
 use Rattle.yindex.specs.declared.keys.Among.TheVariants.{Children, Scope, DataNodes}
@@ -44,16 +44,16 @@ node_added among above m t ps p before after added was =
 
 -- ---- names
 
-pub row_names : (k : ℕ) (rows : List (Row code.Planned)) → map row_name rows ≡ map name_of (labels_by planned_view k rows)
+pub row_names : (k : ℕ) (rows : List (Slot code.Planned)) → map row_name rows ≡ map name_of (labels_by planned_view k rows)
 row_names k [] = refl
 row_names k (r ∷ rows) = ap (λ names. row_name r ∷ names) (row_names (k + 1) rows)
 
-pub count_of_names : (k : ℕ) (rows : List (Row code.Planned)) → length (map name_of (labels_by planned_view k rows)) ≡ length rows
+pub count_of_names : (k : ℕ) (rows : List (Slot code.Planned)) → length (map name_of (labels_by planned_view k rows)) ≡ length rows
 count_of_names k [] = refl
 count_of_names k (r ∷ rows) = ap suc (count_of_names (k + 1) rows)
 
 -- the name of the node of a number
-pub name_there : (rows : List (Row code.Planned)) (i : ℕ) (r : Row code.Planned) → suc i ≤ length rows → r ≡ get_or rows i r
+pub name_there : (rows : List (Slot code.Planned)) (i : ℕ) (r : Slot code.Planned) → suc i ≤ length rows → r ≡ get_or rows i r
     → text_in (map name_of (labels_by planned_view 0 rows)) i ≡ row_name r
 name_there rows i r within is =
     let inside : i < length rows = omega arith in

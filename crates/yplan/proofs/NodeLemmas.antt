@@ -8,8 +8,8 @@ use Rattle.yspec.specs.linking.Planned as spec
 use Rattle.yspec.specs.linking.Planned.{Planned, is_data, nodes_of}
 use Rattle.yspec.specs.linking.SchemaNodes.{number_in}
 use Rattle.ypreorder.specs.Layout.{labels_by}
-use Rattle.ypreorder.specs.View.{rows_in}
-use Rattle.ypreorder.specs.declared.row.Row.{Row}
+use Rattle.ypreorder.specs.View.{slots_in}
+use Rattle.ypreorder.specs.declared.slot.Slot.{Slot}
 use Rattle.yplan.specs.PlannedView.{planned_view}
 use Rattle.yplan.specs.Finding.{is_before}
 use Rattle.yplan.specs.PlanView.{view}
@@ -21,7 +21,7 @@ use Rattle.yplan.proofs.PlanLemmas.{nodes_are, node_at}
 some_same : {X : Type 0} → (x y : X) → Some x ≡ Some y → x ≡ y
 some_same x y e = ap (λ o. unwrap_or o x) e
 
-numbers_from : (test : Planned → Bool) (k : ℕ) (rows : List (Row code.Planned)) (q : Planned)
+numbers_from : (test : Planned → Bool) (k : ℕ) (rows : List (Slot code.Planned)) (q : Planned)
     → find test (labels_by planned_view k rows) ≡ Some q → k ≤ q.number
 numbers_from test k [] q e = absurd cc
 numbers_from test k (r ∷ rows) q e = by (numbers_from test (k + 1) rows q) (test (planned_view k r.label)) e
@@ -39,7 +39,7 @@ not_before None n h = refl
 not_before (Some q) n h = let behind = h q refl in grind (arith, nat_tests)
 
 -- whether one of the nodes before a number passes a test: the first that passes is one of them
-pub earlier : (test : Planned → Bool) (k i n : ℕ) (rows : List (Row code.Planned)) → n ≡ k + i
+pub earlier : (test : Planned → Bool) (k i n : ℕ) (rows : List (Slot code.Planned)) → n ≡ k + i
     → is_before (option_map number_in (find test (labels_by planned_view k rows))) n ≡ list_any test (labels_by planned_view k (take i rows))
 earlier test k zero n rows e =
     not_before (find test (labels_by planned_view k rows)) n (λ q is. let behind = numbers_from test k rows q is in omega (arith, behind))
@@ -54,7 +54,7 @@ earlier test k (suc i) n (r ∷ rows) e = by (test (planned_view k r.label)) (ea
     by true h = lt-ltb k n (omega arith)
     by false h = h
 
-found_again : (test : Planned → Bool) (k : ℕ) (rows : List (Row code.Planned)) (q : Planned)
+found_again : (test : Planned → Bool) (k : ℕ) (rows : List (Slot code.Planned)) (q : Planned)
     → find test (labels_by planned_view k rows) ≡ Some q → find (λ p. p.number == q.number) (labels_by planned_view k rows) ≡ Some q
 found_again test k [] q e = absurd cc
 found_again test k (r ∷ rows) q e = by (found_again test (k + 1) rows q) (test (planned_view k r.label)) e
@@ -81,7 +81,7 @@ found_again test k (r ∷ rows) q e = by (found_again test (k + 1) rows q) (test
 pub found_stands : (plan : Plan) (test : Planned → Bool) (q : Planned) → find test (nodes_of (view plan)) ≡ Some q → spec.node_of (view plan) q.number ≡ Some q
 found_stands plan test q e =
     ap (find (λ p. p.number == q.number)) (nodes_are plan)
-    ∙ found_again test 0 (rows_in plan.table) q (sym (ap (find test) (nodes_are plan)) ∙ e)
+    ∙ found_again test 0 (slots_in plan.table) q (sym (ap (find test) (nodes_are plan)) ∙ e)
 
 pub by_number : (plan : Plan) (test : Planned → Bool) (n : ℕ) (found : Option Planned) → found ≡ find test (nodes_of (view plan))
     → Some n ≡ option_map number_in found → spec.node_of (view plan) n ≡ found
@@ -103,8 +103,8 @@ find-filter kept test (x ∷ xs) = by (kept x) (find-filter kept test xs)
 pub stands_at : (p : Plan) (n : ℕ) → spec.node_of (view p) n ≡ slice_get (nodes_of (view p)) n
 stands_at p n =
     let none : 0 + n ≡ n = omega arith in
-    node_at p n ∙ (ap (λ m. option_map (λ r. planned_view m r.label) (slice_get (rows_in p.table) n)) (sym none)
-    ∙ (sym (label_at planned_view 0 (rows_in p.table) n) ∙ ap (λ nodes. slice_get nodes n) (sym (nodes_are p))))
+    node_at p n ∙ (ap (λ m. option_map (λ r. planned_view m r.label) (slice_get (slots_in p.table) n)) (sym none)
+    ∙ (sym (label_at planned_view 0 (slots_in p.table) n) ∙ ap (λ nodes. slice_get nodes n) (sym (nodes_are p))))
 
 pub drop_some : {X : Type 0} (xs : List X) (n : ℕ) (x : X) → slice_get xs n ≡ Some x → drop n xs ≡ x ∷ drop (n + 1) xs
 drop_some [] zero x e = absurd cc
@@ -136,8 +136,8 @@ first_from p n q e = drop_some (nodes_of (view p)) n q (sym (stands_at p n) ∙ 
 pub none_from : (p : Plan) (n : ℕ) → None ≡ spec.node_of (view p) n → drop n (nodes_of (view p)) ≡ []
 none_from p n e = drop_none (nodes_of (view p)) n (sym (stands_at p n) ∙ sym e)
 
-pub is_within : (p : Plan) (n : ℕ) (q : Planned) → Some q ≡ spec.node_of (view p) n → suc n ≤ length (rows_in p.table)
+pub is_within : (p : Plan) (n : ℕ) (q : Planned) → Some q ≡ spec.node_of (view p) n → suc n ≤ length (slots_in p.table)
 is_within p n q e =
     let here = within_some (nodes_of (view p)) n q (sym (stands_at p n) ∙ sym e) in
-    let count : length (nodes_of (view p)) ≡ length (rows_in p.table) = ap length (nodes_are p) ∙ length-labels planned_view 0 (rows_in p.table) in
+    let count : length (nodes_of (view p)) ≡ length (slots_in p.table) = ap length (nodes_are p) ∙ length-labels planned_view 0 (slots_in p.table) in
     omega (arith, here, count)

@@ -3,13 +3,13 @@ use Rattle.std.proofs.Common.{◌≡◌, true, false, cond, ◌∷◌, Some, ap,
 use Rattle.yspec.specs.linking.Keyword.{Keyword}
 use Rattle.yspec.specs.linking.Source.{all_with, is_source_of}
 use Rattle.ypreorder.specs.View.{TakesFirst, row_by, label_by}
-use Rattle.ypreorder.specs.declared.nodes.Node.{Node}
-use Rattle.ypreorder.specs.declared.nodes.Nodes.{Nodes}
+use Rattle.ypreorder.specs.declared.siblings.Node.{Node}
+use Rattle.ypreorder.specs.declared.siblings.Siblings.{Siblings}
 use Rattle.ypreorder.proofs.RowLemmas.{takes_by}
 use Rattle.ygrammar.specs.SourceView.{source_view}
 use Rattle.ygrammar.specs.declared.source.Source.{Source}
 
-module _ (k : Keyword) (before after : Nodes Source) (n : Node Source) (taken : TakesFirst before (Some n) after) where
+module _ (k : Keyword) (before after : Siblings Source) (n : Node Source) (taken : TakesFirst before (Some n) after) where
   pub one_found : is_source_of k (label_by source_view n) ≡ true
       → all_with k (row_by source_view before) ≡ label_by source_view n ∷ all_with k (row_by source_view after)
   one_found e =

@@ -11,7 +11,7 @@ use Rattle.yspec.specs.linking.Parts.{Part, defines_node, own_of, part_of, parts
 use Rattle.yspec.specs.linking.Planned as plan
 use Rattle.yspec.specs.linking.Planned.{Around, around_below, planned_node, planned}
 use Rattle.ypreorder.specs.Layout.{Place, places, laid, opened, closed}
-use Rattle.ypreorder.specs.View.{rows_in}
+use Rattle.ypreorder.specs.View.{slots_in}
 use Rattle.ypreorder.specs.declared.table.Table.{Table}
 use Rattle.ypreorder.proofs.LayoutLemmas.{length-places, places-join, length-laid, length-seen, grown}
 use Rattle.yplan.specs.declared.planned.Planned.{Planned}
@@ -94,16 +94,6 @@ own-all k other = own-same k other (all_with k) (λ s below rest. s ∷ rest) (�
 pub own-argument : (k : Keyword) → defines_node k ≡ false → (f : Forest spec.Source) → argument_with k (own_of f) ≡ argument_with k f
 own-argument k other f =
     ap (option_map argument_in) (own-same k other (first_with k) (λ s below rest. Some s) (λ s below after. refl) f)
-
--- the first of a row, without what stands below it
-pub first_found : (k : Keyword) (f : Forest spec.Source) → option_map (λ s. s.0) (found_with k f) ≡ first_with k f
-first_found k end = refl
-first_found k (node s below after) = by (is_source_of k s) (first_found k after)
-  where
-    by : (b : Bool) → option_map (λ s. s.0) (found_with k after) ≡ first_with k after
-        → option_map (λ s. s.0) (cond b (Some (s, below)) (found_with k after)) ≡ cond b (Some s) (first_with k after)
-    by true h = refl
-    by false h = h
 
 -- ---- one after another
 
@@ -203,43 +193,43 @@ unfolding planned
 listed-none k a = refl
 
 pub length_added : (old new : Table Planned) (more : List (Place plan.Planned)) → seen_rows new ≡ seen_rows old ++ more
-    → length (rows_in new) ≡ length (rows_in old) + length more
+    → length (slots_in new) ≡ length (slots_in old) + length more
 length_added old new more added =
     let whole = ap length added ∙ length-append (seen_rows old) more in
-    omega (arith, whole, length-seen planned_view 0 (laid (rows_in new)), length-laid (rows_in new), length-seen planned_view 0 (laid (rows_in old)), length-laid (rows_in old))
+    omega (arith, whole, length-seen planned_view 0 (laid (slots_in new)), length-laid (slots_in new), length-seen planned_view 0 (laid (slots_in old)), length-laid (slots_in old))
 
 -- some are added, and others follow
 pub then_others : (old new : Table Planned) (a : Around) (f g : Forest Part) (whole : List (Place plan.Planned))
-    → seen_rows new ≡ seen_rows old ++ listed (length (rows_in old)) a f
-    → seen_rows old ++ listed (length (rows_in old)) a (join f g) ≡ whole
-    → seen_rows new ++ listed (length (rows_in new)) a g ≡ whole
+    → seen_rows new ≡ seen_rows old ++ listed (length (slots_in old)) a f
+    → seen_rows old ++ listed (length (slots_in old)) a (join f g) ≡ whole
+    → seen_rows new ++ listed (length (slots_in new)) a g ≡ whole
 then_others old new a f g whole added so =
-    let k = length (rows_in old) in
-    let count : length (rows_in new) ≡ k + size f = length_added old new (listed k a f) added
+    let k = length (slots_in old) in
+    let count : length (slots_in new) ≡ k + size f = length_added old new (listed k a f) added
     ∙ ap (λ n. k + n) (length-places a.parent k (planned k a f) ∙ size-planned k a f) in
     ap₂ (λ ps n. ps ++ listed n a g) added count
     ∙ (append_assoc (seen_rows old) (listed k a f) (listed (k + size f) a g)
     ∙ (ap (λ rest. seen_rows old ++ rest) (sym (listed-join k a f g)) ∙ so))
 
 pub nothing_added : (old : Table Planned) (a : Around) (f : Forest Part) → f ≡ end
-    → seen_rows old ≡ seen_rows old ++ listed (length (rows_in old)) a f
+    → seen_rows old ≡ seen_rows old ++ listed (length (slots_in old)) a f
 nothing_added old a f none =
-    sym (ap (λ g. seen_rows old ++ listed (length (rows_in old)) a g) none
-    ∙ (ap (λ ps. seen_rows old ++ ps) (listed-none (length (rows_in old)) a) ∙ append-nil (seen_rows old)))
+    sym (ap (λ g. seen_rows old ++ listed (length (slots_in old)) a g) none
+    ∙ (ap (λ ps. seen_rows old ++ ps) (listed-none (length (slots_in old)) a) ∙ append-nil (seen_rows old)))
 
 -- a node is opened, all below it is added, and it is closed
 pub added : (old mid full new : Table Planned) (l : Planned) (n : ℕ) (a inside : Around) (x : Part) (f : Forest Part)
-    → laid (rows_in mid) ≡ laid (rows_in old) ++ opened a.parent l ∷ [] → n ≡ length (rows_in old)
+    → laid (slots_in mid) ≡ laid (slots_in old) ++ opened a.parent l ∷ [] → n ≡ length (slots_in old)
     → inside ≡ around_below n a x
-    → seen_rows full ≡ seen_rows mid ++ listed (length (rows_in mid)) inside f
-    → laid (rows_in new) ≡ closed n (laid (rows_in full))
-    → planned_view (length (rows_in old)) l ≡ planned_node (length (rows_in old)) a x
-    → seen_rows new ≡ seen_rows old ++ listed (length (rows_in old)) a (node x f end)
+    → seen_rows full ≡ seen_rows mid ++ listed (length (slots_in mid)) inside f
+    → laid (slots_in new) ≡ closed n (laid (slots_in full))
+    → planned_view (length (slots_in old)) l ≡ planned_node (length (slots_in old)) a x
+    → seen_rows new ≡ seen_rows old ++ listed (length (slots_in old)) a (node x f end)
 added old mid full new l n a inside x f mid_is n_is inside_is full_is new_is label_is =
-    let k = length (rows_in old) in
-    let next : length (rows_in mid) ≡ k + 1 = sym (length-laid (rows_in mid)) ∙ (ap length mid_is ∙ (length-append (laid (rows_in old)) (opened a.parent l ∷ []) ∙ omega (arith, length-laid (rows_in old)))) in
-    let m = length (rows_in mid) in
-    grown planned_view (rows_in old) (rows_in mid) (rows_in full) (rows_in new) a.parent l n (planned m (around_below n a x) f) mid_is n_is
+    let k = length (slots_in old) in
+    let next : length (slots_in mid) ≡ k + 1 = sym (length-laid (slots_in mid)) ∙ (ap length mid_is ∙ (length-append (laid (slots_in old)) (opened a.parent l ∷ []) ∙ omega (arith, length-laid (slots_in old)))) in
+    let m = length (slots_in mid) in
+    grown planned_view (slots_in old) (slots_in mid) (slots_in full) (slots_in new) a.parent l n (planned m (around_below n a x) f) mid_is n_is
     (full_is ∙ ap (λ b. seen_rows mid ++ listed m b f) inside_is) new_is
     ∙ ap (λ ps. seen_rows old ++ ps)
     (ap₂ (λ y i. record { parent = a.parent; label = y; below = i } ∷ places (Some n) (n + 1) (planned m (around_below n a x) f)) label_is (size-planned m (around_below n a x) f)
@@ -249,16 +239,16 @@ added old mid full new l n a inside x f mid_is n_is inside_is full_is new_is lab
 -- one more statement of a row
 pub next_statement : (old new : Table Planned) (a : Around) (c : Bool) (s : spec.Source) (below after row : Forest spec.Source) (whole : List (Place plan.Planned))
     → row ≡ node s below after
-    → seen_rows new ≡ seen_rows old ++ listed (length (rows_in old)) a (chosen c (parts (node s below end)))
-    → seen_rows old ++ listed (length (rows_in old)) a (chosen c (parts row)) ≡ whole
-    → seen_rows new ++ listed (length (rows_in new)) a (chosen c (parts after)) ≡ whole
+    → seen_rows new ≡ seen_rows old ++ listed (length (slots_in old)) a (chosen c (parts (node s below end)))
+    → seen_rows old ++ listed (length (slots_in old)) a (chosen c (parts row)) ≡ whole
+    → seen_rows new ++ listed (length (slots_in new)) a (chosen c (parts after)) ≡ whole
 next_statement old new a c s below after row whole is added so =
     then_others old new a (chosen c (parts (node s below end))) (chosen c (parts after)) whole added
-    (ap (λ f. seen_rows old ++ listed (length (rows_in old)) a f) (sym (ap (λ r. chosen c (parts r)) is ∙ chosen-first c s below after)) ∙ so)
+    (ap (λ f. seen_rows old ++ listed (length (slots_in old)) a f) (sym (ap (λ r. chosen c (parts r)) is ∙ chosen-first c s below after)) ∙ so)
 
 -- none is left
 pub all_added : (rows : Table Planned) (a : Around) (c : Bool) (f : Forest spec.Source) (whole : List (Place plan.Planned)) → f ≡ end
-    → seen_rows rows ++ listed (length (rows_in rows)) a (chosen c (parts f)) ≡ whole → seen_rows rows ≡ whole
+    → seen_rows rows ++ listed (length (slots_in rows)) a (chosen c (parts f)) ≡ whole → seen_rows rows ≡ whole
 unfolding parts
 all_added rows a true f whole none so = nothing_added rows a (as_cases (parts f)) (ap (λ g. as_cases (parts g)) none) ∙ so
 all_added rows a false f whole none so = nothing_added rows a (parts f) (ap parts none) ∙ so

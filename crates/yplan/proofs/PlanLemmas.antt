@@ -12,8 +12,8 @@ use Rattle.yspec.specs.linking.Planned.{Planned, same_number, is_called, is_data
 use Rattle.yspec.specs.linking.SchemaNodes.{number_in}
 use Rattle.yspec.specs.linking.NodeBreaks.{broken_at, is_like, doubled}
 use Rattle.ypreorder.specs.Layout.{labels_by}
-use Rattle.ypreorder.specs.View.{rows_in}
-use Rattle.ypreorder.specs.declared.row.Row.{Row}
+use Rattle.ypreorder.specs.View.{slots_in}
+use Rattle.ypreorder.specs.declared.slot.Slot.{Slot}
 use Rattle.ypreorder.proofs.LabelLemmas.{label_at, preorder_by}
 use Rattle.yindex.specs.Index.{found, texts_of}
 use Rattle.yindex.specs.Names.{text_in}
@@ -25,7 +25,7 @@ use Rattle.yplan.specs.declared.plan.Plan.{Plan}
 use Rattle.yplan.specs.declared.planned.Planned as code
 
 pub nodes_are : (p : Plan) → nodes_of (view p) ≡ list_of p.table
-nodes_are p = preorder_by planned_view (rows_in p.table)
+nodes_are p = preorder_by planned_view (slots_in p.table)
 
 -- a name whose prefix names no module is no node's
 pub nameless : (above : Planned → Option ℕ) (n : Option ℕ) (t : Text) (nodes : List Planned)
@@ -41,7 +41,7 @@ nameless above n t (p ∷ ps) = by (same_number n (above p)) (nameless above n t
     by false h = h
 
 -- each node stands at its number
-numbered_at : (k j n : ℕ) (rows : List (Row code.Planned)) → n ≡ k + j
+numbered_at : (k j n : ℕ) (rows : List (Slot code.Planned)) → n ≡ k + j
     → find (λ p. p.number == n) (labels_by planned_view k rows) ≡ option_map (λ r. planned_view n r.label) (slice_get rows j)
 numbered_at k j n [] e = refl
 numbered_at k zero n (r ∷ rows) e =
@@ -53,12 +53,12 @@ numbered_at k (suc j) n (r ∷ rows) e =
     ap (λ b. cond b (Some (planned_view k r.label)) (find (λ p. p.number == n) (labels_by planned_view (k + 1) rows))) (ne_eqb k n other)
     ∙ numbered_at (k + 1) j n rows (omega arith)
 
-pub node_at : (p : Plan) (n : ℕ) → spec.node_of (view p) n ≡ option_map (λ r. planned_view n r.label) (slice_get (rows_in p.table) n)
-node_at p n = ap (find (λ q. q.number == n)) (nodes_are p) ∙ numbered_at 0 n n (rows_in p.table) (omega arith)
+pub node_at : (p : Plan) (n : ℕ) → spec.node_of (view p) n ≡ option_map (λ r. planned_view n r.label) (slice_get (slots_in p.table) n)
+node_at p n = ap (find (λ q. q.number == n)) (nodes_are p) ∙ numbered_at 0 n n (slots_in p.table) (omega arith)
 
 -- ---- names that come twice
 
-labels_after : (k : ℕ) (rows : List (Row code.Planned)) (i : ℕ) (r : Row code.Planned) → suc i ≤ length rows → r ≡ get_or rows i r
+labels_after : (k : ℕ) (rows : List (Slot code.Planned)) (i : ℕ) (r : Slot code.Planned) → suc i ≤ length rows → r ≡ get_or rows i r
     → labels_by planned_view (k + i) (drop i rows) ≡ planned_view (k + i) r.label ∷ labels_by planned_view (k + suc i) (drop (suc i) rows)
 labels_after k [] i r within is = absurd (omega arith)
 labels_after k (x ∷ rows) zero r within is =
@@ -71,7 +71,7 @@ labels_after k (x ∷ rows) (suc i) r within is =
     ∙ (labels_after (k + 1) rows i r (omega arith) is
     ∙ ap₂ (λ m n. planned_view m r.label ∷ labels_by planned_view n (drop (suc i) rows)) (sym here) next)
 
-pub labels_from : (rows : List (Row code.Planned)) (i : ℕ) (r : Row code.Planned) → suc i ≤ length rows → r ≡ get_or rows i r
+pub labels_from : (rows : List (Slot code.Planned)) (i : ℕ) (r : Slot code.Planned) → suc i ≤ length rows → r ≡ get_or rows i r
     → labels_by planned_view i (drop i rows) ≡ planned_view i r.label ∷ labels_by planned_view (i + 1) (drop (i + 1) rows)
 labels_from rows i r within is =
     let here : 0 + i ≡ i = omega arith in
@@ -97,7 +97,7 @@ drop_past (x ∷ xs) zero past = absurd (omega arith)
 drop_past (x ∷ xs) (suc i) past = drop_past xs i (omega arith)
 
 -- the node of a row stands at its number
-pub row_stands : (plan : Plan) (rows : List (Row code.Planned)) (i : ℕ) (r : Row code.Planned) → rows ≡ rows_in plan.table → i < length rows → r ≡ get_or rows i r
+pub row_stands : (plan : Plan) (rows : List (Slot code.Planned)) (i : ℕ) (r : Slot code.Planned) → rows ≡ slots_in plan.table → i < length rows → r ≡ get_or rows i r
     → slice_get (nodes_of (view plan)) i ≡ Some (planned_view i r.label)
 row_stands plan rows i r are within is =
     let from_start : 0 + i ≡ i = omega arith in

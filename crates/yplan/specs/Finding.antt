@@ -4,8 +4,8 @@ use Rattle.yspec.specs.text.Text.{Text}
 use Rattle.yspec.specs.linking.Source.{argument_in}
 use Rattle.yspec.specs.linking.Planned.{Planned, is_data, same_number, is_called}
 use Rattle.ypreorder.specs.Layout.{labels_by}
-use Rattle.ypreorder.specs.View.{rows_in}
-use Rattle.ypreorder.specs.declared.row.Row.{Row}
+use Rattle.ypreorder.specs.View.{slots_in}
+use Rattle.ypreorder.specs.declared.slot.Slot.{Slot}
 use Rattle.ypreorder.specs.declared.table.Table.{Table}
 use Rattle.yindex.specs.declared.keys.Among.{Among}
 use Rattle.yindex.specs.declared.keys.Among.TheVariants.{Children, Scope, DataNodes}
@@ -15,13 +15,13 @@ use Rattle.yplan.specs.declared.planned.Planned as code
 
 -- the nodes of a table, by number
 abbrev pub list_of : Table code.Planned → List Planned
-list_of t = labels_by planned_view 0 (rows_in t)
+list_of t = labels_by planned_view 0 (slots_in t)
 
 -- the name of a node
 abbrev pub name_of : Planned → Text
 name_of p = argument_in p.part.source
 
-abbrev pub row_name : Row code.Planned → Text
+abbrev pub row_name : Slot code.Planned → Text
 row_name r = argument_in (part_at r.label).source
 
 -- the node below which one is looked for

@@ -4,14 +4,14 @@ use Rattle.std.specs.Option.{option_map_or}
 use Rattle.yspec.specs.Forest.{Forest, end}
 use Rattle.yspec.specs.linking.Source.{Source, all_with}
 use Rattle.ypreorder.specs.View.{row_by}
-use Rattle.ypreorder.specs.declared.nodes.Nodes.{Nodes}
+use Rattle.ypreorder.specs.declared.siblings.Siblings.{Siblings}
 use Rattle.yword.specs.KeywordView.{keyword_view}
 use Rattle.ygrammar.specs.SourceView.{source_view}
 use Rattle.ygrammar.specs.declared.source.Source as code
 use Rattle.yplan.specs.declared.own.OwnStatements.{OwnStatements}
 
 -- a row of statements that may not be there
-abbrev pub row_in : Option (Nodes code.Source) → Forest Source
+abbrev pub row_in : Option (Siblings code.Source) → Forest Source
 row_in statements = option_map_or (row_by source_view) statements end
 
 -- those of a keyword that are left

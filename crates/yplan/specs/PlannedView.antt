@@ -6,7 +6,7 @@ use Rattle.yspec.specs.linking.Keyword as words
 use Rattle.yspec.specs.linking.Planned as spec
 use Rattle.yspec.specs.linking.Planned.{planned}
 use Rattle.ypreorder.specs.Layout.{Place, places, laid, seen}
-use Rattle.ypreorder.specs.View.{rows_in, row_by, label_by}
+use Rattle.ypreorder.specs.View.{slots_in, row_by, label_by}
 use Rattle.ypreorder.specs.declared.table.Table.{Table}
 use Rattle.ygrammar.specs.SourceView.{source_view}
 use Rattle.yplan.specs.declared.planned.Planned.{Planned}
@@ -34,7 +34,7 @@ abbrev pub around_view : Around → spec.Around
 around_view a = record { parent = a.parent; data_parent = a.data_parent; scope = a.scope; config = a.config }
 
 abbrev pub seen_rows : Table Planned → List (Place spec.Planned)
-seen_rows t = seen planned_view 0 (laid (rows_in t))
+seen_rows t = seen planned_view 0 (laid (slots_in t))
 
 -- how the nodes of parts lie below what stands around them, from a number on
 abbrev pub listed : ℕ → spec.Around → Forest Part → List (Place spec.Planned)

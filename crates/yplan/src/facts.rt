@@ -10,9 +10,9 @@ ghost use Rattle.yplan.specs.PlannedView.{planned_view};
 use crate::plan::Plan;
 use crate::planned::Planned;
 use std::alloc::{AllocError, Global};
-use ygrammar::{argument_of, count, most};
+use ygrammar::{argument_of, count, max_elements};
 use ymodel::Amount;
-use ypreorder::{Node, Nodes};
+use ypreorder::{Node, Siblings};
 use yword::{Keyword, Status, status_of};
 
 impl<'a, 't> Planned<'a, 't> {
@@ -34,8 +34,8 @@ impl<'a, 't> Planned<'a, 't> {
     }
 
     /// How many instances there are at least.
-    pub fn least(&self) -> u32
-        ensures { (number : _) → result ≡ spec.least_of (planned_view number self.now) }
+    pub fn min_elements(&self) -> u32
+        ensures { (number : _) → result ≡ spec.min_elements_of (planned_view number self.now) }
     {
         match self.own_argument(Keyword::MinElements) {
             Some(text) => count(text).unwrap_or(0),
@@ -44,11 +44,12 @@ impl<'a, 't> Planned<'a, 't> {
     }
 
     /// How many instances there are at most.
-    fn most(&self) -> Option<u32>
-        ensures { (number : _) → result ≡ (spec.amount_of (planned_view number self.now)).most }
+    fn max_elements(&self) -> Option<u32>
+        ensures { (number : _) → result
+            ≡ (spec.amount_of (planned_view number self.now)).max_elements }
     {
         match self.own_argument(Keyword::MaxElements) {
-            Some(text) => most(text).unwrap_or(None),
+            Some(text) => max_elements(text).unwrap_or(None),
             None => None,
         }
     }
@@ -59,8 +60,8 @@ impl<'a, 't> Planned<'a, 't> {
             ≡ spec.amount_of (planned_view number self.now) }
     {
         Amount {
-            least: self.least(),
-            most: self.most(),
+            min_elements: self.min_elements(),
+            max_elements: self.max_elements(),
         }
     }
 
@@ -96,7 +97,7 @@ impl<'a, 't> Planned<'a, 't> {
 
 /// Whether a row has a node that must be stored.
 #[cycle(mandatory)]
-pub(crate) fn has_mandatory(nodes: Nodes<'_, Planned<'_, '_>>) -> bool
+pub(crate) fn has_mandatory(nodes: Siblings<'_, Planned<'_, '_>>) -> bool
     ensures { result ≡ breaks.has_mandatory (row_by planned_view nodes.entry) }
 {
     for node in nodes {
@@ -116,8 +117,8 @@ fn must_be(node: Node<'_, Planned<'_, '_>>) -> bool
     let planned = node.label();
     match planned.keyword() {
         Keyword::Leaf => planned.is_mandatory(),
-        Keyword::LeafList => planned.least() > 0,
-        Keyword::List => planned.least() > 0,
+        Keyword::LeafList => planned.min_elements() > 0,
+        Keyword::List => planned.min_elements() > 0,
         Keyword::Choice => planned.is_mandatory(),
         Keyword::Container => !planned.has_presence() && has_mandatory(node.children()),
         _ => false,

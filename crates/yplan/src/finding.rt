@@ -9,7 +9,7 @@ ghost use Rattle.yindex.specs.Index.{found, texts_of};
 use crate::planned::Planned;
 use std::alloc::{AllocError, Global};
 use yindex::{IndexedNode, NodeIndex};
-use ypreorder::{Row, Table};
+use ypreorder::{Slot, Table};
 
 /// A planned node as it is found.
 fn indexed_node(planned: &Planned<'_, '_>, number: u32) -> IndexedNode
@@ -25,7 +25,7 @@ fn indexed_node(planned: &Planned<'_, '_>, number: u32) -> IndexedNode
 }
 
 /// The names of nodes, in their order.
-fn names_of<'t>(alloc: Global, rows: &[Row<Planned<'_, 't>>]) -> Result<Vec<&'t str>, AllocError>
+fn names_of<'t>(alloc: Global, rows: &[Slot<Planned<'_, 't>>]) -> Result<Vec<&'t str>, AllocError>
     ensures { IfOk result (λ names. map (λ t. t.now) names.items ≡ map row_name rows.now) }
 {
     let mut names = Vec::with_capacity(alloc, rows.len())?;
@@ -45,9 +45,9 @@ pub(crate) fn index_of<'t>(
         → found index among above m name ≡ option_map number_in
         (find (is_found among above m name) (list_of table.now))) }
 {
-    let names = names_of(alloc, table.rows())?;
+    let names = names_of(alloc, table.slots())?;
     let mut index = NodeIndex::of(alloc, names)?;
-    for (number, row) in table.rows().iter().enumerate() {
+    for (number, row) in table.slots().iter().enumerate() {
         index.add(indexed_node(&row.label, number as u32))?;
     }
     Ok(index)

@@ -5,10 +5,10 @@ ghost use Rattle.yspec.specs.Forest.{levels};
 ghost use Rattle.ypreorder.specs.View.{row_view};
 
 use crate::planned::Planned;
-use ypreorder::Nodes;
+use ypreorder::Siblings;
 
 /// How many levels of nodes a row has, its own among them.
-pub(crate) fn levels_of(nodes: Nodes<'_, Planned<'_, '_>>) -> usize
+pub(crate) fn levels_of(nodes: Siblings<'_, Planned<'_, '_>>) -> usize
     ensures { result ≡ levels (row_view nodes.entry) }
 {
     let mut deepest = 0;

@@ -14,7 +14,7 @@ pub fn broken_name_rule(plan: &Plan<'_, '_>) -> Option<BrokenRule>
     ensures { seen result ≡ least_from None (name_breaks (view plan.now)) }
 {
     let mut told = None;
-    for (number, row) in plan.rows().iter().enumerate() {
+    for (number, row) in plan.slots().iter().enumerate() {
         let planned = &row.label;
         let is_repeated = plan.is_repeated(number as u32, planned);
         told = least_when(is_repeated, told, planned.broken(CompileCode::C13));

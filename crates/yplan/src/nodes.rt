@@ -18,7 +18,7 @@ pub struct PlanNodes<'p, 'a, 't> {
     plan: &'p Plan<'a, 't>,
     // The number of the first of those that are left.
     number: u32,
-    ghost numbered: { number ≤ vec_len plan.now.table.rows },
+    ghost numbered: { number ≤ vec_len plan.now.table.slots },
 }
 
 impl<'p, 'a, 't> PlanNodes<'p, 'a, 't> {
@@ -44,7 +44,7 @@ impl<'p, 'a, 't> Iterator for PlanNodes<'p, 'a, 't> {
 
     ghost next_gives = { TakesNode };
 
-    ghost remaining = { λ c. at_most (vec_len c.plan.now.table.rows - c.number) };
+    ghost remaining = { λ c. at_most (vec_len c.plan.now.table.slots - c.number) };
 
     fn next(&mut self) -> Option<PlanNode<'a, 't>> {
         let node = self.plan.at(self.number)?;

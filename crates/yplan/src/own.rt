@@ -1,7 +1,7 @@
 //! The own statements of planned nodes, one after another.
 
 use ygrammar::Source;
-use ypreorder::{Node, Nodes};
+use ypreorder::{Node, Siblings};
 use yword::Keyword;
 
 /// The statements of a row, where there is one, that have a keyword, in order.
@@ -9,7 +9,7 @@ use yword::Keyword;
 pub struct OwnStatements<'a, 't> {
     keyword: Keyword,
     // Those that are left, others among them.
-    statements: Option<Nodes<'a, Source<'t>>>,
+    statements: Option<Siblings<'a, Source<'t>>>,
 }
 
 impl<'a, 't> OwnStatements<'a, 't> {
@@ -21,7 +21,7 @@ impl<'a, 't> OwnStatements<'a, 't> {
     /// Those of a row.
     pub(crate) fn new(
         keyword: Keyword,
-        statements: Option<Nodes<'a, Source<'t>>>,
+        statements: Option<Siblings<'a, Source<'t>>>,
     ) -> OwnStatements<'a, 't>
         ensures { left result ≡ all_with (keyword_view keyword) (row_in statements.entry) }
     {

@@ -4,7 +4,7 @@ ghost use Rattle.std.specs.Prelude.{◌≡◌, ℕ, find, map, option_map};
 ghost use Rattle.yspec.specs.linking.SchemaNodes.{number_in};
 ghost use Rattle.yindex.specs.Index.{found, texts_of};
 ghost use Rattle.ypreorder.specs.Layout.{IsLaidOut};
-ghost use Rattle.ypreorder.specs.View.{rows_in};
+ghost use Rattle.ypreorder.specs.View.{slots_in};
 ghost use Rattle.yplan.specs.Finding.{is_found, list_of, name_of};
 ghost use Rattle.ygrammar.specs.LinkView as link;
 ghost use Rattle.ynames.specs.PrefixView.{IsOf};
@@ -18,7 +18,7 @@ use std::alloc::{AllocError, Global};
 use ygrammar::{Name, Sources};
 use yindex::{Among, Names, NodeIndex};
 use ynames::{NodeName, Prefixes};
-use ypreorder::{Nodes, Row, Table};
+use ypreorder::{Siblings, Slot, Table};
 use yword::Keyword;
 
 /// The schema nodes that a set of modules defines, in order of definition, and how they are found by name.
@@ -30,7 +30,7 @@ pub struct Plan<'a, 't> {
     // Its nodes by their names, below those right above them and below those where they share them.
     index: NodeIndex<'t>,
     ghost prefixed: { IsOf prefixes.now (link.view sources.now) },
-    ghost laid_out: { IsLaidOut (rows_in table) },
+    ghost laid_out: { IsLaidOut (slots_in table) },
     ghost named: { texts_of index ≡ map name_of (list_of table) },
     ghost indexed: { (among : _) → (above : _) → (m : ℕ) → (name : _)
         → found index among above m name ≡ option_map number_in
@@ -77,11 +77,11 @@ impl<'a, 't> Plan<'a, 't> {
     }
 
     /// Its nodes, by number.
-    pub fn rows(&self) -> &[Row<Planned<'a, 't>>]
-        ensures rows { result.now ≡ rows_in self.now.table }
+    pub fn slots(&self) -> &[Slot<Planned<'a, 't>>]
+        ensures rows { result.now ≡ slots_in self.now.table }
         ensures nodes { labels_by planned_view 0 result.now ≡ spec.nodes_of (view self.now) }
     {
-        self.table.rows()
+        self.table.slots()
     }
 
     /// The statements of which it is the plan.
@@ -198,7 +198,7 @@ impl<'a, 't> Plan<'a, 't> {
         ensures { option_map (λ p. planned_view number p.now) result
             ≡ spec.node_of (view self.now) number }
     {
-        match self.table.rows().get(number as usize) {
+        match self.table.slots().get(number as usize) {
             Some(row) => Some(&row.label),
             None => None,
         }
@@ -215,7 +215,7 @@ impl<'a, 't> Plan<'a, 't> {
     pub fn levels(&self) -> usize
         ensures { result ≡ levels (view self.now).nodes }
     {
-        levels_of(self.table.nodes())
+        levels_of(self.table.roots())
     }
 
     /// The case of a choice that is its default, by its number (RFC 7950, 7.9.3).
@@ -230,17 +230,17 @@ impl<'a, 't> Plan<'a, 't> {
     }
 
     /// The nodes right below one; none below a number that no node has.
-    pub(crate) fn row_below(&self, number: u32) -> Nodes<'_, Planned<'a, 't>>
+    pub(crate) fn row_below(&self, number: u32) -> Siblings<'_, Planned<'a, 't>>
         ensures { row_by planned_view result ≡ row_below (view self.now) number }
     {
-        let rows = self.table.rows();
+        let rows = self.table.slots();
         let (_, from) = rows.split_at((number as usize).min(rows.len()));
         match from.split_first() {
             Some((first, rest)) => {
                 let (below, _) = rest.split_at(first.below.min(rest.len()));
-                Nodes::new(below, number + 1)
+                Siblings::new(below, number + 1)
             }
-            None => Nodes::new(from, 0),
+            None => Siblings::new(from, 0),
         }
     }
 

@@ -2,7 +2,7 @@
 
 use crate::own::OwnStatements;
 use ygrammar::{BrokenRule, CompileCode, Source, argument_of, argument_with, broken, found_with};
-use ypreorder::{Node, Nodes};
+use ypreorder::{Node, Siblings};
 use yword::Keyword;
 
 /// A schema node that a statement defines, or the case that a single node of a choice stands for (RFC 7950, 7.9.2).
@@ -60,7 +60,7 @@ impl<'a, 't> Planned<'a, 't> {
     }
 
     /// The row in which its own statements stand, besides those that define nodes; a case that is implied has none.
-    fn own(&self) -> Option<Nodes<'a, Source<'t>>>
+    fn own(&self) -> Option<Siblings<'a, Source<'t>>>
         ensures { own_of (row_in result) ≡ (part_at self.now).own }
     {
         if self.is_implied {
@@ -98,7 +98,7 @@ impl<'a, 't> Planned<'a, 't> {
         }
     }
 
-    /// The module to which it belongs, by its place in the set.
+    /// The module to which it belongs, by its number in the set.
     pub fn owner(&self) -> usize
         ensures { result ≡ (part_at self.now).owner }
     {

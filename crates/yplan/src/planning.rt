@@ -4,7 +4,7 @@ ghost use Rattle.std.specs.Prelude.{◌≡◌, ◌++◌, IfOk, OnOk, length, if�
 ghost use Rattle.yspec.specs.Forest.{end, node};
 ghost use Rattle.yspec.specs.linking.Parts.{Part, part_of, parts, parts_of_modules, as_cases, case_for, within};
 ghost use Rattle.yspec.specs.linking.Planned as spec;
-ghost use Rattle.ypreorder.specs.View.{rows_in, row_by, label_by};
+ghost use Rattle.ypreorder.specs.View.{slots_in, row_by, label_by};
 ghost use Rattle.ygrammar.specs.LinkView as link;
 ghost use Rattle.yword.specs.KeywordView.{keyword_view};
 ghost use Rattle.ygrammar.specs.SourceView.{source_view};
@@ -13,7 +13,7 @@ ghost use Rattle.yplan.specs.PlannedView.{seen_rows, listed, around_view, shown_
 use crate::planned::{Around, Planned};
 use std::alloc::{AllocError, Global};
 use ygrammar::{Source, Sources};
-use ypreorder::{Node, Nodes, Table};
+use ypreorder::{Node, Siblings, Table};
 use yword::Keyword;
 
 /// The nodes of all modules, in order of definition.
@@ -70,11 +70,11 @@ fn add_nodes<'a, 't>(
     table: &mut Table<Planned<'a, 't>>,
     around: Around,
     in_choice: bool,
-    statements: Nodes<'a, Source<'t>>,
+    statements: Siblings<'a, Source<'t>>,
 ) -> Result<(), AllocError>
     ensures { let nodes = parts (row_by source_view statements.entry) in
         OnOk result (seen_rows table.new ≡ seen_rows table.old
-        ++ listed (length (rows_in table.old)) (around_view around)
+        ++ listed (length (slots_in table.old)) (around_view around)
         (if in_choice then as_cases nodes else nodes)) }
 {
     for statement in statements {
@@ -95,7 +95,7 @@ fn add_statement<'a, 't>(
         let below = row_by source_view statement.entry.children in
         let nodes = parts (node s below end) in
         OnOk result (seen_rows table.new ≡ seen_rows table.old
-        ++ listed (length (rows_in table.old)) (around_view around)
+        ++ listed (length (slots_in table.old)) (around_view around)
         (if in_choice then as_cases nodes else nodes)) }
 {
     let keyword = statement.label().keyword;
@@ -118,7 +118,7 @@ fn add_node<'a, 't>(
     ensures { let s = label_by source_view statement.entry in
         let below = row_by source_view statement.entry.children in
         OnOk result (seen_rows table.new ≡ seen_rows table.old
-        ++ listed (length (rows_in table.old)) (around_view around)
+        ++ listed (length (slots_in table.old)) (around_view around)
         (node (part_of s below) (within s (parts below)) end)) }
 {
     let keyword = statement.label().keyword;
@@ -146,7 +146,7 @@ fn add_case<'a, 't>(
     ensures { let s = label_by source_view statement.entry in
         let below = row_by source_view statement.entry.children in
         let part = part_of s below in OnOk result (seen_rows table.new ≡ seen_rows table.old
-        ++ listed (length (rows_in table.old)) (around_view around)
+        ++ listed (length (slots_in table.old)) (around_view around)
         (node (case_for part) (node part (within s (parts below)) end) end)) }
 {
     let keyword = statement.label().keyword;

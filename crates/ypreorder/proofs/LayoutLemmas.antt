@@ -2,7 +2,7 @@
 use Rattle.std.proofs.Common.{◌≡◌, ℕ, zero, suc, ◌+◌, ◌≤◌, List, [], ◌∷◌, ◌++◌, length, take, drop, Option, Some, None, refl, sym, ap, ap₂, ◌∙◌, append_assoc, arith, length-append, length-take}
 use Rattle.std.proofs.lemmas.List.{take_at, drop_at, length-map}
 use Rattle.yspec.specs.Forest.{Forest, node, end, size, join}
-use Rattle.ypreorder.specs.declared.row.Row.{Row}
+use Rattle.ypreorder.specs.declared.slot.Slot.{Slot}
 use Rattle.ypreorder.specs.Layout.{Place, place_of, places, laid, opened, closed, seen, numbered_by, Shows, forest_of, IsLaidOut}
 use Rattle.ypreorder.proofs.RowLemmas.{forest_of-cons, no_node}
 use Rattle.ypreorder.proofs.TableLemmas.{closed_at}
@@ -21,23 +21,23 @@ module _ {L : Type 0} where
       (ap (λ rest. places (Some k) (k + 1) below ++ rest) (places-join p (k + suc (size below)) after g ∙ ap (λ n. places p (k + suc (size below)) after ++ places p n g) here)
       ∙ sym (append_assoc (places (Some k) (k + 1) below) (places p (k + suc (size below)) after) (places p (k + suc (size below + size after)) g)))
 
-  pub length-laid : (rows : List (Row L)) → length (laid rows) ≡ length rows
-  length-laid rows = length-map rows place_of
+  pub length-laid : (slots : List (Slot L)) → length (laid slots) ≡ length slots
+  length-laid slots = length-map slots place_of
 
-  laid_take : (n : ℕ) (rows : List (Row L)) → laid (take n rows) ≡ take n (laid rows)
-  laid_take zero rows = refl
+  laid_take : (n : ℕ) (slots : List (Slot L)) → laid (take n slots) ≡ take n (laid slots)
+  laid_take zero slots = refl
   laid_take (suc n) [] = refl
-  laid_take (suc n) (r ∷ rows) = ap (λ ps. place_of r ∷ ps) (laid_take n rows)
+  laid_take (suc n) (r ∷ slots) = ap (λ ps. place_of r ∷ ps) (laid_take n slots)
 
-  laid_drop : (n : ℕ) (rows : List (Row L)) → laid (drop n rows) ≡ drop n (laid rows)
-  laid_drop zero rows = refl
+  laid_drop : (n : ℕ) (slots : List (Slot L)) → laid (drop n slots) ≡ drop n (laid slots)
+  laid_drop zero slots = refl
   laid_drop (suc n) [] = refl
-  laid_drop (suc n) (r ∷ rows) = laid_drop n rows
+  laid_drop (suc n) (r ∷ slots) = laid_drop n slots
 
-  whole_laid : (n : ℕ) (rows : List (Row L)) → laid rows ≡ laid (take n rows) ++ laid (drop n rows)
-  whole_laid zero rows = refl
+  whole_laid : (n : ℕ) (slots : List (Slot L)) → laid slots ≡ laid (take n slots) ++ laid (drop n slots)
+  whole_laid zero slots = refl
   whole_laid (suc n) [] = refl
-  whole_laid (suc n) (r ∷ rows) = ap (λ ps. place_of r ∷ ps) (whole_laid n rows)
+  whole_laid (suc n) (r ∷ slots) = ap (λ ps. place_of r ∷ ps) (whole_laid n slots)
 
 module _ {L M : Type 0} (see : ℕ → L → M) where
   pub length-seen : (k : ℕ) (ps : List (Place L)) → length (seen see k ps) ≡ length ps
@@ -73,8 +73,8 @@ module _ {L M : Type 0} (see : ℕ → L → M) where
 
   -- ---- a table that grows by a node and all below it
 
-  -- The rows before, with the node just opened, with all below it, and once it is closed.
-  pub grown : (old mid full new : List (Row L)) (p : Option ℕ) (l : L) (n : ℕ) (below : Forest M)
+  -- The slots before, with the node just opened, with all below it, and once it is closed.
+  pub grown : (old mid full new : List (Slot L)) (p : Option ℕ) (l : L) (n : ℕ) (below : Forest M)
       → laid mid ≡ laid old ++ opened p l ∷ [] → n ≡ length old
       → seen see 0 (laid full) ≡ seen see 0 (laid mid) ++ places (Some n) (length mid) below
       → laid new ≡ closed n (laid full)
@@ -99,45 +99,45 @@ module _ {L M : Type 0} (see : ℕ → L → M) where
   cons_inj : {X : Type 0} (x y : X) (xs ys : List X) → x ∷ xs ≡ y ∷ ys → (x ≡ y) × (xs ≡ ys)
   cons_inj x y xs ys e = (cc, cc)
 
-  abbrev pub Parts : ℕ → Option ℕ → Row L → List (Row L) → M → Forest M → Forest M → Type 0
-  Parts k p r rows l below after = (seen see (k + 1) (laid (take r.below rows)) ≡ places (Some k) (k + 1) below)
-      × (seen see (k + suc (size below)) (laid (drop r.below rows)) ≡ places p (k + suc (size below)) after)
-      × (r.below ≤ length rows) × (see k r.label ≡ l) × (r.below ≡ size below) × (r.parent ≡ p)
+  abbrev pub Parts : ℕ → Option ℕ → Slot L → List (Slot L) → M → Forest M → Forest M → Type 0
+  Parts k p r slots l below after = (seen see (k + 1) (laid (take r.below slots)) ≡ places (Some k) (k + 1) below)
+      × (seen see (k + suc (size below)) (laid (drop r.below slots)) ≡ places p (k + suc (size below)) after)
+      × (r.below ≤ length slots) × (see k r.label ≡ l) × (r.below ≡ size below) × (r.parent ≡ p)
 
-  pub parts_of : (l : M) (below after : Forest M) (p : Option ℕ) (k : ℕ) (r : Row L) (rows : List (Row L))
-      → seen see k (laid (r ∷ rows)) ≡ places p k (node l below after) → Parts k p r rows l below after
-  parts_of l below after p k r rows e =
+  pub parts_of : (l : M) (below after : Forest M) (p : Option ℕ) (k : ℕ) (r : Slot L) (slots : List (Slot L))
+      → seen see k (laid (r ∷ slots)) ≡ places p k (node l below after) → Parts k p r slots l below after
+  parts_of l below after p k r slots e =
       let inner = places (Some k) (k + 1) below in
       let behind = places p (k + suc (size below)) after in
-      let parts = cons_inj (record { parent = r.parent; label = see k r.label; below = r.below }) (record { parent = p; label = l; below = size below }) (seen see (k + 1) (laid rows)) (inner ++ behind) e in
+      let parts = cons_inj (record { parent = r.parent; label = see k r.label; below = r.below }) (record { parent = p; label = l; below = size below }) (seen see (k + 1) (laid slots)) (inner ++ behind) e in
       let below_is : r.below ≡ size below = ap (λ x. x.below) parts.0 in
       let inner_is : r.below ≡ length inner = below_is ∙ sym (length-places (Some k) (k + 1) below) in
-      let count : length rows ≡ length inner + length behind = sym (length-seen (k + 1) (laid rows) ∙ length-laid rows) ∙ (ap length parts.1 ∙ length-append inner behind) in
-      let taken : length (take r.below (laid rows)) ≡ size below = length-take r.below (laid rows) ∙ omega (arith, count, inner_is, below_is, length-laid rows) in
-      let past : k + 1 + length (take r.below (laid rows)) ≡ k + suc (size below) = omega (arith, taken) in (
-        ap (seen see (k + 1)) (laid_take r.below rows) ∙ (sym (take_seen r.below (k + 1) (laid rows)) ∙ (ap (take r.below) parts.1 ∙ take_at inner behind r.below (sym inner_is))),
-        ap (seen see (k + suc (size below))) (laid_drop r.below rows) ∙ (ap (λ m. seen see m (drop r.below (laid rows))) (sym past)
-            ∙ (sym (drop_seen r.below (k + 1) (laid rows)) ∙ (ap (drop r.below) parts.1 ∙ drop_at inner behind r.below (sym inner_is)))),
+      let count : length slots ≡ length inner + length behind = sym (length-seen (k + 1) (laid slots) ∙ length-laid slots) ∙ (ap length parts.1 ∙ length-append inner behind) in
+      let taken : length (take r.below (laid slots)) ≡ size below = length-take r.below (laid slots) ∙ omega (arith, count, inner_is, below_is, length-laid slots) in
+      let past : k + 1 + length (take r.below (laid slots)) ≡ k + suc (size below) = omega (arith, taken) in (
+        ap (seen see (k + 1)) (laid_take r.below slots) ∙ (sym (take_seen r.below (k + 1) (laid slots)) ∙ (ap (take r.below) parts.1 ∙ take_at inner behind r.below (sym inner_is))),
+        ap (seen see (k + suc (size below))) (laid_drop r.below slots) ∙ (ap (λ m. seen see m (drop r.below (laid slots))) (sym past)
+            ∙ (sym (drop_seen r.below (k + 1) (laid slots)) ∙ (ap (drop r.below) parts.1 ∙ drop_at inner behind r.below (sym inner_is)))),
         omega (arith, count, inner_is),
         ap (λ x. x.label) parts.0,
         below_is,
         ap (λ x. x.parent) parts.0,
       )
 
-  pub forest_seen : (f : Forest M) (p : Option ℕ) (k : ℕ) (rows : List (Row L)) → seen see k (laid rows) ≡ places p k f
-      → (numbered_by see k (forest_of rows) ≡ f) × (laid rows ≡ places p k (forest_of rows)) × (size (forest_of rows) ≡ size f)
+  pub forest_seen : (f : Forest M) (p : Option ℕ) (k : ℕ) (slots : List (Slot L)) → seen see k (laid slots) ≡ places p k f
+      → (numbered_by see k (forest_of slots) ≡ f) × (laid slots ≡ places p k (forest_of slots)) × (size (forest_of slots) ≡ size f)
   forest_seen end p k [] e =
       let nothing = no_node {L = L} [] refl in
       (ap (numbered_by see k) nothing, sym (ap (places p k) nothing), ap size nothing)
-  forest_seen end p k (r ∷ rows) e = absurd cc
+  forest_seen end p k (r ∷ slots) e = absurd cc
   forest_seen (node l below after) p k [] e = absurd cc
-  forest_seen (node l below after) p k (r ∷ rows) e =
-      let parts = parts_of l below after p k r rows e in
-      let under = take r.below rows in
-      let behind = drop r.below rows in
+  forest_seen (node l below after) p k (r ∷ slots) e =
+      let parts = parts_of l below after p k r slots e in
+      let under = take r.below slots in
+      let behind = drop r.below slots in
       let inner = forest_seen below (Some k) (k + 1) under parts.0 in
       let rest = forest_seen after p (k + suc (size below)) behind parts.1 in
-      let split = forest_of-cons r rows in
+      let split = forest_of-cons r slots in
       let past : k + suc (size (forest_of under)) ≡ k + suc (size below) = omega (arith, inner.2) in (
         ap (numbered_by see k) split
             ∙ (ap (λ m. node (see k r.label) (numbered_by see (k + 1) (forest_of under)) (numbered_by see m (forest_of behind))) past
@@ -147,20 +147,20 @@ module _ {L M : Type 0} (see : ℕ → L → M) where
         ap size split ∙ ap₂ (λ a b. suc (a + b)) inner.2 rest.2,
       )
     where
-      placed : Parts k p r rows l below after
-          → laid (take r.below rows) ≡ places (Some k) (k + 1) (forest_of (take r.below rows))
-          → laid (drop r.below rows) ≡ places p (k + suc (size below)) (forest_of (drop r.below rows))
-          → k + suc (size (forest_of (take r.below rows))) ≡ k + suc (size below)
-          → size (forest_of (take r.below rows)) ≡ size below
-          → laid (r ∷ rows) ≡ places p k (node r.label (forest_of (take r.below rows)) (forest_of (drop r.below rows)))
+      placed : Parts k p r slots l below after
+          → laid (take r.below slots) ≡ places (Some k) (k + 1) (forest_of (take r.below slots))
+          → laid (drop r.below slots) ≡ places p (k + suc (size below)) (forest_of (drop r.below slots))
+          → k + suc (size (forest_of (take r.below slots))) ≡ k + suc (size below)
+          → size (forest_of (take r.below slots)) ≡ size below
+          → laid (r ∷ slots) ≡ places p k (node r.label (forest_of (take r.below slots)) (forest_of (drop r.below slots)))
       placed parts inner rest past sized =
-          let under = take r.below rows in
-          let behind = drop r.below rows in
-          let both : laid rows ≡ places (Some k) (k + 1) (forest_of under) ++ places p (k + suc (size (forest_of under))) (forest_of behind) =
-          whole_laid r.below rows ∙ ap₂ (λ a b. a ++ b) inner (rest ∙ ap (λ m. places p m (forest_of behind)) (sym past)) in
-          ap₂ (λ q b. record { parent = q; label = r.label; below = b } ∷ laid rows) parts.5 (parts.4 ∙ sym sized)
+          let under = take r.below slots in
+          let behind = drop r.below slots in
+          let both : laid slots ≡ places (Some k) (k + 1) (forest_of under) ++ places p (k + suc (size (forest_of under))) (forest_of behind) =
+          whole_laid r.below slots ∙ ap₂ (λ a b. a ++ b) inner (rest ∙ ap (λ m. places p m (forest_of behind)) (sym past)) in
+          ap₂ (λ q b. record { parent = q; label = r.label; below = b } ∷ laid slots) parts.5 (parts.4 ∙ sym sized)
           ∙ ap (λ rest. record { parent = p; label = r.label; below = size (forest_of under) } ∷ rest) both
 
-  -- rows that show a forest are that forest, with other labels, and are laid out
-  pub shown : (f : Forest M) (rows : List (Row L)) → Shows see rows f → (numbered_by see 0 (forest_of rows) ≡ f) × IsLaidOut rows
-  shown f rows e = let whole = forest_seen f None 0 rows e in (whole.0, whole.1)
+  -- slots that show a forest are that forest, with other labels, and are laid out
+  pub shown : (f : Forest M) (slots : List (Slot L)) → Shows see slots f → (numbered_by see 0 (forest_of slots) ≡ f) × IsLaidOut slots
+  shown f slots e = let whole = forest_seen f None 0 slots e in (whole.0, whole.1)

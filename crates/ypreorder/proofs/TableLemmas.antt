@@ -4,25 +4,25 @@ use Rattle.std.specs.Prelude.{slice_get}
 use Rattle.std.proofs.lemmas.List.{length-map}
 use Rattle.std.proofs.lemmas.Bool.{cases_lt}
 use mathlib.Core.Logic.{⊎_elim}
-use Rattle.ypreorder.specs.declared.row.Row.{Row}
+use Rattle.ypreorder.specs.declared.slot.Slot.{Slot}
 use Rattle.ypreorder.specs.Layout.{Place, place_of, laid, closed}
 
 module _ {L : Type 0} where
-  pub closed_row : (rows : List (Row L)) (n b : ℕ) (r : Row L) → slice_get rows n ≡ Some r → b ≡ length rows - n - 1
-      → laid (slice_set rows n (record { parent = r.parent; label = r.label; below = b })) ≡ closed n (laid rows)
+  pub closed_row : (slots : List (Slot L)) (n b : ℕ) (r : Slot L) → slice_get slots n ≡ Some r → b ≡ length slots - n - 1
+      → laid (slice_set slots n (record { parent = r.parent; label = r.label; below = b })) ≡ closed n (laid slots)
   closed_row [] n b r e h = absurd cc
-  closed_row (x ∷ rows) zero b r e h =
+  closed_row (x ∷ slots) zero b r e h =
       let same : x ≡ r = cc in
-      ap₂ (λ y m. record { parent = y.parent; label = y.label; below = m } ∷ laid rows) (sym same)
-      (omega (arith, h) ∙ sym (length-map rows place_of))
-  closed_row (x ∷ rows) (suc n) b r e h = ap (λ ps. place_of x ∷ ps) (closed_row rows n b r e (omega (arith, h)))
+      ap₂ (λ y m. record { parent = y.parent; label = y.label; below = m } ∷ laid slots) (sym same)
+      (omega (arith, h) ∙ sym (length-map slots place_of))
+  closed_row (x ∷ slots) (suc n) b r e h = ap (λ ps. place_of x ∷ ps) (closed_row slots n b r e (omega (arith, h)))
 
-  pub closed_past : (rows : List (Row L)) (n : ℕ) → length rows ≤ n → laid rows ≡ closed n (laid rows)
+  pub closed_past : (slots : List (Slot L)) (n : ℕ) → length slots ≤ n → laid slots ≡ closed n (laid slots)
   closed_past [] n h = refl
-  closed_past (x ∷ rows) zero h = absurd (omega arith)
-  closed_past (x ∷ rows) (suc n) h = ap (λ ps. place_of x ∷ ps) (closed_past rows n (omega arith))
+  closed_past (x ∷ slots) zero h = absurd (omega arith)
+  closed_past (x ∷ slots) (suc n) h = ap (λ ps. place_of x ∷ ps) (closed_past slots n (omega arith))
 
-  -- a node whose rows below it lie behind it
+  -- a node whose slots below it lie behind it
   pub closed_at : (ps qs : List (Place L)) (p : Place L) (n : ℕ) → n ≡ length ps
       → closed n (ps ++ (p ∷ qs)) ≡ ps ++ (record { parent = p.parent; label = p.label; below = length qs } ∷ qs)
   closed_at [] qs p n h = ap (λ m. closed m (p ∷ qs)) h

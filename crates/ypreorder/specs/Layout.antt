@@ -1,7 +1,7 @@
--- How the trees of a forest lie in rows: each node before those below it, with how many these are.
+-- How the trees of a forest lie in slots: each node before those below it, with how many these are.
 use Rattle.std.specs.Prelude.{◌≡◌, ℕ, zero, suc, ◌+◌, length, take, drop, map, List, [], ◌∷◌, ◌++◌, Option, Some, None}
 use Rattle.yspec.specs.Forest.{Forest, end, node, size}
-use Rattle.ypreorder.specs.declared.row.Row.{Row}
+use Rattle.ypreorder.specs.declared.slot.Slot.{Slot}
 
 -- a node, the number of the one above it, and how many stand below it
 pub record Place (L : Type 0) : Type 0 where
@@ -15,26 +15,26 @@ places parent number end = []
 places parent number (node l below after) = record { parent = parent; label = l; below = size below }
     ∷ (places (Some number) (number + 1) below ++ places parent (number + suc (size below)) after)
 
-abbrev pub place_of : {L : Type 0} → Row L → Place L
+abbrev pub place_of : {L : Type 0} → Slot L → Place L
 place_of r = record { parent = r.parent; label = r.label; below = r.below }
 
--- what lies in rows
-abbrev pub laid : {L : Type 0} → List (Row L) → List (Place L)
-laid rows = map place_of rows
+-- what lies in slots
+abbrev pub laid : {L : Type 0} → List (Slot L) → List (Place L)
+laid slots = map place_of slots
 
--- The forest whose nodes lie there in preorder. There are at most so many rows.
-unfoldable pub forest_within : {L : Type 0} → ℕ → List (Row L) → Forest L
-forest_within zero rows = end
+-- The forest whose nodes lie there in preorder. There are at most so many slots.
+unfoldable pub forest_within : {L : Type 0} → ℕ → List (Slot L) → Forest L
+forest_within zero slots = end
 forest_within (suc n) [] = end
-forest_within (suc n) (r ∷ rows) =
-    node r.label (forest_within n (take r.below rows)) (forest_within n (drop r.below rows))
+forest_within (suc n) (r ∷ slots) =
+    node r.label (forest_within n (take r.below slots)) (forest_within n (drop r.below slots))
 
-abbrev pub forest_of : {L : Type 0} → List (Row L) → Forest L
-forest_of rows = forest_within (length rows) rows
+abbrev pub forest_of : {L : Type 0} → List (Slot L) → Forest L
+forest_of slots = forest_within (length slots) slots
 
--- the parent of each row is the node that it stands below, and each says how many stand below it
-abbrev pub IsLaidOut : {L : Type 0} → List (Row L) → Type 0
-IsLaidOut rows = laid rows ≡ places None 0 (forest_of rows)
+-- the parent of each slot is the node that it stands below, and each says how many stand below it
+abbrev pub IsLaidOut : {L : Type 0} → List (Slot L) → Type 0
+IsLaidOut slots = laid slots ≡ places None 0 (forest_of slots)
 
 -- ---- how a table grows
 
@@ -48,7 +48,7 @@ closed number [] = []
 closed zero (p ∷ ps) = record { parent = p.parent; label = p.label; below = length ps } ∷ ps
 closed (suc number) (p ∷ ps) = p ∷ closed number ps
 
--- ---- rows as other labels, which may depend on their numbers
+-- ---- slots as other labels, which may depend on their numbers
 
 abbrev pub seen : {L M : Type 0} → (ℕ → L → M) → ℕ → List (Place L) → List (Place M)
 seen see number [] = []
@@ -60,11 +60,11 @@ numbered_by see number end = end
 numbered_by see number (node l below after) = node (see number l) (numbered_by see (number + 1) below)
     (numbered_by see (number + suc (size below)) after)
 
--- the labels of rows, the first of which has a number
-abbrev pub labels_by : {L M : Type 0} → (ℕ → L → M) → ℕ → List (Row L) → List M
+-- the labels of slots, the first of which has a number
+abbrev pub labels_by : {L M : Type 0} → (ℕ → L → M) → ℕ → List (Slot L) → List M
 labels_by see number [] = []
-labels_by see number (r ∷ rows) = see number r.label ∷ labels_by see (number + 1) rows
+labels_by see number (r ∷ slots) = see number r.label ∷ labels_by see (number + 1) slots
 
--- the rows lie as a forest of these labels does
-abbrev pub Shows : {L M : Type 0} → (ℕ → L → M) → List (Row L) → Forest M → Type 0
-Shows see rows f = seen see 0 (laid rows) ≡ places None 0 f
+-- the slots lie as a forest of these labels does
+abbrev pub Shows : {L M : Type 0} → (ℕ → L → M) → List (Slot L) → Forest M → Type 0
+Shows see slots f = seen see 0 (laid slots) ≡ places None 0 f

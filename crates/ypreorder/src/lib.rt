@@ -1,10 +1,10 @@
-//! Trees of any labels as rows of a table, in preorder.
+//! Trees of any labels as slots of a table, in preorder.
 #![tactic(auto)]
 
-mod nodes;
-mod row;
+mod siblings;
+mod slot;
 mod table;
 
-pub use nodes::{Node, Nodes};
-pub use row::Row;
+pub use siblings::{Node, Siblings};
+pub use slot::Slot;
 pub use table::Table;

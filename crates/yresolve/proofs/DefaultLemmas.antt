@@ -17,9 +17,9 @@ use Rattle.yspec.specs.linking.Source.{Source, first_with, found_with}
 use Rattle.yspec.specs.linking.DerivedTypes.{default_meant}
 use Rattle.yspec.specs.linking.Keyword.{Keyword, same_keyword, leaf_word, leaf_list_word, choice_word, type_word, default_word}
 use Rattle.yspec.specs.linking.Planned.{Planned, Plan, stated_in, type_of}
-use Rattle.yspec.specs.linking.SchemaNodes.{is_mandatory, least_of, is_key, own_defaults, type_default, default_texts, default_case}
+use Rattle.yspec.specs.linking.SchemaNodes.{is_mandatory, min_elements_of, is_key, own_defaults, type_default, default_texts, default_case}
 use Rattle.yspec.specs.linking.NodeBreaks.{is_empty, is_refused, has_equal, is_wrong_default, are_wrong_defaults, is_wrong_case, is_default_wrong}
-use Rattle.yplan.proofs.PartLemmas.{first_found}
+use Rattle.ygrammar.proofs.SourceLemmas.{first_found}
 use Rattle.yresolve.specs.Values.{comes_twice, wrong_leaf, wrong_leaf_list}
 
 -- ---- values that were seen
@@ -179,10 +179,10 @@ module _ (plan : Plan) (p : Planned) (type : YangType) where
   wrong_beside texts are must = some_stated texts are ∙ ap (λ b. cond b stated refused) (sym must)
 
   -- of a leaf-list with some of its own
-  by_least : (b : Bool) → ltb 0 (least_of p) ≡ b → cond b stated (refused || (p.config && equal)) ≡ are_wrong_defaults plan p type
+  by_least : (b : Bool) → ltb 0 (min_elements_of p) ≡ b → cond b stated (refused || (p.config && equal)) ≡ are_wrong_defaults plan p type
   by_least b is = ap (λ d. cond d stated (refused || (p.config && equal))) (sym is)
 
-  pub wrong_least : (texts : List (Bor Text)) → map (λ t. t.now) texts ≡ own_defaults p → (n : ℕ) → n ≡ least_of p → 0 < n
+  pub wrong_least : (texts : List (Bor Text)) → map (λ t. t.now) texts ≡ own_defaults p → (n : ℕ) → n ≡ min_elements_of p → 0 < n
       → not (eqb (length texts) 0) ≡ are_wrong_defaults plan p type
   wrong_least texts are n is above = some_stated texts are ∙ by_least true (ap (ltb 0) (sym is) ∙ lt-ltb 0 n above)
 
@@ -201,7 +201,7 @@ module _ (plan : Plan) (p : Planned) (type : YangType) where
     wrong_refused values taken may = some_refused values taken ∙ ap (λ b. cond b stated refused) (sym may)
 
     -- of a leaf-list
-    module _ (n : ℕ) (is : n ≡ least_of p) (none : n ≤ 0) (values : List Val) (taken : values ≡ filter_map (value_of_text type) (map (λ t. t.now) texts)) where
+    module _ (n : ℕ) (is : n ≡ min_elements_of p) (none : n ≤ 0) (values : List Val) (taken : values ≡ filter_map (value_of_text type) (map (λ t. t.now) texts)) where
       by_values : (b : Bool) → ltb (length values) (length texts) ≡ b → (b || (p.config && comes_twice same_value values)) ≡ are_wrong_defaults plan p type
       by_values b fewer =
           ap₂ (λ r e. r || (p.config && e)) (sym fewer ∙ some_refused values taken) (some_equal values taken)
@@ -220,10 +220,10 @@ module _ (plan : Plan) (p : Planned) (type : YangType) where
 
 -- ---- the default of a type
 
-pub no_default : (plan : Plan) (p : Planned) → (is_mandatory p || ltb 0 (least_of p)) ≡ true → None ≡ type_default plan p
+pub no_default : (plan : Plan) (p : Planned) → (is_mandatory p || ltb 0 (min_elements_of p)) ≡ true → None ≡ type_default plan p
 no_default plan p must = ap (λ b. cond b None (option_and_then (default_meant plan.modules) (first_with type_word p.part.own))) (sym must)
 
-pub default_named : (plan : Plan) (p : Planned) (found : Option (Source × Forest Source)) (default : Option Text) → (is_mandatory p || ltb 0 (least_of p)) ≡ false
+pub default_named : (plan : Plan) (p : Planned) (found : Option (Source × Forest Source)) (default : Option Text) → (is_mandatory p || ltb 0 (min_elements_of p)) ≡ false
     → found ≡ found_with type_word p.part.own → default ≡ option_and_then (λ (x : Source × Forest Source). default_meant plan.modules x.0) found
     → default ≡ type_default plan p
 default_named plan p found default may is so =

@@ -11,8 +11,8 @@ use Rattle.yspec.specs.linking.TypeStatements.{own, of_target}
 use Rattle.yspec.specs.linking.Planned as spec
 use Rattle.yspec.specs.linking.Planned.{nodes_of, node_of, is_data, same_number, is_called, data_child_called, data_node_at, leaf_found, is_leaf_or_leaf_list, meant_in, target_meant, target_of, type_of, is_on_circle}
 use Rattle.yspec.specs.linking.SchemaNodes.{number_in}
-use Rattle.ypreorder.specs.View.{rows_in, forest_in}
-use Rattle.ypreorder.specs.declared.row.Row.{Row}
+use Rattle.ypreorder.specs.View.{slots_in, forest_in}
+use Rattle.ypreorder.specs.declared.slot.Slot.{Slot}
 use Rattle.ypreorder.proofs.LabelLemmas.{label_at, length-labels, size-by}
 use Rattle.ypreorder.proofs.RowLemmas.{size_forest}
 use Rattle.yresolve.specs.ChainTypes.{own_type, as_meant}
@@ -50,10 +50,10 @@ map_map f g (Some x) = refl
 
 module _ (plan : Plan) where
   pub number_is : (i : ℕ) (p : spec.Planned) → slice_get (nodes_of (view plan)) i ≡ Some p → p.number ≡ i
-  number_is i p e = by (slice_get (rows_in plan.table) i)
-      (sym (label_at planned_view 0 (rows_in plan.table) i) ∙ (ap (λ nodes. slice_get nodes i) (sym (nodes_are plan)) ∙ e))
+  number_is i p e = by (slice_get (slots_in plan.table) i)
+      (sym (label_at planned_view 0 (slots_in plan.table) i) ∙ (ap (λ nodes. slice_get nodes i) (sym (nodes_are plan)) ∙ e))
     where
-      by : (o : Option (Row code.Planned)) → option_map (λ r. planned_view (0 + i) r.label) o ≡ Some p → p.number ≡ i
+      by : (o : Option (Slot code.Planned)) → option_map (λ r. planned_view (0 + i) r.label) o ≡ Some p → p.number ≡ i
       by None h = absurd cc
       by (Some r) h = let same = ap number_in (some_is (planned_view (0 + i) r.label) p h) in omega (arith, same)
 
@@ -62,8 +62,8 @@ module _ (plan : Plan) where
 
   pub nodes_counted : length (nodes_of (view plan)) ≡ size (view plan).nodes
   nodes_counted =
-      ap length (nodes_are plan) ∙ (length-labels planned_view 0 (rows_in plan.table)
-      ∙ sym (size-by planned_view 0 (forest_in plan.table) ∙ size_forest (rows_in plan.table)))
+      ap length (nodes_are plan) ∙ (length-labels planned_view 0 (slots_in plan.table)
+      ∙ sym (size-by planned_view 0 (forest_in plan.table) ∙ size_forest (slots_in plan.table)))
 
   -- ---- where paths lead
 

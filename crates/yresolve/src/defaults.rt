@@ -67,7 +67,7 @@ fn type_default<'t>(linked: &Linked<'t>, planned: &Planned<'_, 't>) -> Option<&'
         → option_map (λ t. t.now) result
         ≡ spec.type_default plan (planned_view number planned.now) }
 {
-    if planned.is_mandatory() || planned.least() > 0 {
+    if planned.is_mandatory() || planned.min_elements() > 0 {
         return None;
     }
     let statement = planned.first_own(Keyword::Type)?;
@@ -140,7 +140,7 @@ fn are_wrong_defaults<'t>(
         → IfOk result (λ wrong. wrong
         ≡ breaks.are_wrong_defaults plan (planned_view number planned.now) value_type.now) }
 {
-    if planned.least() > 0 {
+    if planned.min_elements() > 0 {
         let stated = own_defaults(alloc, planned)?;
         return Ok(!stated.is_empty());
     }

@@ -17,8 +17,8 @@ use Rattle.yword.specs.declared.keyword.Keyword.{Keyword}
 use Rattle.yword.specs.declared.keyword.Keyword.TheVariants as words
 use Rattle.ypreorder.specs.Layout as preorder
 use Rattle.ypreorder.specs.Layout.{seen, numbered_by, labels_by}
-use Rattle.ypreorder.specs.View.{rows_in, forest_in}
-use Rattle.ypreorder.specs.declared.row.Row as plan_rows
+use Rattle.ypreorder.specs.View.{slots_in, forest_in}
+use Rattle.ypreorder.specs.declared.slot.Slot as plan_slots
 use Rattle.ypreorder.proofs.LayoutLemmas.{seen-append}
 use Rattle.ypreorder.proofs.LayoutLemmas as lying
 use Rattle.ypreorder.proofs.LabelLemmas.{size-by, label_at}
@@ -28,7 +28,7 @@ use Rattle.yplan.specs.PlanView.{view}
 use Rattle.yplan.specs.declared.plan.Plan.{Plan}
 use Rattle.yplan.specs.declared.planned.Planned as code
 use Rattle.yplan.proofs.PlanLemmas.{nodes_are}
-use Rattle.ymodel.specs.declared.children.Row.{Row}
+use Rattle.ymodel.specs.declared.children.Slot.{Slot}
 use Rattle.ymodel.specs.Layout.{Place, place_of, places, laid}
 use Rattle.ymodel.specs.Lookup.{names_in}
 use Rattle.yschema.specs.Made.{place_made, planned_place}
@@ -111,15 +111,15 @@ node_by number module_number config name status kind =
 -- ---- rows
 
 -- the places of the schema nodes for the rows of a plan, the first of which has a number
-abbrev pub ahead : (spec.Planned → SchemaNode) → ℕ → List (plan_rows.Row code.Planned) → List Place
+abbrev pub ahead : (spec.Planned → SchemaNode) → ℕ → List (plan_slots.Slot code.Planned) → List Place
 ahead make number rows = map (place_made make) (seen planned_view number (preorder.laid rows))
 
 -- a row more of those that are made
-pub count_more : (made more : List Row) (m : Row) (i : ℕ) → more ≡ made ++ m ∷ [] → length made ≡ i → length more ≡ i + 1
+pub count_more : (made more : List Slot) (m : Slot) (i : ℕ) → more ≡ made ++ m ∷ [] → length made ≡ i → length more ≡ i + 1
 count_more made more m i pushed count = ap length pushed ∙ (length-append made (m ∷ []) ∙ omega (arith, count))
 
-pub row_more : (make : spec.Planned → SchemaNode) (shown rows : List (plan_rows.Row code.Planned)) → shown ≡ rows → (i : ℕ) (r : plan_rows.Row code.Planned)
-    (made more : List Row) (m : Row) (whole : List Place)
+pub row_more : (make : spec.Planned → SchemaNode) (shown rows : List (plan_slots.Slot code.Planned)) → shown ≡ rows → (i : ℕ) (r : plan_slots.Slot code.Planned)
+    (made more : List Slot) (m : Slot) (whole : List Place)
     → i < length shown → r ≡ get_or shown i r → length made ≡ i → place_of i m ≡ place_made make (planned_place i r)
     → more ≡ made ++ m ∷ []
     → laid 0 made ++ ahead make i (drop i rows) ≡ whole
@@ -155,8 +155,8 @@ module _ (plan : spec.Plan) where
       ∙ ap₂ (λ a b. a ++ b) (rows_made (Some k) (k + 1) below) (rows_made p (k + suc (size below)) after)))
 
 -- the node of a row of a plan stands at its number
-pub row_stands : (plan : Plan) (rows : List (plan_rows.Row code.Planned)) (i : ℕ) (r : plan_rows.Row code.Planned)
-    → rows ≡ rows_in plan.table → i < length rows → r ≡ get_or rows i r
+pub row_stands : (plan : Plan) (rows : List (plan_slots.Slot code.Planned)) (i : ℕ) (r : plan_slots.Slot code.Planned)
+    → rows ≡ slots_in plan.table → i < length rows → r ≡ get_or rows i r
     → slice_get (spec.nodes_of (view plan)) i ≡ Some (planned_view i r.label)
 row_stands plan rows i r are within is =
     let from_start : 0 + i ≡ i = omega arith in
@@ -166,20 +166,20 @@ row_stands plan rows i r are within is =
     ∙ (ap (option_map (λ x. planned_view (0 + i) x.label)) there ∙ ap (λ n. Some (planned_view n r.label)) from_start))
 
 -- what is laid in the end
-all_laid : (plan : Plan) (shown : List (plan_rows.Row code.Planned)) (i : ℕ) (made : List Row) → shown ≡ rows_in plan.table → length shown ≤ i
-    → laid 0 made ++ ahead (schema_node (view plan)) i (drop i (rows_in plan.table)) ≡ ahead (schema_node (view plan)) 0 (rows_in plan.table)
-    → laid 0 made ≡ ahead (schema_node (view plan)) 0 (rows_in plan.table)
+all_laid : (plan : Plan) (shown : List (plan_slots.Slot code.Planned)) (i : ℕ) (made : List Slot) → shown ≡ slots_in plan.table → length shown ≤ i
+    → laid 0 made ++ ahead (schema_node (view plan)) i (drop i (slots_in plan.table)) ≡ ahead (schema_node (view plan)) 0 (slots_in plan.table)
+    → laid 0 made ≡ ahead (schema_node (view plan)) 0 (slots_in plan.table)
 all_laid plan shown i made are past so =
-    let rows = rows_in plan.table in
+    let rows = slots_in plan.table in
     let ended : length rows ≤ i = subst (λ xs. length xs ≤ i) are past in
     sym (append-nil (laid 0 made)) ∙ (ap (λ ps. laid 0 made ++ ps) (sym (at_drop_all (ahead (schema_node (view plan)) i) rows i ended)) ∙ so)
 
-pub all_made : (plan : Plan) (shown : List (plan_rows.Row code.Planned)) (i : ℕ) (made : List Row) → shown ≡ rows_in plan.table → length shown ≤ i
-    → laid 0 made ++ ahead (schema_node (view plan)) i (drop i (rows_in plan.table)) ≡ ahead (schema_node (view plan)) 0 (rows_in plan.table)
+pub all_made : (plan : Plan) (shown : List (plan_slots.Slot code.Planned)) (i : ℕ) (made : List Slot) → shown ≡ slots_in plan.table → length shown ≤ i
+    → laid 0 made ++ ahead (schema_node (view plan)) i (drop i (slots_in plan.table)) ≡ ahead (schema_node (view plan)) 0 (slots_in plan.table)
     → laid 0 made ≡ places None (schema_nodes (view plan))
 all_made plan shown i made are past so =
     let make = schema_node (view plan) in
-    let whole : ahead make 0 (rows_in plan.table) ≡ places None (schema_nodes (view plan)) =
+    let whole : ahead make 0 (slots_in plan.table) ≡ places None (schema_nodes (view plan)) =
     ap (λ ps. map (place_made make) (seen planned_view 0 ps)) plan.laid_out ∙ rows_made (view plan) None 0 (forest_in plan.table) in
     all_laid plan shown i made are past so ∙ whole
 
@@ -188,18 +188,18 @@ all_made plan shown i made are past so =
 abbrev place_name : Place → Text
 place_name p = p.label.name
 
-names_laid : (k : ℕ) (rows : List Row) → map place_name (laid k rows) ≡ names_in rows
+names_laid : (k : ℕ) (rows : List Slot) → map place_name (laid k rows) ≡ names_in rows
 names_laid k [] = refl
 names_laid k (r ∷ rows) = ap (λ names. string_bytes r.node.name ∷ names) (names_laid (k + 1) rows)
 
-names_ahead : (plan : spec.Plan) (k : ℕ) (rows : List (plan_rows.Row code.Planned)) → map place_name (ahead (schema_node plan) k rows) ≡ map name_of (labels_by planned_view k rows)
+names_ahead : (plan : spec.Plan) (k : ℕ) (rows : List (plan_slots.Slot code.Planned)) → map place_name (ahead (schema_node plan) k rows) ≡ map name_of (labels_by planned_view k rows)
 names_ahead plan k [] = refl
 names_ahead plan k (r ∷ rows) = ap (λ names. name_of (planned_view k r.label) ∷ names) (names_ahead plan (k + 1) rows)
 
-pub all_named : (plan : Plan) (shown : List (plan_rows.Row code.Planned)) (i : ℕ) (made : List Row) → shown ≡ rows_in plan.table → length shown ≤ i
-    → laid 0 made ++ ahead (schema_node (view plan)) i (drop i (rows_in plan.table)) ≡ ahead (schema_node (view plan)) 0 (rows_in plan.table)
+pub all_named : (plan : Plan) (shown : List (plan_slots.Slot code.Planned)) (i : ℕ) (made : List Slot) → shown ≡ slots_in plan.table → length shown ≤ i
+    → laid 0 made ++ ahead (schema_node (view plan)) i (drop i (slots_in plan.table)) ≡ ahead (schema_node (view plan)) 0 (slots_in plan.table)
     → names_in made ≡ map name_of (spec.nodes_of (view plan))
 all_named plan shown i made are past so =
     sym (names_laid 0 made)
     ∙ (ap (map place_name) (all_laid plan shown i made are past so)
-    ∙ (names_ahead (view plan) 0 (rows_in plan.table) ∙ ap (map name_of) (sym (nodes_are plan))))
+    ∙ (names_ahead (view plan) 0 (slots_in plan.table) ∙ ap (map name_of) (sym (nodes_are plan))))

@@ -3,7 +3,7 @@ use Rattle.std.specs.Prelude.{ℕ}
 use Rattle.yspec.specs.schema.Schema.{SchemaNode}
 use Rattle.yspec.specs.linking.Planned.{Planned}
 use Rattle.ypreorder.specs.Layout as preorder
-use Rattle.ypreorder.specs.declared.row.Row as rows
+use Rattle.ypreorder.specs.declared.slot.Slot as rows
 use Rattle.yplan.specs.PlannedView.{planned_view}
 use Rattle.yplan.specs.declared.planned.Planned as code
 use Rattle.ymodel.specs.Layout.{Place}
@@ -13,5 +13,5 @@ abbrev pub place_made : (Planned → SchemaNode) → preorder.Place Planned → 
 place_made make p = record { parent = p.parent; label = make p.label; below = p.below }
 
 -- the place of the planned node of a number
-abbrev pub planned_place : ℕ → rows.Row code.Planned → preorder.Place Planned
+abbrev pub planned_place : ℕ → rows.Slot code.Planned → preorder.Place Planned
 planned_place number r = record { parent = r.parent; label = planned_view number r.label; below = r.below }

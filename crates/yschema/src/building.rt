@@ -23,7 +23,7 @@ ghost use Rattle.ylink.specs.Told.{seen, told_by};
 ghost use Rattle.ymodel.specs.View.{view, module_view};
 
 use crate::limits::{LEVEL_LIMIT, NODE_LIMIT};
-use crate::making::rows_of;
+use crate::making::slots_of;
 use std::alloc::{AllocError, Global};
 use ygrammar::{BrokenRule, CompileCode, Source, Sources, argument_of, argument_with, broken};
 use ylink::{CompileFault, Linked, link};
@@ -166,7 +166,7 @@ fn build<'t>(
     ensures { IfOk result (λ schema. view schema ≡ spec.schema_of_plan (plans.view plan.now)) }
 {
     let modules = modules_of(alloc, plan.sources())?;
-    let rows = rows_of(alloc, plan, resolved)?;
+    let rows = slots_of(alloc, plan, resolved)?;
     let names = plan.names(alloc)?;
     Schema::of(alloc, modules, rows, names)
 }

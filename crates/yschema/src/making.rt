@@ -14,7 +14,7 @@ ghost use Rattle.ymodel.specs.Lookup.{names_in};
 ghost use Rattle.yschema.specs.Made.{place_made, planned_place};
 
 use std::alloc::{AllocError, Global};
-use ymodel::{Absence, Kind, LeafType, Row, SchemaNode, TypeName, id_of};
+use ymodel::{Absence, Kind, LeafType, SchemaNode, Slot, TypeName, id_of};
 use yplan::{Plan, PlanNode, Planned};
 use yresolve::{Resolved, default_values, tuples_of};
 use ytype::{Val, YType};
@@ -174,13 +174,13 @@ fn node_of<'a, 't>(
 }
 
 /// The row of a schema that a row of a plan stands for.
-fn row_of<'a, 't>(
+fn slot_of<'a, 't>(
     alloc: Global,
     plan: &Plan<'a, 't>,
     resolved: &Resolved<'_, 't>,
     number: u32,
-    row: &ypreorder::Row<Planned<'a, 't>>,
-) -> Result<Row, AllocError>
+    row: &ypreorder::Slot<Planned<'a, 't>>,
+) -> Result<Slot, AllocError>
     requires of_plan { IsOf resolved.now (plan_view.view plan.now) }
     requires stands { slice_get (nodes_of (plan_view.view plan.now)) number
         ≡ Some (planned_view number row.now.label) }
@@ -191,7 +191,7 @@ fn row_of<'a, 't>(
         number,
         planned: row.label,
     };
-    Ok(Row {
+    Ok(Slot {
         parent: id_of(row.parent),
         node: node_of(alloc, plan, resolved, node)?,
         below: row.below,
@@ -199,11 +199,11 @@ fn row_of<'a, 't>(
 }
 
 /// The rows of a schema whose nodes are planned.
-pub(crate) fn rows_of<'t>(
+pub(crate) fn slots_of<'t>(
     alloc: Global,
     plan: &Plan<'_, 't>,
     resolved: &Resolved<'_, 't>,
-) -> Result<Vec<Row>, AllocError>
+) -> Result<Vec<Slot>, AllocError>
     requires { IsOf resolved.now (plan_view.view plan.now) }
     ensures laid { IfOk result (λ rows. laid 0 rows.items
         ≡ places None (spec.schema_nodes (plan_view.view plan.now))) }
@@ -211,8 +211,8 @@ pub(crate) fn rows_of<'t>(
         ≡ map name_of (nodes_of (plan_view.view plan.now))) }
 {
     let mut rows = Vec::with_capacity(alloc, plan.nodes())?;
-    for (number, row) in plan.rows().iter().enumerate() {
-        rows.push(row_of(alloc, plan, resolved, number as u32, row)?)?;
+    for (number, row) in plan.slots().iter().enumerate() {
+        rows.push(slot_of(alloc, plan, resolved, number as u32, row)?)?;
     }
     Ok(rows)
 }

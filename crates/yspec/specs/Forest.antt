@@ -67,7 +67,7 @@ module _ {L : Type 0} where
 
   -- ---- changes
 
-  -- the row with one node changed, given what stands below and after it: that at a place, from 0, among those that pass a
+  -- the row with one node changed, given what stands below and after it: that of an index, from 0, among those that pass a
   -- test
   abbrev pub change_nth : (L → Bool) → ℕ → (L → Forest L → Forest L → Forest L) → Forest L → Forest L
   change_nth test place change end = end

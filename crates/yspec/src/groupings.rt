@@ -137,7 +137,7 @@ pub fn refined_nodes()
         ≡ (
           codes "a",
           leaf_list (of_base (codes "uint8") (integer_base uint8)) []
-              (record { least = 2; most = Some 3 }),
+              (record { min_elements = 2; max_elements = Some 3 }),
         )
         ∷ [] }
     ensures presence { kinds_in (expanded_lines

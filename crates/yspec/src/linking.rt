@@ -4,7 +4,7 @@ ghost use Rattle.std.specs.Prelude.{◌≡◌, ◌-◌, ◌^◌, [], ◌∷◌, 
 ghost use Rattle.yspec.specs.types.Ranges.{least, greatest, number};
 ghost use Rattle.yspec.specs.schema.Schema.{deprecated};
 ghost use Rattle.yspec.specs.linking.Keyword.{Keyword, keyword_named, keyword_text};
-ghost use Rattle.yspec.specs.linking.Arguments.{identifier_of, name_of, relative_path_of, absolute_path_of, leafref_path_of, key_of, unique_of, date_of, status_of, ordered_by_of, by_user, count_of, most_of, value_of, fraction_digits_of, spans_of};
+ghost use Rattle.yspec.specs.linking.Arguments.{identifier_of, name_of, relative_path_of, absolute_path_of, leafref_path_of, key_of, unique_of, date_of, status_of, ordered_by_of, by_user, count_of, max_elements_of, value_of, fraction_digits_of, spans_of};
 ghost use Rattle.yspec.specs.linking.LinkingSamples.{told, told_of_lines, told_of_texts, kept_of_texts};
 
 /// Each keyword is the one that its text names.
@@ -53,9 +53,9 @@ pub fn numbers_and_words()
     ensures leading_zero { count_of (codes "01") ≡ None }
     ensures most { count_of (codes "4294967295") ≡ Some 4294967295 }
     ensures too_many { count_of (codes "4294967296") ≡ None }
-    ensures unbounded { most_of (codes "unbounded") ≡ Some None }
-    ensures at_most_three { most_of (codes "3") ≡ Some (Some 3) }
-    ensures at_most_none { most_of (codes "0") ≡ None }
+    ensures unbounded { max_elements_of (codes "unbounded") ≡ Some None }
+    ensures at_most_three { max_elements_of (codes "3") ≡ Some (Some 3) }
+    ensures at_most_none { max_elements_of (codes "0") ≡ None }
     ensures value { value_of (codes "-2147483648") ≡ Some (negsuc (2 ^ 31 - 1)) }
     ensures low_value { value_of (codes "-2147483649") ≡ None }
     ensures minus_zero { value_of (codes "-0") ≡ Some (pos 0) }

@@ -113,7 +113,7 @@ pub fn derived_leafs()
     ensures no_default_of_items_that_are_due { nodes_in (compiled_lines
         (codes "  typedef t { type uint8; default 3; }\n  leaf-list a { type t; min-elements 1; }\n"))
         ≡ Some (node (node_of 0 (codes "a") (leaf_list (of_base (codes "t") (integer_base uint8)) []
-        (record { least = 1; most = None }))) end end) }
+        (record { min_elements = 1; max_elements = None }))) end end) }
     ensures default_of_items { nodes_in (compiled_lines
         (codes "  typedef t { type uint8; default 3; }\n  leaf-list a { type t; }\n"))
         ≡ Some (node (node_of 0 (codes "a") (leaf_list (of_base (codes "t") (integer_base uint8))

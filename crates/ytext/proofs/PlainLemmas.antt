@@ -7,7 +7,7 @@ use Rattle.std.specs.List.{list_all}
 use Rattle.std.specs.Char.{len_utf8}
 use lib.Utf8.{encode, encodes}
 use Rattle.yspec.specs.text.Text.{begins, tab, line_feed, carriage_return, space, is_noncharacter, is_yang_char, line_after, forbidden_line}
-use Rattle.yspec.specs.text.Scanning.{forbidden_place}
+use Rattle.yspec.specs.text.Scanning.{forbidden_offset}
 use Rattle.ytext.specs.Characters.{is_plain}
 
 with_true : (x y : Bool) → (x || (y && not false)) ≡ (x || y)
@@ -78,9 +78,9 @@ plain_line (c ∷ cs) line e =
     ap (λ (b : Bool). cond (b || (c == carriage_return && begins line_feed cs)) (forbidden_line (line_after c line) cs) (Some line)) parts.0
     ∙ plain_line cs (line_after c line) parts.1
 
-pub plain_place : (cs : List ℕ) (place : ℕ) → list_all is_plain (encodes cs) ≡ true → forbidden_place place cs ≡ None
+pub plain_place : (cs : List ℕ) (place : ℕ) → list_all is_plain (encodes cs) ≡ true → forbidden_offset place cs ≡ None
 plain_place [] place e = refl
 plain_place (c ∷ cs) place e =
     let parts = plain_char c (encodes cs) e in
-    ap (λ (b : Bool). cond (b || (c == carriage_return && begins line_feed cs)) (forbidden_place (place + len_utf8 c) cs) (Some place)) parts.0
+    ap (λ (b : Bool). cond (b || (c == carriage_return && begins line_feed cs)) (forbidden_offset (place + len_utf8 c) cs) (Some place)) parts.0
     ∙ plain_place cs (place + len_utf8 c) parts.1

@@ -3,7 +3,7 @@ use Rattle.std.proofs.Common.{◌≡◌, ℕ, ◌-◌, List, [], ◌∷◌, Bool
 use Rattle.std.specs.Iterator.{MakesProgress, item_count}
 use Rattle.std.specs.Option.{option_map_or}
 use Rattle.yspec.specs.text.Statement.{Slip}
-use Rattle.yspec.specs.text.Scanning.{Piece, Cause, Kind, Scanned, first_cause, cause_within, told_of, kind_of, scanned, given, given_of}
+use Rattle.yspec.specs.text.Scanning.{Piece, Cause, TokenKind, Scanned, first_cause, cause_within, told_of, kind_of, scanned, given, given_of}
 use Rattle.ytext.specs.View.{ends_text}
 use Rattle.ytext.specs.Left.{pieces_left, pieces_behind, piece_of, with_piece}
 use Rattle.ytext.specs.Scanned.{tokens_left}
@@ -36,17 +36,17 @@ right_given text forbidden p rest e =
     ap (λ (o : Option Cause). option_map_or (λ c. told_of text c ∷ []) o
     (option_map_or (λ kind. Ok (scanned text p kind) ∷ rest) (kind_of p.token.lexeme) [])) (sym e)
 
-pub token_given : (text : List ℕ) (forbidden : Option ℕ) (p : Piece) (rest : Items) (kind : Kind)
+pub token_given : (text : List ℕ) (forbidden : Option ℕ) (p : Piece) (rest : Items) (kind : TokenKind)
     → None ≡ first_cause forbidden p.end (cause_within p.start p.token.lexeme) → Some kind ≡ kind_of p.token.lexeme
     → given text forbidden p rest ≡ Ok (scanned text p kind) ∷ rest
 token_given text forbidden p rest kind e k =
-    right_given text forbidden p rest e ∙ ap (λ (o : Option Kind). option_map_or (λ kind. Ok (scanned text p kind) ∷ rest) o []) (sym k)
+    right_given text forbidden p rest e ∙ ap (λ (o : Option TokenKind). option_map_or (λ kind. Ok (scanned text p kind) ∷ rest) o []) (sym k)
 
 pub end_given : (text : List ℕ) (forbidden : Option ℕ) (p : Piece) (rest : Items)
     → None ≡ first_cause forbidden p.end (cause_within p.start p.token.lexeme) → None ≡ kind_of p.token.lexeme
     → given text forbidden p rest ≡ []
 end_given text forbidden p rest e k =
-    right_given text forbidden p rest e ∙ ap (λ (o : Option Kind). option_map_or (λ kind. Ok (scanned text p kind) ∷ rest) o []) (sym k)
+    right_given text forbidden p rest e ∙ ap (λ (o : Option TokenKind). option_map_or (λ kind. Ok (scanned text p kind) ∷ rest) o []) (sym k)
 
 -- an item goes on towards the end
 pub progress : {A : Type 0} (can : Tokens → Type 0) (s t : Tokens) (item : A) (x : Result Scanned Slip) → can t → tokens_left s ≡ x ∷ tokens_left t

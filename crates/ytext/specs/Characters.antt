@@ -2,7 +2,7 @@
 use Rattle.std.specs.Prelude.{ℕ, ◌-◌, length, not, is_some, List, Bool, true, false, Option, Some, if◌then◌else◌, nat_le, nat_lt, ◌==◌, ◌&&◌, ◌||◌}
 use Rattle.std.specs.Str.{chars, is_utf8}
 use Rattle.yspec.specs.text.Text.{Text, begins, tab, line_feed, forbidden_line}
-use Rattle.yspec.specs.text.Scanning.{forbidden_place}
+use Rattle.yspec.specs.text.Scanning.{forbidden_offset}
 use Rattle.yspec.specs.text.Statement.{text_limit}
 
 -- a byte of no character that isn't allowed, and no carriage return
@@ -16,8 +16,8 @@ pending false line cs = forbidden_line line cs
 
 -- the same for its place
 abbrev pub pending_place : Bool → ℕ → List ℕ → Option ℕ
-pending_place true place cs = if begins line_feed cs then forbidden_place place cs else Some (place - 1)
-pending_place false place cs = forbidden_place place cs
+pending_place true place cs = if begins line_feed cs then forbidden_offset place cs else Some (place - 1)
+pending_place false place cs = forbidden_offset place cs
 
 -- a text whose length, encoding and characters a module's may have
 abbrev pub is_allowed_text : Text → Bool

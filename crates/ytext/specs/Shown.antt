@@ -1,7 +1,7 @@
 -- What a scan gives, as a value of the definitions.
 use Rattle.std.specs.Prelude.{Result, Ok, Err}
 use Rattle.yspec.specs.text.Scanning as scanning
-use Rattle.yspec.specs.text.Scanning.{Cause, Kind, Scanned}
+use Rattle.yspec.specs.text.Scanning.{Cause, Scanned}
 use Rattle.yspec.specs.text.Statement.{Slip, slip}
 use Rattle.ytext.specs.Told.{number_of}
 use Rattle.ytext.specs.declared.fault.TextFault.{TextFault}
@@ -14,7 +14,7 @@ use Rattle.ytext.specs.declared.token.TokenKind.TheVariants.{Word, Single, Doubl
 abbrev pub cause_of : wrong.Cause → Cause
 cause_of c = record { code = number_of c.code; place = c.place }
 
-abbrev pub kind_shown : TokenKind → Kind
+abbrev pub kind_shown : TokenKind → scanning.TokenKind
 kind_shown Word = scanning.unquoted
 kind_shown Single = scanning.single_quoted
 kind_shown Double = scanning.double_quoted

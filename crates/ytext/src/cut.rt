@@ -3,7 +3,7 @@
 ghost use Rattle.std.specs.Prelude.{◌≡◌, ◌+◌, ◌<◌, ◌==◌, IfSome, length, take, drop, slice_index, position};
 
 /// Where a byte first stands.
-pub fn place_of(bytes: &[u8], wanted: u8) -> Option<usize>
+pub fn offset_of(bytes: &[u8], wanted: u8) -> Option<usize>
     ensures value { result ≡ position (λ x. x == wanted) bytes.now }
     ensures within { IfSome result
         (λ n. (n < length bytes.now) × (slice_index bytes.now n ≡ wanted)) }

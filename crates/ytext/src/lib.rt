@@ -14,7 +14,7 @@ mod statement;
 mod text;
 mod token;
 
-pub use cut::{parts_around, place_of};
+pub use cut::{offset_of, parts_around};
 pub use fault::{TextCode, TextFault};
 pub use name::{is_digit, is_identifier, is_name};
 pub use scan::is_white;

@@ -145,7 +145,7 @@ fn plain_end(raw: &str, from: usize) -> usize
 }
 
 /// Where the next carriage return stands with a line feed behind it, or the end.
-fn return_place(raw: &str, from: usize) -> usize
+fn return_offset(raw: &str, from: usize) -> usize
     requires { from ≤ length raw.now }
     ensures same { joined_breaks (drop from raw.now) ≡ slice_range raw.now from result
         ++ joined_breaks (drop result raw.now) }
@@ -179,7 +179,7 @@ pub(crate) fn push_single(text: &mut String, raw: &str) -> Result<(), TextFault>
 {
     let mut at = 0;
     while at <= raw.len() {
-        let end = return_place(raw, at);
+        let end = return_offset(raw, at);
         text.push_str(between(raw, at, end))?;
         if end == raw.len() {
             return Ok(());

@@ -5,7 +5,7 @@ ghost use Rattle.std.specs.Option.{ForSome};
 use crate::cause::fault_of;
 use crate::cursor::Cursor;
 use crate::fault::TextFault;
-use crate::text::forbidden_place;
+use crate::text::forbidden_offset;
 use crate::token::{Token, kind_of};
 
 /// The tokens of a text, up to the first thing that is wrong with its characters, quotes or comments.
@@ -27,7 +27,7 @@ impl<'a> Tokens<'a> {
     {
         Tokens {
             cursor: Cursor::new(text),
-            forbidden: forbidden_place(text),
+            forbidden: forbidden_offset(text),
             ended: false,
         }
     }

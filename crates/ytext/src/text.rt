@@ -10,7 +10,7 @@ ghost use Rattle.ytext.specs.Told.{told_by};
 ghost use Rattle.yspec.specs.text.Spelling.{Spells};
 ghost use Rattle.yspec.specs.text.Slips.{told_slip};
 ghost use Rattle.yspec.specs.text.Token.{tokens_of};
-ghost use Rattle.yspec.specs.text.Scanning.{forbidden_place, scan_of};
+ghost use Rattle.yspec.specs.text.Scanning.{forbidden_offset, scan_of};
 ghost use Rattle.ytext.specs.Characters.{is_allowed_text, is_plain, pending, pending_place};
 ghost use Rattle.ytext.specs.Scanned.{tokens_left};
 ghost use Rattle.ytext.specs.View.{modules_view};
@@ -145,9 +145,9 @@ fn passed_character(
     }
 }
 
-/// The place of the first character that isn't allowed.
-pub(crate) fn forbidden_place(text: &str) -> Option<usize>
-    ensures place { result ≡ forbidden_place 0 (chars text.now) }
+/// The offset of the first character that isn't allowed.
+pub(crate) fn forbidden_offset(text: &str) -> Option<usize>
+    ensures place { result ≡ forbidden_offset 0 (chars text.now) }
     ensures within { IfSome result (λ place. place ≤ length text.now) }
 {
     if are_plain(text.as_bytes()) {

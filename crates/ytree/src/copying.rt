@@ -32,7 +32,7 @@ impl Clone for Tree {
     ghost is_clone = { λ tree copy. tree_view copy ≡ tree_view tree };
 
     fn clone(&self) -> Result<Tree, AllocError> {
-        Ok(Tree::new(copies_of(self.alloc(), self.nodes())?))
+        Ok(Tree::new(copies_of(self.alloc(), self.roots())?))
     }
 }
 

@@ -21,10 +21,10 @@ pub fn instances_of<'a>(rest: &'a [Stored], id: SchemaId) -> (&'a [Stored], &'a 
 fn left_from(row: &[Stored], id: SchemaId) -> &[Stored]
     ensures { row_view result.now ≡ from_number id.0 (row_view row.entry.now) }
 {
-    row.split_at(due_place(row, id).unwrap_or(row.len())).1
+    row.split_at(due_index(row, id).unwrap_or(row.len())).1
 }
 
-fn due_place(row: &[Stored], id: SchemaId) -> Option<usize>
+fn due_index(row: &[Stored], id: SchemaId) -> Option<usize>
     ensures place { result ≡ position (is_not_before id.0) row.now }
     ensures within { IfSome result (λ n. n < length row.now) }
 {
@@ -36,10 +36,10 @@ fn instances_and_rest(row: &[Stored], id: SchemaId) -> (&[Stored], &[Stored])
     ensures found { result.0.now ≡ before_first (is_other id.0) row.entry.now }
     ensures behind { result.1.now ≡ from_first (is_other id.0) row.entry.now }
 {
-    row.split_at(other_place(row, id).unwrap_or(row.len()))
+    row.split_at(other_index(row, id).unwrap_or(row.len()))
 }
 
-fn other_place(row: &[Stored], id: SchemaId) -> Option<usize>
+fn other_index(row: &[Stored], id: SchemaId) -> Option<usize>
     ensures place { result ≡ position (is_other id.0) row.now }
     ensures within { IfSome result (λ n. n < length row.now) }
 {

@@ -84,7 +84,7 @@ impl Tree {
     }
 
     /// The top nodes, in the order of their schema nodes.
-    pub fn nodes(&self) -> &[Stored]
+    pub fn roots(&self) -> &[Stored]
         ensures { row_view result.now ≡ tree_view self.now }
     {
         self.nodes.as_slice()

@@ -40,7 +40,7 @@ fn value_of_tree(alloc: Global, schema: &Schema, tree: &Tree) -> Result<Value, A
         IfOk result (λ value. json.view value
         ≡ object (members_in s None s.nodes (tree_view tree.now))) }
 {
-    let nodes = tree.nodes();
+    let nodes = tree.roots();
     Ok(Value::Object(members_of(alloc, schema, None, schema.roots(), nodes)?))
 }
 

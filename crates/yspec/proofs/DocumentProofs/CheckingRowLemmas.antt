@@ -72,7 +72,7 @@ many_woven : (number : ℕ) (above : List Step) (tolds : List Told) (amount : Am
     ≡ map (prefixed above) (wrong_amount number amount (length each) ++ at_positions number 1 each)
 many_woven number above tolds amount absent count each counted tells so =
     flat_map-append (item_faults tolds) (amount_faults (above ++ step_to number ∷ []) amount count) (cond (ltb 0 count) (visit_each number ∷ []) absent)
-    ∙ (ap₂ ◌++◌ (amount_told (ltb count amount.least) (exceeds count amount.most) number above tolds
+    ∙ (ap₂ ◌++◌ (amount_told (ltb count amount.min_elements) (exceeds count amount.max_elements) number above tolds
     ∙ ap (λ c. map (prefixed above) (wrong_amount number amount c)) counted)
     (each_woven number above tolds absent count each counted tells so)
     ∙ sym (map-append (prefixed above) (wrong_amount number amount (length each)) (at_positions number 1 each)))

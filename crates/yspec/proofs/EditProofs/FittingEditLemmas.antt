@@ -13,7 +13,7 @@ use Rattle.yspec.specs.document.Document.{Stored, Tree, Step, instances_in, docu
 use Rattle.yspec.specs.document.Reading.{Refusal, first_wrong, instance_visits, json_of, members_of, raw_in, stored_rows}
 use Rattle.yspec.specs.document.Fitting.{IsNumbered, next_after, FitsBy, Fits}
 use Rattle.yspec.specs.document.Writing.{AllDiffer, NamesDiffer, HasForm, IsDocument}
-use Rattle.yspec.specs.edit.Edit.{is_of, place_of, edit_at}
+use Rattle.yspec.specs.edit.Edit.{is_of, instance_index, edit_at}
 use Rattle.yspec.specs.edit.EditText.{Path, Edit, create, replace, remove}
 use Rattle.yspec.specs.Results.{◌>>=◌}
 use Rattle.yspec.specs.edit.Editing.{EditRefusal, refused, value_refused, BoundStep, Target, target, lower, row_at, Branch, fitting_branch, branch_at, branch_of, with_branch, with_instead, without, within_limit, is_there, created, replaced, removed, last_meant, instance_meant, target_of, bound, applied, after}
@@ -187,14 +187,14 @@ module _ (Held : SchemaNode → Option Raw → Type 0) where
     with_instead_fits : (step : Step) (b : Branch) (least : ℕ) (t : Tree) → FitsNode b → step.schema_number ≡ n.number → FitsBy Held f least t
         → FitsBy Held f least (with_instead step b t)
     with_instead_fits step b least t fitting of fits =
-        subst (λ k. FitsBy Held f least (change_nth (is_of k) (place_of step) (λ s below after. node b.label b.below after) t)) (sym of)
-        (changed_fits (place_of step) least (λ s below after. node b.label b.below after) t
+        subst (λ k. FitsBy Held f least (change_nth (is_of k) (instance_index step) (λ s below after. node b.label b.below after) t)) (sym of)
+        (changed_fits (instance_index step) least (λ s below after. node b.label b.below after) t
         (λ s below after least e lower rest. branch_first b least after fitting lower rest) fits)
 
     without_fits : (step : Step) (least : ℕ) (t : Tree) → step.schema_number ≡ n.number → FitsBy Held f least t → FitsBy Held f least (without step t)
     without_fits step least t of fits =
-        subst (λ k. FitsBy Held f least (change_nth (is_of k) (place_of step) (λ s below after. after) t)) (sym of)
-        (changed_fits (place_of step) least (λ s below after. after) t
+        subst (λ k. FitsBy Held f least (change_nth (is_of k) (instance_index step) (λ s below after. after) t)) (sym of)
+        (changed_fits (instance_index step) least (λ s below after. after) t
         (λ s below after least e lower rest. sooner f after least (next_after n) (omega (arith, lower, not_before n)) rest) fits)
 
 -- ---- edits
@@ -230,12 +230,12 @@ module _ (s : Schema) (Held : SchemaNode → Option Raw → Type 0) (Extra : For
   target_fits f tree (b ∷ c ∷ bs) sound stands extra bound fits =
       if_then (IsOf b.schema_node.number) (TargetFits f tree) (instance_meant s 4 tree b.schema_node b.predicate) _
       (meant_of s 4 tree b.schema_node b.predicate)
-      (λ step of. if_then (TargetFits bound.0 (row_at step.schema_number (place_of step) tree)) (TargetFits f tree)
-      (target s (row_at step.schema_number (place_of step) tree) (c ∷ bs)) _
-      (target_fits bound.0 (row_at step.schema_number (place_of step) tree) (c ∷ bs) sound
+      (λ step of. if_then (TargetFits bound.0 (row_at step.schema_number (instance_index step) tree)) (TargetFits f tree)
+      (target s (row_at step.schema_number (instance_index step) tree) (c ∷ bs)) _
+      (target_fits bound.0 (row_at step.schema_number (instance_index step) tree) (c ∷ bs) sound
       (stands_below s f b.schema_node bound.0 stands bound.1) (sound.extra_below f b.schema_node bound.0 bound.1 extra) bound.2
-      (subst (λ k. FitsBy Held bound.0 0 (row_at k (place_of step) tree)) (sym of)
-      (row_there Held f b.schema_node bound.0 (is_child s f b.schema_node bound.0 stands bound.1) (place_of step) 0 tree fits)))
+      (subst (λ k. FitsBy Held bound.0 0 (row_at k (instance_index step) tree)) (sym of)
+      (row_there Held f b.schema_node bound.0 (is_child s f b.schema_node bound.0 stands bound.1) (instance_index step) 0 tree fits)))
       (λ t inner. record {
         row = inner.row;
         below = inner.below;
@@ -243,9 +243,9 @@ module _ (s : Schema) (Held : SchemaNode → Option Raw → Type 0) (Extra : For
         extra = inner.extra;
         there = inner.there;
         fits = inner.fits;
-        keeps = λ change so. subst (λ k. FitsBy Held f 0 (forest.change_below (is_of k) (place_of step) (edit_at t.above change) tree)) (sym of)
-            (lifted Held f b.schema_node bound.0 (is_child s f b.schema_node bound.0 stands bound.1) (place_of step) 0 (edit_at t.above change) tree fits
-            (subst (λ k. FitsBy Held bound.0 0 (edit_at t.above change (row_at k (place_of step) tree))) of (inner.keeps change so)));
+        keeps = λ change so. subst (λ k. FitsBy Held f 0 (forest.change_below (is_of k) (instance_index step) (edit_at t.above change) tree)) (sym of)
+            (lifted Held f b.schema_node bound.0 (is_child s f b.schema_node bound.0 stands bound.1) (instance_index step) 0 (edit_at t.above change) tree fits
+            (subst (λ k. FitsBy Held bound.0 0 (edit_at t.above change (row_at k (instance_index step) tree))) of (inner.keeps change so)));
       }))
 
   -- ---- values

@@ -5,7 +5,7 @@ use Rattle.yspec.specs.Forest.{end, node, size, change_nth}
 use Rattle.yspec.specs.text.Text.{Text}
 use Rattle.yspec.specs.schema.Schema.{Schema}
 use Rattle.yspec.specs.document.Document.{Stored, Tree, Step, document_limit}
-use Rattle.yspec.specs.edit.Edit.{edit_at, is_of, place_of}
+use Rattle.yspec.specs.edit.Edit.{edit_at, is_of, instance_index}
 use Rattle.yspec.specs.edit.EditText.{Edit, create, replace, remove}
 use Rattle.yspec.specs.edit.Editing.{refused, Target, branch_of, with_branch, with_instead, without, within_limit, is_there, created, replaced, removed, last_meant, target_of, applied, after}
 use Rattle.yspec.proofs.EditProofs.AnswerLemmas.{If, anyway, if_cond, edits_keep}
@@ -40,7 +40,7 @@ shrunk test (suc place) change (node s below after) less =
 
 shrunk_at : (steps : List Step) (change : Tree → Tree) (t : Tree) → ((u : Tree) → size (change u) ≤ size u) → size (edit_at steps change t) ≤ size t
 shrunk_at [] change t less = less t
-shrunk_at (step ∷ steps) change t less = shrunk (is_of step.schema_number) (place_of step) (λ s below after. node s (edit_at steps change below) after) t
+shrunk_at (step ∷ steps) change t less = shrunk (is_of step.schema_number) (instance_index step) (λ s below after. node s (edit_at steps change below) after) t
     (λ s below after. let inner = shrunk_at steps change below less in omega (arith, inner))
 
 -- ---- edits
@@ -57,7 +57,7 @@ module _ (schema : Schema) (tree : Tree) (within : IsWithin tree) where
   removed_within : (t : Target) → If IsWithin (removed schema tree t)
   removed_within t = anyway IsWithin (last_meant schema t) _ (λ step.
       let less = shrunk_at t.above (without step) tree (λ u.
-      shrunk (is_of step.schema_number) (place_of step) (λ s below after. after) u (λ s below after. omega arith)) in
+      shrunk (is_of step.schema_number) (instance_index step) (λ s below after. after) u (λ s below after. omega arith)) in
       omega (arith, less, within))
 
   applied_within : (e : Edit) → If IsWithin (applied schema tree e)

@@ -11,7 +11,7 @@ use Rattle.yspec.specs.document.Document.{Stored, Tree, Step, document_limit}
 use Rattle.yspec.specs.document.Reading.{Refusal, members_of, json_of, first_wrong, instance_visits, stored_rows}
 use Rattle.yspec.specs.document.Sorting.{StartsAt, IsSorted}
 use Rattle.yspec.specs.document.Fitting.{IsNumbered}
-use Rattle.yspec.specs.edit.Edit.{is_of, place_of, edit_at}
+use Rattle.yspec.specs.edit.Edit.{is_of, instance_index, edit_at}
 use Rattle.yspec.specs.edit.EditText.{Edit, create, replace, remove}
 use Rattle.yspec.specs.edit.Editing.{EditRefusal, refused, value_refused, Target, Branch, branch, fitting_branch, branch_at, branch_of, with_branch, with_instead, without, within_limit, is_there, created, replaced, removed, last_meant, target_of, applied, after}
 use Rattle.yspec.proofs.SchemaProofs.NumberLemmas.{number_at}
@@ -132,7 +132,7 @@ edit_at_in_order : (steps : List Step) (change : Tree → Tree) → Sorts change
 edit_at_in_order [] change sorts t sorted = sorts t sorted
 edit_at_in_order (step ∷ steps) change sorts t sorted =
     let inner = edit_at_in_order steps change sorts in
-    (changed_in_order step.schema_number (place_of step) (λ l below after. node l (edit_at steps change below) after) t
+    (changed_in_order step.schema_number (instance_index step) (λ l below after. node l (edit_at steps change below) after) t
     (λ s below after e so. ((so.0, inner below so.1, so.2), omega (arith, e))) sorted).0
 
 -- ---- edits
@@ -152,13 +152,13 @@ module _ (schema : Schema) (numbered : IsNumbered 0 schema.nodes) (tree : Tree) 
       (λ step of. if_then (IsBranch t.last.schema_node.number) IsSorted (branch_of schema t.last.schema_node.number text) _ (branch_in_order schema t.last.schema_node.number text numbered)
       (λ b so. limited (edit_at t.above (with_instead step b) tree)
       (edit_at_in_order t.above (with_instead step b) (λ u u_sorted.
-      (changed_in_order step.schema_number (place_of step) (λ s below after. node b.label b.below after) u
+      (changed_in_order step.schema_number (instance_index step) (λ s below after. node b.label b.below after) u
       (λ s below after e old. ((starts_lower after s.schema_number b.label.schema_number old.0 (omega (arith, e, of, so.0)), so.1, old.2), omega (arith, of, so.0))) u_sorted).0) tree sorted)))
 
   removed_in_order : (t : Target) → If IsSorted (removed schema tree t)
   removed_in_order t = anyway IsSorted (last_meant schema t) _
       (λ step. edit_at_in_order t.above (without step) (λ u u_sorted.
-      (changed_in_order step.schema_number (place_of step) (λ s below after. after) u
+      (changed_in_order step.schema_number (instance_index step) (λ s below after. after) u
       (λ s below after e old. (old.2, starts_lower after s.schema_number step.schema_number old.0 (omega (arith, e)))) u_sorted).0) tree sorted)
 
   applied_in_order : (e : Edit) → If IsSorted (applied schema tree e)

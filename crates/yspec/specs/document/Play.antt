@@ -69,8 +69,8 @@ exceeds count (Some most) = nat_lt most count
 
 -- V6, else V7
 abbrev pub amount_faults : List Step → Amount → ℕ → List Item
-amount_faults steps amount count = if nat_lt count amount.least then tell (plain_fault V6 steps) ∷ []
-    else (if exceeds count amount.most then tell (plain_fault V7 steps) ∷ [] else [])
+amount_faults steps amount count = if nat_lt count amount.min_elements then tell (plain_fault V6 steps) ∷ []
+    else (if exceeds count amount.max_elements then tell (plain_fault V7 steps) ∷ [] else [])
 
 -- ---- all
 

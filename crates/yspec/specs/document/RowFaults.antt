@@ -30,8 +30,8 @@ absent_leaf_faults number mandatory = plain_fault V3 (step_to number ∷ []) ∷
 absent_leaf_faults number key = plain_fault V2 (step_to number ∷ []) ∷ []
 
 abbrev pub wrong_amount : ℕ → Amount → ℕ → List Fault
-wrong_amount number amount count = if nat_lt count amount.least then plain_fault V6 (step_to number ∷ []) ∷ []
-    else (if exceeds count amount.most then plain_fault V7 (step_to number ∷ []) ∷ [] else [])
+wrong_amount number amount count = if nat_lt count amount.min_elements then plain_fault V6 (step_to number ∷ []) ∷ []
+    else (if exceeds count amount.max_elements then plain_fault V7 (step_to number ∷ []) ∷ [] else [])
 
 abbrev pub wrong_choice : SchemaNode → Bool → List ℕ → List Fault
 wrong_choice n is_mandatory [] = if is_mandatory then fault_with (choice_name n.name) V4 [] ∷ [] else []

@@ -139,7 +139,7 @@ AllAreNamed schema (node n below after) =
 abbrev pub AreNamed : Schema → Type 0
 AreNamed schema = RowIsNamed schema (data_row schema.nodes) × AllAreNamed schema schema.nodes
 
--- modules of different places have different names, without colons
+-- modules of different numbers have different names, without colons
 abbrev pub ModulesDiffer : Schema → Type 0
 ModulesDiffer schema = (i j : ℕ) → i < length schema.modules → j < length schema.modules
     → IsPlain (module_name schema i) × (module_name schema i ≡ module_name schema j → i ≡ j)

@@ -11,7 +11,7 @@ use Rattle.yspec.specs.schema.Schema.{Schema, SchemaNode, Kind, container, leaf,
 use Rattle.yspec.specs.document.Document.{Stored, Tree, Step, step_to, step_at, instances_in, stored_in, document_limit}
 use Rattle.yspec.specs.document.Reading.{Named, child, other_form, unknown, named, instance_visits, first_wrong, json_of, stored_node, stored_rows, members_of}
 use Rattle.yspec.specs.document.Instances.{value_of}
-use Rattle.yspec.specs.edit.Edit.{edit_at, is_of, place_of}
+use Rattle.yspec.specs.edit.Edit.{edit_at, is_of, instance_index}
 use Rattle.yspec.specs.edit.EditText.{Key, Predicate, unsaid, at_position, with_keys, Path, Edit, create, replace, remove, path_of, asked_by}
 
 -- why an edit is refused: the number behind the `E`, and of a value that doesn't fit the one behind the `J`
@@ -146,7 +146,7 @@ instance_meant schema missing row n (at_position position) =
 instance_meant schema missing row n (with_keys keys) =
     the_one missing n.number (positions_where n.number (fits_keys schema (keys_in n.kind) keys) 1 row)
 
--- the row below the instance of a schema node at a place among those of that node, from 0
+-- the row below the instance of a schema node that has an index among those of that node, from 0
 abbrev pub row_at : ℕ → ℕ → Tree → Tree
 row_at number place end = end
 row_at number zero (node s below after) = if s.schema_number == number then below else row_at number zero after
@@ -167,7 +167,7 @@ abbrev pub target : Schema → Tree → List BoundStep → Result Target EditRef
 target schema row [] = refused 1
 target schema row (b ∷ []) = Ok (record { above = []; row = row; last = b })
 target schema row (b ∷ c ∷ bs) = instance_meant schema 4 row b.schema_node b.predicate >>= (λ step.
-    target schema (row_at step.schema_number (place_of step) row) (c ∷ bs) >>= (λ t. Ok (lower step t)))
+    target schema (row_at step.schema_number (instance_index step) row) (c ∷ bs) >>= (λ t. Ok (lower step t)))
 
 -- ---- the value
 
@@ -206,11 +206,11 @@ with_branch b (node s below after) = if nat_lt b.label.schema_number s.schema_nu
 -- with a branch instead of the node that a step means
 abbrev pub with_instead : Step → Branch → Tree → Tree
 with_instead step b row =
-    change_nth (is_of step.schema_number) (place_of step) (λ s below after. node b.label b.below after) row
+    change_nth (is_of step.schema_number) (instance_index step) (λ s below after. node b.label b.below after) row
 
 -- without the node that a step means
 abbrev pub without : Step → Tree → Tree
-without step row = change_nth (is_of step.schema_number) (place_of step) (λ s below after. after) row
+without step row = change_nth (is_of step.schema_number) (instance_index step) (λ s below after. after) row
 
 -- ---- edits
 

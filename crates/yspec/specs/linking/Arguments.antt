@@ -132,8 +132,8 @@ abbrev pub count_of : Text → Option ℕ
 count_of t = option_and_then (between 0 number_limit) (whole_of t)
 
 -- `max-elements`: no number where it is unbounded (RFC 7950, 7.7.6)
-abbrev pub most_of : Text → Option (Option ℕ)
-most_of t = if is_text t (codes "unbounded") then Some None
+abbrev pub max_elements_of : Text → Option (Option ℕ)
+max_elements_of t = if is_text t (codes "unbounded") then Some None
     else option_map Some (option_and_then (between 1 number_limit) (whole_of t))
 
 abbrev pub after_minus : Text → Text
@@ -216,7 +216,7 @@ pub data Form : Type 0 where
   status_form : Form
   ordered_by_form : Form
   count_form : Form
-  most_form : Form
+  max_elements_form : Form
   value_form : Form
   fraction_digits_form : Form
   spans_form : Form
@@ -236,7 +236,7 @@ fits flag_form t = is_some (flag_of t)
 fits status_form t = is_some (status_of t)
 fits ordered_by_form t = is_some (ordered_by_of t)
 fits count_form t = is_some (count_of t)
-fits most_form t = is_some (most_of t)
+fits max_elements_form t = is_some (max_elements_of t)
 fits value_form t = is_some (value_of t)
 fits fraction_digits_form t = is_some (fraction_digits_of t)
 fits spans_form t = is_some (spans_of t)

@@ -20,7 +20,7 @@ circle_break edges edge s = when (is_circular edges edge) (broken 9 s.home s.sta
 
 -- ---- imports
 
--- a module refers to those that it imports, by their places
+-- a module refers to those that it imports, by their numbers
 abbrev pub import_edge : Forest Source → Source → Option Edge
 import_edge modules s = if is_source_of word.import_word s
     then option_map (λ m. record { source = s.home; target = m }) (module_called modules (argument_in s)) else None

@@ -11,13 +11,13 @@ use Rattle.yspec.specs.linking.Keyword as word
 use Rattle.yspec.specs.linking.Source.{Source, is_source_of, argument_in, argument_with, all_with}
 use Rattle.yspec.specs.schema.Breaks.{Break, broken, when}
 
--- what stands below the `module` statement at a place of the set
+-- what stands below the `module` statement of a number in the set
 abbrev pub body_at : Forest Source → ℕ → Forest Source
 body_at end home = end
 body_at (node s below after) zero = below
 body_at (node s below after) (suc home) = body_at after home
 
--- the place of the first module of a name
+-- the number of the first module of a name
 abbrev pub module_called : Forest Source → Text → Option ℕ
 module_called modules name = option_map (λ s. s.home) (find (λ s. is_text (argument_in s) name) (row modules))
 
@@ -33,13 +33,13 @@ imported_as prefix end = None
 imported_as prefix (node s below after) =
     if is_source_of word.import_word s && has_prefix prefix below then Some (argument_in s) else imported_as prefix after
 
--- What a module declares a prefix to stand for: the place of the module itself, or of one that it imports, of which the set
+-- What a module declares a prefix to stand for: the number of the module itself, or of one that it imports, of which the set
 -- may have none; nothing where it declares no such prefix.
 abbrev pub prefix_declared : Forest Source → ℕ → Text → Option (Option ℕ)
 prefix_declared modules home prefix = if has_prefix prefix (body_at modules home) then Some (Some home)
     else option_map (module_called modules) (imported_as prefix (body_at modules home))
 
--- the place of the module that a prefix names in a module; wherever a prefix stands, it means what is said here
+-- the number of the module that a prefix names in a module; wherever a prefix stands, it means what is said here
 abbrev pub module_meant : Forest Source → ℕ → Text → Option ℕ
 module_meant modules home prefix = unwrap_or (prefix_declared modules home prefix) None
 

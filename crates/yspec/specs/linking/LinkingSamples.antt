@@ -16,7 +16,7 @@ abbrev pub statements_in : List Text → Forest Statement
 statements_in [] = end
 statements_in (t ∷ ts) = join (option_map_or (λ top. top) (result_ok (module_of t)) end) (statements_in ts)
 
--- what is told of some texts: the code, the module's place, and the line
+-- what is told of some texts: the code, the module's number, and the line
 abbrev pub told_of : Break → ℕ × (ℕ × ℕ)
 told_of b = (b.code, (b.module_number, b.line))
 

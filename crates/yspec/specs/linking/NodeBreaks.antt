@@ -12,7 +12,7 @@ use Rattle.yspec.specs.linking.Keyword as word
 use Rattle.yspec.specs.linking.Source.{argument_in}
 use Rattle.yspec.specs.linking.TypeStatements.{Meant, own, of_target}
 use Rattle.yspec.specs.linking.Planned.{Planned, Plan, same_number, nodes_of, node_of, child_called, is_a, is_leaf_or_leaf_list, stated_in, meant_in, target_meant, type_of, is_on_circle}
-use Rattle.yspec.specs.linking.SchemaNodes.{is_mandatory, least_of, key_names, key_numbers, unique_ways, own_defaults, default_texts, default_case, is_key}
+use Rattle.yspec.specs.linking.SchemaNodes.{is_mandatory, min_elements_of, key_names, key_numbers, unique_ways, own_defaults, default_texts, default_case, is_key}
 use Rattle.yspec.specs.schema.Breaks.{Break, broken, when}
 
 -- a rule that is broken is told at the node's statement
@@ -121,13 +121,13 @@ has_equal type [] = false
 has_equal type (t ∷ ts) = list_any (same_default type t) ts || has_equal type ts
 
 abbrev pub are_wrong_defaults : Plan → Planned → YangType → Bool
-are_wrong_defaults plan p type = if nat_lt 0 (least_of p) then not (is_empty (own_defaults p))
+are_wrong_defaults plan p type = if nat_lt 0 (min_elements_of p) then not (is_empty (own_defaults p))
     else list_any (is_refused type) (default_texts plan p) || (p.config && has_equal type (default_texts plan p))
 
 -- whether a node must be stored, given that of those below it; a case needn't (RFC 7950, 3)
 abbrev pub must_be : Planned → Bool → Bool
 must_be p inside = if is_a word.leaf_word p || is_a word.choice_word p then is_mandatory p
-    else (if is_a word.leaf_list_word p || is_a word.list_word p then nat_lt 0 (least_of p)
+    else (if is_a word.leaf_list_word p || is_a word.list_word p then nat_lt 0 (min_elements_of p)
     else (is_a word.container_word p && (not (is_some (stated_in word.presence_word p)) && inside)))
 
 abbrev pub has_mandatory : Forest Planned → Bool

@@ -6,7 +6,7 @@ use Rattle.yspec.specs.linking.Keyword as word
 use Rattle.yspec.specs.linking.Source.{Source, is_source_of}
 
 -- A statement that defines a schema node. `own` are its substatements that define none; the forest below it is made of
--- parts again. `owner` is the module to which the node belongs, by its place in the set.
+-- parts again. `owner` is the module to which the node belongs, by its number in the set.
 pub record Part : Type 0 where
   pub source : Source
   pub own : Forest Source

@@ -11,7 +11,7 @@ use Rattle.yspec.specs.linking.Source.{Source, argument_in}
 use Rattle.yspec.specs.linking.Imports.{prefix_declared, module_meant}
 use Rattle.yspec.specs.schema.Breaks.{Break, broken, when}
 
--- the name of a schema node: the place of its module, where the prefix names one, and its identifier
+-- the name of a schema node: the number of its module, where the prefix names one, and its identifier
 pub record NodeName : Type 0 where
   pub module_number : Option ℕ
   pub name : Text

@@ -8,7 +8,7 @@ use Rattle.yspec.specs.types.Types.{Val, string_type}
 use Rattle.yspec.specs.types.Values.{value_of_text}
 use Rattle.yspec.specs.linking.Keyword.{Keyword}
 use Rattle.yspec.specs.linking.Keyword as word
-use Rattle.yspec.specs.linking.Arguments.{Name, key_of, unique_of, count_of, most_of, status_of}
+use Rattle.yspec.specs.linking.Arguments.{Name, key_of, unique_of, count_of, max_elements_of, status_of}
 use Rattle.yspec.specs.linking.Source.{Source, argument_in, argument_with, first_with, all_with}
 use Rattle.yspec.specs.linking.DerivedTypes.{default_meant}
 use Rattle.yspec.specs.linking.Prefixes.{NodeName, node_name}
@@ -19,11 +19,11 @@ abbrev pub is_mandatory : Planned → Bool
 is_mandatory p = option_map_or is_said (stated_in word.mandatory_word p) false
 
 -- RFC 7950, 7.7.5 and 7.7.6
-abbrev pub least_of : Planned → ℕ
-least_of p = unwrap_or (option_and_then count_of (stated_in word.min_elements_word p)) 0
+abbrev pub min_elements_of : Planned → ℕ
+min_elements_of p = unwrap_or (option_and_then count_of (stated_in word.min_elements_word p)) 0
 
 abbrev pub amount_of : Planned → Amount
-amount_of p = record { least = least_of p; most = unwrap_or (option_and_then most_of (stated_in word.max_elements_word p)) None }
+amount_of p = record { min_elements = min_elements_of p; max_elements = unwrap_or (option_and_then max_elements_of (stated_in word.max_elements_word p)) None }
 
 abbrev pub status_in : Planned → Status
 status_in p = unwrap_or (option_and_then status_of (stated_in word.status_word p)) current
@@ -66,7 +66,7 @@ own_defaults p = map argument_in (all_with word.default_word p.part.own)
 
 -- that of its type, where it may be without a value
 abbrev pub type_default : Plan → Planned → Option Text
-type_default plan p = if is_mandatory p || nat_lt 0 (least_of p) then None
+type_default plan p = if is_mandatory p || nat_lt 0 (min_elements_of p) then None
     else option_and_then (default_meant plan.modules) (first_with word.type_word p.part.own)
 
 -- its own defaults, or where it has none that of its type

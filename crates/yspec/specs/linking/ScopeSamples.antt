@@ -21,7 +21,7 @@ abbrev pub linking_phases : List Text → List (List Break)
 linking_phases texts = let sources = sources_in texts in
     names_phase (statements_in texts) sources ∷ meanings_phase sources ∷ type_breaks sources ∷ []
 
--- what is told of some texts: the code, the module's place, and the line
+-- what is told of some texts: the code, the module's number, and the line
 abbrev pub told_of_names : List Text → Option (ℕ × (ℕ × ℕ))
 told_of_names texts = option_map told_of (first_broken (linking_phases texts))
 

@@ -5,7 +5,7 @@ use Rattle.yspec.specs.text.Text.{Text}
 use Rattle.yspec.specs.text.Statement.{Statement}
 use Rattle.yspec.specs.linking.Keyword.{Keyword, same_keyword, keyword_named, extension_word}
 
--- A statement is named by its number in preorder over the whole set, modules as given; `home` is the place of its module
+-- A statement is named by its number in preorder over the whole set, modules as given; `home` is the number of its module
 -- in the set.
 pub record Source : Type 0 where
   pub keyword : Keyword

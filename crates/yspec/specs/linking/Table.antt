@@ -3,7 +3,7 @@ use Rattle.std.specs.Prelude.{Bool, not, List, [], ◌∷◌, ◌++◌, filter}
 use Rattle.std.specs.List.{list_any}
 pub use Rattle.yspec.specs.schema.Breaks.{Count, exactly_one, at_most_one, any_number}
 use Rattle.yspec.specs.linking.Keyword.{Keyword, same_keyword, module_word, yang_version_word, namespace_word, prefix_word, import_word, revision_date_word, organization_word, contact_word, description_word, reference_word, revision_word, extension_word, typedef_word, grouping_word, augment_word, container_word, leaf_word, leaf_list_word, list_word, choice_word, case_word, uses_word, refine_word, type_word, fraction_digits_word, range_word, length_word, enum_word, bit_word, path_word, require_instance_word, error_message_word, error_app_tag_word, value_word, position_word, units_word, default_word, config_word, mandatory_word, presence_word, min_elements_word, max_elements_word, ordered_by_word, status_word, key_word, unique_word}
-use Rattle.yspec.specs.linking.Arguments.{Form, identifier_form, name_form, date_form, relative_path_form, absolute_path_form, leafref_path_form, key_form, unique_form, flag_form, status_form, ordered_by_form, count_form, most_form, value_form, fraction_digits_form, spans_form, any_form}
+use Rattle.yspec.specs.linking.Arguments.{Form, identifier_form, name_form, date_form, relative_path_form, absolute_path_form, leafref_path_form, key_form, unique_form, flag_form, status_form, ordered_by_form, count_form, max_elements_form, value_form, fraction_digits_form, spans_form, any_form}
 
 pub record Allowed : Type 0 where
   pub keyword : Keyword
@@ -126,7 +126,7 @@ whole_rule_of config_word = rule flag_form []
 whole_rule_of mandatory_word = rule flag_form []
 whole_rule_of presence_word = rule any_form []
 whole_rule_of min_elements_word = rule count_form []
-whole_rule_of max_elements_word = rule most_form []
+whole_rule_of max_elements_word = rule max_elements_form []
 whole_rule_of ordered_by_word = rule ordered_by_form []
 whole_rule_of status_word = rule status_form []
 whole_rule_of key_word = rule key_form []

@@ -4,7 +4,7 @@ use Rattle.std.specs.List.{flat_map}
 use Rattle.yspec.specs.text.Text.{Text}
 use Rattle.yspec.specs.schema.Breaks.{Count, exactly_one, at_most_one, any_number}
 use Rattle.yspec.specs.linking.Keyword.{Keyword, keyword_text}
-use Rattle.yspec.specs.linking.Arguments.{Form, identifier_form, name_form, date_form, relative_path_form, absolute_path_form, leafref_path_form, key_form, unique_form, flag_form, status_form, ordered_by_form, count_form, most_form, value_form, fraction_digits_form, spans_form, any_form}
+use Rattle.yspec.specs.linking.Arguments.{Form, identifier_form, name_form, date_form, relative_path_form, absolute_path_form, leafref_path_form, key_form, unique_form, flag_form, status_form, ordered_by_form, count_form, max_elements_form, value_form, fraction_digits_form, spans_form, any_form}
 use Rattle.yspec.specs.linking.Table.{Allowed, whole_rule_of}
 
 abbrev pub count_text : Count → Text
@@ -25,7 +25,7 @@ form_text flag_form = codes "flag"
 form_text status_form = codes "status"
 form_text ordered_by_form = codes "order"
 form_text count_form = codes "count"
-form_text most_form = codes "count or unbounded"
+form_text max_elements_form = codes "count or unbounded"
 form_text value_form = codes "number"
 form_text fraction_digits_form = codes "digits"
 form_text spans_form = codes "ranges"

@@ -19,7 +19,7 @@ diagram_of text = diagram_in 0 (compiled_texts (text ∷ []))
 abbrev pub diagram_lines : Text → Text
 diagram_lines lines = diagram_of (module_text (codes "m") lines)
 
--- that of the module at a place, of several
+-- that of the module of a number, of several
 abbrev pub diagram_among : List Text → ℕ → Text
 diagram_among texts shown = diagram_in shown (compiled_texts texts)
 

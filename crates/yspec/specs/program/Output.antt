@@ -119,7 +119,7 @@ with_document document names contents next = with_schema names contents (λ sche
 abbrev pub counted : Schema → Outcome
 counted schema = found 0 (decimal (size schema.nodes) ++ codes " nodes\n")
 
--- the diagram of the module of a name, by its place in the set if there is one
+-- the diagram of the module of a name, by its number in the set if there is one
 abbrev pub drawn : Schema → Text → Option ℕ → Outcome
 drawn schema name None = failed 2 (name ++ codes ": no such module")
 drawn schema name (Some shown) = found 0 (diagram schema shown)

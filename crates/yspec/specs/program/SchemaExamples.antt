@@ -35,7 +35,7 @@ abbrev pub referring : Shape → ℕ → LeafType
 referring shape target = record { name = codes "leafref"; type = record { shape = shape; requires_instance = Some true }; target = Some target }
 
 abbrev pub any_amount : Amount
-any_amount = record { least = 0; most = None }
+any_amount = record { min_elements = 0; max_elements = None }
 
 abbrev pub within : ℕ → ℕ → Part
 within low high = record { low = pos low; high = pos high }
@@ -70,7 +70,7 @@ host_children = node (node_of 2 (codes "name") (leaf (own_type (codes "string") 
 
 abbrev pub net_schema : Schema
 net_schema = one_module (codes "ex-net") (codes "n") (node (node_of 0 (codes "net") (container false))
-    (node (node_of 1 (codes "host") (list (record { keys = 2 ∷ []; uniques = ((3 ∷ []) ∷ (4 ∷ []) ∷ []) ∷ [] }) (record { least = 1; most = Some 3 })))
+    (node (node_of 1 (codes "host") (list (record { keys = 2 ∷ []; uniques = ((3 ∷ []) ∷ (4 ∷ []) ∷ []) ∷ [] }) (record { min_elements = 1; max_elements = Some 3 })))
     host_children end) end)
 
 -- ---- a choice with a default case, whose default is a target

@@ -7,7 +7,7 @@ use Rattle.yspec.specs.text.Text.{Text, is_text}
 use Rattle.yspec.specs.text.Statement.{Statement}
 use Rattle.yspec.specs.schema.Schema.{argument_text}
 
--- a broken rule: the number behind the `C`, the module by its place in the set, and the line
+-- a broken rule: the number behind the `C`, the module by its number in the set, and the line
 pub record Break : Type 0 where
   pub code : ℕ
   pub module_number : ℕ

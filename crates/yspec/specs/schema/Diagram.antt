@@ -6,7 +6,7 @@ use Rattle.yspec.specs.Forest.{Forest, end, node}
 use Rattle.yspec.specs.text.Text.{Text, is_text}
 use Rattle.yspec.specs.schema.Schema.{Schema, SchemaNode, Kind, container, leaf, leaf_list, list, choice, case, LeafType, Absence, allowed, default_used, mandatory, key, Status, current, deprecated, obsolete, is_data, has_value, type_in, keys_in, node_at, module_name, module_prefix, data_way_to}
 
--- A diagram is that of one module, by its place in the set; in what follows that is `shown`.
+-- A diagram is that of one module, by its number in the set; in what follows that is `shown`.
 
 -- ---- names (RFC 8340, 2.6)
 

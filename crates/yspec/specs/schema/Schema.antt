@@ -28,8 +28,8 @@ pub data Absence : Type 0 where
 
 -- min-elements and max-elements
 pub record Amount : Type 0 where
-  pub least : ℕ
-  pub most : Option ℕ
+  pub min_elements : ℕ
+  pub max_elements : Option ℕ
 
 -- the numbers of the containers that lead from an entry of a list to a leaf, and the leaf's
 abbrev pub LeafPath : Type 0

@@ -39,9 +39,9 @@ pieces_of text = pieces_from 0 0 1 1 text
 -- ---- what is wrong, and where
 
 -- the first character that isn't allowed
-abbrev pub forbidden_place : ℕ → List ℕ → Option ℕ
-forbidden_place place [] = None
-forbidden_place place (c ∷ cs) = if is_allowed c cs then forbidden_place (place + len_utf8 c) cs else Some place
+abbrev pub forbidden_offset : ℕ → List ℕ → Option ℕ
+forbidden_offset place [] = None
+forbidden_offset place (c ∷ cs) = if is_allowed c cs then forbidden_offset (place + len_utf8 c) cs else Some place
 
 -- the first backslash between double quotes that another character follows than `n`, `t`, `"` and `\`
 unfoldable pub wrong_escape : Bool → ℕ → List ℕ → Option ℕ
@@ -75,16 +75,16 @@ first_cause (Some place) end (Some other) =
 
 -- ---- what a scan gives
 
-pub data Kind : Type 0 where
-  unquoted : Kind
-  single_quoted : Kind
-  double_quoted : Kind
-  semicolon : Kind
-  opening : Kind
-  closing : Kind
+pub data TokenKind : Type 0 where
+  unquoted : TokenKind
+  single_quoted : TokenKind
+  double_quoted : TokenKind
+  semicolon : TokenKind
+  opening : TokenKind
+  closing : TokenKind
 
 -- none for what ends the text
-abbrev pub kind_of : Lexeme → Option Kind
+abbrev pub kind_of : Lexeme → Option TokenKind
 kind_of (word w) = Some unquoted
 kind_of (single raw) = Some single_quoted
 kind_of (double column raw) = Some double_quoted
@@ -95,7 +95,7 @@ kind_of _ = None
 
 -- a token with its quotes
 pub record Scanned : Type 0 where
-  pub kind : Kind
+  pub kind : TokenKind
   pub start : ℕ
   pub end : ℕ
   pub text : Text
@@ -104,7 +104,7 @@ pub record Scanned : Type 0 where
 abbrev pub told_of : Text → Cause → Result Scanned Slip
 told_of text c = slip c.code (min 4294967295 (line_behind 1 (take c.place text)))
 
-abbrev pub scanned : Text → Piece → Kind → Scanned
+abbrev pub scanned : Text → Piece → TokenKind → Scanned
 scanned text p kind =
     record { kind = kind; start = p.start; end = p.end; text = slice_range text p.start p.end }
 
@@ -119,7 +119,7 @@ given_of text forbidden [] = []
 given_of text forbidden (p ∷ ps) = given text forbidden p (given_of text forbidden ps)
 
 abbrev pub scan_of : Text → List (Result Scanned Slip)
-scan_of text = given_of text (forbidden_place 0 (chars text)) (pieces_of text)
+scan_of text = given_of text (forbidden_offset 0 (chars text)) (pieces_of text)
 
 -- ---- what the pieces are, by cases
 

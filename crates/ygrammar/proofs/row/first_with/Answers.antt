@@ -1,7 +1,7 @@
 use Rattle.std.proofs.Common.{◌≡◌, Option, Some, None, refl, ap, ◌∙◌}
 use Rattle.std.specs.Prelude.{option_map}
 use Rattle.ypreorder.specs.View.{row_by, label_by}
-use Rattle.ypreorder.specs.declared.nodes.Node.{Node}
+use Rattle.ypreorder.specs.declared.siblings.Node.{Node}
 use Rattle.yword.specs.KeywordView.{keyword_view}
 use Rattle.ygrammar.specs.SourceView.{source_view, node_view}
 use Rattle.ygrammar.specs.declared.source.Source.{Source}

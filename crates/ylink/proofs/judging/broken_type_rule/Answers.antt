@@ -2,7 +2,7 @@ use Rattle.std.proofs.Common.{◌∙◌, ap, arith, List, None}
 use Rattle.yspec.specs.schema.Breaks.{Break, least_from}
 use Rattle.yspec.specs.linking.Source.{Source}
 use Rattle.ypreorder.specs.Layout.{forest_of}
-use Rattle.ypreorder.specs.View.{rows_in}
+use Rattle.ypreorder.specs.View.{slots_in}
 use Rattle.ygrammar.specs.BreakView.{seen}
 use Rattle.ygrammar.specs.SourceView.{source_view}
 use Rattle.ynames.proofs.ToldLemmas.{next_told, all_told}
@@ -17,13 +17,13 @@ loop-number-preserved c =
     let told = seen c.loop-number.told in
     let table = table_view c.args.verdicts.now in
     let breaks : Source → List Break = λ s. told_by s (verdict_held table s.number) in
-    next_told breaks _ (rows_in c.args.sources.now.table) c.rows-row-items.ensures i row told (seen c.judge_verdict-told.result) _ (omega arith) c.row-item.is
+    next_told breaks _ (slots_in c.args.sources.now.table) c.slots-row-items.ensures i row told (seen c.judge_verdict-told.result) _ (omega arith) c.row-item.is
     (c.judge_verdict-told.ensures i ∙ ap (λ v. least_from told (told_by (source_view i row.label) v)) c.verdict_held.ensures) c.loop-number.invariant
 
 pub returns : goal.returns
 returns c are =
-    let rows = rows_in c.args.sources.now.table in
+    let rows = slots_in c.args.sources.now.table in
     let table = table_view c.args.verdicts.now in
     let breaks : Source → List Break = λ s. told_by s (verdict_held table s.number) in
-    all_told breaks _ rows c.rows-row-items.ensures c.loop-number.number (seen c.loop-number.told) None (omega arith) c.loop-number.invariant
+    all_told breaks _ rows c.slots-row-items.ensures c.loop-number.number (seen c.loop-number.told) None (omega arith) c.loop-number.invariant
     ∙ ap (least_from None) (all_judged (forest_of rows) table are)

@@ -1,9 +1,9 @@
 use Rattle.std.proofs.Common.{ap, ◌∙◌}
+use Rattle.std.proofs.lemmas.Result.{IfOk-weaker}
 use Rattle.yspec.specs.linking.TypeStatements as spec
 use Rattle.ypreorder.specs.View.{row_by, label_by}
 use Rattle.ygrammar.specs.LinkView.{view}
 use Rattle.ygrammar.specs.SourceView.{source_view}
-use Rattle.ygrammar.proofs.GrammarLemmas.{if_ok_then}
 use Rattle.ylink.specs.TypedefView.{verdicts_in}
 use Rattle.ylink.proofs.types.verdict_on.Goals as goal
 
@@ -12,7 +12,7 @@ returns c =
     let modules = view c.args.sources.now in
     let named = verdicts_in c.args.typedefs.now in
     let s = c.args.statement in
-    if_ok_then _ _ c.judge_type.result
+    IfOk-weaker c.judge_type.result _ _
     (λ v e. e ∙ ap (spec.verdict modules named c.args.is_member (label_by source_view s) (row_by source_view s.children))
     (c.in_ok-members.ensures ∙ ap (λ nodes. spec.verdicts modules named (row_by source_view nodes)) c.children.ensures))
     c.judge_type.ensures

@@ -7,7 +7,7 @@ use Rattle.yspec.specs.schema.Schema.{is_called}
 use Rattle.yindex.specs.Names.{found_by, is_at, number_among, text_in}
 use Rattle.yindex.specs.declared.keys.Among.TheVariants.{Children, DataNodes}
 use Rattle.yindex.proofs.NameLemmas.{apart_among, found_after, none_found}
-use Rattle.ymodel.specs.declared.children.Row.{Row}
+use Rattle.ymodel.specs.declared.children.Slot.{Slot}
 use Rattle.ymodel.specs.Layout.{Place, laid, place_of, number_of, data_at, data_above, data_place_of}
 use Rattle.ymodel.specs.Lookup.{first_below, is_data_called, names_in}
 use Rattle.ymodel.proofs.LayoutLemmas.{laid_push}
@@ -18,7 +18,7 @@ use Rattle.ymodel.proofs.index.index_of.Goals as goal
 pub loop-number-init : goal.loop-number-init
 unfolding handed
 loop-number-init c =
-    let numbers = number_among (text_in (names_in c.args.rows.now)) c.args.names.ordered.items in
+    let numbers = number_among (text_in (names_in c.args.slots.now)) c.args.names.ordered.items in
     record {
       children = λ parent m t. none_found numbers c.in_ok-nodes.nodes Children parent m t (c.in_ok-nodes.ensures Children);
       data_nodes = λ above m t. none_found numbers c.in_ok-nodes.nodes DataNodes above m t (c.in_ok-nodes.ensures DataNodes);
@@ -27,45 +27,45 @@ loop-number-init c =
 
 pub loop-number-preserved : goal.loop-number-preserved
 loop-number-preserved c =
-    let rows = c.args.rows.now in
+    let slots = c.args.slots.now in
     let i = c.loop-number.number in
-    let row = c.index-rows-number.result in
-    let done = take i rows in
-    let within = length-take i rows in
+    let slot = c.index-slots-number.result in
+    let done = take i slots in
+    let within = length-take i slots in
     let here : length done ≡ i = omega (arith, within) in
-    let step : laid 0 (take (i + 1) rows) ≡ laid 0 done ++ place_of i row ∷ [] =
-    ap (laid 0) (take_more rows i row (omega arith) ∙ ap (λ r. done ++ r ∷ []) (sym c.index-rows-number.is))
-    ∙ (laid_push done row ∙ ap (λ n. laid 0 done ++ place_of n row ∷ []) here) in
+    let step : laid 0 (take (i + 1) slots) ≡ laid 0 done ++ place_of i slot ∷ [] =
+    ap (laid 0) (take_more slots i slot (omega arith) ∙ ap (λ r. done ++ r ∷ []) (sym c.index-slots-number.is))
+    ∙ (laid_push done slot ∙ ap (λ n. laid 0 done ++ place_of n slot ∷ []) here) in
     let places = handed [] (laid 0 done) in
-    let all : handed [] (laid 0 (take (i + 1) rows)) ≡ places ++ handed_on places (place_of i row) ∷ [] =
-    ap (handed []) step ∙ handed-last [] (laid 0 done) (place_of i row) in
+    let all : handed [] (laid 0 (take (i + 1) slots)) ≡ places ++ handed_on places (place_of i slot) ∷ [] =
+    ap (handed []) step ∙ handed-last [] (laid 0 done) (place_of i slot) in
     let data_parent = c.data_parent-above.result in
-    let above : data_parent ≡ data_above (nearest_of places) (number_of row.parent) =
-    c.data_parent-above.ensures ∙ ap (λ xs. data_above xs (number_of row.parent)) (c.deref.ensures.value ∙ c.loop-number.invariant.nearest) in
-    let place = data_place_of data_parent i row in
-    let added : places ++ place ∷ [] ≡ handed [] (laid 0 (take (i + 1) rows)) =
-    ap (λ q. places ++ data_place_of q i row ∷ []) above ∙ sym all in
-    let name = string_bytes row.node.name in
-    let inside : i < length rows = omega arith in
-    let there : text_in (names_in rows) i ≡ name = ap (λ o. unwrap_or o []) (slice_get-map (λ r. string_bytes r.node.name) rows i
-    ∙ ap (option_map (λ r. string_bytes r.node.name)) (slice_get-get_or rows i row inside))
-    ∙ ap (λ r. string_bytes r.node.name) (sym c.index-rows-number.is) in
+    let above : data_parent ≡ data_above (nearest_of places) (number_of slot.parent) =
+    c.data_parent-above.ensures ∙ ap (λ xs. data_above xs (number_of slot.parent)) (c.deref.ensures.value ∙ c.loop-number.invariant.nearest) in
+    let place = data_place_of data_parent i slot in
+    let added : places ++ place ∷ [] ≡ handed [] (laid 0 (take (i + 1) slots)) =
+    ap (λ q. places ++ data_place_of q i slot ∷ []) above ∙ sym all in
+    let name = string_bytes slot.node.name in
+    let inside : i < length slots = omega arith in
+    let there : text_in (names_in slots) i ≡ name = ap (λ o. unwrap_or o []) (slice_get-map (λ r. string_bytes r.node.name) slots i
+    ∙ ap (option_map (λ r. string_bytes r.node.name)) (slice_get-get_or slots i slot inside))
+    ∙ ap (λ r. string_bytes r.node.name) (sym c.index-slots-number.is) in
     let ordered = c.args.names.ordered.items in
-    let numbers = number_among (text_in (names_in rows)) ordered in
+    let numbers = number_among (text_in (names_in slots)) ordered in
     let given = c.index.result.now in
-    let kept : slice_get c.args.names.of_nodes.items i ≡ Some given = slice_get_read c.args.names.of_nodes.items (length c.args.names.of_nodes.items) i given refl (omega (arith, c.requires.names.0, length-map rows (λ (r : Row). string_bytes r.node.name))) c.index.ensures in
+    let kept : slice_get c.args.names.of_nodes.items i ≡ Some given = slice_get_read c.args.names.of_nodes.items (length c.args.names.of_nodes.items) i given refl (omega (arith, c.requires.names.0, length-map slots (λ (r : Slot). string_bytes r.node.name))) c.index.ensures in
     let named : numbers name ≡ Some given = ap numbers (sym there) ∙ c.requires.names.2 i given kept in
     let after = c.add.new.self in
     let found = found_by numbers in
     let node = c.indexed_node-node.result in
     record {
-      children = λ parent m t. child_added parent m t (laid 0 done) i row data_parent (found c.loop-number.nodes Children parent m t) (found after Children parent m t)
-          (found_after node name Children parent m numbers given c.loop-number.nodes after (apart_among (text_in (names_in rows)) ordered) named (c.in_ok-add.ensures.added Children) t
+      children = λ parent m t. child_added parent m t (laid 0 done) i slot data_parent (found c.loop-number.nodes Children parent m t) (found after Children parent m t)
+          (found_after node name Children parent m numbers given c.loop-number.nodes after (apart_among (text_in (names_in slots)) ordered) named (c.in_ok-add.ensures.added Children) t
           ∙ ap (λ n. first_of (found c.loop-number.nodes Children parent m t) (if is_at Children parent m t n name then Some n.number else None)) c.indexed_node-node.ensures)
           (c.loop-number.invariant.children parent m t)
           ∙ ap (first_below parent (is_called m t)) (sym step);
-      data_nodes = λ q m t. data_added q m t places i row data_parent (found c.loop-number.nodes DataNodes q m t) (found after DataNodes q m t)
-          (found_after node name DataNodes q m numbers given c.loop-number.nodes after (apart_among (text_in (names_in rows)) ordered) named (c.in_ok-add.ensures.added DataNodes) t
+      data_nodes = λ q m t. data_added q m t places i slot data_parent (found c.loop-number.nodes DataNodes q m t) (found after DataNodes q m t)
+          (found_after node name DataNodes q m numbers given c.loop-number.nodes after (apart_among (text_in (names_in slots)) ordered) named (c.in_ok-add.ensures.added DataNodes) t
           ∙ ap (λ n. first_of (found c.loop-number.nodes DataNodes q m t) (if is_at DataNodes q m t n name then Some n.number else None)) c.indexed_node-node.ensures)
           (c.loop-number.invariant.data_nodes q m t)
           ∙ ap (first_below q (is_data_called m t)) added;
@@ -76,17 +76,17 @@ loop-number-preserved c =
 
 pub returns-clause-named : goal.returns-clause-named
 returns-clause-named c =
-    let rows = c.args.rows.now in
+    let slots = c.args.slots.now in
     let i = c.loop-number.number in
-    let all = take_all i rows (omega arith) in (
+    let all = take_all i slots (omega arith) in (
       c.requires.names.1,
       λ parent m t. c.loop-number.invariant.children parent m t ∙ ap (λ rs. first_below parent (is_called m t) (laid 0 rs)) all,
     )
 
 pub returns-clause-written : goal.returns-clause-written
 returns-clause-written c above m t =
-    let rows = c.args.rows.now in
+    let slots = c.args.slots.now in
     let i = c.loop-number.number in
-    let all = take_all i rows (omega arith) in
+    let all = take_all i slots (omega arith) in
     c.loop-number.invariant.data_nodes above m t
-    ∙ (ap (λ rs. first_below above (is_data_called m t) (handed [] (laid 0 rs))) all ∙ ap (first_below above (is_data_called m t)) (handed_laid rows c.requires.laid_out))
+    ∙ (ap (λ rs. first_below above (is_data_called m t) (handed [] (laid 0 rs))) all ∙ ap (first_below above (is_data_called m t)) (handed_laid slots c.requires.laid_out))

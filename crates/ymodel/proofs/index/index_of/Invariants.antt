@@ -10,9 +10,9 @@ use Rattle.ymodel.proofs.index.index_of.Given as goal
 
 abbrev pub invariant-loop-number : goal.invariant-loop-number
 invariant-loop-number l =
-    let done = laid 0 (take l.number l.rows) in
+    let done = laid 0 (take l.number l.slots) in
     let places = handed [] done in
-    let numbers = number_among (text_in (names_in l.rows)) l.ordered.items in
+    let numbers = number_among (text_in (names_in l.slots)) l.ordered.items in
     record {
       children : (parent : Option ℕ) (m : ℕ) (t : Text) → found_by numbers l.nodes Children parent m t ≡ first_below parent (is_called m t) done;
       data_nodes : (above : Option ℕ) (m : ℕ) (t : Text) → found_by numbers l.nodes DataNodes above m t ≡ first_below above (is_data_called m t) places;

@@ -29,7 +29,7 @@ returns-in_err-module c differ n named =
     let b = c.in-Some.behind.now in
     let cut = split_parts 58 t (Some (c.in-Some.«module», c.in-Some.behind)) c.in-Some.ensures.cases (omega arith) in
     none_meant s t a b n cut.0 (plain_by_places a cut.1) differ named c.args.own
-    (no_place c.args.modules.now a n.module_number (sym c.place_of.ensures ∙ c.in_err-module.was) named.1)
+    (no_place c.args.modules.now a n.module_number (sym c.module_named.ensures ∙ c.in_err-module.was) named.1)
     ∙ sym (ap (λ o. option_map_or (λ m. is_called m.«module» m.name.now n) o false) c.from_residual-in_err-module.ensures)
 
 pub returns-then-eq : goal.returns-then-eq
@@ -39,7 +39,7 @@ returns-then-eq c differ n named =
     let a = c.in-Some.«module».now in
     let b = c.in-Some.behind.now in
     let cut = split_parts 58 t (Some (c.in-Some.«module», c.in-Some.behind)) c.in-Some.ensures.cases (omega arith) in
-    let place = place_named c.args.modules.now a c.in_ok-module.«module» (sym c.place_of.ensures ∙ c.in_ok-module.was) in
+    let place = place_named c.args.modules.now a c.in_ok-module.«module» (sym c.module_named.ensures ∙ c.in_ok-module.was) in
     own_meant s t a b n cut.0 (plain_by_places a cut.1) differ named c.args.own c.in_ok-module.«module» place.0 place.1 (sym c.eq.ensures ∙ c.if-eq.true)
 
 pub returns : goal.returns
@@ -49,5 +49,5 @@ returns c differ n named =
     let a = c.in-Some.«module».now in
     let b = c.in-Some.behind.now in
     let cut = split_parts 58 t (Some (c.in-Some.«module», c.in-Some.behind)) c.in-Some.ensures.cases (omega arith) in
-    let place = place_named c.args.modules.now a c.in_ok-module.«module» (sym c.place_of.ensures ∙ c.in_ok-module.was) in
+    let place = place_named c.args.modules.now a c.in_ok-module.«module» (sym c.module_named.ensures ∙ c.in_ok-module.was) in
     other_meant s t a b n cut.0 (plain_by_places a cut.1) differ named c.args.own c.in_ok-module.«module» place.0 place.1 (sym c.eq.ensures ∙ c.if-eq.false)

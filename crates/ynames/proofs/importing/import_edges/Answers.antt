@@ -1,6 +1,6 @@
 use Rattle.std.proofs.Common.{◌≤◌, ap, sym, map, length, arith, ◌∙◌}
 use Rattle.yspec.specs.linking.Circles.{import_edge}
-use Rattle.ypreorder.specs.View.{rows_in}
+use Rattle.ypreorder.specs.View.{slots_in}
 use Rattle.ypreorder.proofs.LabelLemmas.{preorder_by}
 use Rattle.ygrammar.specs.LinkView.{view}
 use Rattle.ygrammar.specs.SourceView.{source_view}
@@ -10,7 +10,7 @@ use Rattle.ynames.proofs.importing.import_edges.Goals as goal
 pub returns : goal.returns
 returns c places =
     let modules = view c.args.sources.now in
-    let rows = rows_in c.args.sources.now.table in
-    let ended : length rows ≤ c.loop-number.number = omega (arith, ap length c.rows-row-items.ensures) in
+    let rows = slots_in c.args.sources.now.table in
+    let ended : length rows ≤ c.loop-number.number = omega (arith, ap length c.slots-row-items.ensures) in
     all_import_edges modules rows c.loop-number.number c.loop-number.edges.items _ ended (c.loop-number.invariant places)
     ∙ ap (map (import_edge modules)) (sym (preorder_by source_view rows))

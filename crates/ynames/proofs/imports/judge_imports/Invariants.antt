@@ -6,7 +6,7 @@ use Rattle.yspec.specs.schema.Breaks.{least_from}
 use Rattle.ypreorder.specs.View.{row_by}
 use Rattle.ygrammar.specs.BreakView.{seen}
 use Rattle.ygrammar.specs.SourceView.{source_view}
-use Rattle.ynames.specs.PrefixView.{ArePlacesOf}
+use Rattle.ynames.specs.PrefixView.{AreModulesOf}
 use Rattle.ynames.specs.RevisionView.{AreRevisionsOf}
 use Rattle.ynames.proofs.imports.judge_imports.Given as goal
 
@@ -14,6 +14,6 @@ abbrev pub invariant-loop-statement : goal.invariant-loop-statement
 invariant-loop-statement l = record {
   more : (goal.iterator-loop-statement).can_next l.statement-iterator;
   ends : (goal.iterator-loop-statement).is_finite l.statement-iterator;
-  so_far : (modules : Forest Source) → AreRevisionsOf l.newest modules → ArePlacesOf l.places modules
+  so_far : (modules : Forest Source) → AreRevisionsOf l.newest modules → AreModulesOf l.places modules
       → least_from (seen l.told) (unmet_in modules (row_by source_view l.statement-iterator)) ≡ least_from (seen l.fn.so_far) (unmet_in modules (row_by source_view l.fn.body));
 }

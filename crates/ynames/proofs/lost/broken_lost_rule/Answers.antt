@@ -2,7 +2,7 @@ use Rattle.std.proofs.Common.{◌∙◌, ap, arith, List}
 use Rattle.yspec.specs.schema.Breaks.{Break, least_from}
 use Rattle.yspec.specs.linking.Source.{Source}
 use Rattle.ypreorder.specs.Layout.{forest_of}
-use Rattle.ypreorder.specs.View.{rows_in}
+use Rattle.ypreorder.specs.View.{slots_in}
 use Rattle.ygrammar.specs.BreakView.{seen}
 use Rattle.ygrammar.specs.SourceView.{source_view}
 use Rattle.ynames.specs.MeaningView.{meaning_at, lost_by}
@@ -16,12 +16,12 @@ loop-number-preserved c =
     let row = c.row-item.result in
     let told = seen c.loop-number.told in
     let breaks : Source → List Break = λ s. lost_by s (meaning_at c.args.meanings.now s.number) in
-    next_told breaks _ (rows_in c.args.sources.now.table) c.rows-row-items.ensures i row told (seen c.judge_lost-told.result) _ (omega arith) c.row-item.is
+    next_told breaks _ (slots_in c.args.sources.now.table) c.slots-row-items.ensures i row told (seen c.judge_lost-told.result) _ (omega arith) c.row-item.is
     (c.judge_lost-told.ensures i ∙ ap (λ m. least_from told (lost_by (source_view i row.label) m)) c.meaning_at.ensures) c.loop-number.invariant
 
 pub returns : goal.returns
 returns c are =
-    let rows = rows_in c.args.sources.now.table in
+    let rows = slots_in c.args.sources.now.table in
     let breaks : Source → List Break = λ s. lost_by s (meaning_at c.args.meanings.now s.number) in
-    all_told breaks _ rows c.rows-row-items.ensures c.loop-number.number (seen c.loop-number.told) (seen c.args.so_far) (omega arith) c.loop-number.invariant
+    all_told breaks _ rows c.slots-row-items.ensures c.loop-number.number (seen c.loop-number.told) (seen c.args.so_far) (omega arith) c.loop-number.invariant
     ∙ ap (least_from (seen c.args.so_far)) (all_lost (forest_of rows) c.args.meanings.now are)

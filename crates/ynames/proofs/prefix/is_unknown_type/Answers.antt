@@ -1,6 +1,6 @@
 use Rattle.std.proofs.Common.{is_some, sym, ap, ◌∙◌}
+use Rattle.yspec.proofs.BasicLemmas.{is_some_map}
 use Rattle.yword.specs.BuiltInView.{built_in_view}
-use Rattle.ynames.proofs.NumberedLemmas.{is_some_map}
 use Rattle.ynames.proofs.PrefixLemmas.{no_prefix}
 use Rattle.ynames.proofs.prefix.is_unknown_type.Goals as goal
 

@@ -5,7 +5,7 @@ use Rattle.yspec.specs.linking.Source.{Source}
 use Rattle.ypreorder.specs.View.{row_by}
 use Rattle.ygrammar.specs.SourceView.{source_view}
 use Rattle.ynames.specs.FirstNamedView.{named}
-use Rattle.ynames.specs.PrefixView.{ArePlacesOf, declared_by}
+use Rattle.ynames.specs.PrefixView.{AreModulesOf, declared_by}
 use Rattle.ynames.proofs.DeclaredLemmas.{imported_in}
 use Rattle.ynames.proofs.prefix.prefixes_of.Given as goal
 
@@ -13,7 +13,7 @@ abbrev pub invariant-loop-statement : goal.invariant-loop-statement
 invariant-loop-statement l = record {
   more : (goal.iterator-loop-statement).can_next l.statement-iterator;
   ends : (goal.iterator-loop-statement).is_finite l.statement-iterator;
-  so_far : (modules : Forest Source) → ArePlacesOf l.places modules → (prefix : Text)
+  so_far : (modules : Forest Source) → AreModulesOf l.places modules → (prefix : Text)
       → first_of (named l.declared prefix) (imported_in modules prefix (row_by source_view l.statement-iterator))
       ≡ declared_by modules l.home prefix (row_by source_view l.fn.body);
 }

@@ -30,7 +30,7 @@ must_be-returns-in-LeafList t c =
     let n = c.args.node.number in
     let inside = has_mandatory (row_by planned_view c.args.node.children) in
     let p = planned_view n c.label-planned.result.now in
-    ap (nat_lt 0) (c.least.ensures n) ∙ (must_as p inside leaf_list_word (ap keyword_view (sym c.in-LeafList.is) ∙ c.keyword.ensures)
+    ap (nat_lt 0) (c.min_elements.ensures n) ∙ (must_as p inside leaf_list_word (ap keyword_view (sym c.in-LeafList.is) ∙ c.keyword.ensures)
     ∙ ap (λ l. must_be (planned_view n l) inside) c.label-planned.ensures)
 
 pub must_be-returns-in-List : goal.must_be-returns-in-List
@@ -38,7 +38,7 @@ must_be-returns-in-List t c =
     let n = c.args.node.number in
     let inside = has_mandatory (row_by planned_view c.args.node.children) in
     let p = planned_view n c.label-planned.result.now in
-    ap (nat_lt 0) (c.least-in-List.ensures n) ∙ (must_as p inside list_word (ap keyword_view (sym c.in-List.is) ∙ c.keyword.ensures)
+    ap (nat_lt 0) (c.min_elements-in-List.ensures n) ∙ (must_as p inside list_word (ap keyword_view (sym c.in-List.is) ∙ c.keyword.ensures)
     ∙ ap (λ l. must_be (planned_view n l) inside) c.label-planned.ensures)
 
 pub must_be-returns-then-not-has_presence : goal.must_be-returns-then-not-has_presence

@@ -3,7 +3,7 @@ use Rattle.std.specs.Prelude.{find, option_map}
 use Rattle.yspec.specs.Forest.{first_of}
 use Rattle.yspec.specs.linking.SchemaNodes.{number_in}
 use Rattle.ypreorder.specs.Layout.{labels_by}
-use Rattle.ypreorder.specs.View.{rows_in}
+use Rattle.ypreorder.specs.View.{slots_in}
 use Rattle.ypreorder.proofs.LabelLemmas.{labels_more}
 use Rattle.yindex.specs.Index.{found, texts_of}
 use Rattle.yindex.specs.Names.{is_at, text_in}
@@ -14,33 +14,33 @@ use Rattle.yplan.proofs.finding.index_of.Goals as goal
 
 pub of-requires : goal.of-requires
 of-requires c =
-    let rows = rows_in c.args.table.now in
+    let rows = slots_in c.args.table.now in
     let few = c.args.table.now.numbered in
-    let count = ap length (c.in_ok-names.ensures ∙ (ap (map row_name) c.rows.ensures ∙ row_names 0 rows)) ∙ count_of_names 0 rows in
+    let count = ap length (c.in_ok-names.ensures ∙ (ap (map row_name) c.slots.ensures ∙ row_names 0 rows)) ∙ count_of_names 0 rows in
     let texts = count_of_texts c.in_ok-names.names.items in
-    omega (arith, few, count, texts, c.args.table.now.rows.ok.0)
+    omega (arith, few, count, texts, c.args.table.now.slots.ok.0)
 
 pub loop-number-init : goal.loop-number-init
 loop-number-init c = record {
-  texts = c.in_ok-index.ensures.texts ∙ (c.in_ok-names.ensures ∙ (ap (map row_name) c.rows.ensures ∙ row_names 0 (rows_in c.args.table.now)));
+  texts = c.in_ok-index.ensures.texts ∙ (c.in_ok-names.ensures ∙ (ap (map row_name) c.slots.ensures ∙ row_names 0 (slots_in c.args.table.now)));
   nodes = c.in_ok-index.ensures.nodes;
 }
 
 pub add-requires : goal.add-requires
 add-requires c =
-    let rows = rows_in c.args.table.now in
+    let rows = slots_in c.args.table.now in
     let count = ap length c.loop-number.invariant.texts ∙ count_of_names 0 rows in
     let is = ap (λ node. node.number) c.indexed_node.ensures in
-    omega (arith, count, is, ap length c.rows-row-items.ensures)
+    omega (arith, count, is, ap length c.slots-row-items.ensures)
 
 pub loop-number-preserved : goal.loop-number-preserved
 loop-number-preserved c =
-    let rows = rows_in c.args.table.now in
+    let rows = slots_in c.args.table.now in
     let i = c.loop-number.number in
     let row = c.row-item.result in
     let p = planned_view i row.label in
     let done = labels_by planned_view 0 (take i rows) in
-    let same = c.rows-row-items.ensures in
+    let same = c.slots-row-items.ensures in
     let is = c.row-item.is ∙ ap (λ xs. get_or xs i row) same in
     let within : suc i ≤ length rows = omega (arith, ap length same) in
     let more : done ++ p ∷ [] ≡ labels_by planned_view 0 (take (i + 1) rows) = sym (labels_more planned_view rows i row within is) in

@@ -3,7 +3,7 @@ use Rattle.std.specs.Prelude.{find, option_map}
 use Rattle.yspec.specs.text.Text.{Text}
 use Rattle.yspec.specs.linking.SchemaNodes.{number_in}
 use Rattle.ypreorder.specs.Layout.{labels_by}
-use Rattle.ypreorder.specs.View.{rows_in}
+use Rattle.ypreorder.specs.View.{slots_in}
 use Rattle.yindex.specs.Index.{found, texts_of}
 use Rattle.yindex.specs.declared.keys.Among.{Among}
 use Rattle.yplan.specs.PlannedView.{planned_view}
@@ -14,5 +14,5 @@ abbrev pub invariant-loop-number : goal.invariant-loop-number
 invariant-loop-number l = record {
   texts : texts_of l.index ≡ map name_of (list_of l.table);
   nodes : (among : Among) (above : Option ℕ) (m : ℕ) (t : Text) → found l.index among above m t
-      ≡ option_map number_in (find (is_found among above m t) (labels_by planned_view 0 (take l.number (rows_in l.table))));
+      ≡ option_map number_in (find (is_found among above m t) (labels_by planned_view 0 (take l.number (slots_in l.table))));
 }

@@ -7,4 +7,4 @@ pub overflow_add-levels_of : goal.overflow_add-levels_of
 overflow_add-levels_of t c =
     let inside = c.children.result in
     let few = levels_size (row_view inside) in
-    omega (arith, c.levels_of.ensures, few, size_forest inside.rows.now, inside.numbered)
+    omega (arith, c.levels_of.ensures, few, size_forest inside.slots.now, inside.numbered)

@@ -5,7 +5,7 @@ use Rattle.yspec.specs.linking.SchemaNodes.{number_in}
 use Rattle.yspec.specs.schema.Breaks.{least_from, when}
 use Rattle.yspec.specs.linking.NodeBreaks.{broken_at, is_like, doubled}
 use Rattle.ypreorder.specs.Layout.{labels_by}
-use Rattle.ypreorder.specs.View.{rows_in}
+use Rattle.ypreorder.specs.View.{slots_in}
 use Rattle.ypreorder.proofs.LabelLemmas.{labels_more}
 use Rattle.ygrammar.specs.BreakView.{seen}
 use Rattle.yplan.specs.PlannedView.{planned_view}
@@ -16,16 +16,16 @@ use Rattle.yplan.proofs.names.broken_name_rule.Goals as goal
 
 pub is_repeated-is_repeated-requires : goal.is_repeated-is_repeated-requires
 is_repeated-is_repeated-requires c =
-    row_stands c.args.plan.now c.rows-row-items.result.now c.loop-number.number c.row-item.result c.rows-row-items.ensures.rows c.loop-number-test.true c.row-item.is
+    row_stands c.args.plan.now c.slots-row-items.result.now c.loop-number.number c.row-item.result c.slots-row-items.ensures.rows c.loop-number-test.true c.row-item.is
 
 pub loop-number-preserved : goal.loop-number-preserved
 loop-number-preserved c =
-    let rows = rows_in c.args.plan.now.table in
+    let rows = slots_in c.args.plan.now.table in
     let i = c.loop-number.number in
     let row = c.row-item.result in
     let p = planned_view i row.label in
     let before = labels_by planned_view 0 (take i rows) in
-    let same = c.rows-row-items.ensures.rows in
+    let same = c.slots-row-items.ensures.rows in
     let is = c.row-item.is ∙ ap (λ xs. get_or xs i row) same in
     let within : suc i ≤ length rows = omega (arith, ap length same) in
     let more = labels_more planned_view rows i row within is in
@@ -41,8 +41,8 @@ loop-number-preserved c =
 
 pub returns : goal.returns
 returns c =
-    let rows = rows_in c.args.plan.now.table in
+    let rows = slots_in c.args.plan.now.table in
     let i = c.loop-number.number in
-    let past : length rows ≤ i = omega (arith, ap length c.rows-row-items.ensures.rows) in
+    let past : length rows ≤ i = omega (arith, ap length c.slots-row-items.ensures.rows) in
     ap (λ rest. least_from (seen c.loop-number.told) (doubled (labels_by planned_view 0 (take i rows)) (labels_by planned_view i rest))) (sym (drop_past rows i past))
     ∙ c.loop-number.invariant

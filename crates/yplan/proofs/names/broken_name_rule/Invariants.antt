@@ -2,7 +2,7 @@ use Rattle.std.proofs.Common.{◌≡◌, take, drop, None}
 use Rattle.yspec.specs.schema.Breaks.{least_from}
 use Rattle.yspec.specs.linking.NodeBreaks.{doubled, name_breaks}
 use Rattle.ypreorder.specs.Layout.{labels_by}
-use Rattle.ypreorder.specs.View.{rows_in}
+use Rattle.ypreorder.specs.View.{slots_in}
 use Rattle.ygrammar.specs.BreakView.{seen}
 use Rattle.yplan.specs.PlannedView.{planned_view}
 use Rattle.yplan.specs.PlanView.{view}
@@ -10,6 +10,6 @@ use Rattle.yplan.proofs.names.broken_name_rule.Given as goal
 
 abbrev pub invariant-loop-number : goal.invariant-loop-number
 invariant-loop-number l =
-    let rows = rows_in l.plan.table in
+    let rows = slots_in l.plan.table in
     least_from (seen l.told) (doubled (labels_by planned_view 0 (take l.number rows)) (labels_by planned_view l.number (drop l.number rows)))
     ≡ least_from None (name_breaks (view l.plan))

@@ -4,7 +4,7 @@ use Rattle.yspec.specs.Forest.{end, node, size}
 use Rattle.yspec.specs.linking.Keyword.{same_keyword, choice_word, case_word}
 use Rattle.yspec.specs.linking.Parts.{defines_node, part_of, parts, case_for, within, as_cases}
 use Rattle.yspec.specs.linking.Planned.{planned_node}
-use Rattle.ypreorder.specs.View.{rows_in, row_by, label_by}
+use Rattle.ypreorder.specs.View.{slots_in, row_by, label_by}
 use Rattle.ypreorder.proofs.RowLemmas.{takes_by, takes_none_by}
 use Rattle.yword.specs.KeywordView.{keyword_view}
 use Rattle.ygrammar.specs.SourceView.{source_view}
@@ -19,7 +19,7 @@ add_case-returns t c =
     let below = row_by source_view c.args.statement.children in
     let p = part_of s below in
     let a = around_view c.args.around in
-    let k = length (rows_in c.args.table.now) in
+    let k = length (slots_in c.args.table.now) in
     let label : planned_view k c.new-planned.result ≡ planned_node k a (case_for p) = c.new-planned.ensures k in
     let inside = c.around_below-inside.ensures (case_for p) refl (ap (λ q. q.config) label) in
     added c.args.table.now c.open.new.self c.add_node.new.table c.close.new.self _ c.in_ok-number.number a (around_view c.around_below-inside.result) (case_for p)
@@ -31,7 +31,7 @@ add_node-returns t c =
     let below = row_by source_view c.args.statement.children in
     let p = part_of s below in
     let a = around_view c.args.around in
-    let k = length (rows_in c.args.table.now) in
+    let k = length (slots_in c.args.table.now) in
     let own = row_by source_view c.children.result in
     let own_is : own ≡ below = ap (row_by source_view) c.children.ensures in
     let label : planned_view k c.new-planned.result ≡ planned_node k a p = c.new-planned.ensures k in
@@ -44,7 +44,7 @@ add_node-returns t c =
     let inside = c.around_below-inside.ensures p (sym keyword) (ap (λ q. q.config) label) in
     added c.args.table.now mid c.add_nodes.new.table c.close.new.self _ n a (around_view c.around_below-inside.result) p (within s (parts below))
     c.in_ok-number.ensures.laid c.in_ok-number.ensures.number inside
-    (c.in_ok-add_nodes.ensures ∙ ap (λ f. seen_rows mid ++ listed (length (rows_in mid)) (around_view c.around_below-inside.result) f) chosen_is)
+    (c.in_ok-add_nodes.ensures ∙ ap (λ f. seen_rows mid ++ listed (length (slots_in mid)) (around_view c.around_below-inside.result) f) chosen_is)
     c.close.ensures label
 
 pub add_nodes-loop-statement-preserved : goal.add_nodes-loop-statement-preserved
@@ -86,7 +86,7 @@ add_statement-returns-then-not-is t c =
     let stands : defines_node s.keyword ≡ true = sym keyword ∙ first_of (search rules, cc) in
     let case : c.is.result ≡ same_keyword case_word s.keyword = c.is.ensures ∙ ap (λ l. same_keyword case_word (keyword_view l.keyword)) c.label.ensures in
     let other : same_keyword case_word s.keyword ≡ false = sym case ∙ first_of (search rules, cc) in
-    let k = length (rows_in c.args.table.now) in
+    let k = length (slots_in c.args.table.now) in
     on_ok_weaker c.add_case.result (λ e. e ∙ ap (λ f. seen_rows c.args.table.now ++ listed k (around_view c.args.around) f)
     (sym (ap (λ b. chosen b (parts (node s below end))) c.if-in_choice.true ∙ implied_part s below stands other))) c.add_case.ensures
 
@@ -96,7 +96,7 @@ add_statement-returns t c =
     let below = row_by source_view c.args.statement.children in
     let keyword : c.defines_node.result ≡ defines_node s.keyword = c.defines_node.ensures ∙ ap (λ l. defines_node (keyword_view l.keyword)) c.label.ensures in
     let stands : defines_node s.keyword ≡ true = sym keyword ∙ first_of (search rules, cc) in
-    let k = length (rows_in c.args.table.now) in
+    let k = length (slots_in c.args.table.now) in
     let other : c.args.in_choice ≡ true → same_keyword case_word s.keyword ≡ true = elim c.else-in_choice.branch [
       | add_statement-else-in_choice-via-then-in_choice+else-not-is w ↦ (λ e.
           let case : w.is.result ≡ same_keyword case_word s.keyword = w.is.ensures ∙ ap (λ l. same_keyword case_word (keyword_view l.keyword)) c.label.ensures in

@@ -1,7 +1,7 @@
 use Rattle.std.proofs.Common.{◌≡◌, ◌+◌, ◌*◌, ◌≤◌, ◌++◌, length}
 use Rattle.yspec.specs.Forest.{size}
 use Rattle.yspec.specs.linking.Parts.{parts}
-use Rattle.ypreorder.specs.View.{rows_in, row_by, row_view}
+use Rattle.ypreorder.specs.View.{slots_in, row_by, row_view}
 use Rattle.ygrammar.specs.SourceView.{source_view}
 use Rattle.yplan.specs.PlannedView.{seen_rows, listed, around_view}
 use Rattle.yplan.proofs.PartLemmas.{chosen}
@@ -26,6 +26,6 @@ invariant-add_nodes-loop-statement l = record {
   more : (goal.iterator-add_nodes-loop-statement).can_next l.statement-iterator;
   ends : (goal.iterator-add_nodes-loop-statement).is_finite l.statement-iterator;
   smaller : size (row_view l.statement-iterator) ≤ size (row_view l.fn.statements);
-  so_far : seen_rows l.table ++ listed (length (rows_in l.table)) (around_view l.around) (chosen l.in_choice (parts (row_by source_view l.statement-iterator)))
-      ≡ seen_rows l.fn.table ++ listed (length (rows_in l.fn.table)) (around_view l.around) (chosen l.in_choice (parts (row_by source_view l.fn.statements)));
+  so_far : seen_rows l.table ++ listed (length (slots_in l.table)) (around_view l.around) (chosen l.in_choice (parts (row_by source_view l.statement-iterator)))
+      ≡ seen_rows l.fn.table ++ listed (length (slots_in l.fn.table)) (around_view l.around) (chosen l.in_choice (parts (row_by source_view l.fn.statements)));
 }

@@ -1,7 +1,7 @@
 use Rattle.std.proofs.Common.{◌≡◌, ◌++◌, length, sym, ap, ◌∙◌}
 use Rattle.yspec.specs.linking.Parts.{parts, parts_of_modules}
 use Rattle.yspec.specs.linking.Planned.{at_top}
-use Rattle.ypreorder.specs.View.{rows_in, row_by}
+use Rattle.ypreorder.specs.View.{slots_in, row_by}
 use Rattle.ypreorder.proofs.RowLemmas.{takes_by, takes_none_by}
 use Rattle.ygrammar.specs.SourceView.{source_view}
 use Rattle.yplan.specs.PlannedView.{seen_rows, listed}
@@ -14,7 +14,7 @@ loop-module-preserved c =
     let before = c.loop-module.module-iterator in
     let after = c.next.new.self in
     let below = row_by source_view c.in-Some.module.children in
-    let n = length (rows_in old) in
+    let n = length (slots_in old) in
     let added : seen_rows c.add_nodes.new.table ≡ seen_rows old ++ listed n at_top (parts below) =
     c.in_ok-add_nodes.ensures ∙ ap (λ row. seen_rows old ++ listed n at_top (parts (row_by source_view row))) c.children.ensures in
     record {

@@ -1,9 +1,9 @@
 use Rattle.std.proofs.Common.{not, ◌&&◌, is_some, ap, sym, ◌∙◌}
 use Rattle.yspec.specs.linking.Keyword.{same_keyword, list_word, key_word}
 use Rattle.yspec.specs.linking.Planned.{stated_in}
+use Rattle.yspec.proofs.BasicLemmas.{is_some_map}
 use Rattle.yword.specs.KeywordView.{keyword_view}
 use Rattle.yplan.specs.PlannedView.{planned_view}
-use Rattle.yplan.proofs.FactLemmas.{is_some_map}
 use Rattle.yresolve.proofs.ConfigLemmas.{not_not}
 use Rattle.yresolve.proofs.config.lacks_key.Goals as goal
 

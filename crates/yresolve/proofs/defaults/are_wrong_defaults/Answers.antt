@@ -9,12 +9,12 @@ use Rattle.yresolve.specs.Values.{comes_twice}
 use Rattle.yresolve.proofs.DefaultLemmas.{wrong_least, wrong_fewer, wrong_twice, right_state}
 use Rattle.yresolve.proofs.defaults.are_wrong_defaults.Goals as goal
 
-pub returns-then-least-gt0 : goal.returns-then-least-gt0
-returns-then-least-gt0 c = λ plan number named.
+pub returns-then-min_elements-gt0 : goal.returns-then-min_elements-gt0
+returns-then-min_elements-gt0 c = λ plan number named.
     let count : vec_len c.in_ok-stated.stated ≡ length c.in_ok-stated.stated.items = omega arith in
     ap not (c.is_empty.ensures ∙ ap (λ n. n == 0) count)
     ∙ wrong_least plan (planned_view number c.args.planned.now) c.args.value_type.now c.in_ok-stated.stated.items (c.in_ok-stated.ensures number)
-    c.least.result (c.least.ensures number) c.if-least-gt0.true
+    c.min_elements.result (c.min_elements.ensures number) c.if-min_elements-gt0.true
 
 pub returns-then-len : goal.returns-then-len
 returns-then-len c = λ plan number named.
@@ -23,7 +23,7 @@ returns-then-len c = λ plan number named.
     let values = c.in_ok-values.values.items in
     let taken = c.in_ok-values.ensures ∙ ap (λ ts. filter_map (value_of_text type) (map (λ t. t.now) ts)) c.deref.ensures.value in
     let fewer : length values < length texts = omega (arith, c.len.ensures, c.len-2.ensures, c.if-len.true) in
-    wrong_fewer plan (planned_view number c.args.planned.now) type texts (c.in_ok-texts.ensures plan number named) c.least.result (c.least.ensures number) c.if-least-gt0.false
+    wrong_fewer plan (planned_view number c.args.planned.now) type texts (c.in_ok-texts.ensures plan number named) c.min_elements.result (c.min_elements.ensures number) c.if-min_elements-gt0.false
     values taken fewer
 
 pub returns-then-planned : goal.returns-then-planned
@@ -34,7 +34,7 @@ returns-then-planned c = λ plan number named.
     let taken = c.in_ok-values.ensures ∙ ap (λ ts. filter_map (value_of_text type) (map (λ t. t.now) ts)) c.deref.ensures.value in
     let all : length texts ≤ length values = omega (arith, c.len.ensures, c.len-2.ensures, c.if-len.false) in
     IfOk-weaker c.comes_twice.result _ _ (λ wrong so. so ∙ (ap (comes_twice same_value) c.deref-then-planned.ensures.value
-    ∙ wrong_twice plan (planned_view number c.args.planned.now) type texts (c.in_ok-texts.ensures plan number named) c.least.result (c.least.ensures number) c.if-least-gt0.false
+    ∙ wrong_twice plan (planned_view number c.args.planned.now) type texts (c.in_ok-texts.ensures plan number named) c.min_elements.result (c.min_elements.ensures number) c.if-min_elements-gt0.false
     values taken all c.if-planned.true)) c.comes_twice.ensures
 
 pub returns : goal.returns
@@ -44,5 +44,5 @@ returns c = λ plan number named.
     let values = c.in_ok-values.values.items in
     let taken = c.in_ok-values.ensures ∙ ap (λ ts. filter_map (value_of_text type) (map (λ t. t.now) ts)) c.deref.ensures.value in
     let all : length texts ≤ length values = omega (arith, c.len.ensures, c.len-2.ensures, c.if-len.false) in
-    right_state plan (planned_view number c.args.planned.now) type texts (c.in_ok-texts.ensures plan number named) c.least.result (c.least.ensures number) c.if-least-gt0.false
+    right_state plan (planned_view number c.args.planned.now) type texts (c.in_ok-texts.ensures plan number named) c.min_elements.result (c.min_elements.ensures number) c.if-min_elements-gt0.false
     values taken all c.if-planned.false

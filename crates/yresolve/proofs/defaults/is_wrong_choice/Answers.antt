@@ -3,9 +3,9 @@ use Rattle.yspec.specs.linking.Keyword.{default_word}
 use Rattle.yspec.specs.linking.Planned.{stated_in}
 use Rattle.yspec.specs.linking.SchemaNodes.{default_case}
 use Rattle.yspec.specs.linking.NodeBreaks.{is_wrong_case}
+use Rattle.yspec.proofs.BasicLemmas.{is_some_map}
 use Rattle.yplan.specs.PlannedView.{planned_view}
 use Rattle.yplan.specs.PlanView.{view}
-use Rattle.yplan.proofs.FactLemmas.{is_some_map}
 use Rattle.yresolve.proofs.defaults.is_wrong_choice.Goals as goal
 
 pub returns-then-is_some : goal.returns-then-is_some

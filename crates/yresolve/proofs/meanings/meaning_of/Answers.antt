@@ -7,7 +7,7 @@ use Rattle.yspec.specs.linking.DerivedTypes.{type_meant}
 use Rattle.ygrammar.specs.SourceView.{node_view}
 use Rattle.ylink.specs.LinkedView as statements
 use Rattle.yplan.specs.PlannedView.{planned_view}
-use Rattle.yplan.proofs.PartLemmas.{first_found}
+use Rattle.ygrammar.proofs.SourceLemmas.{first_found}
 use Rattle.yresolve.proofs.meanings.meaning_of.Goals as goal
 
 pub returns-in-Some : goal.returns-in-Some

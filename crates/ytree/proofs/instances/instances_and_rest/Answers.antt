@@ -6,11 +6,11 @@ use Rattle.ytree.proofs.instances.instances_and_rest.Goals as goal
 pub returns-clause-found : goal.returns-clause-found
 returns-clause-found c =
     let row = c.args.row.now in
-    let place = c.unwrap_or.ensures ∙ (ap (λ o. unwrap_or o (length row)) c.other_place.ensures.place ∙ place_or_len (is_other c.args.id.0) row) in
+    let place = c.unwrap_or.ensures ∙ (ap (λ o. unwrap_or o (length row)) c.other_index.ensures.place ∙ place_or_len (is_other c.args.id.0) row) in
     c.split_at.ensures.front ∙ (ap (λ n. take n row) place ∙ before_place (is_other c.args.id.0) row)
 
 pub returns-clause-behind : goal.returns-clause-behind
 returns-clause-behind c =
     let row = c.args.row.now in
-    let place = c.unwrap_or.ensures ∙ (ap (λ o. unwrap_or o (length row)) c.other_place.ensures.place ∙ place_or_len (is_other c.args.id.0) row) in
+    let place = c.unwrap_or.ensures ∙ (ap (λ o. unwrap_or o (length row)) c.other_index.ensures.place ∙ place_or_len (is_other c.args.id.0) row) in
     c.split_at.ensures.back ∙ (ap (λ n. drop n row) place ∙ from_place (is_other c.args.id.0) row)

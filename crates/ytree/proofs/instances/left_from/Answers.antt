@@ -8,5 +8,5 @@ pub returns : goal.returns
 returns c =
     let row = c.args.row.now in
     let number = c.args.id.0 in
-    let place = c.unwrap_or.ensures ∙ (ap (λ o. unwrap_or o (length row)) c.due_place.ensures.place ∙ place_or_len (is_not_before number) row) in
+    let place = c.unwrap_or.ensures ∙ (ap (λ o. unwrap_or o (length row)) c.due_index.ensures.place ∙ place_or_len (is_not_before number) row) in
     ap row_view (c.split_at.ensures.back ∙ (ap (λ n. drop n row) place ∙ from_place (is_not_before number) row)) ∙ left_rows number row

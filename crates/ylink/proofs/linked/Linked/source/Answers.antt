@@ -1,8 +1,8 @@
 use Rattle.std.proofs.Common.{◌≡◌, Some, None, length, refl, sym, ap, ◌∙◌}
 use Rattle.std.specs.Prelude.{option_map, slice_get}
 use Rattle.std.proofs.lemmas.Option.{slice_get_read, slice_get_past}
-use Rattle.ypreorder.specs.View.{rows_in}
-use Rattle.ypreorder.specs.declared.row.Row.{Row}
+use Rattle.ypreorder.specs.View.{slots_in}
+use Rattle.ypreorder.specs.declared.slot.Slot.{Slot}
 use Rattle.ygrammar.specs.declared.source.Source as held
 use Rattle.ygrammar.specs.SourceView.{source_view}
 use Rattle.ylink.proofs.BelowLemmas.{source_at}
@@ -10,17 +10,17 @@ use Rattle.ylink.proofs.linked.Linked.source.Goals as goal
 
 pub returns-in-Some : goal.returns-in-Some
 returns-in-Some c =
-    let rows = rows_in c.args.self.now.sources.table in
+    let rows = slots_in c.args.self.now.sources.table in
     let id = c.args.id.0 in
     let found = c.in-Some.ensures.lookup in
-    let there : slice_get rows id ≡ Some c.in-Some.row.now = ap (λ l. slice_get l id) (sym c.rows.ensures)
-    ∙ slice_get_read c.rows.result.now (length c.rows.result.now) id c.in-Some.row.now refl found.3.0 found.1 in
-    sym (ap (option_map (λ (r : Row held.Source). source_view id r.label)) there) ∙ source_at rows id
+    let there : slice_get rows id ≡ Some c.in-Some.row.now = ap (λ l. slice_get l id) (sym c.slots.ensures)
+    ∙ slice_get_read c.slots.result.now (length c.slots.result.now) id c.in-Some.row.now refl found.3.0 found.1 in
+    sym (ap (option_map (λ (r : Slot held.Source). source_view id r.label)) there) ∙ source_at rows id
 
 pub returns-in-None : goal.returns-in-None
 returns-in-None c =
-    let rows = rows_in c.args.self.now.sources.table in
+    let rows = slots_in c.args.self.now.sources.table in
     let id = c.args.id.0 in
-    let there : slice_get rows id ≡ None = ap (λ l. slice_get l id) (sym c.rows.ensures)
-    ∙ slice_get_past c.rows.result.now id c.in-None.ensures.lookup.3 in
-    sym (ap (option_map (λ (r : Row held.Source). source_view id r.label)) there) ∙ source_at rows id
+    let there : slice_get rows id ≡ None = ap (λ l. slice_get l id) (sym c.slots.ensures)
+    ∙ slice_get_past c.slots.result.now id c.in-None.ensures.lookup.3 in
+    sym (ap (option_map (λ (r : Slot held.Source). source_view id r.label)) there) ∙ source_at rows id

@@ -8,8 +8,8 @@ use Rattle.ymodel.proofs.schema.Schema.child.Goals as goal
 pub returns : goal.returns
 returns c =
     let schema = c.args.self.now in
-    let rows = schema.rows.items in
+    let slots = schema.slots.items in
     let test = is_called c.args.«module» c.args.name.now in
     c.id_of.ensures ∙ (c.named.ensures ∙ (ap (λ xs. first_below c.parent_number.result test (laid 0 xs)) c.deref.ensures.value
-    ∙ (ap (λ q. first_below q test (laid 0 rows)) c.parent_number.ensures
-    ∙ first_child schema.modules.items rows (number_of c.args.parent) test schema.laid_out)))
+    ∙ (ap (λ q. first_below q test (laid 0 slots)) c.parent_number.ensures
+    ∙ first_child schema.modules.items slots (number_of c.args.parent) test schema.laid_out)))

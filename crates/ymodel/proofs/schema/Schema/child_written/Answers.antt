@@ -16,8 +16,8 @@ returns-in-None c =
     let q = c.parent_number.result in
     c.id_of.ensures ∙ (c.written.ensures
     ∙ (ap₂ (λ ms rs. first_below q (is_stored_as (schema_view ms rs) q t) (data_places None (forest_of 0 rs))) c.deref-in-None.ensures.value c.deref-in-None-2.ensures.value
-    ∙ (ap (λ n. first_below n (is_stored_as (view schema) n t) (data_places None (forest_of 0 schema.rows.items))) c.parent_number.ensures
-    ∙ first_data_child schema.modules.items schema.rows.items p (is_written (view schema) p t) schema.laid_out (sym c.module_passed.ensures ∙ c.in-None.is))))
+    ∙ (ap (λ n. first_below n (is_stored_as (view schema) n t) (data_places None (forest_of 0 schema.slots.items))) c.parent_number.ensures
+    ∙ first_data_child schema.modules.items schema.slots.items p (is_written (view schema) p t) schema.laid_out (sym c.module_passed.ensures ∙ c.in-None.is))))
 
 pub written-requires-clause-modules_differ : goal.written-requires-clause-modules_differ
 written-requires-clause-modules_differ c =
@@ -28,9 +28,9 @@ pub written-requires-clause-nodes_named : goal.written-requires-clause-nodes_nam
 written-requires-clause-nodes_named c =
     let schema = c.args.self.now in
     subst (λ modules. NodesAreNamed (schema_view modules c.deref-in-None-2.result.now) (forest_of 0 c.deref-in-None-2.result.now)) (sym c.deref-in-None.ensures.value)
-    (subst (λ rows. NodesAreNamed (schema_view schema.modules.items rows) (forest_of 0 rows)) (sym c.deref-in-None-2.ensures.value) (nodes_named_of (view schema) schema.compiled))
+    (subst (λ slots. NodesAreNamed (schema_view schema.modules.items slots) (forest_of 0 slots)) (sym c.deref-in-None-2.ensures.value) (nodes_named_of (view schema) schema.compiled))
 
 pub written-requires-clause-written : goal.written-requires-clause-written
 written-requires-clause-written c =
     let schema = c.args.self.now in
-    subst (λ rows. FindsWritten schema.index rows (data_places None (forest_of 0 rows))) (sym c.deref-in-None-2.ensures.value) schema.written
+    subst (λ slots. FindsWritten schema.index slots (data_places None (forest_of 0 slots))) (sym c.deref-in-None-2.ensures.value) schema.written

@@ -7,15 +7,15 @@ use Rattle.ymodel.proofs.schema.Schema.kind.Goals as goal
 
 pub returns-in-Some : goal.returns-in-Some
 returns-in-Some c =
-    let rows = c.args.self.now.rows.items in
+    let slots = c.args.self.now.slots.items in
     let found = c.in-Some.ensures.lookup in
-    let there : slice_get rows c.args.id.0 ≡ Some c.in-Some.row.now = ap₂ slice_get (sym c.deref.ensures.value) (sym c.number.ensures.value)
+    let there : slice_get slots c.args.id.0 ≡ Some c.in-Some.row.now = ap₂ slice_get (sym c.deref.ensures.value) (sym c.number.ensures.value)
     ∙ slice_get_read c.deref.result.now (length c.deref.result.now) c.number.result c.in-Some.row.now refl found.3.0 found.1 in
-    sym (label_at rows c.args.id.0 (laid_out_fits rows c.args.self.now.laid_out) ∙ ap (option_map (λ r. node_view c.args.id.0 r.node)) there)
+    sym (label_at slots c.args.id.0 (laid_out_fits slots c.args.self.now.laid_out) ∙ ap (option_map (λ r. node_view c.args.id.0 r.node)) there)
 
 pub returns-in-None : goal.returns-in-None
 returns-in-None c =
-    let rows = c.args.self.now.rows.items in
-    let there : slice_get rows c.args.id.0 ≡ None = ap₂ slice_get (sym c.deref.ensures.value) (sym c.number.ensures.value)
+    let slots = c.args.self.now.slots.items in
+    let there : slice_get slots c.args.id.0 ≡ None = ap₂ slice_get (sym c.deref.ensures.value) (sym c.number.ensures.value)
     ∙ slice_get_past c.deref.result.now c.number.result c.in-None.ensures.lookup.3 in
-    sym (label_at rows c.args.id.0 (laid_out_fits rows c.args.self.now.laid_out) ∙ ap (option_map (λ r. node_view c.args.id.0 r.node)) there)
+    sym (label_at slots c.args.id.0 (laid_out_fits slots c.args.self.now.laid_out) ∙ ap (option_map (λ r. node_view c.args.id.0 r.node)) there)

@@ -7,5 +7,5 @@ use Rattle.ymodel.proofs.schema.Schema.«module».Goals as goal
 
 pub returns : goal.returns
 returns c =
-    c.place_of.ensures ∙ (ap (position (λ m. is_text (string_bytes m.name) c.args.name.now)) c.deref.ensures.value
+    c.module_named.ensures ∙ (ap (position (λ m. is_text (string_bytes m.name) c.args.name.now)) c.deref.ensures.value
     ∙ sym (position-map (λ m. is_text m.name c.args.name.now) module_view c.args.self.now.modules.items))

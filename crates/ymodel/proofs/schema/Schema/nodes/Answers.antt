@@ -4,5 +4,5 @@ use Rattle.ymodel.proofs.schema.Schema.nodes.Goals as goal
 
 pub returns : goal.returns
 returns c =
-    let rows = c.args.self.now.rows in
-    c.len.ensures ∙ (rows.ok.0 ∙ sym (size_of_forest (length rows.items) 0 rows.items (omega arith)))
+    let slots = c.args.self.now.slots in
+    c.len.ensures ∙ (slots.ok.0 ∙ sym (size_of_forest (length slots.items) 0 slots.items (omega arith)))

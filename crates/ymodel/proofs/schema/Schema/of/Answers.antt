@@ -4,7 +4,7 @@ use Rattle.yspec.specs.schema.Breaks.{node_limit}
 use Rattle.yspec.specs.linking.Compiling.{IsCompiled}
 use Rattle.yspec.proofs.LinkingProofs.LinkedLemmas.{linked_few}
 use Rattle.yindex.specs.Names.{AreNamesOf}
-use Rattle.ymodel.specs.declared.children.Row.{Row}
+use Rattle.ymodel.specs.declared.children.Slot.{Slot}
 use Rattle.ymodel.specs.declared.schema.SchemaModule.{SchemaModule}
 use Rattle.ymodel.specs.Layout.{data_places, forest_of, laid, schema_view}
 use Rattle.ymodel.specs.Lookup.{names_in, FindsNamed, FindsWritten}
@@ -12,29 +12,29 @@ use Rattle.ymodel.specs.References.{FindsReferences}
 use Rattle.ymodel.proofs.QueryLemmas.{size_of_forest}
 use Rattle.ymodel.proofs.schema.Schema.of.Goals as goal
 
-few : (modules : List SchemaModule) (rows : List Row) → IsCompiled (schema_view modules rows) → length rows < 2 ^ 32
-few modules rows legal =
-    let limit : size (forest_of 0 rows) ≤ node_limit = linked_few legal.0 (schema_view modules rows) legal.1 in
-    let count : size (forest_of 0 rows) ≡ length rows = size_of_forest (length rows) 0 rows (omega arith) in
+few : (modules : List SchemaModule) (slots : List Slot) → IsCompiled (schema_view modules slots) → length slots < 2 ^ 32
+few modules slots legal =
+    let limit : size (forest_of 0 slots) ≤ node_limit = linked_few legal.0 (schema_view modules slots) legal.1 in
+    let count : size (forest_of 0 slots) ≡ length slots = size_of_forest (length slots) 0 slots (omega arith) in
     omega (arith, limit, count)
 
 pub index_of-requires-clause-numbered : goal.index_of-requires-clause-numbered
 index_of-requires-clause-numbered c =
-    let bound = few c.args.modules.items c.args.rows.items c.requires.compiled in
+    let bound = few c.args.modules.items c.args.slots.items c.requires.compiled in
     omega (arith, bound, ap length c.deref.ensures.value)
 
 pub index_of-requires-clause-names : goal.index_of-requires-clause-names
-index_of-requires-clause-names c = subst (λ rows. AreNamesOf c.args.names (names_in rows)) (sym c.deref.ensures.value) c.requires.named
+index_of-requires-clause-names c = subst (λ slots. AreNamesOf c.args.names (names_in slots)) (sym c.deref.ensures.value) c.requires.named
 
 pub of-requires : goal.of-requires
 of-requires c =
-    let bound = few c.args.modules.items c.args.rows.items c.requires.compiled in
+    let bound = few c.args.modules.items c.args.slots.items c.requires.compiled in
     omega (arith, bound, ap length c.deref-2.ensures.value)
 
 pub invariant_of-result-clause-numbered : goal.invariant_of-result-clause-numbered
 invariant_of-result-clause-numbered c =
-    let bound = few c.args.modules.items c.args.rows.items c.requires.compiled in
-    omega (arith, bound, c.args.rows.ok.0)
+    let bound = few c.args.modules.items c.args.slots.items c.requires.compiled in
+    omega (arith, bound, c.args.slots.ok.0)
 
 pub invariant_of-result-clause-named : goal.invariant_of-result-clause-named
 invariant_of-result-clause-named c =
@@ -42,8 +42,8 @@ invariant_of-result-clause-named c =
 
 pub invariant_of-result-clause-written : goal.invariant_of-result-clause-written
 invariant_of-result-clause-written c =
-    subst (λ rows. FindsWritten c.in_ok-index.index rows (data_places None (forest_of 0 rows))) c.deref.ensures.value c.in_ok-index.ensures.written
+    subst (λ slots. FindsWritten c.in_ok-index.index slots (data_places None (forest_of 0 slots))) c.deref.ensures.value c.in_ok-index.ensures.written
 
 pub invariant_of-result-clause-referred : goal.invariant_of-result-clause-referred
 invariant_of-result-clause-referred c =
-    subst (λ rows. FindsReferences c.in_ok-references.references (laid 0 rows)) c.deref-2.ensures.value c.in_ok-references.ensures
+    subst (λ slots. FindsReferences c.in_ok-references.references (laid 0 slots)) c.deref-2.ensures.value c.in_ok-references.ensures

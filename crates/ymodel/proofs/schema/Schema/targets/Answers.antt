@@ -6,5 +6,5 @@ use Rattle.ymodel.proofs.schema.Schema.targets.Goals as goal
 
 pub returns : goal.returns
 returns c =
-    let rows = c.args.self.now.rows.items in
-    c.get.ensures ∙ (c.args.self.now.referred c.args.id.0 ∙ (ap (referring c.args.id.0) c.args.self.now.laid_out ∙ referring_places c.args.id.0 None (forest_of 0 rows)))
+    let slots = c.args.self.now.slots.items in
+    c.get.ensures ∙ (c.args.self.now.referred c.args.id.0 ∙ (ap (referring c.args.id.0) c.args.self.now.laid_out ∙ referring_places c.args.id.0 None (forest_of 0 slots)))

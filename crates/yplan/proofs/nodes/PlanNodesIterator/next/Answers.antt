@@ -1,6 +1,6 @@
 use Rattle.std.proofs.Common.{◌<◌, ◌≤◌, ◌^◌, suc, length, sym, ap, ◌∙◌, subst, vec_len, arith}
 use Rattle.std.specs.Prelude.{option_map}
-use Rattle.ypreorder.specs.View.{rows_in}
+use Rattle.ypreorder.specs.View.{slots_in}
 use Rattle.yplan.specs.NodesView.{TakesNode, node_view}
 use Rattle.yplan.proofs.NodeLemmas.{first_from, none_from, is_within}
 use Rattle.yplan.proofs.nodes.PlanNodesIterator.next.Goals as goal
@@ -15,15 +15,15 @@ pub overflow_add-self : goal.overflow_add-self
 overflow_add-self c =
     let nodes = c.args.self.now in
     let plan = nodes.plan.now in
-    let here : suc nodes.number ≤ length (rows_in plan.table) = is_within plan nodes.number (node_view c.in_ok-node.node) (ap (option_map node_view) (sym c.in_ok-node.was) ∙ c.at.ensures) in
-    let bound : vec_len plan.table.rows < 2 ^ 32 = plan.table.numbered in
+    let here : suc nodes.number ≤ length (slots_in plan.table) = is_within plan nodes.number (node_view c.in_ok-node.node) (ap (option_map node_view) (sym c.in_ok-node.was) ∙ c.at.ensures) in
+    let bound : vec_len plan.table.slots < 2 ^ 32 = plan.table.numbered in
     omega (arith, here, bound)
 
 pub invariant_of-self : goal.invariant_of-self
 invariant_of-self c =
     let nodes = c.args.self.now in
     let plan = nodes.plan.now in
-    let here : suc nodes.number ≤ length (rows_in plan.table) = is_within plan nodes.number (node_view c.in_ok-node.node) (ap (option_map node_view) (sym c.in_ok-node.was) ∙ c.at.ensures) in
+    let here : suc nodes.number ≤ length (slots_in plan.table) = is_within plan nodes.number (node_view c.in_ok-node.node) (ap (option_map node_view) (sym c.in_ok-node.was) ∙ c.at.ensures) in
     record { numbered = omega (arith, here) }
 
 pub returns-clause-steps : goal.returns-clause-steps

@@ -1,5 +1,5 @@
 use Rattle.std.proofs.Common.{◌∙◌, sym}
-use Rattle.ypreorder.specs.View.{rows_in, forest_in}
+use Rattle.ypreorder.specs.View.{slots_in, forest_in}
 use Rattle.ypreorder.proofs.RowLemmas.{size_forest}
 use Rattle.ypreorder.proofs.LabelLemmas.{size-by}
 use Rattle.yplan.specs.PlannedView.{planned_view}
@@ -8,4 +8,4 @@ use Rattle.yplan.proofs.plan.Plan.nodes.Goals as goal
 pub returns : goal.returns
 returns c =
     let table = c.args.self.now.table in
-    c.len.ensures ∙ sym (size-by planned_view 0 (forest_in table) ∙ size_forest (rows_in table))
+    c.len.ensures ∙ sym (size-by planned_view 0 (forest_in table) ∙ size_forest (slots_in table))

@@ -3,4 +3,4 @@ use Rattle.yplan.proofs.FactLemmas.{amount_by}
 use Rattle.yplan.proofs.planned.Planned.amount.Goals as goal
 
 pub returns : goal.returns
-returns c = λ number. ap₂ amount_by (c.least.ensures number) (c.most.ensures number)
+returns c = λ number. ap₂ amount_by (c.min_elements.ensures number) (c.max_elements.ensures number)

@@ -1,5 +1,5 @@
 use Rattle.std.proofs.Common.{ap, ◌∙◌, is_some}
-use Rattle.yplan.proofs.FactLemmas.{is_some_map}
+use Rattle.yspec.proofs.BasicLemmas.{is_some_map}
 use Rattle.yplan.proofs.planned.Planned.has_presence.Goals as goal
 
 pub returns : goal.returns

@@ -1,39 +1,39 @@
-//! The nodes of a row of siblings, one after another.
+//! The siblings of a row, one after another.
 
 ghost use Rattle.std.specs.Prelude.{◌≡◌, ◌+◌, ◌<◌, ◌^◌, length};
 ghost use Rattle.std.specs.Iterator.{at_most};
 
-use crate::row::Row;
+use crate::slot::Slot;
 use std::alloc::AllocError;
 
-/// The nodes of a row, in order.
-pub struct Nodes<'a, L> {
+/// Siblings, in order.
+pub struct Siblings<'a, L> {
     // The nodes and those below them, in preorder.
-    rows: &'a [Row<L>],
+    slots: &'a [Slot<L>],
     // The number of the first of them.
     number: u32,
-    ghost numbered: { number + length rows.now < 2 ^ 32 },
+    ghost numbered: { number + length slots.now < 2 ^ 32 },
 }
 
 /// A node in its row.
 pub struct Node<'a, L> {
     number: u32,
     label: &'a L,
-    children: Nodes<'a, L>,
+    children: Siblings<'a, L>,
 }
 
-impl<'a, L> Nodes<'a, L> {
+impl<'a, L> Siblings<'a, L> {
     ghost use Rattle.std.specs.Prelude.{◌≡◌};
     ghost use Rattle.ypreorder.specs.Layout.{forest_of};
     ghost use Rattle.ypreorder.specs.View.{row_view};
 
     /// The row of the nodes that lie there, the first of which has that number.
-    pub fn new(rows: &'a [Row<L>], number: u32) -> Nodes<'a, L>
-        requires { number + length rows.now < 2 ^ 32 }
-        ensures row { row_view result ≡ forest_of rows.entry.now }
+    pub fn new(slots: &'a [Slot<L>], number: u32) -> Siblings<'a, L>
+        requires { number + length slots.now < 2 ^ 32 }
+        ensures row { row_view result ≡ forest_of slots.entry.now }
         ensures number { result.number ≡ number }
     {
-        Nodes { rows, number }
+        Siblings { slots, number }
     }
 }
 
@@ -56,29 +56,29 @@ impl<'a, L> Node<'a, L> {
     }
 
     /// Its children, in order.
-    pub fn children(&self) -> Nodes<'a, L>
+    pub fn children(&self) -> Siblings<'a, L>
         ensures { result ≡ self.now.children }
     {
         self.children
     }
 }
 
-impl<'a, L> Clone for Nodes<'a, L> {
+impl<'a, L> Clone for Siblings<'a, L> {
     ghost use Rattle.std.specs.Prelude.{◌≡◌, ⊤};
 
-    ghost is_clone = { λ s r. (r.rows ≡ s.rows) × (r.number ≡ s.number) };
+    ghost is_clone = { λ s r. (r.slots ≡ s.slots) × (r.number ≡ s.number) };
 
     ghost is_infallible = { λ _. ⊤ };
 
-    fn clone(&self) -> Result<Nodes<'a, L>, AllocError> {
-        Ok(Nodes {
-            rows: self.rows,
+    fn clone(&self) -> Result<Siblings<'a, L>, AllocError> {
+        Ok(Siblings {
+            slots: self.slots,
             number: self.number,
         })
     }
 }
 
-impl<'a, L> Copy for Nodes<'a, L> {}
+impl<'a, L> Copy for Siblings<'a, L> {}
 
 impl<'a, L> Clone for Node<'a, L> {
     ghost use Rattle.std.specs.Prelude.{◌≡◌, ⊤};
@@ -98,7 +98,7 @@ impl<'a, L> Clone for Node<'a, L> {
 
 impl<'a, L> Copy for Node<'a, L> {}
 
-impl<'a, L> Iterator for Nodes<'a, L> {
+impl<'a, L> Iterator for Siblings<'a, L> {
     type Item = Node<'a, L>;
 
     ghost use Rattle.std.specs.Prelude.{length};
@@ -107,19 +107,19 @@ impl<'a, L> Iterator for Nodes<'a, L> {
 
     ghost next_gives = { TakesFirst };
 
-    ghost remaining = { λ c. at_most (length c.rows.now) };
+    ghost remaining = { λ c. at_most (length c.slots.now) };
 
     fn next(&mut self) -> Option<Node<'a, L>> {
-        let (first, rest) = self.rows.split_first()?;
+        let (first, rest) = self.slots.split_first()?;
         let number = self.number;
         let below = first.below.min(rest.len());
         let (inner, after) = rest.split_at(below);
-        self.rows = after;
+        self.slots = after;
         self.number = number + 1 + below as u32;
         Some(Node {
             number,
             label: &first.label,
-            children: Nodes::new(inner, number + 1),
+            children: Siblings::new(inner, number + 1),
         })
     }
 }

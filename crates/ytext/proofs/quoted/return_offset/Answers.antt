@@ -1,7 +1,7 @@
 use Rattle.std.proofs.Common.{ℕ, List, ◌&&◌, ◌==◌, drop, get_or, ◌+◌, sym, ap, ◌∙◌, arith}
 use Rattle.yspec.specs.text.Text.{begins}
 use Rattle.ytext.proofs.QuotedLemmas.{kept_stretch}
-use Rattle.ytext.proofs.quoted.return_place.Goals as goal
+use Rattle.ytext.proofs.quoted.return_offset.Goals as goal
 
 pub loop-at-preserved : goal.loop-at-preserved
 loop-at-preserved c =

@@ -10,7 +10,7 @@ use Rattle.ytext.proofs.PlainLemmas.{plain_place}
 use lib.Utf8.{encodes}
 use Rattle.ytext.specs.Characters.{pending_place}
 use Rattle.ytext.proofs.TextLemmas.{char_at, char_bytes, none_left, no_return}
-use Rattle.ytext.proofs.text.forbidden_place.Goals as goal
+use Rattle.ytext.proofs.text.forbidden_offset.Goals as goal
 
 pub loop-character-init : goal.loop-character-init
 loop-character-init c = record { rest = refl; behind = no_return; bound = omega (arith, ap length (encodes-chars c.args.text.now c.utf8.text)) }

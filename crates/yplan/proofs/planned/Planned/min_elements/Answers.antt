@@ -1,7 +1,7 @@
 use Rattle.std.proofs.Common.{◌≡◌, ap, sym, ◌∙◌}
 use Rattle.std.specs.Prelude.{option_map, option_and_then, unwrap_or}
 use Rattle.yspec.specs.linking.Arguments.{count_of}
-use Rattle.yplan.proofs.planned.Planned.least.Goals as goal
+use Rattle.yplan.proofs.planned.Planned.min_elements.Goals as goal
 
 pub returns-in-Some : goal.returns-in-Some
 returns-in-Some c =

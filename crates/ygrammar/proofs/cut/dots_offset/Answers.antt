@@ -1,6 +1,6 @@
 use Rattle.std.proofs.Common.{sym, ◌∙◌, arith, rules}
 use Rattle.ygrammar.proofs.CutLemmas.{dots_here, dots_more, dots_nowhere}
-use Rattle.ygrammar.proofs.cut.dots_place.Goals as goal
+use Rattle.ygrammar.proofs.cut.dots_offset.Goals as goal
 
 pub returns-then-are_dots : goal.returns-then-are_dots
 returns-then-are_dots c = record {

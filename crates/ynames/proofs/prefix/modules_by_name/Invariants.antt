@@ -6,7 +6,7 @@ use Rattle.ypreorder.specs.View.{row_by}
 use Rattle.ygrammar.specs.LinkView.{view}
 use Rattle.ygrammar.specs.SourceView.{source_view}
 use Rattle.ynames.specs.FirstNamedView.{named}
-use Rattle.ynames.proofs.prefix.places_of.Given as goal
+use Rattle.ynames.proofs.prefix.modules_by_name.Given as goal
 
 abbrev pub invariant-loop-top : goal.invariant-loop-top
 invariant-loop-top l = record {

@@ -1,7 +1,7 @@
 use Rattle.std.proofs.Common.{◌≡◌, ◌-◌, ◌≤◌, length, take, drop}
 use Rattle.yspec.specs.linking.Arguments.{cut_at_dots}
 use Rattle.ygrammar.proofs.CutLemmas.{dots_behind}
-use Rattle.ygrammar.proofs.cut.dots_place.Given as goal
+use Rattle.ygrammar.proofs.cut.dots_offset.Given as goal
 
 abbrev pub invariant-loop-at : goal.invariant-loop-at
 invariant-loop-at l = record {

@@ -1,7 +1,7 @@
 use Rattle.std.proofs.Common.{◌≡◌, ◌++◌, ◌-◌, ◌≤◌, length, drop}
 use Rattle.std.specs.Prelude.{slice_range}
 use Rattle.yspec.specs.text.Token.{joined_breaks}
-use Rattle.ytext.proofs.quoted.return_place.Given as goal
+use Rattle.ytext.proofs.quoted.return_offset.Given as goal
 
 abbrev pub invariant-loop-at : goal.invariant-loop-at
 invariant-loop-at l = record {

@@ -1,14 +1,14 @@
 use Rattle.std.proofs.Common.{◌≡◌, ◌++◌, drop, length}
 use Rattle.yspec.specs.linking.SchemaNodes.{schema_node}
-use Rattle.ypreorder.specs.View.{rows_in}
+use Rattle.ypreorder.specs.View.{slots_in}
 use Rattle.yplan.specs.PlanView.{view}
 use Rattle.ymodel.specs.Layout.{laid}
 use Rattle.yschema.proofs.MakingLemmas.{ahead}
-use Rattle.yschema.proofs.making.rows_of.Given as goal
+use Rattle.yschema.proofs.making.slots_of.Given as goal
 
 abbrev pub invariant-loop-number : goal.invariant-loop-number
 invariant-loop-number l = record {
   counted : length l.rows.items ≡ l.number;
-  laid : laid 0 l.rows.items ++ ahead (schema_node (view l.plan)) l.number (drop l.number (rows_in l.plan.table))
-      ≡ ahead (schema_node (view l.plan)) 0 (rows_in l.plan.table);
+  laid : laid 0 l.rows.items ++ ahead (schema_node (view l.plan)) l.number (drop l.number (slots_in l.plan.table))
+      ≡ ahead (schema_node (view l.plan)) 0 (slots_in l.plan.table);
 }

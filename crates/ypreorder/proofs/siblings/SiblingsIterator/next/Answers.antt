@@ -1,7 +1,7 @@
 use Rattle.std.proofs.Common.{rules, refl}
 use Rattle.ypreorder.specs.View.{row_view}
 use Rattle.ypreorder.proofs.RowLemmas.{first_node, numbers_behind, takes_none}
-use Rattle.ypreorder.proofs.nodes.NodesIterator.next.Goals as goal
+use Rattle.ypreorder.proofs.siblings.SiblingsIterator.next.Goals as goal
 
 pub returns-in_err-first-clause-steps : goal.returns-in_err-first-clause-steps
 returns-in_err-first-clause-steps g c =
@@ -12,7 +12,7 @@ returns-clause-steps g c =
     let rest = c.in_ok-first.rest.now in
     let first = c.in_ok-first.first.now in
     let inner = c.split_at.result.0.now in (
-      first_node c.min-below.result c.args.self.now.rows.now rest inner c.split_at.result.1.now first (row_view c.new.result)
+      first_node c.min-below.result c.args.self.now.slots.now rest inner c.split_at.result.1.now first (row_view c.new.result)
           (search rules) c.min-below.ensures c.split_at.ensures.front c.split_at.ensures.back c.new.ensures.row,
       refl,
       c.new.ensures.number,
