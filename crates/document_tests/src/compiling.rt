@@ -164,6 +164,7 @@ C10:5/typedef a { type enumeration { enum x; } }|leaf b { type a { enum x; } }
 C10:5/typedef r { type leafref { path /a; } }|leaf a { type union { type r; type string; } }
 C10:5/typedef t { type uint8; }|leaf a { type t { fraction-digits 1; } }
 C10:4/typedef t { type uint8 { range 5..1; } }|leaf a { type t { range 7..6; } }
+C10:6/grouping g { list l { key k;| typedef t { type uint8 { range 1..5; } }| leaf k { type t { range 2..6; } } } }
 C11:5/typedef t { type uint8; default 7; }|leaf a { type t { range 1..6; } }
 C11:5/typedef t { type uint8; default x; }|leaf-list a { type t; }
 C17:5/typedef r { type leafref { path /b; } }|leaf a { type r; }";
@@ -331,6 +332,43 @@ C8:5/import a { prefix q; }|leaf b { type q:t; }
 C9:4/import m { prefix q; }";
     for row in rows.lines() {
         assert!(rt; is_told_beside(rt.alloc(), row) == Some(true), "{row:?}");
+    }
+}
+
+// Of three modules that import one another in a circle, and one that leads to them.
+fn importing(letter: char) -> &'static str {
+    match letter {
+        'a' => "module a {\n yang-version 1.1; namespace u; prefix a;\n import b { prefix b; } }",
+        'b' => "module b {\n yang-version 1.1; namespace u; prefix b;\n\n import c { prefix c; } }",
+        'c' => {
+            "module c {\n yang-version 1.1; namespace u; prefix c;\n\n\n import a { prefix a; } }"
+        }
+        _ => "module d {\n yang-version 1.1; namespace u; prefix d; import a { prefix a; } }",
+    }
+}
+
+// `CODE:LINE/place/modules`: what comes of them in this order, and at which.
+fn is_told_in_order(alloc: Global, row: &str) -> Option<bool> {
+    let (told, row) = row.split_once('/')?;
+    let (place, letters) = row.split_once('/')?;
+    let mut texts = Vec::new(alloc);
+    for letter in letters.chars() {
+        texts.push(importing(letter)).ok()?;
+    }
+    comes_of(alloc, &texts, number_of(place)? as usize, told)
+}
+
+// Each import of a circle is told where its module is given first, and none that leads to it.
+#[test]
+fn circles_of_imports(rt: HostRuntime) {
+    let rows = "C9:3/0/abcd
+C9:4/0/bcad
+C9:5/0/cabd
+C9:5/1/dcba
+C9:3/1/dabc
+C5:2/0/dcb";
+    for row in rows.lines() {
+        assert!(rt; is_told_in_order(rt.alloc(), row) == Some(true), "{row:?}");
     }
 }
 

@@ -77,11 +77,13 @@ const STATE: &str = "module w {
 }
 ";
 
-/// A number of 18 digits behind the point.
+/// A typedef that restricts another, and a number of 18 digits behind the point.
 const FRACTION: &str = "module t {
   yang-version 1.1;
   namespace \"urn:t\";
   prefix t;
+  typedef a { type int32 { range 1..10; } }
+  typedef b { type a { range 1..10; } }
   leaf d { type decimal64 { fraction-digits 18; } }
 }
 ";
@@ -286,6 +288,15 @@ fn refused_modules(rt: HostRuntime) {
   leaf b { type string; }
   leaf b { type string; }
 |p.yang:7: C13
+==
+  typedef a { type int32 { range 1..10; } }
+  typedef b { type a { range 0..10; } }
+  leaf d { type decimal64 { fraction-digits 18; } }
+|p.yang:6: C10
+==
+  typedef a { type b; }
+  typedef b { type a; }
+|p.yang:5: C9
 ";
     for row in rows.split("==\n") {
         assert!(rt; is_refused_module(rt.alloc(), row) == Some(true), "{row}");
@@ -372,6 +383,58 @@ V3 data-missing - /p:u -
 1
 V1 invalid-value a_b_c /p:a -
 1 faults
+"#;
+    for row in rows.split("==\n") {
+        assert!(rt; is_told_under(rt.alloc(), row) == Some(true), "{row}");
+    }
+}
+
+#[test]
+fn derived_types(rt: HostRuntime) {
+    let rows = r#"  container c { typedef t { type uint8 { range 1..5; } } leaf a { type t; } }
+--
+{"p:c":{"a":6}}
+1
+V1 invalid-value - /p:c/a -
+1 faults
+==
+  typedef r { type leafref { path /p:b; } }
+  leaf a { type r; }
+  leaf b { type string; }
+--
+{"p:a":"x"}
+1
+V11 data-missing instance-required /p:a -
+1 faults
+==
+  typedef s { type string { length 1; } }
+  typedef n { type uint8 { range 2..20; } }
+  typedef u { type union { type n; type s; } }
+  leaf-list a { type u; }
+--
+{"p:a":[2,"2","22",1]}
+1
+V1 invalid-value - /p:a[3] -
+V1 invalid-value - /p:a[4] -
+2 faults
+==
+  typedef t { type uint8; default 3; }
+  leaf-list a { type t; min-elements 1; }
+  leaf b { type leafref { path /p:a; } }
+--
+{"p:b":3}
+1
+V6 operation-failed too-few-elements /p:a -
+V11 data-missing instance-required /p:b -
+2 faults
+==
+  typedef t { type uint8; default 3; }
+  leaf-list a { type t; }
+  leaf b { type leafref { path /p:a; } }
+--
+{"p:b":3}
+0
+0 faults
 "#;
     for row in rows.split("==\n") {
         assert!(rt; is_told_under(rt.alloc(), row) == Some(true), "{row}");
