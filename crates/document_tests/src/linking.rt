@@ -5,7 +5,7 @@ use crate::telling::{is_refusal_of_modules, number_of};
 use std::alloc::{AllocError, Global};
 use ylink::{Linked, Statements, StmtId, link};
 use ytext::Module;
-use ytype::Raw;
+use ytype::{BadValue, Raw};
 
 // Statements 0 to 17.
 const USING: &str = "module a {
@@ -54,29 +54,23 @@ fn is_statement(linked: &Linked<'_>, row: &str) -> Option<bool> {
     Some(is_there && is_number(linked.module(id), module)? && is_number(meant, meaning)?)
 }
 
-// Whether a row holds each statement right below one: `NUMBER BELOW BELOW ..`
-fn are_below(linked: &Linked<'_>, row: &str) -> Option<bool> {
-    match row.split_once(' ') {
-        Some((number, below)) => are(linked.substatements(StmtId(number_of(number)?)), below),
-        None => Some(
-            linked
-                .substatements(StmtId(number_of(row)?))
-                .next()
-                .is_none(),
-        ),
+// Whether these statements have these numbers: `NUMBER,NUMBER,..`, each with its comma.
+fn are(statements: Statements<'_, '_>, row: &str) -> Option<bool> {
+    let mut wanted = row;
+    for statement in statements {
+        let (number, rest) = wanted.split_once(',')?;
+        if number_of(number)? != statement.0 {
+            return Some(false);
+        }
+        wanted = rest;
     }
+    Some(wanted.is_empty())
 }
 
-// Whether these statements are those of a row.
-fn are(statements: Statements<'_, '_>, row: &str) -> Option<bool> {
-    let mut left = statements;
-    for number in row.split(' ') {
-        match left.next() {
-            Some(id) if id.0 == number_of(number)? => {}
-            _ => return Some(false),
-        }
-    }
-    Some(left.next().is_none())
+// Whether these are the statements right below one: `NUMBER:BELOW,BELOW,..`
+fn are_below(linked: &Linked<'_>, row: &str) -> Option<bool> {
+    let (number, below) = row.split_once(':')?;
+    are(linked.substatements(StmtId(number_of(number)?)), below)
 }
 
 fn one_line(alloc: Global, statements: &str) -> Option<String> {
@@ -101,7 +95,8 @@ fn is_typed(alloc: Global, linked: &Linked<'_>, row: &str) -> Option<bool> {
     match linked.typed(StmtId(number_of(number)?)) {
         Some(value_type) => match value_type.check(alloc, &raw) {
             Ok(_) => Some(wanted == "yes"),
-            Err(_) => Some(wanted == "no"),
+            Err(BadValue::Refused { .. }) => Some(wanted == "no"),
+            Err(BadValue::Memory) => None,
         },
         None => Some(wanted == "-"),
     }
@@ -131,21 +126,21 @@ fn linked_statements(rt: HostRuntime) {
 
 #[test]
 fn rows_of_statements(rt: HostRuntime) {
-    let rows = "4 5
-6 7
-8 9
-9 10
-17
-18 19 20 21 22 25
-26 27
-28";
+    let rows = "4:5,
+6:7,
+8:9,
+9:10,
+17:
+18:19,20,21,22,25,
+26:27,
+28:";
     let modules = modules_of(rt.alloc(), &[USING, USED]).unwrap_or(Vec::new(rt.alloc()));
     match linked_of(rt.alloc(), &modules) {
         Some(linked) => {
             for row in rows.lines() {
                 assert!(rt; are_below(&linked, row) == Some(true), "{row:?}");
             }
-            assert!(rt; are(linked.modules(), "0 18") == Some(true), "modules");
+            assert!(rt; are(linked.modules(), "0,18,") == Some(true), "modules");
         }
         None => assert!(rt; false, "linked"),
     }
@@ -156,7 +151,7 @@ fn prefixes_and_types(rt: HostRuntime) {
     let modules = modules_of(rt.alloc(), &[USING, USED]).unwrap_or(Vec::new(rt.alloc()));
     match linked_of(rt.alloc(), &modules) {
         Some(linked) => {
-            for row in "0 x 1
+            let prefixes = "0 x 1
 0 a 0
 0 b -
 1 b 1
@@ -166,7 +161,7 @@ fn prefixes_and_types(rt: HostRuntime) {
             {
                 assert!(rt; is_prefix(&linked, row) == Some(true), "{row:?}");
             }
-            for row in "12 7 yes
+            let types = "12 7 yes
 12 8 no
 7 7 yes
 23 8 no
@@ -194,24 +189,22 @@ fn is_refused(alloc: Global, text: &str, told: &str) -> Option<bool> {
     }
 }
 
+// `CODE:LINE/statements`, or `-` where they link.
+fn is_link(alloc: Global, row: &str) -> Option<bool> {
+    let (told, statements) = row.split_once('/')?;
+    is_refused(alloc, one_line(alloc, statements)?.as_str(), told)
+}
+
 #[test]
 fn refused_links(rt: HostRuntime) {
-    for row in "C4:1/
+    let rows = "C4:1/
 C1:1/yang-version 1.1; must x;
 C6:1/yang-version 1.1; leaf l { type q:t; }
 C8:1/yang-version 1.1; leaf l { type t; }
 C10:1/yang-version 1.1; leaf l { type union; }
 -/yang-version 1.1; leaf l { type string; } leaf l { type string; }
--/yang-version 1.1; leaf l { type leafref { path /p:x; } }"
-        .lines()
-    {
-        let told = match row.split_once('/') {
-            Some((told, statements)) => match one_line(rt.alloc(), statements) {
-                Some(text) => is_refused(rt.alloc(), text.as_str(), told),
-                None => None,
-            },
-            None => Some(false),
-        };
-        assert!(rt; told == Some(true), "{row:?}");
+-/yang-version 1.1; leaf l { type leafref { path /p:x; } }";
+    for row in rows.lines() {
+        assert!(rt; is_link(rt.alloc(), row) == Some(true), "{row:?}");
     }
 }
