@@ -43,7 +43,7 @@ numbered_within (suc n) k (r ∷ rows) within =
 
 -- the nodes of any row count up from its number
 pub numbered_row : (c : Children) → IsNumbered c.number (schema_view.row_view c)
-numbered_row c = numbered_within (length c.rows.now) c.number c.rows.now (omega arith)
+numbered_row c = numbered_within (length c.slots.now) c.number c.slots.now (omega arith)
 
 -- ---- counts that agree from a number on
 

@@ -10,6 +10,6 @@ pub returns : goal.returns
 returns c = λ sorted.
     let schema = c.args.schema.now in
     let tree = document_view.tree_view c.args.tree.now in
-    all_found c.in_ok-targets.targets (schema_view.view schema) tree (document_view.row_view c.nodes-nodes.result.now) (schema_view.row_view c.roots.result) _ c.check_row.new.findings
-    (numbered schema) sorted (c.in_ok-targets.ensures sorted) c.roots.ensures c.nodes-nodes.ensures c.new.ensures.items c.new-2.ensures.items
-    (c.in_ok-check_row.ensures (subst IsSorted (sym c.nodes-nodes.ensures) sorted))
+    all_found c.in_ok-targets.targets (schema_view.view schema) tree (document_view.row_view c.roots-nodes.result.now) (schema_view.row_view c.roots.result) _ c.check_row.new.findings
+    (numbered schema) sorted (c.in_ok-targets.ensures sorted) c.roots.ensures c.roots-nodes.ensures c.new.ensures.items c.new-2.ensures.items
+    (c.in_ok-check_row.ensures (subst IsSorted (sym c.roots-nodes.ensures) sorted))
