@@ -7,4 +7,4 @@ use Rattle.yplan.proofs.plan.Plan.levels.Goals as goal
 
 pub returns : goal.returns
 returns c =
-    c.levels_of.ensures ∙ (ap levels c.nodes.ensures.row ∙ sym (levels-by planned_view 0 (forest_in c.args.self.now.table)))
+    c.levels_of.ensures ∙ (ap levels c.roots.ensures.row ∙ sym (levels-by planned_view 0 (forest_in c.args.self.now.table)))
