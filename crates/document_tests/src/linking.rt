@@ -102,6 +102,33 @@ fn is_typed(alloc: Global, linked: &Linked<'_>, row: &str) -> Option<bool> {
     }
 }
 
+// What a row asks of the linked statements.
+#[derive(Clone, Copy)]
+enum Question {
+    Statement,
+    Below,
+    Prefix,
+    Typed,
+}
+
+// Whether a row holds of the two modules.
+fn is_right(alloc: Global, question: Question, row: &str) -> Option<bool> {
+    let modules = modules_of(alloc, &[USING, USED])?;
+    let linked = linked_of(alloc, &modules)?;
+    match question {
+        Question::Statement => is_statement(&linked, row),
+        Question::Below => are_below(&linked, row),
+        Question::Prefix => is_prefix(&linked, row),
+        Question::Typed => is_typed(alloc, &linked, row),
+    }
+}
+
+fn are_modules(alloc: Global, row: &str) -> Option<bool> {
+    let modules = modules_of(alloc, &[USING, USED])?;
+    let linked = linked_of(alloc, &modules)?;
+    are(linked.modules(), row)
+}
+
 #[test]
 fn linked_statements(rt: HostRuntime) {
     let rows = "0 0 module -
@@ -113,14 +140,9 @@ fn linked_statements(rt: HostRuntime) {
 24 1 range -
 27 1 type 22
 28 - - -";
-    let modules = modules_of(rt.alloc(), &[USING, USED]).unwrap_or(Vec::new(rt.alloc()));
-    match linked_of(rt.alloc(), &modules) {
-        Some(linked) => {
-            for row in rows.lines() {
-                assert!(rt; is_statement(&linked, row) == Some(true), "{row:?}");
-            }
-        }
-        None => assert!(rt; false, "linked"),
+    for row in rows.lines() {
+        let right = is_right(rt.alloc(), Question::Statement, row);
+        assert!(rt; right == Some(true), "{row:?}");
     }
 }
 
@@ -134,34 +156,30 @@ fn rows_of_statements(rt: HostRuntime) {
 18:19,20,21,22,25,
 26:27,
 28:";
-    let modules = modules_of(rt.alloc(), &[USING, USED]).unwrap_or(Vec::new(rt.alloc()));
-    match linked_of(rt.alloc(), &modules) {
-        Some(linked) => {
-            for row in rows.lines() {
-                assert!(rt; are_below(&linked, row) == Some(true), "{row:?}");
-            }
-            assert!(rt; are(linked.modules(), "0,18,") == Some(true), "modules");
-        }
-        None => assert!(rt; false, "linked"),
+    for row in rows.lines() {
+        let right = is_right(rt.alloc(), Question::Below, row);
+        assert!(rt; right == Some(true), "{row:?}");
     }
+    assert!(rt; are_modules(rt.alloc(), "0,18,") == Some(true), "modules");
 }
 
 #[test]
-fn prefixes_and_types(rt: HostRuntime) {
-    let modules = modules_of(rt.alloc(), &[USING, USED]).unwrap_or(Vec::new(rt.alloc()));
-    match linked_of(rt.alloc(), &modules) {
-        Some(linked) => {
-            let prefixes = "0 x 1
+fn linked_prefixes(rt: HostRuntime) {
+    let rows = "0 x 1
 0 a 0
 0 b -
 1 b 1
 1 x -
-2 b -"
-                .lines()
-            {
-                assert!(rt; is_prefix(&linked, row) == Some(true), "{row:?}");
-            }
-            let types = "12 7 yes
+2 b -";
+    for row in rows.lines() {
+        let right = is_right(rt.alloc(), Question::Prefix, row);
+        assert!(rt; right == Some(true), "{row:?}");
+    }
+}
+
+#[test]
+fn linked_types(rt: HostRuntime) {
+    let rows = "12 7 yes
 12 8 no
 7 7 yes
 23 8 no
@@ -170,13 +188,10 @@ fn prefixes_and_types(rt: HostRuntime) {
 9 7 -
 14 7 -
 17 7 -
-28 7 -"
-                .lines()
-            {
-                assert!(rt; is_typed(rt.alloc(), &linked, row) == Some(true), "{row:?}");
-            }
-        }
-        None => assert!(rt; false, "linked"),
+28 7 -";
+    for row in rows.lines() {
+        let right = is_right(rt.alloc(), Question::Typed, row);
+        assert!(rt; right == Some(true), "{row:?}");
     }
 }
 
