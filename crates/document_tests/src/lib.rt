@@ -16,8 +16,6 @@ mod kinds;
 #[cfg(test)]
 mod limits;
 #[cfg(test)]
-mod linking;
-#[cfg(test)]
 mod memory;
 #[cfg(test)]
 mod schemas;
