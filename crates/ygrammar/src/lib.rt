@@ -9,6 +9,7 @@ mod form;
 mod grammar;
 mod name;
 mod number;
+mod refining;
 mod row;
 mod source;
 mod sources;
@@ -21,6 +22,7 @@ pub use name::{
     Name, absolute_path, key_names, leafref_path, name_of, relative_path, unique_paths,
 };
 pub use number::{count, enum_value, fraction_digits, max_elements};
+pub use refining::may_bear;
 pub use row::{argument_of, argument_with, built_in_of, first_with, found_with};
 pub use source::Source;
 pub use sources::Sources;

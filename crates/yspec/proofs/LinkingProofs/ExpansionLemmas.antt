@@ -320,12 +320,12 @@ pub count_used_is_size : (modules : Forest Source) (groupings : List Grouping) (
 count_used_is_size modules groupings owner depth u = by_row modules groupings owner depth u (count_is_size modules groupings owner depth)
 
 pub counted_all : (modules : Forest Source) (groupings : List Grouping) (f : Forest Source)
-    → counted_from modules (counts_within modules groupings (length groupings)) f ≡ size (expanded_from modules groupings f)
+    → counted_from modules (counts_within modules groupings (suc (size modules))) f ≡ size (expanded_from modules groupings f)
 counted_all modules groupings end = refl
 counted_all modules groupings (node s below after) =
-    let meant = stands_for modules groupings s.home (length groupings) in
-    let counts = counts_within modules groupings (length groupings) in
-    ap₂ (λ m n. m + n) (counted_is_size s.home (count_used modules counts) meant (count_is_size modules groupings s.home (length groupings)) (laid below))
+    let meant = stands_for modules groupings s.home (suc (size modules)) in
+    let counts = counts_within modules groupings (suc (size modules)) in
+    ap₂ (λ m n. m + n) (counted_is_size s.home (count_used modules counts) meant (count_is_size modules groupings s.home (suc (size modules))) (laid below))
     (counted_all modules groupings after)
     ∙ sym (size_join (expanded modules groupings s.home (laid below)) (expanded_from modules groupings after))
 

@@ -3,7 +3,7 @@ use Rattle.std.proofs.Common.{◌≡◌, ℕ, zero, suc, ◌+◌, ◌<◌, Bool,
 use Rattle.std.specs.Prelude.{find, ◌==◌}
 use Rattle.std.specs.List.{filter_map, list_all, cons_option}
 use Rattle.std.specs.Option.{option_map_or}
-use Rattle.yspec.specs.Forest.{Forest, end, node, join}
+use Rattle.yspec.specs.Forest.{Forest, end, node, join, size}
 use Rattle.yspec.specs.text.Text.{is_identifier}
 use Rattle.yspec.specs.linking.Keyword.{Keyword, same_keyword, keywords, choice_word, case_word, module_word, uses_word, grouping_word}
 use Rattle.yspec.specs.linking.Arguments.{fits}
@@ -285,7 +285,7 @@ right_from count home modules groupings right end is legal at = tt
 right_from count home modules groupings right (node s below after) is legal at =
     let few : s.home < count = subst (λ (k : ℕ). k < count) (sym at.1) (omega (arith, is)) in
     right_joined count _ (expanded_from modules groupings after)
-    (right_replaced count (stands_for modules groupings s.home (length groupings)) (right_stands count modules groupings right s.home few (length groupings)) s.home few
+    (right_replaced count (stands_for modules groupings s.home (suc (size modules))) (right_stands count modules groupings right s.home few (suc (size modules))) s.home few
     (laid below) (laid_right home (rule_of module_word).substatements below legal.1))
     (right_from count (home + 1) modules groupings right after (omega (arith, is)) legal.2 at.2)
 

@@ -1,5 +1,5 @@
 -- Of modules without `uses` the expanded parts are the parts, and the phases tell the same.
-use Rattle.std.proofs.Common.{◌≡◌, ℕ, ◌+◌, Bool, true, false, not, cond, ◌||◌, List, [], ◌∷◌, ◌++◌, length, Option, Some, None, Result, Ok, Err, refl, sym, ap, ap₂, ◌∙◌, subst}
+use Rattle.std.proofs.Common.{◌≡◌, ℕ, ◌+◌, Bool, true, false, not, cond, ◌||◌, List, [], ◌∷◌, ◌++◌, length, Option, Some, None, Result, Ok, Err, refl, sym, ap, ap₂, ◌∙◌, subst, suc}
 use Rattle.std.specs.Prelude.{nat_lt}
 use Rattle.std.specs.List.{list_any, flat_map}
 use Rattle.std.specs.Option.{option_map_or}
@@ -103,7 +103,7 @@ expanded_unused modules groupings home end legal at = refl
 expanded_unused modules groupings home (node s below after) legal at =
     ap₂ join (subst (λ owner. expanded modules groupings owner (laid below) ≡ parts below) (sym at.1)
     (ap (expanded modules groupings home) (laid_parts home (rule_of module_word).substatements below (none_used module_word) legal.1)
-    ∙ plain_stays (stands_for modules groupings home (length groupings)) home (parts below) (plain_parts home (rule_of module_word).substatements below (none_used module_word) legal.1)))
+    ∙ plain_stays (stands_for modules groupings home (suc (size modules))) home (parts below) (plain_parts home (rule_of module_word).substatements below (none_used module_word) legal.1)))
     (expanded_unused modules groupings (home + 1) after legal.2 at.2)
 
 fit_in_plain : (told : Part → List Break) (owner : ℕ) (f : Nodes) → IsPlain owner f → unfit_in told f ≡ []
@@ -123,7 +123,7 @@ unfit_unused modules groupings home (node s below after) legal = ap₂ (λ x y. 
     (unfit_unused modules groupings (home + 1) after legal.2)
   where
     told : Part → List Break
-    told = unfit_for modules groupings s.home (length groupings)
+    told = unfit_for modules groupings s.home (suc (size modules))
 
 -- ---- prefixes
 

@@ -1,14 +1,14 @@
 -- Groupings: each `uses` replaced, where it stands, by the nodes of its grouping, refined (RFC 7950, 7.12 and 7.13).
-use Rattle.std.specs.Prelude.{ℕ, zero, suc, ◌==◌, ◌&&◌, Bool, not, List, [], ◌∷◌, ◌++◌, map, length, count_by, find, false, Option, Some, None, option_and_then, unwrap_or, if◌then◌else◌}
+use Rattle.std.specs.Prelude.{ℕ, zero, suc, ◌==◌, ◌&&◌, Bool, not, List, [], ◌∷◌, ◌++◌, map, count_by, find, false, Option, Some, None, option_and_then, unwrap_or, if◌then◌else◌}
 use Rattle.std.specs.List.{list_any, list_all, filter_map}
 use Rattle.std.specs.Option.{option_map_or}
-use Rattle.yspec.specs.Forest.{Forest, end, node, row, join, change_nth, change_below, below_nth}
+use Rattle.yspec.specs.Forest.{Forest, end, node, size, row, join, change_nth, change_below, below_nth}
 use Rattle.yspec.specs.text.Text.{is_text}
 use Rattle.yspec.specs.schema.Breaks.{Break, broken, when, is_wrong_count}
 use Rattle.yspec.specs.linking.Keyword.{Keyword, same_keyword}
 use Rattle.yspec.specs.linking.Keyword as word
 use Rattle.yspec.specs.linking.Arguments.{relative_path_of}
-use Rattle.yspec.specs.linking.Table.{Allowed, whole_rule_of}
+use Rattle.yspec.specs.linking.Table.{Allowed, rule_of}
 use Rattle.yspec.specs.linking.Source.{Source, is_source_of, argument_in}
 use Rattle.yspec.specs.linking.Prefixes.{NodeName, node_name}
 use Rattle.yspec.specs.linking.Scopes.{Placed, statements_of}
@@ -79,7 +79,7 @@ refine_steps modules owner s =
 -- whether the table has a statement of a refine below a keyword, and as many of its kind as the refine gives
 abbrev pub is_borne : Keyword → Forest Source → Source → Bool
 is_borne k given s = list_any (λ (a : Allowed). same_keyword a.keyword s.keyword
-    && not (is_wrong_count a.count (count_by (is_source_of s.keyword) (row given)))) (whole_rule_of k).substatements
+    && not (is_wrong_count a.count (count_by (is_source_of s.keyword) (row given)))) (rule_of k).substatements
 
 abbrev pub may_bear : Part → Forest Source → Bool
 may_bear p given = list_all (is_borne p.source.keyword given) (row given)
@@ -129,10 +129,10 @@ stands_for modules groupings owner zero u = end
 stands_for modules groupings owner (suc depth) u = refined modules owner u.own
     (replaced (stands_for modules groupings owner depth) owner (row_used modules groupings u))
 
--- No grouping uses itself, so there are no more on a way than there are groupings.
+-- No grouping uses itself, so there are no more on a way than there are statements.
 abbrev pub expanded : Forest Source → List Grouping → ℕ → Forest Part → Forest Part
 expanded modules groupings owner nodes =
-    replaced (stands_for modules groupings owner (length groupings)) owner nodes
+    replaced (stands_for modules groupings owner (suc (size modules))) owner nodes
 
 abbrev pub expanded_from : Forest Source → List Grouping → Forest Source → Forest Part
 expanded_from modules groupings end = end
@@ -172,7 +172,7 @@ unfit_for modules groupings owner (suc depth) u =
 abbrev pub unfit_from : Forest Source → List Grouping → Forest Source → List Break
 unfit_from modules groupings end = []
 unfit_from modules groupings (node s below after) =
-    unfit_in (unfit_for modules groupings s.home (length groupings)) (laid below)
+    unfit_in (unfit_for modules groupings s.home (suc (size modules))) (laid below)
     ++ unfit_from modules groupings after
 
 abbrev pub unfit_breaks : Forest Source → List Break

@@ -1,7 +1,7 @@
 -- How many nodes a set of modules defines, counted without expanding (RFC 7950, 7.13).
-use Rattle.std.specs.Prelude.{ℕ, zero, suc, ◌+◌, ◌==◌, List, [], map, length, find, if◌then◌else◌}
+use Rattle.std.specs.Prelude.{ℕ, zero, suc, ◌+◌, ◌==◌, List, [], map, find, if◌then◌else◌}
 use Rattle.std.specs.Option.{option_map_or}
-use Rattle.yspec.specs.Forest.{Forest, end, node}
+use Rattle.yspec.specs.Forest.{Forest, end, node, size}
 use Rattle.yspec.specs.linking.Source.{Source}
 use Rattle.yspec.specs.linking.DerivedTypes.{number_named}
 use Rattle.yspec.specs.linking.Parts.{Part}
@@ -44,4 +44,4 @@ counted_from modules counts (node s below after) =
 -- the nodes of a set of modules
 abbrev pub node_count : Forest Source → ℕ
 node_count modules = let groupings = groupings_of modules in
-    counted_from modules (counts_within modules groupings (length groupings)) modules
+    counted_from modules (counts_within modules groupings (suc (size modules))) modules

@@ -1,0 +1,4 @@
+pub mod NodeView
+pub mod TableView
+pub mod Targets
+pub mod Walk

@@ -1,0 +1,10 @@
+//! The nodes that a set of modules defines, with each `uses` replaced by the nodes of its grouping (RFC 7950, 7.12 and 7.13).
+#![tactic(auto)]
+
+mod nodes;
+mod refining;
+mod table;
+mod target;
+
+pub use nodes::ExpandedNode;
+pub use table::NodeTable;

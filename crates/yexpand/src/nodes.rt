@@ -1,0 +1,81 @@
+//! Nodes that stand for statements.
+
+use std::alloc::{AllocError, Global};
+use ygrammar::{Source, argument_of};
+use ypreorder::{Node, Siblings};
+use yword::Keyword;
+
+/// A node that a statement defines, or the case that a single node of a choice stands for (RFC 7950, 7.9.2), where a module
+/// uses it.
+#[derive(Drop)]
+pub struct ExpandedNode<'a, 't> {
+    // Its statement, wherever it stands. What it states of the node is changed by refines.
+    source: Node<'a, Source<'t>>,
+    // Whether it is the case that its statement stands for, and not the node itself.
+    is_implied: bool,
+    // The number of the module to which it belongs.
+    owner: usize,
+    // What refines give it, one after another.
+    refines: Vec<Siblings<'a, Source<'t>>>,
+}
+
+impl<'a, 't> ExpandedNode<'a, 't> {
+    ghost use Rattle.std.specs.Prelude.{◌≡◌, ◌++◌, ◌∷◌, [], OnOk};
+    ghost use Rattle.yspec.specs.linking.Source as sources;
+    ghost use Rattle.ypreorder.specs.View.{row_by, label_by};
+    ghost use Rattle.yword.specs.KeywordView.{keyword_view};
+    ghost use Rattle.ygrammar.specs.SourceView.{source_view};
+    ghost use Rattle.yexpand.specs.NodeView.{part_for, part_view};
+    ghost use Rattle.yexpand.specs.TableView.{refined_part};
+
+    /// The node that a statement defines, or the case that it stands for, in a module, before refines.
+    pub(crate) fn new(
+        alloc: Global,
+        source: Node<'a, Source<'t>>,
+        is_implied: bool,
+        owner: usize,
+    ) -> ExpandedNode<'a, 't>
+        ensures { part_view result ≡ part_for owner is_implied (label_by source_view source.entry)
+            (row_by source_view source.entry.children) }
+    {
+        ExpandedNode {
+            source,
+            is_implied,
+            owner,
+            refines: Vec::new(alloc),
+        }
+    }
+
+    /// Gives it a row of statements, which take the place of its own of the same kinds.
+    pub(crate) fn refine(&mut self, given: Siblings<'a, Source<'t>>) -> Result<(), AllocError>
+        ensures { OnOk result (part_view self.new
+            ≡ refined_part (row_by source_view given.entry) (part_view self.old)) }
+    {
+        self.refines.push(given)
+    }
+
+    /// The keyword of its statement; that of a case, where one is implied.
+    pub fn keyword(&self) -> Keyword
+        ensures { keyword_view result ≡ (part_view self.now).source.keyword }
+    {
+        if self.is_implied {
+            Keyword::Case
+        } else {
+            self.source.label().keyword
+        }
+    }
+
+    /// The number of the module to which it belongs.
+    pub fn owner(&self) -> usize
+        ensures { result ≡ (part_view self.now).owner }
+    {
+        self.owner
+    }
+
+    /// Its name.
+    pub fn name(&self) -> &'t str
+        ensures { result.now ≡ sources.argument_in (part_view self.now).source }
+    {
+        argument_of(self.source)
+    }
+}

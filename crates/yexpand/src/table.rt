@@ -1,0 +1,99 @@
+//! The nodes of modules in a table, as they are made.
+
+ghost use Rattle.std.specs.Prelude.{◌<◌, ◌^◌, vec_len};
+
+use crate::nodes::ExpandedNode;
+use std::alloc::{AllocError, Global};
+use ygrammar::Source;
+use ypreorder::{Siblings, Slot};
+
+/// Nodes in preorder. One is opened, then those below it, and then it is closed; refines change it afterwards.
+#[derive(Drop)]
+pub struct NodeTable<'a, 't> {
+    slots: Vec<Slot<ExpandedNode<'a, 't>>>,
+    ghost numbered: { vec_len slots < 2 ^ 32 },
+}
+
+impl<'a, 't> NodeTable<'a, 't> {
+    ghost use Rattle.std.specs.Prelude.{◌≡◌, ◌++◌, ◌∷◌, [], ◌<◌, ◌^◌, vec_len, IfOk, OnOk, length, drop};
+    ghost use Rattle.ypreorder.specs.Layout.{laid, opened, closed, forest_of, numbered_by};
+    ghost use Rattle.ypreorder.specs.View.{row_by};
+    ghost use Rattle.ygrammar.specs.SourceView.{source_view};
+    ghost use Rattle.yexpand.specs.NodeView.{numbered_part};
+    ghost use Rattle.yexpand.specs.TableView.{slots_of, parts_in, refined_part, changed_place};
+
+    /// A table without nodes.
+    pub(crate) fn new(alloc: Global) -> NodeTable<'a, 't>
+        ensures { slots_of result ≡ [] }
+    {
+        NodeTable {
+            slots: Vec::new(alloc),
+        }
+    }
+
+    /// The nodes from that of a number on.
+    pub(crate) fn from(&self, number: u32) -> Siblings<'_, ExpandedNode<'a, 't>>
+        ensures row { row_by numbered_part result
+            ≡ numbered_by numbered_part number (forest_of (drop number (slots_of self.now))) }
+        ensures number { result.number ≡ number }
+    {
+        let slots = self.slots.as_slice();
+        let (_, from) = slots.split_at((number as usize).min(slots.len()));
+        Siblings::new(from, number)
+    }
+
+    /// How many nodes there are.
+    pub(crate) fn len(&self) -> u32
+        ensures { result ≡ length (slots_of self.now) }
+    {
+        self.slots.len() as u32
+    }
+
+    /// Adds a node behind all others, below one of them or at the top, with nothing below it yet, and answers its number.
+    pub(crate) fn open(
+        &mut self,
+        parent: Option<u32>,
+        label: ExpandedNode<'a, 't>,
+    ) -> Result<u32, AllocError>
+        ensures laid { OnOk result (laid (slots_of self.new) ≡ laid (slots_of self.old)
+            ++ opened parent label ∷ []) }
+        ensures number { IfOk result (λ number. number ≡ length (slots_of self.old)) }
+    {
+        let number = self.slots.len() as u32;
+        if number == u32::MAX {
+            return Err(AllocError);
+        }
+        self.slots.push(Slot {
+            parent,
+            label,
+            below: 0,
+        })?;
+        Ok(number)
+    }
+
+    /// All nodes behind that of a number stand below it.
+    pub(crate) fn close(&mut self, number: u32)
+        ensures { laid (slots_of self.new) ≡ closed number (laid (slots_of self.old)) }
+    {
+        let behind = self.slots.len() as u32;
+        if let Some(slot) = self.slots.get_mut(number as usize) {
+            slot.below = (behind - number - 1) as usize;
+        }
+    }
+
+    /// Gives the node of a number what a refine gives.
+    pub(crate) fn refine(
+        &mut self,
+        number: u32,
+        given: Siblings<'a, Source<'t>>,
+    ) -> Result<(), AllocError>
+        ensures { OnOk result (parts_in self.new
+            ≡ changed_place number (refined_part (row_by source_view given.entry))
+            (parts_in self.old)) }
+    {
+        match self.slots.get_mut(number as usize) {
+            Some(slot) => slot.label.refine(given),
+            None => Ok(()),
+        }
+    }
+}

@@ -1,0 +1,65 @@
+//! The nodes to which the paths of refines lead (RFC 7950, 6.5 and 7.13.2).
+
+ghost use Rattle.std.specs.Prelude.{◌≡◌, map, option_map};
+ghost use Rattle.yspec.specs.Forest.{Forest};
+ghost use Rattle.yspec.specs.linking.Source as sources;
+ghost use Rattle.yspec.specs.linking.Prefixes as spec;
+ghost use Rattle.yspec.specs.linking.Expansion.{is_step};
+ghost use Rattle.ypreorder.specs.View.{row_by};
+ghost use Rattle.ygrammar.specs.NameView.{names_view};
+ghost use Rattle.ynames.specs.PrefixView.{IsOf, node_name_view};
+ghost use Rattle.yexpand.specs.NodeView.{numbered_part, part_view};
+ghost use Rattle.yexpand.specs.Targets.{node_seen, found_in, found_at};
+
+use crate::nodes::ExpandedNode;
+use ygrammar::Name;
+use ynames::{NodeName, Prefixes};
+use ypreorder::{Node, Siblings};
+
+/// Whether a node has a name.
+fn is_called(node: &ExpandedNode<'_, '_>, step: &NodeName<'_>) -> bool
+    ensures { result ≡ is_step (node_name_view step.now) (part_view node.now) }
+{
+    match step.module {
+        Some(module) => module == node.owner() && node.name() == step.name,
+        None => false,
+    }
+}
+
+/// The first of some siblings that has a name.
+fn child_called<'p, 'a, 't>(
+    step: &NodeName<'_>,
+    nodes: Siblings<'p, ExpandedNode<'a, 't>>,
+) -> Option<Node<'p, ExpandedNode<'a, 't>>>
+    ensures { option_map node_seen result ≡ found_in (is_step (node_name_view step.now))
+        nodes.entry.number (row_by numbered_part nodes.entry) }
+{
+    for node in nodes {
+        if is_called(node.label(), step) {
+            return Some(node);
+        }
+    }
+    None
+}
+
+/// The node at a path that begins among some siblings, the names of which stand in a module; those without a prefix are of
+/// a module that is given.
+pub(crate) fn node_at<'p, 'a, 't>(
+    prefixes: &Prefixes<'_>,
+    home: usize,
+    owner: usize,
+    path: &[Name<'_>],
+    nodes: Siblings<'p, ExpandedNode<'a, 't>>,
+) -> Option<Node<'p, ExpandedNode<'a, 't>>>
+    ensures { (modules : Forest sources.Source) → IsOf prefixes.now modules
+        → option_map node_seen result
+        ≡ found_at (map (spec.node_name modules home owner) (names_view path.now))
+        nodes.entry.number (row_by numbered_part nodes.entry) }
+{
+    let (name, steps) = path.split_first()?;
+    let found = child_called(&prefixes.node_name(home, owner, *name), nodes)?;
+    if steps.is_empty() {
+        return Some(found);
+    }
+    node_at(prefixes, home, owner, steps, found.children())
+}
