@@ -1,1 +1,9 @@
-
+pub mod PlacedLemmas
+pub mod BelowLemmas
+pub mod GroupingLemmas
+pub mod UsedLemmas
+pub mod TargetLemmas
+pub mod TableLemmas
+pub mod DepthLemmas
+pub mod WalkLemmas
+pub mod LeastLemmas

@@ -1,4 +1,7 @@
+pub mod NamedView
 pub mod NodeView
 pub mod TableView
 pub mod Targets
 pub mod Walk
+pub mod Counting
+pub mod Knowing

@@ -1,10 +1,17 @@
 //! The nodes that a set of modules defines, with each `uses` replaced by the nodes of its grouping (RFC 7950, 7.12 and 7.13).
 #![tactic(auto)]
 
+mod counting;
+mod expanding;
+mod groupings;
+mod named;
 mod nodes;
 mod refining;
 mod table;
 mod target;
 
+pub use expanding::{Made, expanded};
+pub use groupings::Groupings;
+pub use named::Named;
 pub use nodes::ExpandedNode;
 pub use table::NodeTable;

@@ -1,0 +1,130 @@
+-- Where no `uses` leads over more groupings than a number, any number from that one on gives the same.
+use Rattle.std.proofs.Common.{◌≡◌, ℕ, zero, suc, ◌+◌, Bool, true, false, cond, ◌&&◌, List, [], ◌∷◌, ◌++◌, refl, sym, ap, ap₂, ◌∙◌, arith, subst}
+use Rattle.std.proofs.lemmas.Bool.{and_parts}
+use Rattle.yspec.specs.Forest.{Forest, end, node, join}
+use Rattle.yspec.specs.linking.Source.{Source}
+use Rattle.yspec.specs.linking.Parts.{Part}
+use Rattle.yspec.specs.linking.Expansion.{Grouping, is_uses, owned_by, row_used, refined, replaced, stands_for, refine_breaks, unfit_in, unfit_for}
+use Rattle.yspec.specs.linking.Rewriting.{all_uses, ends_within}
+use Rattle.yspec.specs.schema.Breaks.{Break}
+
+-- ---- two meanings that agree where they are asked
+
+pub agree_nodes : (test : Part → Bool) (first second : Part → Forest Part) → ((u : Part) → test u ≡ true → first u ≡ second u) → (owner : ℕ) (f : Forest Part)
+    → all_uses test f ≡ true → replaced first owner f ≡ replaced second owner f
+unfolding replaced all_uses
+agree_nodes test first second same owner end all = refl
+agree_nodes test first second same owner (node p below after) all =
+    by (is_uses p) all (agree_nodes test first second same owner below) (agree_nodes test first second same owner after)
+  where
+    by : (b : Bool) → (cond b (test p) (all_uses test below) && all_uses test after) ≡ true
+        → (all_uses test below ≡ true → replaced first owner below ≡ replaced second owner below)
+        → (all_uses test after ≡ true → replaced first owner after ≡ replaced second owner after)
+        → cond b (join (first p) (replaced first owner after)) (node (owned_by owner p) (replaced first owner below) (replaced first owner after))
+        ≡ cond b (join (second p) (replaced second owner after)) (node (owned_by owner p) (replaced second owner below) (replaced second owner after))
+    by true all inner rest = let parts = and_parts (test p) (all_uses test after) all in ap₂ join (same p parts.0) (rest parts.1)
+    by false all inner rest =
+        let parts = and_parts (all_uses test below) (all_uses test after) all in
+        ap₂ (node (owned_by owner p)) (inner parts.0) (rest parts.1)
+
+pub agree_breaks : (test : Part → Bool) (first second : Part → List Break) → ((u : Part) → test u ≡ true → first u ≡ second u) → (f : Forest Part)
+    → all_uses test f ≡ true → unfit_in first f ≡ unfit_in second f
+unfolding unfit_in all_uses
+agree_breaks test first second same end all = refl
+agree_breaks test first second same (node p below after) all =
+    by (is_uses p) all (agree_breaks test first second same below) (agree_breaks test first second same after)
+  where
+    by : (b : Bool) → (cond b (test p) (all_uses test below) && all_uses test after) ≡ true
+        → (all_uses test below ≡ true → unfit_in first below ≡ unfit_in second below)
+        → (all_uses test after ≡ true → unfit_in first after ≡ unfit_in second after)
+        → cond b (first p) (unfit_in first below) ++ unfit_in first after ≡ cond b (second p) (unfit_in second below) ++ unfit_in second after
+    by true all inner rest = let parts = and_parts (test p) (all_uses test after) all in ap₂ (λ x y. x ++ y) (same p parts.0) (rest parts.1)
+    by false all inner rest =
+        let parts = and_parts (all_uses test below) (all_uses test after) all in
+        ap₂ (λ x y. x ++ y) (inner parts.0) (rest parts.1)
+
+pub weaker_test : (test other : Part → Bool) → ((u : Part) → test u ≡ true → other u ≡ true) → (f : Forest Part) → all_uses test f ≡ true → all_uses other f ≡ true
+unfolding all_uses
+weaker_test test other gives end all = refl
+weaker_test test other gives (node p below after) all =
+    by (is_uses p) all (weaker_test test other gives below) (weaker_test test other gives after)
+  where
+    both : (x y : Bool) → x ≡ true → y ≡ true → (x && y) ≡ true
+    both true y e h = h
+    both false y e h = absurd cc
+
+    by : (b : Bool) → (cond b (test p) (all_uses test below) && all_uses test after) ≡ true
+        → (all_uses test below ≡ true → all_uses other below ≡ true) → (all_uses test after ≡ true → all_uses other after ≡ true)
+        → (cond b (other p) (all_uses other below) && all_uses other after) ≡ true
+    by true all inner rest =
+        let parts = and_parts (test p) (all_uses test after) all in
+        both (other p) (all_uses other after) (gives p parts.0) (rest parts.1)
+    by false all inner rest =
+        let parts = and_parts (all_uses test below) (all_uses test after) all in
+        both (all_uses other below) (all_uses other after) (inner parts.0) (rest parts.1)
+
+-- ---- one deeper, and so deeper by any number
+
+module _ (modules : Forest Source) (groupings : List Grouping) where
+  ends_deeper : (depth : ℕ) (u : Part) → ends_within modules groupings depth u ≡ true → ends_within modules groupings (suc depth) u ≡ true
+  unfolding ends_within
+  ends_deeper zero u ends = absurd cc
+  ends_deeper (suc depth) u ends =
+      weaker_test (ends_within modules groupings depth) (ends_within modules groupings (suc depth)) (ends_deeper depth) (row_used modules groupings u) ends
+
+  module _ (owner : ℕ) where
+    stands_deeper : (depth : ℕ) (u : Part) → ends_within modules groupings depth u ≡ true
+        → stands_for modules groupings owner depth u ≡ stands_for modules groupings owner (suc depth) u
+    unfolding stands_for ends_within
+    stands_deeper zero u ends = absurd cc
+    stands_deeper (suc depth) u ends = ap (refined modules owner u.own)
+        (agree_nodes (ends_within modules groupings depth) (stands_for modules groupings owner depth) (stands_for modules groupings owner (suc depth))
+        (stands_deeper depth) owner (row_used modules groupings u) ends)
+
+    unfit_deeper : (depth : ℕ) (u : Part) → ends_within modules groupings depth u ≡ true
+        → unfit_for modules groupings owner depth u ≡ unfit_for modules groupings owner (suc depth) u
+    unfolding unfit_for ends_within
+    unfit_deeper zero u ends = absurd cc
+    unfit_deeper (suc depth) u ends = ap₂ (λ x y. x ++ refine_breaks modules owner u.own y)
+        (agree_breaks (ends_within modules groupings depth) (unfit_for modules groupings owner depth) (unfit_for modules groupings owner (suc depth))
+        (unfit_deeper depth) (row_used modules groupings u) ends)
+        (agree_nodes (ends_within modules groupings depth) (stands_for modules groupings owner depth) (stands_for modules groupings owner (suc depth))
+        (stands_deeper depth) owner (row_used modules groupings u) ends)
+
+  all_deeper : (more depth : ℕ) (f : Forest Part) → all_uses (ends_within modules groupings depth) f ≡ true
+      → all_uses (ends_within modules groupings (more + depth)) f ≡ true
+  all_deeper zero depth f all = all
+  all_deeper (suc more) depth f all =
+      weaker_test (ends_within modules groupings (more + depth)) (ends_within modules groupings (suc (more + depth))) (ends_deeper (more + depth)) f
+      (all_deeper more depth f all)
+
+  nodes_deeper : (owner more depth : ℕ) (f : Forest Part) → all_uses (ends_within modules groupings depth) f ≡ true
+      → replaced (stands_for modules groupings owner depth) owner f ≡ replaced (stands_for modules groupings owner (more + depth)) owner f
+  nodes_deeper owner zero depth f all = refl
+  nodes_deeper owner (suc more) depth f all = nodes_deeper owner more depth f all
+      ∙ agree_nodes (ends_within modules groupings (more + depth)) (stands_for modules groupings owner (more + depth)) (stands_for modules groupings owner (suc (more + depth)))
+      (stands_deeper owner (more + depth)) owner f (all_deeper more depth f all)
+
+  breaks_deeper : (owner more depth : ℕ) (f : Forest Part) → all_uses (ends_within modules groupings depth) f ≡ true
+      → unfit_in (unfit_for modules groupings owner depth) f ≡ unfit_in (unfit_for modules groupings owner (more + depth)) f
+  breaks_deeper owner zero depth f all = refl
+  breaks_deeper owner (suc more) depth f all = breaks_deeper owner more depth f all
+      ∙ agree_breaks (ends_within modules groupings (more + depth)) (unfit_for modules groupings owner (more + depth)) (unfit_for modules groupings owner (suc (more + depth)))
+      (unfit_deeper owner (more + depth)) f (all_deeper more depth f all)
+
+  -- two numbers that are both enough
+  pub same_nodes : (owner here there : ℕ) (f : Forest Part) → all_uses (ends_within modules groupings here) f ≡ true
+      → all_uses (ends_within modules groupings there) f ≡ true
+      → replaced (stands_for modules groupings owner here) owner f ≡ replaced (stands_for modules groupings owner there) owner f
+  same_nodes owner here there f first second =
+      let same : there + here ≡ here + there = omega arith in
+      nodes_deeper owner there here f first
+      ∙ (ap (λ d. replaced (stands_for modules groupings owner d) owner f) same ∙ sym (nodes_deeper owner here there f second))
+
+  pub same_breaks : (owner here there : ℕ) (f : Forest Part) → all_uses (ends_within modules groupings here) f ≡ true
+      → all_uses (ends_within modules groupings there) f ≡ true
+      → unfit_in (unfit_for modules groupings owner here) f ≡ unfit_in (unfit_for modules groupings owner there) f
+  same_breaks owner here there f first second =
+      let same : there + here ≡ here + there = omega arith in
+      breaks_deeper owner there here f first
+      ∙ (ap (λ d. unfit_in (unfit_for modules groupings owner d) f) same ∙ sym (breaks_deeper owner here there f second))

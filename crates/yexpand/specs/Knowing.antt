@@ -1,0 +1,35 @@
+-- What is known of groupings before they are used.
+use Rattle.std.specs.Prelude.{◌≡◌, ℕ, suc, List, Bool, true, Option, None, option_and_then, min}
+use Rattle.std.specs.Option.{option_map_or}
+use Rattle.yspec.specs.Forest.{Forest, end, size}
+use Rattle.yspec.specs.linking.Source.{Source}
+use Rattle.yspec.specs.linking.DerivedTypes.{number_named}
+use Rattle.yspec.specs.linking.Expansion.{groupings_of}
+use Rattle.yspec.specs.linking.NodeCounts.{node_count}
+use Rattle.yspec.specs.linking.Rewriting.{Ends}
+use Rattle.yspec.specs.schema.Breaks.{Break, least_from}
+use Rattle.yexpand.specs.NamedView.{row_named}
+use Rattle.yexpand.specs.Walk.{nodes_for, breaks_for, AllEnd}
+use Rattle.yexpand.specs.Counting.{count_at, refine_at}
+use Rattle.yexpand.specs.declared.groupings.Groupings.{Groupings}
+
+-- how many nodes the grouping has that the statement of a number uses
+abbrev pub count_named : Groupings → Forest Source → ℕ → ℕ
+count_named g modules number = option_map_or (count_at g.counts.items) (number_named modules number) 0
+
+-- the refine that is told in it
+abbrev pub refine_named : Groupings → Forest Source → ℕ → Option Break
+refine_named g modules number = option_and_then (refine_at g.refines.items) (number_named modules number)
+
+-- Where a grouping has no nodes, none come of it, and the refines in it are known.
+abbrev pub KnowsEmpty : Groupings → Forest Source → Type 0
+KnowsEmpty g modules = (number owner depth : ℕ) → count_named g modules number ≡ 0 → AllEnd modules depth (row_named modules number)
+    → (nodes_for modules owner depth (row_named modules number) ≡ end)
+    × (refine_named g modules number ≡ least_from None (breaks_for modules owner depth (row_named modules number)))
+
+-- No grouping leads to itself.
+abbrev pub AreStraight : Forest Source → Type 0
+AreStraight modules = Ends modules (groupings_of modules) (suc (size modules))
+
+abbrev pub Knows : Groupings → Forest Source → Type 0
+Knows g modules = AreStraight modules × KnowsEmpty g modules

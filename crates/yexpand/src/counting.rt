@@ -1,0 +1,97 @@
+//! How many nodes statements define, with `uses` counted and not replaced (RFC 7950, 7.13).
+
+ghost use Rattle.std.specs.Prelude.{◌≡◌, min};
+ghost use Rattle.yspec.specs.Forest.{end, node};
+ghost use Rattle.yspec.specs.linking.Expansion.{laid};
+ghost use Rattle.yspec.specs.linking.NodeCounts.{counted};
+ghost use Rattle.yspec.specs.linking.Parts.{part_of};
+ghost use Rattle.ypreorder.specs.View.{row_by, label_by};
+ghost use Rattle.ygrammar.specs.SourceView.{source_view};
+ghost use Rattle.yexpand.specs.Counting.{count_at, count_by, many};
+ghost use Rattle.yexpand.specs.NamedView.{modules_of};
+ghost use Rattle.yexpand.specs.Walk.{chosen};
+
+use crate::named::Named;
+use ygrammar::Source;
+use ypreorder::{Node, Siblings};
+use yword::Keyword;
+
+/// One more than a schema may have. A count that reaches it stays there.
+const MANY: u32 = 65_536;
+
+/// A count, or that from which on all are the same.
+fn capped(count: u32) -> u32
+    ensures { result ≡ min count many }
+{
+    count.min(MANY)
+}
+
+/// What a table of counts holds of the grouping of a number.
+pub(crate) fn count_at(counts: &[u32], number: usize) -> u32
+    ensures { result ≡ count_at counts.now number }
+{
+    match counts.get(number) {
+        Some(count) => *count,
+        None => 0,
+    }
+}
+
+/// How many nodes the grouping has that the statement of a number uses, by a table.
+fn count_used(named: &Named<'_, '_>, counts: &[u32], uses: Node<'_, Source<'_>>) -> u32
+    ensures { (below : _) → result ≡ min (count_by counts.now (modules_of named.now)
+        (part_of (label_by source_view uses.entry) below)) many }
+{
+    match named.meaning(uses.number()) {
+        Some(number) => capped(count_at(counts, number as usize)),
+        None => 0,
+    }
+}
+
+/// How many nodes a row of statements defines, given how many each grouping has. In a choice single nodes stand for cases.
+#[cycle(counting)]
+pub(crate) fn count_nodes(
+    named: &Named<'_, '_>,
+    counts: &[u32],
+    in_choice: bool,
+    statements: Siblings<'_, Source<'_>>,
+) -> u32
+    ensures { result ≡ min (counted (count_by counts.now (modules_of named.now))
+        (chosen in_choice (laid (row_by source_view statements.entry)))) many }
+{
+    let mut count = 0;
+    for statement in statements {
+        count = capped(count + count_statement(named, counts, in_choice, statement));
+    }
+    count
+}
+
+/// How many nodes a statement defines or uses, with all below it.
+#[cycle(counting)]
+fn count_statement(
+    named: &Named<'_, '_>,
+    counts: &[u32],
+    in_choice: bool,
+    statement: Node<'_, Source<'_>>,
+) -> u32
+    ensures { let s = label_by source_view statement.entry in
+        let below = row_by source_view statement.entry.children in
+        result ≡ min (counted (count_by counts.now (modules_of named.now))
+        (chosen in_choice (laid (node s below end)))) many }
+{
+    let keyword = statement.label().keyword;
+    let is_uses = Keyword::Uses.is(keyword);
+    if !is_uses && !keyword.defines_node() {
+        return 0;
+    }
+    let nodes = if is_uses {
+        count_used(named, counts, statement)
+    } else {
+        let in_choice = Keyword::Choice.is(keyword);
+        capped(1 + count_nodes(named, counts, in_choice, statement.children()))
+    };
+    if in_choice && !Keyword::Case.is(keyword) {
+        capped(1 + nodes)
+    } else {
+        nodes
+    }
+}
