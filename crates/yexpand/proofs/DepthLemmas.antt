@@ -65,6 +65,17 @@ weaker_test test other gives (node p below after) all =
 
 -- ---- one deeper, and so deeper by any number
 
+abbrev deeper : ℕ → ℕ → ℕ
+deeper zero depth = depth
+deeper (suc more) depth = suc (deeper more depth)
+
+is_sum : (more depth : ℕ) → deeper more depth ≡ more + depth
+is_sum zero depth = omega arith
+is_sum (suc more) depth = let e = is_sum more depth in omega (arith, e)
+
+same_depth : (here there : ℕ) → deeper there here ≡ deeper here there
+same_depth here there = is_sum there here ∙ (omega arith ∙ sym (is_sum here there))
+
 module _ (modules : Forest Source) (groupings : List Grouping) where
   ends_deeper : (depth : ℕ) (u : Part) → ends_within modules groupings depth u ≡ true → ends_within modules groupings (suc depth) u ≡ true
   unfolding ends_within
@@ -92,32 +103,32 @@ module _ (modules : Forest Source) (groupings : List Grouping) where
         (stands_deeper depth) owner (row_used modules groupings u) ends)
 
   all_deeper : (more depth : ℕ) (f : Forest Part) → all_uses (ends_within modules groupings depth) f ≡ true
-      → all_uses (ends_within modules groupings (more + depth)) f ≡ true
+      → all_uses (ends_within modules groupings (deeper more depth)) f ≡ true
   all_deeper zero depth f all = all
   all_deeper (suc more) depth f all =
-      weaker_test (ends_within modules groupings (more + depth)) (ends_within modules groupings (suc (more + depth))) (ends_deeper (more + depth)) f
+      weaker_test (ends_within modules groupings (deeper more depth)) (ends_within modules groupings (suc (deeper more depth))) (ends_deeper (deeper more depth)) f
       (all_deeper more depth f all)
 
   nodes_deeper : (owner more depth : ℕ) (f : Forest Part) → all_uses (ends_within modules groupings depth) f ≡ true
-      → replaced (stands_for modules groupings owner depth) owner f ≡ replaced (stands_for modules groupings owner (more + depth)) owner f
+      → replaced (stands_for modules groupings owner depth) owner f ≡ replaced (stands_for modules groupings owner (deeper more depth)) owner f
   nodes_deeper owner zero depth f all = refl
   nodes_deeper owner (suc more) depth f all = nodes_deeper owner more depth f all
-      ∙ agree_nodes (ends_within modules groupings (more + depth)) (stands_for modules groupings owner (more + depth)) (stands_for modules groupings owner (suc (more + depth)))
-      (stands_deeper owner (more + depth)) owner f (all_deeper more depth f all)
+      ∙ agree_nodes (ends_within modules groupings (deeper more depth)) (stands_for modules groupings owner (deeper more depth)) (stands_for modules groupings owner (suc (deeper more depth)))
+      (stands_deeper owner (deeper more depth)) owner f (all_deeper more depth f all)
 
   breaks_deeper : (owner more depth : ℕ) (f : Forest Part) → all_uses (ends_within modules groupings depth) f ≡ true
-      → unfit_in (unfit_for modules groupings owner depth) f ≡ unfit_in (unfit_for modules groupings owner (more + depth)) f
+      → unfit_in (unfit_for modules groupings owner depth) f ≡ unfit_in (unfit_for modules groupings owner (deeper more depth)) f
   breaks_deeper owner zero depth f all = refl
   breaks_deeper owner (suc more) depth f all = breaks_deeper owner more depth f all
-      ∙ agree_breaks (ends_within modules groupings (more + depth)) (unfit_for modules groupings owner (more + depth)) (unfit_for modules groupings owner (suc (more + depth)))
-      (unfit_deeper owner (more + depth)) f (all_deeper more depth f all)
+      ∙ agree_breaks (ends_within modules groupings (deeper more depth)) (unfit_for modules groupings owner (deeper more depth)) (unfit_for modules groupings owner (suc (deeper more depth)))
+      (unfit_deeper owner (deeper more depth)) f (all_deeper more depth f all)
 
   -- two numbers that are both enough
   pub same_nodes : (owner here there : ℕ) (f : Forest Part) → all_uses (ends_within modules groupings here) f ≡ true
       → all_uses (ends_within modules groupings there) f ≡ true
       → replaced (stands_for modules groupings owner here) owner f ≡ replaced (stands_for modules groupings owner there) owner f
   same_nodes owner here there f first second =
-      let same : there + here ≡ here + there = omega arith in
+      let same = same_depth here there in
       nodes_deeper owner there here f first
       ∙ (ap (λ d. replaced (stands_for modules groupings owner d) owner f) same ∙ sym (nodes_deeper owner here there f second))
 
@@ -125,6 +136,6 @@ module _ (modules : Forest Source) (groupings : List Grouping) where
       → all_uses (ends_within modules groupings there) f ≡ true
       → unfit_in (unfit_for modules groupings owner here) f ≡ unfit_in (unfit_for modules groupings owner there) f
   same_breaks owner here there f first second =
-      let same : there + here ≡ here + there = omega arith in
+      let same = same_depth here there in
       breaks_deeper owner there here f first
       ∙ (ap (λ d. unfit_in (unfit_for modules groupings owner d) f) same ∙ sym (breaks_deeper owner here there f second))

@@ -103,3 +103,20 @@ row_nowhere rows n at =
     by : (o : Option Placed) → None ≡ option_map (λ (p : Placed). p.source) o → option_map_or row_if o end ≡ end
     by None there = refl
     by (Some p) there = absurd cc
+
+-- and where it is no grouping
+pub row_other : (rows : List (Slot held.Source)) (n : ℕ) (r : Slot held.Source) → slice_get rows n ≡ Some r
+    → is_source_of grouping_word (source_view n r.label) ≡ false → end ≡ row_in (groupings_of (numbered_by source_view 0 (forest_of rows))) n
+row_other rows n r at other =
+    sym (row_at (forest_of rows) n ∙ by (statement_at (numbered_by source_view 0 (forest_of rows)) n)
+    (ap (option_map (λ (s : Slot held.Source). source_view n s.label)) (sym at) ∙ source_at rows n))
+  where
+    by : (o : Option Placed) → Some (source_view n r.label) ≡ option_map (λ (p : Placed). p.source) o → option_map_or row_if o end ≡ end
+    by None there = refl
+    by (Some p) there =
+        let same : source_view n r.label ≡ p.source = cc in
+        ap (λ b. cond b (laid p.below) end) (sym (ap (is_source_of grouping_word) same) ∙ other)
+
+pub laid_end : laid end ≡ end
+unfolding laid
+laid_end = refl

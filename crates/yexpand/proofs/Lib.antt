@@ -2,6 +2,7 @@ pub mod PlacedLemmas
 pub mod BelowLemmas
 pub mod GroupingLemmas
 pub mod UsedLemmas
+pub mod NodeLemmas
 pub mod TargetLemmas
 pub mod TableLemmas
 pub mod DepthLemmas

@@ -45,4 +45,6 @@ behind_them k (suc n) (x ∷ slots) (p ∷ before) after count is =
 pub row_from : (n : ℕ) (slots : List (Slot ExpandedNode)) (before : List (Place Part)) (p : Option ℕ) (f : Forest Part) → length before ≡ n
     → seen numbered_part 0 (laid slots) ≡ before ++ places p n f → numbered_by numbered_part n (forest_of (drop n slots)) ≡ f
 row_from n slots before p f count is =
-    (forest_seen numbered_part f p n (drop n slots) (behind_them 0 n slots before (places p n f) count is)).0
+    let plain : 0 + n ≡ n = omega arith in
+    (forest_seen numbered_part f p n (drop n slots)
+    (ap (λ m. seen numbered_part m (laid (drop n slots))) (sym plain) ∙ behind_them 0 n slots before (places p n f) count is)).0

@@ -37,12 +37,19 @@ pub part_found : (steps : List NodeName) (k : ℕ) (f : Forest Part) → option_
 part_found [] k f = refl
 part_found (step ∷ []) k f = part_found_in (is_step step) k f
 part_found (step ∷ next ∷ steps) k f =
-    by (found_in (is_step step) k f) ∙ ap (option_and_then (part_at (next ∷ steps))) (below_found_in (is_step step) k f)
+    by (found_in (is_step step) k f) (λ n g. part_found (next ∷ steps) n g) ∙ ap (option_and_then (part_at (next ∷ steps))) (below_found_in (is_step step) k f)
   where
-    by : (o : Option Found) → option_map (λ (x : Found). x.part) (option_and_then (λ (x : Found). found_at (next ∷ steps) (x.number + 1) x.below) o)
+    by : (o : Option Found) → ((n : ℕ) (g : Forest Part) → option_map (λ (x : Found). x.part) (found_at (next ∷ steps) n g) ≡ part_at (next ∷ steps) g)
+        → option_map (λ (x : Found). x.part) (option_and_then (λ (x : Found). found_at (next ∷ steps) (x.number + 1) x.below) o)
         ≡ option_and_then (part_at (next ∷ steps)) (option_map (λ (x : Found). x.below) o)
-    by None = refl
-    by (Some x) = part_found (next ∷ steps) (x.number + 1) x.below
+    by None rest = refl
+    by (Some x) rest = rest (x.number + 1) x.below
+
+-- more steps lead on from the first of a name
+pub found_next : (step : NodeName) (steps : List NodeName) (k : ℕ) (f : Forest Part) (x : Found) → (length steps ≡ 0 → ⊥)
+    → Some x ≡ found_in (is_step step) k f → found_at steps (x.number + 1) x.below ≡ found_at (step ∷ steps) k f
+found_next step [] k f x more found = absurd (more refl)
+found_next step (next ∷ steps) k f x more found = ap (option_and_then (λ (y : Found). found_at (next ∷ steps) (y.number + 1) y.below)) found
 
 -- ---- where it lies
 
@@ -53,8 +60,10 @@ module _ (change : Part → Part) where
   length-changed (suc o) (p ∷ ps) = ap suc (length-changed o ps)
 
   skip : (ps qs : List (Place Part)) (o : ℕ) → changed_place (length ps + o) change (ps ++ qs) ≡ ps ++ changed_place o change qs
-  skip [] qs o = refl
-  skip (p ∷ ps) qs o = ap (λ rest. p ∷ rest) (skip ps qs o)
+  skip [] qs o = let plain : 0 + o ≡ o = omega arith in ap (λ m. changed_place m change qs) plain
+  skip (p ∷ ps) qs o =
+      let next : suc (length ps) + o ≡ suc (length ps + o) = omega arith in
+      ap (λ m. changed_place m change (p ∷ (ps ++ qs))) next ∙ ap (λ rest. p ∷ rest) (skip ps qs o)
 
   inside : (ps qs : List (Place Part)) (o : ℕ) → o < length ps → changed_place o change (ps ++ qs) ≡ changed_place o change ps ++ qs
   inside [] qs o within = absurd (omega (arith, within))
@@ -69,7 +78,7 @@ module _ (change : Part → Part) where
       → Becomes n k (node p below after) (node p below changed)
   behind n k p below after changed is =
       let o = is.0 in let number = is.1 in let within = is.2 in (
-        suc (size below) + o,
+        suc (size below + o),
         omega (arith, number),
         omega (arith, within),
         (λ parent.
@@ -134,14 +143,15 @@ module _ (change : Part → Part) where
       → Becomes x.number k f (changed_at steps (λ q below after. node (change q) below after) f)
   path_found [] k f x e = absurd cc
   path_found (step ∷ []) k f x e = top_found (is_step step) k f x e
-  path_found (step ∷ next ∷ steps) k f x e = by (found_in (is_step step) k f) refl e
+  path_found (step ∷ next ∷ steps) k f x e = by (found_in (is_step step) k f) refl e (λ n g later. path_found (next ∷ steps) n g x later)
     where
       by : (o : Option Found) → found_in (is_step step) k f ≡ o
           → option_and_then (λ (y : Found). found_at (next ∷ steps) (y.number + 1) y.below) o ≡ Some x
+          → ((n : ℕ) (g : Forest Part) → found_at (next ∷ steps) n g ≡ Some x → Becomes x.number n g (changed_at (next ∷ steps) (λ q below after. node (change q) below after) g))
           → Becomes x.number k f (changed_at (step ∷ next ∷ steps) (λ q below after. node (change q) below after) f)
-      by None found later = absurd cc
-      by (Some y) found later = inner_found (is_step step) (changed_at (next ∷ steps) (λ q below after. node (change q) below after)) x.number k f y found
-          (path_found (next ∷ steps) (y.number + 1) y.below x later)
+      by None found later rest = absurd cc
+      by (Some y) found later rest = inner_found (is_step step) (changed_at (next ∷ steps) (λ q below after. node (change q) below after)) x.number k f y found
+          (rest (y.number + 1) y.below later)
 
   -- and with others before them
   pub places_changed : (before : List (Place Part)) (p : Option ℕ) (n k : ℕ) (f g : Forest Part) → length before ≡ k → Becomes n k f g

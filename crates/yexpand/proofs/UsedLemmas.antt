@@ -35,7 +35,7 @@ and_true false = refl
 pub all_cases : (test : Part → Bool) (f : Forest Part) → all_uses test f ≡ true → all_uses test (as_cases f) ≡ true
 unfolding all_uses
 all_cases test end all = refl
-all_cases test (node p below after) all = by (is_source_of case_word p.source)
+all_cases test (node p below after) all = by (is_source_of case_word p.source) (all_cases test after parts.1)
   where
     first : Bool
     first = cond (is_uses p) (test p) (all_uses test below)
@@ -43,12 +43,10 @@ all_cases test (node p below after) all = by (is_source_of case_word p.source)
     parts : (first ≡ true) × (all_uses test after ≡ true)
     parts = and_parts first (all_uses test after) all
 
-    rest : all_uses test (as_cases after) ≡ true
-    rest = all_cases test after parts.1
-
-    by : (b : Bool) → all_uses test (cond b (node p below (as_cases after)) (node (case_for p) (node p below end) (as_cases after))) ≡ true
-    by true = ap (λ x. x && all_uses test (as_cases after)) parts.0 ∙ rest
-    by false = ap (λ x. x && all_uses test (as_cases after)) (and_true first ∙ parts.0) ∙ rest
+    by : (b : Bool) → all_uses test (as_cases after) ≡ true
+        → all_uses test (cond b (node p below (as_cases after)) (node (case_for p) (node p below end) (as_cases after))) ≡ true
+    by true rest = ap (λ x. x && all_uses test (as_cases after)) parts.0 ∙ rest
+    by false rest = ap (λ x. x && all_uses test (as_cases after)) (and_true first ∙ parts.0) ∙ rest
 
 within_uses : (test : Part → Bool) (s : Source) (f : Forest Part) → all_uses test f ≡ true → all_uses test (within s f) ≡ true
 within_uses test s f all = by (is_source_of choice_word s)
@@ -59,12 +57,12 @@ within_uses test s f all = by (is_source_of choice_word s)
 
 -- ---- what stands in a grouping, besides groupings in it
 
-no_grouping : (k : Keyword) → defines_node k ≡ true → same_keyword grouping_word k ≡ false
-no_grouping k stands = by (same_keyword grouping_word k) refl
+no_other : (j k : Keyword) → defines_node j ≡ false → defines_node k ≡ true → same_keyword j k ≡ false
+no_other j k none stands = by (same_keyword j k) refl
   where
-    by : (b : Bool) → same_keyword grouping_word k ≡ b → b ≡ false
+    by : (b : Bool) → same_keyword j k ≡ b → b ≡ false
     by false e = refl
-    by true e = let same : grouping_word ≡ k = same_is grouping_word k e in let clash : false ≡ true = ap defines_node same ∙ stands in absurd cc
+    by true e = let same : j ≡ k = same_is j k e in let clash : false ≡ true = sym none ∙ (ap defines_node same ∙ stands) in absurd cc
 
 later : (r : Placed) (ps : List Placed) (q : Placed) → Contains ps q → Contains (r ∷ ps) q
 later r ps q at = let within = at.1 in (suc at.0, omega (arith, within), at.2)
@@ -79,6 +77,8 @@ module _ (good : ℕ → Bool) (d : ℕ) where
   unfolding placed laid all_uses
   used_below ancestors end inner all = refl
   used_below ancestors (node s below after) inner all = by (defines_node s.keyword) refl (is_source_of uses_word s) refl
+      (λ around_it. used_below ((s, below) ∷ ancestors) below around_it (λ q at. all q (later p (under ++ behind) q (Contains-append_left under behind q at))))
+      (used_below ancestors after inner (λ q at. all q (later p (under ++ behind) q (Contains-append_right under behind q at))))
     where
       p : Placed
       p = placed_at s below ancestors
@@ -89,35 +89,24 @@ module _ (good : ℕ → Bool) (d : ℕ) where
       behind : List Placed
       behind = placed ancestors after
 
-      rest : all_uses test (laid after) ≡ true
-      rest = used_below ancestors after inner (λ q at. all q (later p (under ++ behind) q (Contains-append_right under behind q at)))
-
-      joined : (x : Bool) → x ≡ true → (x && all_uses test (laid after)) ≡ true
-      joined x is = ap (λ y. y && all_uses test (laid after)) is ∙ rest
+      joined : (x : Bool) → all_uses test (laid after) ≡ true → x ≡ true → (x && all_uses test (laid after)) ≡ true
+      joined x rest is = ap (λ y. y && all_uses test (laid after)) is ∙ rest
 
       by : (n : Bool) → defines_node s.keyword ≡ n → (u : Bool) → is_source_of uses_word s ≡ u
+          → (innermost_of grouping_word ((s, below) ∷ ancestors) ≡ Some d → all_uses test (laid below) ≡ true) → all_uses test (laid after) ≡ true
           → all_uses test (cond n (node (part_of s below) (within s (laid below)) (laid after)) (cond u (node (part_of s below) end (laid after)) (laid after))) ≡ true
-      by true stands u used =
-          let inside : all_uses test (laid below) ≡ true =
-          used_below ((s, below) ∷ ancestors) below
+      by true stands u used inner_row rest =
+          let inside : all_uses test (laid below) ≡ true = inner_row
           (ap (λ b. option_map (λ (a : Source × Forest Source). a.0.number) (cond b (Some (s, below)) (find (λ (a : Source × Forest Source). is_source_of grouping_word a.0) ancestors)))
-          (no_grouping s.keyword stands) ∙ inner)
-          (λ q at. all q (later p (under ++ behind) q (Contains-append_left under behind q at))) in
-          joined (cond (is_source_of uses_word s) (good s.number) (all_uses test (within s (laid below))))
-          (ap (λ b. cond b (good s.number) (all_uses test (within s (laid below)))) (no_uses s.keyword stands) ∙ within_uses test s (laid below) inside)
-        where
-          no_uses : (k : Keyword) → defines_node k ≡ true → same_keyword uses_word k ≡ false
-          no_uses k stands = by_same (same_keyword uses_word k) refl
-            where
-              by_same : (b : Bool) → same_keyword uses_word k ≡ b → b ≡ false
-              by_same false e = refl
-              by_same true e = let same : uses_word ≡ k = same_is uses_word k e in let clash : false ≡ true = ap defines_node same ∙ stands in absurd cc
-      by false stands true used =
+          (no_other grouping_word s.keyword refl stands) ∙ inner) in
+          joined (cond (is_source_of uses_word s) (good s.number) (all_uses test (within s (laid below)))) rest
+          (ap (λ b. cond b (good s.number) (all_uses test (within s (laid below)))) (no_other uses_word s.keyword refl stands) ∙ within_uses test s (laid below) inside)
+      by false stands true used inner_row rest =
           let word : uses_word ≡ s.keyword = same_is uses_word s.keyword used in
-          joined (cond (is_source_of uses_word s) (good s.number) true)
+          joined (cond (is_source_of uses_word s) (good s.number) true) rest
           (ap (λ b. cond b (good s.number) true) used
           ∙ all p (0, omega arith, refl) used (sym (ap (λ k. option_and_then (λ kind. innermost kind p) (kind_named k)) word) ∙ inner))
-      by false stands false used = rest
+      by false stands false used inner_row rest = rest
 
 -- ---- edges
 

@@ -2,7 +2,7 @@
 
 ghost use Rattle.std.specs.Prelude.{◌≡◌, OnOk, IfOk, [], None, true, false};
 ghost use Rattle.yspec.specs.Forest.{end, node};
-ghost use Rattle.yspec.specs.linking.Expansion.{expanded_parts, is_uses, laid, unfit_breaks};
+ghost use Rattle.yspec.specs.linking.Expansion.{expanded_parts, groupings_of, is_uses, laid, unfit_breaks};
 ghost use Rattle.yspec.specs.linking.Parts.{part_of, case_for, within};
 ghost use Rattle.yspec.specs.linking.Rewriting.{ends_within};
 ghost use Rattle.yspec.specs.schema.Breaks.{least_from};
@@ -37,7 +37,6 @@ pub struct Made<'a, 't> {
 struct Context<'a, 't> {
     named: &'a Named<'a, 't>,
     groupings: &'a Groupings,
-    ghost known: { Knows groupings.now (modules_of named.now) },
 }
 
 /// Where nodes come to stand.
@@ -61,8 +60,9 @@ fn add_nodes<'a, 't>(
     statements: Siblings<'a, Source<'t>>,
     made: &mut Made<'a, 't>,
 ) -> Result<(), AllocError>
-    requires { AllEnd (modules_of context.now.named.now) place.depth
-        (chosen in_choice (laid (row_by source_view statements.entry))) }
+    requires known { Knows context.now.groupings.now (modules_of context.now.named.now) }
+    requires ends { AllEnd (modules_of context.now.named.now) place.depth
+        (chosen in_choice (laid (row_by source_view statements))) }
     ensures { OnOk result (AddsParts (modules_of context.now.named.now) place.parent place.owner place.depth
         (chosen in_choice (laid (row_by source_view statements.entry))) made.old made.new) }
 {
@@ -82,8 +82,9 @@ fn add_statement<'a, 't>(
     statement: Node<'a, Source<'t>>,
     made: &mut Made<'a, 't>,
 ) -> Result<(), AllocError>
-    requires { let s = label_by source_view statement.entry in
-        let below = row_by source_view statement.entry.children in
+    requires known { Knows context.now.groupings.now (modules_of context.now.named.now) }
+    requires ends { let s = label_by source_view statement in
+        let below = row_by source_view statement.children in
         AllEnd (modules_of context.now.named.now) place.depth (chosen in_choice (laid (node s below end))) }
     ensures { let s = label_by source_view statement.entry in
         let below = row_by source_view statement.entry.children in
@@ -113,10 +114,11 @@ fn add_node<'a, 't>(
     statement: Node<'a, Source<'t>>,
     made: &mut Made<'a, 't>,
 ) -> Result<(), AllocError>
-    requires node { is_uses (part_of (label_by source_view statement.entry)
-        (row_by source_view statement.entry.children)) ≡ false }
-    requires ends { let s = label_by source_view statement.entry in
-        let below = row_by source_view statement.entry.children in
+    requires known { Knows context.now.groupings.now (modules_of context.now.named.now) }
+    requires node { is_uses (part_of (label_by source_view statement)
+        (row_by source_view statement.children)) ≡ false }
+    requires ends { let s = label_by source_view statement in
+        let below = row_by source_view statement.children in
         AllEnd (modules_of context.now.named.now) place.depth (within s (laid below)) }
     ensures { let s = label_by source_view statement.entry in
         let below = row_by source_view statement.entry.children in
@@ -144,8 +146,9 @@ fn add_case<'a, 't>(
     statement: Node<'a, Source<'t>>,
     made: &mut Made<'a, 't>,
 ) -> Result<(), AllocError>
-    requires { let s = label_by source_view statement.entry in
-        let below = row_by source_view statement.entry.children in
+    requires known { Knows context.now.groupings.now (modules_of context.now.named.now) }
+    requires ends { let s = label_by source_view statement in
+        let below = row_by source_view statement.children in
         AllEnd (modules_of context.now.named.now) place.depth (laid (node s below end)) }
     ensures { let s = label_by source_view statement.entry in
         let below = row_by source_view statement.entry.children in
@@ -172,11 +175,12 @@ fn add_uses<'a, 't>(
     uses: Node<'a, Source<'t>>,
     made: &mut Made<'a, 't>,
 ) -> Result<(), AllocError>
-    requires uses { is_uses (part_of (label_by source_view uses.entry)
-        (row_by source_view uses.entry.children)) ≡ true }
+    requires known { Knows context.now.groupings.now (modules_of context.now.named.now) }
+    requires uses { is_uses (part_of (label_by source_view uses)
+        (row_by source_view uses.children)) ≡ true }
     requires ends { let m = modules_of context.now.named.now in
-        ends_within m (groupings_of m) place.depth (part_of (label_by source_view uses.entry)
-        (row_by source_view uses.entry.children)) ≡ true }
+        ends_within m (groupings_of m) place.depth (part_of (label_by source_view uses)
+        (row_by source_view uses.children)) ≡ true }
     ensures { let s = label_by source_view uses.entry in
         let below = row_by source_view uses.entry.children in
         OnOk result (AddsParts (modules_of context.now.named.now) place.parent place.owner place.depth
@@ -205,7 +209,8 @@ fn add_grouping<'a, 't>(
     number: u32,
     made: &mut Made<'a, 't>,
 ) -> Result<(), AllocError>
-    requires { AllEnd (modules_of context.now.named.now) place.depth
+    requires known { Knows context.now.groupings.now (modules_of context.now.named.now) }
+    requires ends { AllEnd (modules_of context.now.named.now) place.depth
         (row_named (modules_of context.now.named.now) number) }
     ensures { OnOk result (AddsParts (modules_of context.now.named.now) place.parent place.owner place.depth
         (row_named (modules_of context.now.named.now) number) made.old made.new) }

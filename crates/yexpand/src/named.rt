@@ -20,7 +20,7 @@ pub struct Named<'a, 't> {
 }
 
 impl<'a, 't> Named<'a, 't> {
-    ghost use Rattle.std.specs.Prelude.{◌≡◌, ◌≤◌, OnSome};
+    ghost use Rattle.std.specs.Prelude.{◌≡◌, ◌≤◌, IfSome};
     ghost use Rattle.yspec.specs.Forest.{size};
     ghost use Rattle.yspec.specs.linking.DerivedTypes.{number_named};
     ghost use Rattle.yspec.specs.linking.Expansion.{groupings_of, laid, row_in};
@@ -71,7 +71,7 @@ impl<'a, 't> Named<'a, 't> {
     /// The row of the grouping of a number; none of any other statement.
     pub(crate) fn grouping(&self, number: u32) -> Option<Siblings<'a, Source<'t>>>
         ensures row { laid (row_or_none result) ≡ row_in (groupings_of (modules_of self.now)) number }
-        ensures within { OnSome result
+        ensures within { IfSome result
             (λ row. size (row_view row) ≤ size (modules_of self.now)) }
     {
         let slot = self.sources.slots().get(number as usize)?;
@@ -85,7 +85,7 @@ impl<'a, 't> Named<'a, 't> {
     /// The row of the grouping that the statement of a number uses.
     pub(crate) fn grouping_used(&self, number: u32) -> Option<Siblings<'a, Source<'t>>>
         ensures row { laid (row_or_none result) ≡ row_named (modules_of self.now) number }
-        ensures within { OnSome result
+        ensures within { IfSome result
             (λ row. size (row_view row) ≤ size (modules_of self.now)) }
     {
         self.grouping(self.meaning(number)?)

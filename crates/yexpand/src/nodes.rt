@@ -51,7 +51,8 @@ impl<'a, 't> ExpandedNode<'a, 't> {
         ensures { OnOk result (part_view self.new
             ≡ refined_part (row_by source_view given.entry) (part_view self.old)) }
     {
-        self.refines.push(given)
+        self.refines.push(given)?;
+        Ok(())
     }
 
     /// The keyword of its statement; that of a case, where one is implied.

@@ -56,7 +56,7 @@ impl<'a, 't> NodeTable<'a, 't> {
         label: ExpandedNode<'a, 't>,
     ) -> Result<u32, AllocError>
         ensures laid { OnOk result (laid (slots_of self.new) ≡ laid (slots_of self.old)
-            ++ opened parent label ∷ []) }
+            ++ opened parent label.entry ∷ []) }
         ensures number { IfOk result (λ number. number ≡ length (slots_of self.old)) }
     {
         let number = self.slots.len() as u32;

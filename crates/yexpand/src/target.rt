@@ -1,6 +1,6 @@
 //! The nodes to which the paths of refines lead (RFC 7950, 6.5 and 7.13.2).
 
-ghost use Rattle.std.specs.Prelude.{◌≡◌, map, option_map};
+ghost use Rattle.std.specs.Prelude.{◌≡◌, ◌+◌, IfSome, map, option_map};
 ghost use Rattle.yspec.specs.Forest.{Forest};
 ghost use Rattle.yspec.specs.linking.Source as sources;
 ghost use Rattle.yspec.specs.linking.Prefixes as spec;
@@ -31,8 +31,9 @@ fn child_called<'p, 'a, 't>(
     step: &NodeName<'_>,
     nodes: Siblings<'p, ExpandedNode<'a, 't>>,
 ) -> Option<Node<'p, ExpandedNode<'a, 't>>>
-    ensures { option_map node_seen result ≡ found_in (is_step (node_name_view step.now))
+    ensures found { option_map node_seen result ≡ found_in (is_step (node_name_view step.now))
         nodes.entry.number (row_by numbered_part nodes.entry) }
+    ensures below { IfSome result (λ node. node.children.number ≡ node.number + 1) }
 {
     for node in nodes {
         if is_called(node.label(), step) {
