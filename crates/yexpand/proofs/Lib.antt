@@ -4,6 +4,7 @@ pub mod GroupingLemmas
 pub mod UsedLemmas
 pub mod NodeLemmas
 pub mod TargetLemmas
+pub mod RefineLemmas
 pub mod TableLemmas
 pub mod DepthLemmas
 pub mod WalkLemmas
