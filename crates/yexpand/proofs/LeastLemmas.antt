@@ -4,6 +4,7 @@ use Rattle.std.specs.Prelude.{nat_lt, ◌==◌, ◌&&◌, ◌||◌}
 use Rattle.std.proofs.lemmas.Bool.{lt-ltb, ltb-true, le-ltb, ltb-false}
 use Rattle.std.proofs.lemmas.Bool.Decides.{Decides-eqb}
 use Rattle.yspec.specs.schema.Breaks.{Break, is_before, lesser, least_from}
+use Rattle.yexpand.specs.Counting.{told_list}
 
 -- ---- tests that order things
 
@@ -127,3 +128,11 @@ pub least_apart : (so_far : Option Break) (bs : List Break) → least_from so_fa
 least_apart so_far [] = refl
 least_apart so_far (b ∷ bs) = least_apart (Some (lesser so_far b)) bs
     ∙ (joins so_far b (least_from None bs) ∙ ap (lesser_of so_far) (sym (least_apart (Some b) bs)))
+
+-- the least of a list, told as one
+pub least_told : (so_far : Option Break) (bs : List Break) → least_from so_far (told_list (least_from None bs)) ≡ least_from so_far bs
+least_told so_far bs = by (least_from None bs) ∙ sym (least_apart so_far bs)
+  where
+    by : (o : Option Break) → least_from so_far (told_list o) ≡ lesser_of so_far o
+    by None = refl
+    by (Some b) = refl

@@ -1,14 +1,14 @@
 -- What comes of statements, one after another, as it comes into a table.
-use Rattle.std.proofs.Common.{◌≡◌, ℕ, zero, suc, ◌+◌, Bool, true, false, cond, not, ◌&&◌, List, [], ◌∷◌, ◌++◌, length, Option, Some, None, refl, sym, ap, ap₂, ◌∙◌, append_assoc, arith, length-append, subst}
+use Rattle.std.proofs.Common.{◌≡◌, ℕ, zero, suc, ◌+◌, ◌-◌, ◌*◌, ◌≤◌, Bool, true, false, cond, not, ◌&&◌, ◌||◌, List, [], ◌∷◌, ◌++◌, length, Option, Some, None, refl, sym, ap, ap₂, ◌∙◌, append_assoc, arith, length-append, subst}
 use Rattle.std.proofs.lemmas.Bool.{and_parts}
 use Rattle.std.proofs.lemmas.List.{append-nil}
 use Rattle.yspec.specs.Forest.{Forest, node, end, size, join}
-use Rattle.yspec.specs.linking.Keyword.{same_keyword, case_word, uses_word}
+use Rattle.yspec.specs.linking.Keyword.{Keyword, same_keyword, case_word, uses_word, refine_word}
 use Rattle.yspec.specs.linking.Source.{Source, is_source_of}
-use Rattle.yspec.specs.linking.Parts.{Part, defines_node, part_of, as_cases, case_for, within}
-use Rattle.yspec.specs.linking.Expansion.{is_uses, laid, owned_by, replaced, unfit_in, stands_for, unfit_for, groupings_of}
+use Rattle.yspec.specs.linking.Parts.{Part, defines_node, own_of, part_of, as_cases, case_for, within}
+use Rattle.yspec.specs.linking.Expansion.{is_uses, laid, owned_by, replaced, unfit_in, stands_for, unfit_for, groupings_of, row_used, is_refine, is_fit, refine_steps, changed_at, overridden, after_refine, refined, refine_breaks}
 use Rattle.yspec.specs.linking.Rewriting.{all_uses, ends_within}
-use Rattle.yspec.specs.schema.Breaks.{Break, least_from}
+use Rattle.yspec.specs.schema.Breaks.{Break, broken, when, least_from}
 use Rattle.yspec.proofs.SchemaProofs.LeastLemmas.{least_of_both}
 use Rattle.ypreorder.specs.Layout.{Place, places, opened, closed}
 use Rattle.ypreorder.specs.Layout as layout
@@ -18,7 +18,15 @@ use Rattle.yexpand.specs.declared.nodes.ExpandedNode.{ExpandedNode}
 use Rattle.yexpand.specs.declared.expanding.Made.{Made}
 use Rattle.yexpand.specs.NodeView.{numbered_part, part_view}
 use Rattle.yexpand.specs.TableView.{slots_of, parts_in}
-use Rattle.yexpand.specs.Walk.{chosen, nodes_for, breaks_for, AllEnd, Adds, AddsParts}
+use Rattle.yspec.proofs.LinkingProofs.KeywordLemmas.{same_is}
+use Rattle.yexpand.specs.Walk.{chosen, is_laid, nodes_for, breaks_for, AllEnd, Adds, AddsParts}
+
+no_refine : (s : Source) → defines_node s.keyword ≡ true → is_refine s ≡ false
+no_refine s stands = by (same_keyword refine_word s.keyword) refl
+  where
+    by : (b : Bool) → same_keyword refine_word s.keyword ≡ b → b ≡ false
+    by false e = refl
+    by true e = let same : refine_word ≡ s.keyword = same_is refine_word s.keyword e in let clash : false ≡ true = ap defines_node same ∙ stands in absurd cc
 
 -- ---- rows in two
 
@@ -84,25 +92,89 @@ chosen-first c s below after = ap (chosen c) (laid-first s below after) ∙ chos
 
 -- ---- one statement
 
-pub laid_none : (s : Source) (below : Forest Source) → defines_node s.keyword ≡ false → is_source_of uses_word s ≡ false → laid (node s below end) ≡ end
+-- what it lays out, by whether it defines a node and whether it uses a grouping
+abbrev laid_by : Bool → Bool → Source → Forest Source → Forest Part
+laid_by d u s below = cond d (node (part_of s below) (within s (laid below)) end) (cond u (node (part_of s below) end end) end)
+
+laid_so : (s : Source) (below : Forest Source) (d u : Bool) → defines_node s.keyword ≡ d → is_source_of uses_word s ≡ u → laid (node s below end) ≡ laid_by d u s below
 unfolding laid
-laid_none s below other unused = ap (λ d. cond d (node (part_of s below) (within s (laid below)) end) (cond (is_source_of uses_word s) (node (part_of s below) end end) end)) other
-    ∙ ap (λ u. cond u (node (part_of s below) end end) end) unused
+laid_so s below d u is used = ap₂ (λ x y. laid_by x y s below) is used
 
-pub laid_node : (s : Source) (below : Forest Source) → defines_node s.keyword ≡ true → laid (node s below end) ≡ node (part_of s below) (within s (laid below)) end
+neither : (d u : Bool) → (d || u) ≡ false → (d ≡ false) × (u ≡ false)
+neither true u e = absurd cc
+neither false u e = (refl, e)
+
+pub laid_none : (s : Source) (below : Forest Source) → is_laid s ≡ false → laid (node s below end) ≡ end
+laid_none s below other =
+    let both = neither (defines_node s.keyword) (is_source_of uses_word s) other in
+    laid_so s below false false both.0 both.1
+
+no_node : (k : Keyword) → same_keyword uses_word k ≡ true → defines_node k ≡ false
+no_node k used = let same : uses_word ≡ k = same_is uses_word k used in sym (ap defines_node same)
+
+pub laid_uses : (s : Source) (below : Forest Source) → is_source_of uses_word s ≡ true → laid (node s below end) ≡ node (part_of s below) end end
+laid_uses s below used = laid_so s below false true (no_node s.keyword used) used
+
+pub laid_node : (s : Source) (below : Forest Source) → is_laid s ≡ true → is_source_of uses_word s ≡ false
+    → laid (node s below end) ≡ node (part_of s below) (within s (laid below)) end
+laid_node s below is unused = laid_so s below true false (by (defines_node s.keyword) (sym (ap (λ u. defines_node s.keyword || u) unused) ∙ is)) unused
+  where
+    by : (d : Bool) → (d || false) ≡ true → d ≡ true
+    by true e = refl
+    by false e = absurd cc
+
+-- a single one of a choice
+pub laid_single : (c : Bool) (s : Source) (below : Forest Source) → is_laid s ≡ true → (c && not (same_keyword case_word s.keyword)) ≡ true
+    → chosen c (laid (node s below end)) ≡ node (case_for (part_of s below)) (laid (node s below end)) end
+laid_single c s below is single =
+    let parts = and_parts c (not (same_keyword case_word s.keyword)) single in
+    ap (λ b. chosen b (laid (node s below end))) parts.0 ∙ by (defines_node s.keyword) refl (is_source_of uses_word s) refl (no_case (same_keyword case_word s.keyword) parts.1)
+  where
+    no_case : (b : Bool) → not b ≡ true → b ≡ false
+    no_case true e = absurd cc
+    no_case false e = refl
+
+    one : (inside : Forest Part) → same_keyword case_word s.keyword ≡ false
+        → as_cases (node (part_of s below) inside end) ≡ node (case_for (part_of s below)) (node (part_of s below) inside end) end
+    one inside other = ap (λ b. cond b (node (part_of s below) inside end) (node (case_for (part_of s below)) (node (part_of s below) inside end) end)) other
+
+    by : (d : Bool) → defines_node s.keyword ≡ d → (u : Bool) → is_source_of uses_word s ≡ u → same_keyword case_word s.keyword ≡ false
+        → as_cases (laid (node s below end)) ≡ node (case_for (part_of s below)) (laid (node s below end)) end
+    by true d u used other =
+        let laid_is = laid_so s below true u d used in
+        ap as_cases laid_is ∙ (one (within s (laid below)) other ∙ ap (λ f. node (case_for (part_of s below)) f end) (sym laid_is))
+    by false d true used other =
+        let laid_is = laid_so s below false true d used in
+        ap as_cases laid_is ∙ (one end other ∙ ap (λ f. node (case_for (part_of s below)) f end) (sym laid_is))
+    by false d false used other = absurd (let clash : false ≡ true = sym (ap₂ (λ x y. x || y) d used) ∙ is in cc)
+
+-- any other
+pub laid_own : (c : Bool) (s : Source) (below : Forest Source) → is_laid s ≡ true → (c && not (same_keyword case_word s.keyword)) ≡ false
+    → chosen c (laid (node s below end)) ≡ laid (node s below end)
+laid_own false s below is single = refl
+laid_own true s below is single = by (defines_node s.keyword) refl (is_source_of uses_word s) refl (a_case (same_keyword case_word s.keyword) single)
+  where
+    a_case : (b : Bool) → (true && not b) ≡ false → b ≡ true
+    a_case true e = refl
+    a_case false e = absurd cc
+
+    one : (inside : Forest Part) → same_keyword case_word s.keyword ≡ true → as_cases (node (part_of s below) inside end) ≡ node (part_of s below) inside end
+    one inside other = ap (λ b. cond b (node (part_of s below) inside end) (node (case_for (part_of s below)) (node (part_of s below) inside end) end)) other
+
+    by : (d : Bool) → defines_node s.keyword ≡ d → (u : Bool) → is_source_of uses_word s ≡ u → same_keyword case_word s.keyword ≡ true
+        → as_cases (laid (node s below end)) ≡ laid (node s below end)
+    by true d u used other = let laid_is = laid_so s below true u d used in ap as_cases laid_is ∙ (one (within s (laid below)) other ∙ sym laid_is)
+    by false d true used other = let laid_is = laid_so s below false true d used in ap as_cases laid_is ∙ (one end other ∙ sym laid_is)
+    by false d false used other = absurd (let clash : false ≡ true = sym (ap₂ (λ x y. x || y) d used) ∙ is in cc)
+
+pub chosen_empty : (c : Bool) (f : Forest Part) → f ≡ end → chosen c f ≡ end
+chosen_empty true f none = ap as_cases none
+chosen_empty false f none = none
+
+pub chosen_none : (c : Bool) (f : Forest Source) → f ≡ end → chosen c (laid f) ≡ end
 unfolding laid
-laid_node s below stands = ap (λ d. cond d (node (part_of s below) (within s (laid below)) end) (cond (is_source_of uses_word s) (node (part_of s below) end end) end)) stands
-
-pub laid_uses : (s : Source) (below : Forest Source) → defines_node s.keyword ≡ false → is_source_of uses_word s ≡ true → laid (node s below end) ≡ node (part_of s below) end end
-unfolding laid
-laid_uses s below other used = ap (λ d. cond d (node (part_of s below) (within s (laid below)) end) (cond (is_source_of uses_word s) (node (part_of s below) end end) end)) other
-    ∙ ap (λ u. cond u (node (part_of s below) end end) end) used
-
-pub cases_one : (p : Part) (below : Forest Part) → same_keyword case_word p.source.keyword ≡ false → as_cases (node p below end) ≡ node (case_for p) (node p below end) end
-cases_one p below other = ap (λ b. cond b (node p below end) (node (case_for p) (node p below end) end)) other
-
-pub cases_case : (p : Part) (below : Forest Part) → same_keyword case_word p.source.keyword ≡ true → as_cases (node p below end) ≡ node p below end
-cases_case p below is = ap (λ b. cond b (node p below end) (node (case_for p) (node p below end) end)) is
+chosen_none true f none = ap (λ g. as_cases (laid g)) none
+chosen_none false f none = ap laid none
 
 -- ---- what comes of a row
 
@@ -206,3 +278,85 @@ module _ (modules : Forest Source) (owner depth : ℕ) where
   ends_uses p is all =
       let test = ends_within modules (groupings_of modules) depth in
       (and_parts (test p) true (sym (ap (λ b. cond b (test p) true && true) is) ∙ all)).0
+
+-- ---- what a `uses` stands for
+
+module _ (modules : Forest Source) (owner : ℕ) where
+  own_refined : (below : Forest Source) (f : Forest Part) → refined modules owner (own_of below) f ≡ refined modules owner below f
+  unfolding refined
+  own_refined end f = refl
+  own_refined (node s given after) f = by (defines_node s.keyword) refl (own_refined after f) (own_refined after (after_refine modules owner s given f))
+    where
+      by : (d : Bool) → defines_node s.keyword ≡ d → refined modules owner (own_of after) f ≡ refined modules owner after f
+          → refined modules owner (own_of after) (after_refine modules owner s given f) ≡ refined modules owner after (after_refine modules owner s given f)
+          → refined modules owner (cond d (own_of after) (node s given (own_of after))) f ≡ refined modules owner after (after_refine modules owner s given f)
+      by true is plain changed = plain ∙ ap (refined modules owner after) (sym (ap (λ b. cond (b && is_fit modules owner s given f) (changed_at (refine_steps modules owner s) (overridden given) f) f) (no_refine s is)))
+      by false is plain changed = changed
+
+  own_told : (below : Forest Source) (f : Forest Part) → refine_breaks modules owner (own_of below) f ≡ refine_breaks modules owner below f
+  own_told end f = refl
+  own_told (node s given after) f = by (defines_node s.keyword) refl (own_told after f) (own_told after (after_refine modules owner s given f))
+    where
+      by : (d : Bool) → defines_node s.keyword ≡ d → refine_breaks modules owner (own_of after) f ≡ refine_breaks modules owner after f
+          → refine_breaks modules owner (own_of after) (after_refine modules owner s given f) ≡ refine_breaks modules owner after (after_refine modules owner s given f)
+          → refine_breaks modules owner (cond d (own_of after) (node s given (own_of after))) f ≡ refine_breaks modules owner (node s given after) f
+      by true is plain changed = plain
+          ∙ (ap (refine_breaks modules owner after) (sym (ap (λ b. cond (b && is_fit modules owner s given f) (changed_at (refine_steps modules owner s) (overridden given) f) f) (no_refine s is)))
+          ∙ sym (ap (λ b. when (b && not (is_fit modules owner s given f)) (broken 14 s.home s.statement.line) ++ refine_breaks modules owner after (after_refine modules owner s given f)) (no_refine s is)))
+      by false is plain changed = ap (λ rest. when (is_refine s && not (is_fit modules owner s given f)) (broken 14 s.home s.statement.line) ++ rest) changed
+
+  module _ (s : Source) (below : Forest Source) where
+    abbrev u : Part
+    u = part_of s below
+
+    abbrev inner : ℕ → Forest Part
+    inner depth = nodes_for modules owner depth (row_used modules (groupings_of modules) u)
+
+    pub stands_so : (depth : ℕ) → (depth ≡ 0 → ⊥) → stands_for modules (groupings_of modules) owner depth u ≡ refined modules owner below (inner (depth - 1))
+    unfolding stands_for
+    stands_so zero some = absurd (some refl)
+    stands_so (suc depth) some =
+        let less : suc depth - 1 ≡ depth = omega arith in
+        own_refined below (inner depth) ∙ ap (λ n. refined modules owner below (inner n)) (sym less)
+
+    pub unfit_so : (depth : ℕ) → (depth ≡ 0 → ⊥) → unfit_for modules (groupings_of modules) owner depth u
+        ≡ breaks_for modules owner (depth - 1) (row_used modules (groupings_of modules) u) ++ refine_breaks modules owner below (inner (depth - 1))
+    unfolding unfit_for
+    unfit_so zero some = absurd (some refl)
+    unfit_so (suc depth) some =
+        let less : suc depth - 1 ≡ depth = omega arith in
+        ap (λ bs. breaks_for modules owner depth (row_used modules (groupings_of modules) u) ++ bs) (own_told below (inner depth))
+        ∙ ap (λ n. breaks_for modules owner n (row_used modules (groupings_of modules) u) ++ refine_breaks modules owner below (inner n)) (sym less)
+
+pub ends_so : (modules : Forest Source) (u : Part) (depth : ℕ) → ends_within modules (groupings_of modules) depth u ≡ true
+    → (depth ≡ 0 → ⊥) × AllEnd modules (depth - 1) (row_used modules (groupings_of modules) u)
+unfolding ends_within
+ends_so modules u zero ends = absurd cc
+ends_so modules u (suc depth) ends =
+    let less : suc depth - 1 ≡ depth = omega arith in
+    ((λ none. absurd (omega (arith, none))), subst (λ n. AllEnd modules n (row_used modules (groupings_of modules) u)) (sym less) ends)
+
+-- ---- measures
+
+pub one_less : (d n : ℕ) → (d ≡ 0 → ⊥) → d * n ≡ (d - 1) * n + n
+one_less zero n some = absurd (some refl)
+one_less (suc d) n some =
+    let less : suc d - 1 ≡ d = omega arith in
+    let more : suc d * n ≡ n + d * n = mul-suc d n in
+    let same : d * n ≡ (suc d - 1) * n = ap (λ k. k * n) (sym less) in
+    omega (arith, more, same)
+  where
+    mul-suc : (d n : ℕ) → suc d * n ≡ n + d * n
+    mul-suc d n = omega arith
+
+pub some : (b : Bool) → 2 ≤ cond b 4 2
+some true = omega arith
+some false = omega arith
+
+pub four : (b : Bool) → b ≡ true → 4 ≤ cond b 4 2
+four true is = omega arith
+four false is = absurd cc
+
+pub few : (b : Bool) → cond b 4 2 ≤ 4
+few true = omega arith
+few false = omega arith

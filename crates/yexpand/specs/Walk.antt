@@ -1,8 +1,9 @@
 -- What comes of the statements of a row where each `uses` is replaced.
-use Rattle.std.specs.Prelude.{◌≡◌, ◌++◌, ℕ, suc, Bool, true, List, length, Option, Some, None, if◌then◌else◌}
+use Rattle.std.specs.Prelude.{◌≡◌, ◌++◌, ◌||◌, ℕ, suc, Bool, true, List, length, Option, Some, None, if◌then◌else◌}
 use Rattle.yspec.specs.Forest.{Forest}
-use Rattle.yspec.specs.linking.Source.{Source}
-use Rattle.yspec.specs.linking.Parts.{Part, as_cases}
+use Rattle.yspec.specs.linking.Keyword.{uses_word}
+use Rattle.yspec.specs.linking.Source.{Source, is_source_of}
+use Rattle.yspec.specs.linking.Parts.{Part, as_cases, defines_node}
 use Rattle.yspec.specs.linking.Expansion.{groupings_of, replaced, stands_for, unfit_in, unfit_for}
 use Rattle.yspec.specs.linking.Rewriting.{all_uses, ends_within}
 use Rattle.yspec.specs.schema.Breaks.{Break, least_from}
@@ -14,6 +15,10 @@ use Rattle.yexpand.specs.declared.expanding.Made.{Made}
 -- in a choice single nodes stand for cases
 abbrev pub chosen : Bool → Forest Part → Forest Part
 chosen in_choice nodes = if in_choice then as_cases nodes else nodes
+
+-- whether a statement defines nodes or uses some
+abbrev pub is_laid : Source → Bool
+is_laid s = defines_node s.keyword || is_source_of uses_word s
 
 -- ---- for the module that uses them, by way of so many groupings at most
 

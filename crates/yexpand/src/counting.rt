@@ -1,6 +1,6 @@
 //! How many nodes statements define, with `uses` counted and not replaced (RFC 7950, 7.13).
 
-ghost use Rattle.std.specs.Prelude.{◌≡◌, min};
+ghost use Rattle.std.specs.Prelude.{◌≡◌, min, true};
 ghost use Rattle.yspec.specs.Forest.{end, node};
 ghost use Rattle.yspec.specs.linking.Expansion.{laid};
 ghost use Rattle.yspec.specs.linking.NodeCounts.{counted};
@@ -9,8 +9,9 @@ ghost use Rattle.ypreorder.specs.View.{row_by, label_by};
 ghost use Rattle.ygrammar.specs.SourceView.{source_view};
 ghost use Rattle.yexpand.specs.Counting.{count_at, count_by, many};
 ghost use Rattle.yexpand.specs.NamedView.{modules_of};
-ghost use Rattle.yexpand.specs.Walk.{chosen};
+ghost use Rattle.yexpand.specs.Walk.{chosen, is_laid};
 
+use crate::laying::{is_laid, is_single};
 use crate::named::Named;
 use ygrammar::Source;
 use ypreorder::{Node, Siblings};
@@ -79,19 +80,30 @@ fn count_statement(
         (chosen in_choice (laid (node s below end)))) many }
 {
     let keyword = statement.label().keyword;
-    let is_uses = Keyword::Uses.is(keyword);
-    if !is_uses && !keyword.defines_node() {
+    if !is_laid(keyword) {
         return 0;
     }
-    let nodes = if is_uses {
-        count_used(named, counts, statement)
-    } else {
-        let in_choice = Keyword::Choice.is(keyword);
-        capped(1 + count_nodes(named, counts, in_choice, statement.children()))
-    };
-    if in_choice && !Keyword::Case.is(keyword) {
+    let nodes = count_alone(named, counts, statement);
+    if is_single(in_choice, keyword) {
         capped(1 + nodes)
     } else {
         nodes
     }
+}
+
+/// The same of a statement that defines nodes or uses some, whether or not it stands for a case.
+#[cycle(counting)]
+fn count_alone(named: &Named<'_, '_>, counts: &[u32], statement: Node<'_, Source<'_>>) -> u32
+    requires { is_laid (label_by source_view statement) ≡ true }
+    ensures { let s = label_by source_view statement.entry in
+        let below = row_by source_view statement.entry.children in
+        result ≡ min (counted (count_by counts.now (modules_of named.now))
+        (laid (node s below end))) many }
+{
+    let keyword = statement.label().keyword;
+    if Keyword::Uses.is(keyword) {
+        return count_used(named, counts, statement);
+    }
+    let in_choice = Keyword::Choice.is(keyword);
+    capped(1 + count_nodes(named, counts, in_choice, statement.children()))
 }

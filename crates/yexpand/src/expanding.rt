@@ -16,6 +16,7 @@ ghost use Rattle.yexpand.specs.Walk.{chosen, nodes_for, breaks_for, AddsParts, A
 ghost use Rattle.yexpand.specs.Knowing.{Knows};
 
 use crate::groupings::{Groupings, least_of};
+use crate::laying::{is_laid, is_single};
 use crate::named::Named;
 use crate::nodes::ExpandedNode;
 use crate::refining::refine;
@@ -92,14 +93,13 @@ fn add_statement<'a, 't>(
         (chosen in_choice (laid (node s below end))) made.old made.new) }
 {
     let keyword = statement.label().keyword;
-    let is_uses = Keyword::Uses.is(keyword);
-    if !is_uses && !keyword.defines_node() {
+    if !is_laid(keyword) {
         return Ok(());
     }
-    if in_choice && !Keyword::Case.is(keyword) {
+    if is_single(in_choice, keyword) {
         return add_case(alloc, context, place, statement, made);
     }
-    if is_uses {
+    if Keyword::Uses.is(keyword) {
         return add_uses(alloc, context, place, statement, made);
     }
     add_node(alloc, context, place, statement, made)

@@ -4,6 +4,7 @@
 mod counting;
 mod expanding;
 mod groupings;
+mod laying;
 mod named;
 mod nodes;
 mod refining;

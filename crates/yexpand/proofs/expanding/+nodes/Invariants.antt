@@ -37,7 +37,7 @@ invariant-add_nodes-loop-statement l = record {
   more : (goal.iterator-add_nodes-loop-statement).can_next l.statement-iterator;
   ends : (goal.iterator-add_nodes-loop-statement).is_finite l.statement-iterator;
   smaller : size (row_view l.statement-iterator) ≤ size (row_view l.fn.statements);
-  all_end : AllEnd (modules_of l.context.now.named.now) l.place.depth (chosen l.in_choice (laid (row_by source_view l.statement-iterator)));
-  so_far : (final : Made) → AddsParts (modules_of l.context.now.named.now) l.place.parent l.place.owner l.place.depth (chosen l.in_choice (laid (row_by source_view l.statement-iterator))) l.made final
-      → AddsParts (modules_of l.context.now.named.now) l.place.parent l.place.owner l.place.depth (chosen l.in_choice (laid (row_by source_view l.fn.statements))) l.fn.made final;
+  all_end : AllEnd (modules_of l.context.named.now) l.place.depth (chosen l.in_choice (laid (row_by source_view l.statement-iterator)));
+  so_far : (final : Made) → AddsParts (modules_of l.context.named.now) l.place.parent l.place.owner l.place.depth (chosen l.in_choice (laid (row_by source_view l.statement-iterator))) l.made final
+      → AddsParts (modules_of l.context.named.now) l.place.parent l.place.owner l.place.depth (chosen l.in_choice (laid (row_by source_view l.fn.statements))) l.fn.made final;
 }
