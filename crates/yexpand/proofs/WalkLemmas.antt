@@ -11,7 +11,13 @@ use Rattle.yspec.specs.linking.Rewriting.{all_uses, ends_within}
 use Rattle.yspec.specs.schema.Breaks.{Break, broken, when, least_from}
 use Rattle.yspec.proofs.SchemaProofs.LeastLemmas.{least_of_both}
 use Rattle.ypreorder.specs.Layout.{Place, places, opened, closed}
+use Rattle.ypreorder.specs.Layout.{numbered_by, forest_of}
 use Rattle.ypreorder.specs.Layout as layout
+use Rattle.ypreorder.specs.declared.slot.Slot.{Slot}
+use Rattle.ypreorder.proofs.LabelLemmas.{size-by}
+use Rattle.ypreorder.proofs.RowLemmas.{size_forest}
+use Rattle.ygrammar.specs.SourceView.{source_view}
+use Rattle.ygrammar.specs.declared.source.Source as held
 use Rattle.ypreorder.proofs.LayoutLemmas.{length-places, places-join, length-laid, length-seen, grown}
 use Rattle.ygrammar.specs.BreakView.{seen}
 use Rattle.yexpand.specs.declared.nodes.ExpandedNode.{ExpandedNode}
@@ -176,6 +182,27 @@ unfolding laid
 chosen_none true f none = ap (λ g. as_cases (laid g)) none
 chosen_none false f none = ap laid none
 
+-- ---- what is added, one thing after another
+
+pub adds_join : (parent : Option ℕ) (f g : Forest Part) (bs cs : List Break) (a b c : Made) → Adds parent f bs a b → Adds parent g cs b c → Adds parent (join f g) (bs ++ cs) a c
+adds_join parent f g bs cs a b c first second =
+    let k = length (slots_of a.table) in
+    let here = places parent k f in
+    let count : length (slots_of b.table) ≡ k + size f =
+    sym (length-laid (slots_of b.table)) ∙ (sym (length-seen numbered_part 0 (layout.laid (slots_of b.table))) ∙ (ap length first.0
+    ∙ (length-append (parts_in a.table) here
+    ∙ ap₂ (λ m n. m + n) (length-seen numbered_part 0 (layout.laid (slots_of a.table)) ∙ length-laid (slots_of a.table)) (length-places parent k f)))) in (
+      second.0 ∙ (ap₂ (λ ps n. ps ++ places parent n g) first.0 count
+      ∙ (append_assoc (parts_in a.table) here (places parent (k + size f) g) ∙ ap (λ rest. parts_in a.table ++ rest) (sym (places-join parent k f g)))),
+      second.1 ∙ (ap (λ o. least_from o cs) first.1 ∙ sym (least_of_both (seen a.told) bs cs)),
+    )
+
+pub adds_none : (parent : Option ℕ) (f : Forest Part) (bs : List Break) (m : Made) → f ≡ end → bs ≡ [] → Adds parent f bs m m
+adds_none parent f bs m none untold = (
+  sym (ap (λ g. parts_in m.table ++ places parent (length (slots_of m.table)) g) none ∙ append-nil (parts_in m.table)),
+  sym (ap (least_from (seen m.told)) untold),
+)
+
 -- ---- what comes of a row
 
 module _ (modules : Forest Source) (owner depth : ℕ) where
@@ -224,24 +251,14 @@ module _ (modules : Forest Source) (owner depth : ℕ) where
   -- ---- as it is added
 
   pub adds_nothing : (parent : Option ℕ) (parts : Forest Part) (m : Made) → parts ≡ end → AddsParts modules parent owner depth parts m m
-  adds_nothing parent parts m none = (
-    sym (ap (λ f. parts_in m.table ++ places parent (length (slots_of m.table)) f) (ap nodes none ∙ nodes_none) ∙ append-nil (parts_in m.table)),
-    sym (ap (least_from (seen m.told)) (ap breaks none ∙ breaks_none)),
-  )
+  adds_nothing parent parts m none = adds_none parent (nodes parts) (breaks parts) m (ap nodes none ∙ nodes_none) (ap breaks none ∙ breaks_none)
 
   pub adds_both : (parent : Option ℕ) (f g : Forest Part) (a b c : Made) → AddsParts modules parent owner depth f a b → AddsParts modules parent owner depth g b c
       → AddsParts modules parent owner depth (join f g) a c
   adds_both parent f g a b c first second =
-      let k = length (slots_of a.table) in
-      let here = places parent k (nodes f) in
-      let count : length (slots_of b.table) ≡ k + size (nodes f) =
-      sym (length-laid (slots_of b.table)) ∙ (sym (length-seen numbered_part 0 (layout.laid (slots_of b.table))) ∙ (ap length first.0
-      ∙ (length-append (parts_in a.table) here
-      ∙ ap₂ (λ m n. m + n) (length-seen numbered_part 0 (layout.laid (slots_of a.table)) ∙ length-laid (slots_of a.table)) (length-places parent k (nodes f))))) in (
-        second.0 ∙ (ap₂ (λ ps n. ps ++ places parent n (nodes g)) first.0 count
-        ∙ (append_assoc (parts_in a.table) here (places parent (k + size (nodes f)) (nodes g))
-        ∙ ap (λ rest. parts_in a.table ++ rest) (sym (places-join parent k (nodes f) (nodes g)) ∙ ap (places parent k) (sym (nodes_join f g))))),
-        second.1 ∙ (ap (λ o. least_from o (breaks g)) first.1 ∙ (sym (least_of_both (seen a.told) (breaks f) (breaks g)) ∙ ap (least_from (seen a.told)) (sym (breaks_join f g)))),
+      let both = adds_join parent (nodes f) (nodes g) (breaks f) (breaks g) a b c first second in (
+        both.0 ∙ ap (λ h. parts_in a.table ++ places parent (length (slots_of a.table)) h) (sym (nodes_join f g)),
+        both.1 ∙ ap (least_from (seen a.told)) (sym (breaks_join f g)),
       )
 
   -- a node is opened, all below it is added, and it is closed
@@ -335,6 +352,27 @@ ends_so modules u zero ends = absurd cc
 ends_so modules u (suc depth) ends =
     let less : suc depth - 1 ≡ depth = omega arith in
     ((λ none. absurd (omega (arith, none))), subst (λ n. AllEnd modules n (row_used modules (groupings_of modules) u)) (sym less) ends)
+
+pub all_pass : (test : Part → Bool) → ((u : Part) → test u ≡ true) → (f : Forest Part) → all_uses test f ≡ true
+unfolding all_uses
+all_pass test passes end = refl
+all_pass test passes (node p below after) = by (is_uses p) (all_pass test passes below) (all_pass test passes after)
+  where
+    by : (b : Bool) → all_uses test below ≡ true → all_uses test after ≡ true → (cond b (test p) (all_uses test below) && all_uses test after) ≡ true
+    by true inner rest = ap (λ x. x && all_uses test after) (passes p) ∙ rest
+    by false inner rest = ap (λ x. x && all_uses test after) inner ∙ rest
+
+-- as many as there are statements, and one
+pub depth_of : (modules : Forest Source) (rows slots : List (Slot held.Source)) → modules ≡ numbered_by source_view 0 (forest_of rows) → slots ≡ rows
+    → length slots + 1 ≡ suc (size modules)
+depth_of modules rows slots is same =
+    let count : size modules ≡ length rows = ap size is ∙ (size-by source_view 0 (forest_of rows) ∙ size_forest rows) in
+    let whole = ap length same in
+    omega (arith, count, whole)
+
+-- what comes into an empty table
+abbrev pub begun : List (Slot ExpandedNode) → Forest Part → List (Place Part)
+begun slots f = layout.seen numbered_part 0 (layout.laid slots) ++ places None (length slots) f
 
 -- ---- measures
 
