@@ -7,5 +7,6 @@ pub mod TargetLemmas
 pub mod RefineLemmas
 pub mod TableLemmas
 pub mod DepthLemmas
+pub mod CountLemmas
 pub mod WalkLemmas
 pub mod LeastLemmas

@@ -46,6 +46,20 @@ fn refine_at(refines: &[Option<BrokenRule>], number: usize) -> Option<BrokenRule
     }
 }
 
+/// What a table of refines holds of the grouping that the statement of a number uses.
+fn refine_used(
+    named: &Named<'_, '_>,
+    refines: &[Option<BrokenRule>],
+    number: u32,
+) -> Option<BrokenRule>
+    ensures { seen result ≡ refine_by refines.now (modules_of named.now) number }
+{
+    match named.meaning(number) {
+        Some(grouping) => refine_at(refines, grouping as usize),
+        None => None,
+    }
+}
+
 /// The least of one so far and all refines of a row.
 fn least_refine(
     statements: Siblings<'_, Source<'_>>,
@@ -76,9 +90,7 @@ fn least_used(
     let mut told = None;
     for statement in statements {
         if Keyword::Uses.is(statement.label().keyword) {
-            if let Some(number) = named.meaning(statement.number()) {
-                told = least_of(told, refine_at(refines, number as usize));
-            }
+            told = least_of(told, refine_used(named, refines, statement.number()));
             told = least_refine(statement.children(), told);
         }
     }
@@ -109,9 +121,6 @@ impl Groupings {
     pub(crate) fn refine_in(&self, named: &Named<'_, '_>, number: u32) -> Option<BrokenRule>
         ensures { seen result ≡ refine_named self.now (modules_of named.now) number }
     {
-        match named.meaning(number) {
-            Some(grouping) => refine_at(&self.refines, grouping as usize),
-            None => None,
-        }
+        refine_used(named, &self.refines, number)
     }
 }
