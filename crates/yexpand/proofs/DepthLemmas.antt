@@ -1,5 +1,5 @@
 -- Where no `uses` leads over more groupings than a number, any number from that one on gives the same.
-use Rattle.std.proofs.Common.{◌≡◌, ℕ, zero, suc, ◌+◌, Bool, true, false, cond, ◌&&◌, List, [], ◌∷◌, ◌++◌, refl, sym, ap, ap₂, ◌∙◌, arith, subst}
+use Rattle.std.proofs.Common.{◌≡◌, ℕ, zero, suc, ◌+◌, ◌-◌, ◌≤◌, Bool, true, false, cond, ◌&&◌, List, [], ◌∷◌, ◌++◌, refl, sym, ap, ap₂, ◌∙◌, arith, subst}
 use Rattle.std.proofs.lemmas.Bool.{and_parts}
 use Rattle.yspec.specs.Forest.{Forest, end, node, join}
 use Rattle.yspec.specs.linking.Source.{Source}
@@ -108,6 +108,12 @@ module _ (modules : Forest Source) (groupings : List Grouping) where
   all_deeper (suc more) depth f all =
       weaker_test (ends_within modules groupings (deeper more depth)) (ends_within modules groupings (suc (deeper more depth))) (ends_deeper (deeper more depth)) f
       (all_deeper more depth f all)
+
+  pub all_deeper_to : (here there : ℕ) (f : Forest Part) → here ≤ there → all_uses (ends_within modules groupings here) f ≡ true
+      → all_uses (ends_within modules groupings there) f ≡ true
+  all_deeper_to here there f less all =
+      let same : deeper (there - here) here ≡ there = is_sum (there - here) here ∙ omega (arith, less) in
+      subst (λ d. all_uses (ends_within modules groupings d) f ≡ true) same (all_deeper (there - here) here f all)
 
   nodes_deeper : (owner more depth : ℕ) (f : Forest Part) → all_uses (ends_within modules groupings depth) f ≡ true
       → replaced (stands_for modules groupings owner depth) owner f ≡ replaced (stands_for modules groupings owner (deeper more depth)) owner f

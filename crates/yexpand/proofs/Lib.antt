@@ -9,4 +9,5 @@ pub mod TableLemmas
 pub mod DepthLemmas
 pub mod CountLemmas
 pub mod WalkLemmas
+pub mod OrderLemmas
 pub mod LeastLemmas

@@ -1,6 +1,6 @@
 -- What a grouping uses is what it refers to.
 use Rattle.std.proofs.Common.{◌≡◌, ℕ, zero, suc, ◌+◌, ◌<◌, Bool, true, false, cond, ◌&&◌, List, [], ◌∷◌, ◌++◌, length, Option, Some, None, refl, sym, ap, ap₂, ◌∙◌, arith, subst}
-use Rattle.std.specs.Prelude.{option_map, option_and_then, find, ◌==◌, ◌||◌}
+use Rattle.std.specs.Prelude.{⊤, option_map, option_and_then, find, ◌==◌, ◌||◌}
 use Rattle.std.specs.List.{Contains, filter_map, cons_option}
 use Rattle.std.specs.Option.{option_map_or}
 use Rattle.std.proofs.lemmas.Bool.{and_parts}
@@ -26,34 +26,46 @@ use Rattle.ynames.specs.ScopeView.{placed_at}
 use Rattle.yexpand.proofs.PlacedLemmas.{stands_at, among_them, below_them}
 use Rattle.yexpand.proofs.GroupingLemmas.{row_if, row_at}
 
--- ---- cases keep what is used
+-- what holds of what is inside, where there is something
+abbrev pub OnSome : {A : Type 0} → Option A → (A → Type 0) → Type 0
+OnSome None P = ⊤
+OnSome (Some x) P = P x
 
-and_true : (x : Bool) → (x && true) ≡ x
-and_true true = refl
-and_true false = refl
+-- ---- each `uses` of a row
 
-pub all_cases : (test : Part → Bool) (f : Forest Part) → all_uses test f ≡ true → all_uses test (as_cases f) ≡ true
+abbrev pub UsesAre : (Part → Type 0) → Forest Part → Type 0
+UsesAre P end = ⊤
+UsesAre P (node p below after) = (is_uses p ≡ true → P p) × (is_uses p ≡ false → UsesAre P below) × UsesAre P after
+
+pub are_weaker : (P Q : Part → Type 0) → ((u : Part) → P u → Q u) → (f : Forest Part) → UsesAre P f → UsesAre Q f
+are_weaker P Q gives end are = tt
+are_weaker P Q gives (node p below after) are =
+    ((λ e. gives p (are.0 e)), (λ e. are_weaker P Q gives below (are.1 e)), are_weaker P Q gives after are.2)
+
+pub cases_are : (P : Part → Type 0) (f : Forest Part) → UsesAre P f → UsesAre P (as_cases f)
+cases_are P end are = tt
+cases_are P (node p below after) are = by (is_source_of case_word p.source) (cases_are P after are.2)
+  where
+    by : (b : Bool) → UsesAre P (as_cases after) → UsesAre P (cond b (node p below (as_cases after)) (node (case_for p) (node p below end) (as_cases after)))
+    by true rest = (are.0, are.1, rest)
+    by false rest = ((λ e. absurd cc), (λ e. (are.0, are.1, tt)), rest)
+
+within_are : (P : Part → Type 0) (s : Source) (f : Forest Part) → UsesAre P f → UsesAre P (within s f)
+within_are P s f are = by (is_source_of choice_word s)
+  where
+    by : (b : Bool) → UsesAre P (cond b (as_cases f) f)
+    by true = cases_are P f are
+    by false = are
+
+-- as a test
+pub tested : (test : Part → Bool) (f : Forest Part) → UsesAre (λ u. test u ≡ true) f → all_uses test f ≡ true
 unfolding all_uses
-all_cases test end all = refl
-all_cases test (node p below after) all = by (is_source_of case_word p.source) (all_cases test after parts.1)
+tested test end are = refl
+tested test (node p below after) are = by (is_uses p) refl (λ e. tested test below (are.1 e)) (tested test after are.2)
   where
-    first : Bool
-    first = cond (is_uses p) (test p) (all_uses test below)
-
-    parts : (first ≡ true) × (all_uses test after ≡ true)
-    parts = and_parts first (all_uses test after) all
-
-    by : (b : Bool) → all_uses test (as_cases after) ≡ true
-        → all_uses test (cond b (node p below (as_cases after)) (node (case_for p) (node p below end) (as_cases after))) ≡ true
-    by true rest = ap (λ x. x && all_uses test (as_cases after)) parts.0 ∙ rest
-    by false rest = ap (λ x. x && all_uses test (as_cases after)) (and_true first ∙ parts.0) ∙ rest
-
-within_uses : (test : Part → Bool) (s : Source) (f : Forest Part) → all_uses test f ≡ true → all_uses test (within s f) ≡ true
-within_uses test s f all = by (is_source_of choice_word s)
-  where
-    by : (b : Bool) → all_uses test (cond b (as_cases f) f) ≡ true
-    by true = all_cases test f all
-    by false = all
+    by : (b : Bool) → is_uses p ≡ b → (is_uses p ≡ false → all_uses test below ≡ true) → all_uses test after ≡ true → (cond b (test p) (all_uses test below) && all_uses test after) ≡ true
+    by true is inner rest = ap (λ x. x && all_uses test after) (are.0 is) ∙ rest
+    by false is inner rest = ap (λ x. x && all_uses test after) (inner is) ∙ rest
 
 -- ---- what stands in a grouping, besides groupings in it
 
@@ -67,15 +79,15 @@ no_other j k none stands = by (same_keyword j k) refl
 later : (r : Placed) (ps : List Placed) (q : Placed) → Contains ps q → Contains (r ∷ ps) q
 later r ps q at = let within = at.1 in (suc at.0, omega (arith, within), at.2)
 
-module _ (good : ℕ → Bool) (d : ℕ) where
-  abbrev test : Part → Bool
-  test u = good u.source.number
+module _ (good : ℕ → Type 0) (d : ℕ) where
+  abbrev fits : Part → Type 0
+  fits u = good u.source.number
 
   used_below : (ancestors : List (Source × Forest Source)) (row : Forest Source) → innermost_of grouping_word ancestors ≡ Some d
-      → ((p : Placed) → Contains (placed ancestors row) p → is_source_of uses_word p.source ≡ true → referring p ≡ Some d → good p.source.number ≡ true)
-      → all_uses test (laid row) ≡ true
-  unfolding placed laid all_uses
-  used_below ancestors end inner all = refl
+      → ((p : Placed) → Contains (placed ancestors row) p → is_source_of uses_word p.source ≡ true → referring p ≡ Some d → good p.source.number)
+      → UsesAre fits (laid row)
+  unfolding placed laid
+  used_below ancestors end inner all = tt
   used_below ancestors (node s below after) inner all = by (defines_node s.keyword) refl (is_source_of uses_word s) refl
       (λ around_it. used_below ((s, below) ∷ ancestors) below around_it (λ q at. all q (later p (under ++ behind) q (Contains-append_left under behind q at))))
       (used_below ancestors after inner (λ q at. all q (later p (under ++ behind) q (Contains-append_right under behind q at))))
@@ -89,23 +101,23 @@ module _ (good : ℕ → Bool) (d : ℕ) where
       behind : List Placed
       behind = placed ancestors after
 
-      joined : (x : Bool) → all_uses test (laid after) ≡ true → x ≡ true → (x && all_uses test (laid after)) ≡ true
-      joined x rest is = ap (λ y. y && all_uses test (laid after)) is ∙ rest
-
       by : (n : Bool) → defines_node s.keyword ≡ n → (u : Bool) → is_source_of uses_word s ≡ u
-          → (innermost_of grouping_word ((s, below) ∷ ancestors) ≡ Some d → all_uses test (laid below) ≡ true) → all_uses test (laid after) ≡ true
-          → all_uses test (cond n (node (part_of s below) (within s (laid below)) (laid after)) (cond u (node (part_of s below) end (laid after)) (laid after))) ≡ true
+          → (innermost_of grouping_word ((s, below) ∷ ancestors) ≡ Some d → UsesAre fits (laid below)) → UsesAre fits (laid after)
+          → UsesAre fits (cond n (node (part_of s below) (within s (laid below)) (laid after)) (cond u (node (part_of s below) end (laid after)) (laid after)))
       by true stands u used inner_row rest =
-          let inside : all_uses test (laid below) ≡ true = inner_row
+          let inside : UsesAre fits (laid below) = inner_row
           (ap (λ b. option_map (λ (a : Source × Forest Source). a.0.number) (cond b (Some (s, below)) (find (λ (a : Source × Forest Source). is_source_of grouping_word a.0) ancestors)))
-          (no_other grouping_word s.keyword refl stands) ∙ inner) in
-          joined (cond (is_source_of uses_word s) (good s.number) (all_uses test (within s (laid below)))) rest
-          (ap (λ b. cond b (good s.number) (all_uses test (within s (laid below)))) (no_other uses_word s.keyword refl stands) ∙ within_uses test s (laid below) inside)
+          (no_other grouping_word s.keyword refl stands) ∙ inner) in (
+            (λ e. let clash : true ≡ false = sym e ∙ no_other uses_word s.keyword refl stands in absurd cc),
+            (λ e. within_are fits s (laid below) inside),
+            rest,
+          )
       by false stands true used inner_row rest =
-          let word : uses_word ≡ s.keyword = same_is uses_word s.keyword used in
-          joined (cond (is_source_of uses_word s) (good s.number) true) rest
-          (ap (λ b. cond b (good s.number) true) used
-          ∙ all p (0, omega arith, refl) used (sym (ap (λ k. option_and_then (λ kind. innermost kind p) (kind_named k)) word) ∙ inner))
+          let word : uses_word ≡ s.keyword = same_is uses_word s.keyword used in (
+            (λ e. all p (0, omega arith, refl) used (sym (ap (λ k. option_and_then (λ kind. innermost kind p) (kind_named k)) word) ∙ inner)),
+            (λ e. let clash : true ≡ false = sym used ∙ e in absurd cc),
+            rest,
+          )
       by false stands false used inner_row rest = rest
 
 -- ---- edges
@@ -135,36 +147,31 @@ module _ (held_forest : Forest held.Source) where
   abbrev set : Forest Source
   set = numbered_by source_view 0 held_forest
 
-  -- what the grouping of a number uses passes a test that all pass to which it refers
-  pub all_used : (good : ℕ → Bool) (d : ℕ) → ((e : ℕ) → HasEdge (definition_edges set) d e → good e ≡ true)
-      → all_uses (λ u. option_map_or good (number_named set u.source.number) true) (row_in (groupings_of set) d) ≡ true
-  unfolding all_uses
-  all_used good d passes = ap (all_uses by_number) (row_at held_forest d) ∙ by (statement_at set d) refl
+  -- what holds of all to which the grouping of a number refers holds of all that it uses
+  pub all_used : (good : ℕ → Type 0) (d : ℕ) → ((e : ℕ) → HasEdge (definition_edges set) d e → good e)
+      → UsesAre (λ u. OnSome (number_named set u.source.number) good) (row_in (groupings_of set) d)
+  all_used good d holds = subst (UsesAre (λ u. named u.source.number)) (sym (row_at held_forest d)) (by (statement_at set d) refl)
     where
-      named : ℕ → Bool
-      named n = option_map_or good (number_named set n) true
+      named : ℕ → Type 0
+      named n = OnSome (number_named set n) good
 
-      by_number : Part → Bool
-      by_number u = named u.source.number
-
-      refers_well : (p : Placed) → Contains (statements_of set) p → referring p ≡ Some d → named p.source.number ≡ true
-      refers_well p at refers = ap (λ o. option_map_or good (option_map (λ (x : Source). x.number) (option_and_then (meaning set) o)) true) (stands_at held_forest p at)
-          ∙ meant (meaning set p) refl
+      refers_well : (p : Placed) → Contains (statements_of set) p → referring p ≡ Some d → named p.source.number
+      refers_well p at refers = subst (λ o. OnSome (option_map (λ (x : Source). x.number) (option_and_then (meaning set) o)) good) (sym (stands_at held_forest p at)) (meant (meaning set p) refl)
         where
-          meant : (o : Option Source) → meaning set p ≡ o → option_map_or good (option_map (λ (x : Source). x.number) o) true ≡ true
-          meant None e = refl
-          meant (Some x) e = passes x.number (edge_among (definition_edge set) (statements_of set) p d x.number at
+          meant : (o : Option Source) → meaning set p ≡ o → OnSome (option_map (λ (x : Source). x.number) o) good
+          meant None e = tt
+          meant (Some x) e = holds x.number (edge_among (definition_edge set) (statements_of set) p d x.number at
               (ap₂ (λ m r. option_and_then (λ (y : Source). option_map (λ (a : ℕ). record { source = a; target = y.number }) r) m) e refers))
 
-      by : (o : Option Placed) → statement_at set d ≡ o → all_uses by_number (option_map_or row_if o end) ≡ true
-      by None e = refl
+      by : (o : Option Placed) → statement_at set d ≡ o → UsesAre (λ u. named u.source.number) (option_map_or row_if o end)
+      by None e = tt
       by (Some p) e = is (is_source_of grouping_word p.source) refl
         where
           at : Contains (statements_of set) p × (p.source.number ≡ d)
           at = among_them held_forest d p e
 
-          is : (b : Bool) → is_source_of grouping_word p.source ≡ b → all_uses by_number (cond b (laid p.below) end) ≡ true
-          is false other = refl
+          is : (b : Bool) → is_source_of grouping_word p.source ≡ b → UsesAre (λ u. named u.source.number) (cond b (laid p.below) end)
+          is false other = tt
           is true grouping = used_below named d ((p.source, p.below) ∷ p.ancestors) p.below
               (ap (λ b. option_map (λ (a : Source × Forest Source). a.0.number) (cond b (Some (p.source, p.below)) (find (λ (a : Source × Forest Source). is_source_of grouping_word a.0) p.ancestors))) grouping
               ∙ ap (λ n. Some n) at.1)

@@ -4,13 +4,13 @@ use Rattle.std.specs.Option.{option_map_or}
 use Rattle.yspec.specs.Forest.{Forest, end, size}
 use Rattle.yspec.specs.linking.Source.{Source}
 use Rattle.yspec.specs.linking.DerivedTypes.{number_named}
-use Rattle.yspec.specs.linking.Expansion.{groupings_of}
-use Rattle.yspec.specs.linking.NodeCounts.{node_count}
+use Rattle.yspec.specs.linking.Expansion.{groupings_of, row_in}
+use Rattle.yspec.specs.linking.NodeCounts.{counted, count_used, counts_within, node_count}
 use Rattle.yspec.specs.linking.Rewriting.{Ends}
 use Rattle.yspec.specs.schema.Breaks.{Break, least_from}
 use Rattle.yexpand.specs.NamedView.{row_named}
 use Rattle.yexpand.specs.Walk.{nodes_for, breaks_for, AllEnd}
-use Rattle.yexpand.specs.Counting.{count_at, refine_at}
+use Rattle.yexpand.specs.Counting.{count_at, many, refine_at}
 use Rattle.yexpand.specs.declared.groupings.Groupings.{Groupings}
 
 -- how many nodes the grouping has that the statement of a number uses
@@ -20,6 +20,11 @@ count_named g modules number = option_map_or (count_at g.counts.items) (number_n
 -- the refine that is told in it
 abbrev pub refine_named : Groupings → Forest Source → ℕ → Option Break
 refine_named g modules number = option_and_then (refine_at g.refines.items) (number_named modules number)
+
+-- a table holds how many nodes each grouping has, up to the bound
+abbrev pub AreCounts : List ℕ → Forest Source → Type 0
+AreCounts counts modules = (e : ℕ) → count_at counts e
+    ≡ min (counted (count_used modules (counts_within modules (groupings_of modules) (size modules))) (row_in (groupings_of modules) e)) many
 
 -- Where a grouping has no nodes, none come of it, and the refines in it are known.
 abbrev pub KnowsEmpty : Groupings → Forest Source → Type 0

@@ -1,13 +1,16 @@
 //! What is known of groupings before they are used: how many nodes they have, and which refines are told in those that have
 //! none (RFC 7950, 7.12).
 
-ghost use Rattle.std.specs.Prelude.{◌≡◌, ◌==◌, IfOk, None, length};
-ghost use Rattle.yspec.specs.linking.Expansion.{all_refine_breaks};
+ghost use Rattle.std.specs.Prelude.{◌≡◌, ◌==◌, ◌<◌, ℕ, IfOk, None, length, min, if◌then◌else◌};
+ghost use Rattle.yspec.specs.linking.Expansion.{all_refine_breaks, groupings_of, row_in};
+ghost use Rattle.yspec.specs.linking.NodeCounts.{counted};
 ghost use Rattle.yspec.specs.schema.Breaks.{least_from};
 ghost use Rattle.ypreorder.specs.View.{row_by};
 ghost use Rattle.ygrammar.specs.BreakView.{seen};
 ghost use Rattle.ygrammar.specs.SourceView.{source_view};
-ghost use Rattle.yexpand.specs.Counting.{refine_at, refine_by, told_list, top_refines};
+ghost use Rattle.yexpand.specs.Counting.{count_at, count_by, many, refine_at, refine_by, told_list, top_refines};
+ghost use Rattle.yexpand.specs.Knowing.{AreCounts};
+ghost use Rattle.yexpand.specs.Ordered.{AreInOrder};
 ghost use Rattle.yexpand.specs.NamedView.{modules_of};
 
 use crate::counting::{count_at, count_nodes};
@@ -95,6 +98,57 @@ fn least_used(
         }
     }
     told
+}
+
+/// So many times none.
+fn zeros(alloc: Global, count: usize) -> Result<Vec<u32>, AllocError>
+    ensures length { IfOk result (λ counts. length counts.items ≡ count) }
+    ensures zero { IfOk result (λ counts. (e : ℕ) → count_at counts.items e ≡ 0) }
+{
+    let mut counts = Vec::with_capacity(alloc, count)?;
+    for number in 0..count {
+        counts.push(0)?;
+    }
+    Ok(counts)
+}
+
+/// How many nodes the grouping of a number has, given how many those have that it uses; other statements have none.
+fn count_in(named: &Named<'_, '_>, counts: &[u32], number: u32) -> u32
+    ensures { let m = modules_of named.now in result
+        ≡ min (counted (count_by counts.now m) (row_in (groupings_of m) number)) many }
+{
+    match named.grouping(number) {
+        Some(row) => count_nodes(named, counts, false, row),
+        None => 0,
+    }
+}
+
+/// Sets the count of a number.
+fn set_count(counts: &mut Vec<u32>, number: u32, count: u32)
+    ensures length { length counts.new.items ≡ length counts.old.items }
+    ensures count { (e : ℕ) → number < length counts.old.items → count_at counts.new.items e
+        ≡ (if e == number then count else count_at counts.old.items e) }
+{
+    if let Some(place) = counts.get_mut(number as usize) {
+        *place = count;
+    }
+}
+
+/// How many nodes each grouping has, by their numbers, given an order in which each stands behind those that it uses.
+fn counts_of(
+    alloc: Global,
+    named: &Named<'_, '_>,
+    order: &[u32],
+) -> Result<Vec<u32>, AllocError>
+    requires { AreInOrder order.now (modules_of named.now) }
+    ensures { IfOk result (λ counts. AreCounts counts.items (modules_of named.now)) }
+{
+    let mut counts = zeros(alloc, named.sources().slots().len())?;
+    for number in order {
+        let count = count_in(named, &counts, *number);
+        set_count(&mut counts, *number, count);
+    }
+    Ok(counts)
 }
 
 impl Groupings {
