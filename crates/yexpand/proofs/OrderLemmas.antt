@@ -59,6 +59,12 @@ module _ (f : Forest held.Source) where
     pub known : (j : ℕ) → j < i → j < length nodes → table (get_or nodes j 0) ≡ min (total (get_or nodes j 0)) many
     pub others : (e : ℕ) → row e ≡ end → table e ≡ 0
 
+  pub counted_start : (nodes : List ℕ) (table : ℕ → ℕ) → ((e : ℕ) → table e ≡ 0) → AreCounted nodes table 0
+  counted_start nodes table none = record { known = λ j before inside. absurd (omega (arith, before)); others = λ e is. none e }
+
+  pub counted_further : (nodes : List ℕ) (table : ℕ → ℕ) (i j : ℕ) → j ≤ i → AreCounted nodes table i → AreCounted nodes table j
+  counted_further nodes table i j less so_far = record { known = λ k before inside. so_far.known k (omega (arith, before, less)) inside; others = so_far.others }
+
   abbrev by_table : (ℕ → ℕ) → Part → ℕ
   by_table table u = option_map_or table (number_named set u.source.number) 0
 

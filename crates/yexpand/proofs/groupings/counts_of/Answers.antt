@@ -1,0 +1,49 @@
+use Rattle.std.proofs.Common.{◌≡◌, ◌∙◌, ◌<◌, length, get_or, min, cond, arith, sym, ap}
+use Rattle.std.specs.Prelude.{◌==◌}
+use Rattle.yspec.specs.Forest.{size}
+use Rattle.yspec.specs.linking.Expansion.{groupings_of, row_in}
+use Rattle.yspec.specs.linking.NodeCounts.{counted}
+use Rattle.ypreorder.specs.View.{forest_in, slots_in}
+use Rattle.yexpand.specs.Counting.{count_at, count_by, many}
+use Rattle.yexpand.specs.NamedView.{modules_of}
+use Rattle.yexpand.proofs.OrderLemmas.{counted_start, counted_next, counted_all, counted_further}
+use Rattle.yexpand.proofs.WalkLemmas.{depth_of}
+use Rattle.yexpand.proofs.groupings.counts_of.Goals as goal
+
+pub loop-number-init : goal.loop-number-init
+loop-number-init c =
+    let m = modules_of c.args.named.now in
+    let f = forest_in c.args.named.now.sources.now.table in
+    let count = depth_of m (slots_in c.sources.result.now.table) c.slots.result.now (sym c.sources.ensures) c.slots.ensures in
+    let made = c.in_ok-counts.ensures.length in
+    record {
+      count = omega (arith, count, made);
+      known = counted_start f c.args.order.now (count_at c.in_ok-counts.counts.items) c.in_ok-counts.ensures.zero;
+    }
+
+pub loop-number-preserved : goal.loop-number-preserved
+loop-number-preserved c =
+    let m = modules_of c.args.named.now in
+    let f = forest_in c.args.named.now.sources.now.table in
+    let nodes = c.args.order.now in
+    let i = c.loop-number.number-index in
+    let old = c.loop-number.counts.items in
+    let number = get_or nodes i 0 in
+    let within : i < length nodes = c.loop-number-test.true in
+    let below = c.requires.within i within in
+    let long = c.loop-number.invariant.count in
+    let inside : number < length old = omega (arith, below, long) in
+    let own : c.count_in-count.result ≡ min (counted (count_by old m) (row_in (groupings_of m) number)) many =
+    c.count_in-count.ensures ∙ ap (λ counts. min (counted (count_by counts m) (row_in (groupings_of m) number)) many) c.deref.ensures.value in
+    record {
+      count = c.set_count.ensures.length ∙ long;
+      known = counted_next f nodes c.requires (count_at old) (count_at c.set_count.new.counts.items) i c.loop-number.invariant.known within
+          (λ e. c.set_count.ensures.count e inside ∙ ap (λ k. cond (e == number) k (count_at old e)) own);
+    }
+
+pub returns : goal.returns
+returns c = λ e.
+    let f = forest_in c.args.named.now.sources.now.table in
+    let nodes = c.args.order.now in
+    let table = count_at c.loop-number.counts.items in
+    counted_all f nodes c.requires table (counted_further f nodes table c.loop-number.number-index (length nodes) c.loop-number-test.false c.loop-number.invariant.known) e
