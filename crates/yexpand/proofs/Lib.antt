@@ -10,4 +10,5 @@ pub mod DepthLemmas
 pub mod CountLemmas
 pub mod WalkLemmas
 pub mod OrderLemmas
+pub mod ToldLemmas
 pub mod LeastLemmas

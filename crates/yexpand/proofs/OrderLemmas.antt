@@ -28,7 +28,7 @@ use Rattle.yexpand.proofs.UsedLemmas.{OnSome, UsesAre, are_weaker, tested, all_u
 use Rattle.yexpand.proofs.WalkLemmas.{all_pass}
 
 -- a row is empty or not
-empty_or_not : (f : Forest Part) (P : Type 0) → (f ≡ end → P) → ((f ≡ end → ⊥) → P) → P
+pub empty_or_not : (f : Forest Part) (P : Type 0) → (f ≡ end → P) → ((f ≡ end → ⊥) → P) → P
 empty_or_not end P none some = none refl
 empty_or_not (node p below after) P none some = some (λ e. absurd cc)
 
@@ -73,7 +73,7 @@ module _ (f : Forest held.Source) where
   module _ (nodes : List ℕ) (order : AreInOrder nodes set) where
     -- ---- no grouping leads to itself
 
-    good_at : (bound i : ℕ) → i < bound → i < length nodes → AllEnd set (suc i) (row (get_or nodes i 0))
+    pub good_at : (bound i : ℕ) → i < bound → i < length nodes → AllEnd set (suc i) (row (get_or nodes i 0))
     unfolding ends_within all_uses
     good_at zero i below within = absurd (omega (arith, below))
     good_at (suc bound) i below within =
@@ -112,7 +112,7 @@ module _ (f : Forest held.Source) where
 
     -- ---- how many nodes each has
 
-    total_size : (owner e : ℕ) → total e ≡ size (nodes_for set owner n (row e))
+    pub total_size : (owner e : ℕ) → total e ≡ size (nodes_for set owner n (row e))
     total_size owner e = counted_size owner meant (stands_for set groupings owner n) (count_is_size set groupings owner n) (row e)
 
     -- of what a `uses` stands for
@@ -122,7 +122,7 @@ module _ (f : Forest held.Source) where
     used_is : (u : Part) → used u ≡ size (nodes_for set 0 n (row_used set groupings u))
     used_is u = count_used_is_size set groupings 0 n u
 
-    total_none : (e : ℕ) → row e ≡ end → total e ≡ 0
+    pub total_none : (e : ℕ) → row e ≡ end → total e ≡ 0
     unfolding counted
     total_none e none = ap (counted meant) none
 

@@ -6,7 +6,7 @@ use Rattle.std.specs.Option.{option_map_or}
 use Rattle.std.proofs.lemmas.Bool.{and_parts}
 use Rattle.std.proofs.lemmas.Bool.Decides.{Decides-eqb}
 use Rattle.std.proofs.lemmas.List.Elements.{Contains-append_left, Contains-append_right}
-use Rattle.yspec.specs.Forest.{Forest, end, node}
+use Rattle.yspec.specs.Forest.{Forest, end, node, join}
 use Rattle.yspec.specs.linking.Circles.{referring, innermost, definition_edge, definition_edges}
 use Rattle.yspec.specs.linking.DerivedTypes.{number_named}
 use Rattle.yspec.specs.linking.Expansion.{is_uses, laid, row_in, groupings_of}
@@ -41,6 +41,10 @@ pub are_weaker : (P Q : Part → Type 0) → ((u : Part) → P u → Q u) → (f
 are_weaker P Q gives end are = tt
 are_weaker P Q gives (node p below after) are =
     ((λ e. gives p (are.0 e)), (λ e. are_weaker P Q gives below (are.1 e)), are_weaker P Q gives after are.2)
+
+pub are_join : (P : Part → Type 0) (f g : Forest Part) → UsesAre P (join f g) → UsesAre P f × UsesAre P g
+are_join P end g are = (tt, are)
+are_join P (node p below after) g are = let rest = are_join P after g are.2 in ((are.0, are.1, rest.0), rest.1)
 
 pub cases_are : (P : Part → Type 0) (f : Forest Part) → UsesAre P f → UsesAre P (as_cases f)
 cases_are P end are = tt

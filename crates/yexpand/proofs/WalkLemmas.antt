@@ -102,7 +102,7 @@ chosen-first c s below after = ap (chosen c) (laid-first s below after) ∙ chos
 abbrev laid_by : Bool → Bool → Source → Forest Source → Forest Part
 laid_by d u s below = cond d (node (part_of s below) (within s (laid below)) end) (cond u (node (part_of s below) end end) end)
 
-laid_so : (s : Source) (below : Forest Source) (d u : Bool) → defines_node s.keyword ≡ d → is_source_of uses_word s ≡ u → laid (node s below end) ≡ laid_by d u s below
+pub laid_so : (s : Source) (below : Forest Source) (d u : Bool) → defines_node s.keyword ≡ d → is_source_of uses_word s ≡ u → laid (node s below end) ≡ laid_by d u s below
 unfolding laid
 laid_so s below d u is used = ap₂ (λ x y. laid_by x y s below) is used
 
@@ -115,7 +115,7 @@ laid_none s below other =
     let both = neither (defines_node s.keyword) (is_source_of uses_word s) other in
     laid_so s below false false both.0 both.1
 
-no_node : (k : Keyword) → same_keyword uses_word k ≡ true → defines_node k ≡ false
+pub no_node : (k : Keyword) → same_keyword uses_word k ≡ true → defines_node k ≡ false
 no_node k used = let same : uses_word ≡ k = same_is uses_word k used in sym (ap defines_node same)
 
 pub laid_uses : (s : Source) (below : Forest Source) → is_source_of uses_word s ≡ true → laid (node s below end) ≡ node (part_of s below) end end
@@ -361,6 +361,10 @@ all_pass test passes (node p below after) = by (is_uses p) (all_pass test passes
     by : (b : Bool) → all_uses test below ≡ true → all_uses test after ≡ true → (cond b (test p) (all_uses test below) && all_uses test after) ≡ true
     by true inner rest = ap (λ x. x && all_uses test after) (passes p) ∙ rest
     by false inner rest = ap (λ x. x && all_uses test after) inner ∙ rest
+
+pub all_end_none : (modules : Forest Source) (depth : ℕ) (f : Forest Part) → f ≡ end → AllEnd modules depth f
+unfolding all_uses
+all_end_none modules depth f none = ap (all_uses (ends_within modules (groupings_of modules) depth)) none
 
 -- as many as there are statements, and one
 pub depth_of : (modules : Forest Source) (rows slots : List (Slot held.Source)) → modules ≡ numbered_by source_view 0 (forest_of rows) → slots ≡ rows

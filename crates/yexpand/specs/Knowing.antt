@@ -11,6 +11,7 @@ use Rattle.yspec.specs.schema.Breaks.{Break, least_from}
 use Rattle.yexpand.specs.NamedView.{row_named}
 use Rattle.yexpand.specs.Walk.{nodes_for, breaks_for, AllEnd}
 use Rattle.yexpand.specs.Counting.{count_at, many, refine_at}
+use Rattle.ygrammar.specs.declared.fault.BrokenRule.{BrokenRule}
 use Rattle.yexpand.specs.declared.groupings.Groupings.{Groupings}
 
 -- how many nodes the grouping has that the statement of a number uses
@@ -25,6 +26,12 @@ refine_named g modules number = option_and_then (refine_at g.refines.items) (num
 abbrev pub AreCounts : List ℕ → Forest Source → Type 0
 AreCounts counts modules = (e : ℕ) → count_at counts e
     ≡ min (counted (count_used modules (counts_within modules (groupings_of modules) (size modules))) (row_in (groupings_of modules) e)) many
+
+-- and which refine is told in each that has none
+abbrev pub AreRefines : List (Option BrokenRule) → Forest Source → Type 0
+AreRefines refines modules = (e owner : ℕ)
+    → counted (count_used modules (counts_within modules (groupings_of modules) (size modules))) (row_in (groupings_of modules) e) ≡ 0
+    → refine_at refines e ≡ least_from None (breaks_for modules owner (size modules) (row_in (groupings_of modules) e))
 
 -- Where a grouping has no nodes, none come of it, and the refines in it are known.
 abbrev pub KnowsEmpty : Groupings → Forest Source → Type 0

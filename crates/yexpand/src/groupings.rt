@@ -2,14 +2,16 @@
 //! none (RFC 7950, 7.12).
 
 ghost use Rattle.std.specs.Prelude.{◌≡◌, ◌==◌, ◌<◌, ℕ, IfOk, None, length, min, if◌then◌else◌};
-ghost use Rattle.yspec.specs.linking.Expansion.{all_refine_breaks, groupings_of, row_in};
+ghost use Rattle.yspec.specs.linking.Expansion.{all_refine_breaks, groupings_of, laid, row_in};
+ghost use Rattle.yspec.specs.Forest.{Forest};
+ghost use Rattle.yspec.specs.linking.Source as sources;
 ghost use Rattle.yspec.specs.linking.NodeCounts.{counted};
 ghost use Rattle.yspec.specs.schema.Breaks.{least_from};
 ghost use Rattle.ypreorder.specs.View.{row_by};
 ghost use Rattle.ygrammar.specs.BreakView.{seen};
 ghost use Rattle.ygrammar.specs.SourceView.{source_view};
 ghost use Rattle.yexpand.specs.Counting.{count_at, count_by, many, refine_at, refine_by, told_list, top_refines};
-ghost use Rattle.yexpand.specs.Knowing.{AreCounts};
+ghost use Rattle.yexpand.specs.Knowing.{AreCounts, AreRefines};
 ghost use Rattle.yexpand.specs.Ordered.{AreInOrder};
 ghost use Rattle.yexpand.specs.NamedView.{modules_of};
 
@@ -151,15 +153,97 @@ fn counts_of(
     Ok(counts)
 }
 
+/// So many times nothing told.
+fn none_told(alloc: Global, count: usize) -> Result<Vec<Option<BrokenRule>>, AllocError>
+    ensures length { IfOk result (λ refines. length refines.items ≡ count) }
+    ensures none { IfOk result (λ refines. (e : ℕ) → refine_at refines.items e ≡ None) }
+{
+    let mut refines = Vec::with_capacity(alloc, count)?;
+    for number in 0..count {
+        refines.push(None)?;
+    }
+    Ok(refines)
+}
+
+/// The refine that is told in the grouping of a number, which has no nodes, given those told in what it uses.
+fn refine_told(
+    named: &Named<'_, '_>,
+    refines: &[Option<BrokenRule>],
+    number: u32,
+) -> Option<BrokenRule>
+    ensures { let m = modules_of named.now in (row : Forest sources.Source)
+        × (laid row ≡ row_in (groupings_of m) number)
+        × (seen result ≡ least_from None (top_refines refines.now m row)) }
+{
+    match named.grouping(number) {
+        Some(row) => least_used(named, refines, row),
+        None => None,
+    }
+}
+
+/// Sets what is told of a number.
+fn set_refine(
+    refines: &mut Vec<Option<BrokenRule>>,
+    number: u32,
+    refine: Option<BrokenRule>,
+)
+    ensures length { length refines.new.items ≡ length refines.old.items }
+    ensures refine { (e : ℕ) → number < length refines.old.items → refine_at refines.new.items e
+        ≡ (if e == number then seen refine else refine_at refines.old.items e) }
+{
+    if let Some(place) = refines.get_mut(number as usize) {
+        *place = refine;
+    }
+}
+
+/// Which refine is told in each grouping without nodes, by their numbers, given how many nodes each has and an order in
+/// which each stands behind those that it uses.
+fn refines_of(
+    alloc: Global,
+    named: &Named<'_, '_>,
+    order: &[u32],
+    counts: &[u32],
+) -> Result<Vec<Option<BrokenRule>>, AllocError>
+    requires order { AreInOrder order.now (modules_of named.now) }
+    requires counts { AreCounts counts.now (modules_of named.now) }
+    ensures { IfOk result (λ refines. AreRefines refines.items (modules_of named.now)) }
+{
+    let mut refines = none_told(alloc, named.sources().slots().len())?;
+    for number in order {
+        if count_at(counts, *number as usize) != 0 {
+            continue;
+        }
+        let refine = refine_told(named, &refines, *number);
+        set_refine(&mut refines, *number, refine);
+    }
+    Ok(refines)
+}
+
 impl Groupings {
-    ghost use Rattle.std.specs.Prelude.{◌≡◌, ◌==◌, ◌<◌, ℕ, None, min, length, if◌then◌else◌};
+    ghost use Rattle.std.specs.Prelude.{◌≡◌, ◌==◌, ◌<◌, ℕ, IfOk, None, min, length, if◌then◌else◌};
     ghost use Rattle.yspec.specs.schema.Breaks.{least_from};
     ghost use Rattle.yspec.specs.linking.Expansion.{groupings_of, row_in};
     ghost use Rattle.yspec.specs.linking.NodeCounts.{counted};
     ghost use Rattle.ygrammar.specs.BreakView.{seen};
     ghost use Rattle.yexpand.specs.NamedView.{modules_of};
     ghost use Rattle.yexpand.specs.Counting.{count_at, count_by, many, refine_at};
-    ghost use Rattle.yexpand.specs.Knowing.{count_named, refine_named};
+    ghost use Rattle.yexpand.specs.Knowing.{count_named, refine_named, AreCounts, Knows};
+    ghost use Rattle.yexpand.specs.Ordered.{AreInOrder};
+
+    /// What is known of the groupings of a set, given an order in which each stands behind those that it uses.
+    pub fn of(
+        alloc: Global,
+        named: &Named<'_, '_>,
+        order: &[u32],
+    ) -> Result<Groupings, AllocError>
+        requires { AreInOrder order.now (modules_of named.now) }
+        ensures knows { IfOk result (λ g. Knows g (modules_of named.now)) }
+        ensures counts { IfOk result (λ g. AreCounts g.counts.items (modules_of named.now)) }
+    {
+        let counts = counts_of(alloc, named, order)?;
+        let refines = refines_of(alloc, named, order, &counts)?;
+        Ok(Groupings { counts, refines })
+    }
 
     /// Whether the grouping that the statement of a number uses has no nodes.
     pub(crate) fn is_without_nodes(&self, named: &Named<'_, '_>, number: u32) -> bool

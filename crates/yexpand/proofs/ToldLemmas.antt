@@ -1,0 +1,239 @@
+-- Which refines are told in groupings without nodes, learned in the same order.
+use Rattle.std.proofs.Common.{◌≡◌, ℕ, zero, suc, ◌+◌, ◌-◌, ◌<◌, ◌≤◌, Bool, true, false, cond, ◌||◌, List, [], ◌∷◌, ◌++◌, length, get_or, Option, Some, None, refl, sym, ap, ap₂, ◌∙◌, arith, subst}
+use Rattle.std.specs.Prelude.{⊤, ◌==◌, option_and_then}
+use Rattle.std.specs.List.{Contains}
+use Rattle.std.specs.Option.{option_map_or}
+use Rattle.std.proofs.lemmas.Bool.Decides.{Decides-eqb}
+use Rattle.std.proofs.lemmas.List.{get_or_default}
+use Rattle.yspec.specs.Forest.{Forest, end, node, size, join}
+use Rattle.yspec.specs.linking.Circles.{definition_edges}
+use Rattle.yspec.specs.linking.DerivedTypes.{number_named}
+use Rattle.yspec.specs.linking.Expansion.{Grouping, groupings_of, laid, row_in, row_used, all_refine_breaks, refine_breaks, unfit_for}
+use Rattle.yspec.specs.linking.Keyword.{uses_word}
+use Rattle.yspec.specs.linking.NodeCounts.{counted, count_used, counts_within}
+use Rattle.yspec.specs.linking.Parts.{Part, defines_node, part_of, within}
+use Rattle.yspec.specs.linking.Source.{Source, is_source_of}
+use Rattle.yspec.specs.schema.Breaks.{Break, least_from}
+use Rattle.yspec.proofs.LinkingProofs.ExpansionLemmas.{count_used_is_size, none_in}
+use Rattle.yspec.proofs.LinkingProofs.GroupingLemmas.{refines_of_none}
+use Rattle.yspec.proofs.SchemaProofs.LeastLemmas.{least_of_both}
+use Rattle.ygraph.specs.Reaching.{HasEdge}
+use Rattle.ypreorder.specs.Layout.{numbered_by}
+use Rattle.ygrammar.specs.declared.fault.BrokenRule.{BrokenRule}
+use Rattle.ygrammar.specs.declared.source.Source as held
+use Rattle.ygrammar.specs.SourceView.{source_view}
+use Rattle.yexpand.specs.Counting.{refine_at, refine_by, told_list, top_refines}
+use Rattle.yexpand.specs.Ordered.{AreInOrder}
+use Rattle.yexpand.specs.Walk.{nodes_for, breaks_for, AllEnd}
+use Rattle.yexpand.proofs.CountLemmas.{counted_join, counted_node, counted_uses}
+use Rattle.yexpand.proofs.DepthLemmas.{all_deeper_to, same_nodes, same_breaks}
+use Rattle.yexpand.proofs.LeastLemmas.{least_told}
+use Rattle.yexpand.proofs.OrderLemmas.{total, total_size, total_none, good, good_at, empty_or_not}
+use Rattle.yexpand.proofs.UsedLemmas.{OnSome, UsesAre, are_join, are_weaker, all_used}
+use Rattle.yexpand.proofs.WalkLemmas.{chosen-first, laid_so, no_node, all_end_none, breaks_join, breaks_uses, breaks_none, unfit_so}
+
+module _ (f : Forest held.Source) where
+  abbrev set : Forest Source
+  set = numbered_by source_view 0 f
+
+  abbrev groupings : List Grouping
+  groupings = groupings_of set
+
+  abbrev row : ℕ → Forest Part
+  row e = row_in groupings e
+
+  abbrev n : ℕ
+  n = size set
+
+  abbrev meant : Part → ℕ
+  meant = count_used set (counts_within set groupings n)
+
+  -- of the first groupings in an order that have no nodes it is known which refine is told; in others none is
+  pub record AreTold (nodes : List ℕ) (refines : ℕ → Option Break) (i : ℕ) : Type 0 where
+    pub known : (j : ℕ) → j < i → j < length nodes → (owner : ℕ) → total f (get_or nodes j 0) ≡ 0
+        → refines (get_or nodes j 0) ≡ least_from None (breaks_for set owner n (row (get_or nodes j 0)))
+    pub others : (e : ℕ) → row e ≡ end → refines e ≡ None
+
+  pub told_start : (nodes : List ℕ) (refines : ℕ → Option Break) → ((e : ℕ) → refines e ≡ None) → AreTold nodes refines 0
+  told_start nodes refines none = record { known = λ j before inside owner is. absurd (omega (arith, before)); others = λ e is. none e }
+
+  pub told_further : (nodes : List ℕ) (refines : ℕ → Option Break) (i j : ℕ) → j ≤ i → AreTold nodes refines i → AreTold nodes refines j
+  told_further nodes refines i j less so_far = record { known = λ k before inside. so_far.known k (omega (arith, before, less)) inside; others = so_far.others }
+
+  module _ (nodes : List ℕ) (order : AreInOrder nodes set) where
+    -- ---- a row without nodes
+
+    -- what is known of the grouping that a `uses` names
+    abbrev Knows : List (Option BrokenRule) → ℕ → ℕ → Type 0
+    Knows refines owner e = AllEnd set (n - 1) (row e) × (total f e ≡ 0 → refine_at refines e ≡ least_from None (breaks_for set owner n (row e)))
+
+    module _ (refines : List (Option BrokenRule)) (owner : ℕ) (some : n ≡ 0 → ⊥) where
+      abbrev Known : Part → Type 0
+      Known u = OnSome (number_named set u.source.number) (Knows refines owner)
+
+      abbrev less : ℕ
+      less = n - 1
+
+      -- one `uses`
+      used_is : (u : Part) → meant u ≡ size (nodes_for set owner less (row_used set groupings u))
+      used_is u =
+          let next : n ≡ suc less = omega (arith, some) in
+          ap (λ d. count_used set (counts_within set groupings d) u) next ∙ count_used_is_size set groupings owner less u
+
+      inner_told : (x : Option Break) (s : Source) (below : Forest Source) → Known (part_of s below) → meant (part_of s below) ≡ 0
+          → least_from x (told_list (refine_by refines set s.number)) ≡ least_from x (breaks_for set owner less (row_used set groupings (part_of s below)))
+      inner_told x s below known none = by (number_named set s.number) known (sym (used_is (part_of s below)) ∙ none)
+        where
+          by : (o : Option ℕ) → OnSome o (Knows refines owner) → size (nodes_for set owner less (option_map_or row o end)) ≡ 0
+              → least_from x (told_list (option_and_then (refine_at refines) o)) ≡ least_from x (breaks_for set owner less (option_map_or row o end))
+          by None known none = ap (least_from x) (sym (breaks_none set owner less))
+          by (Some e) known none =
+              let enough = good f nodes order e in
+              let total_is : total f e ≡ 0 = total_size f nodes order owner e ∙ (ap size (same_nodes set groupings owner n less (row e) enough known.0) ∙ none) in
+              ap (λ o. least_from x (told_list o)) (known.1 total_is)
+              ∙ (least_told x (breaks_for set owner n (row e)) ∙ ap (least_from x) (same_breaks set groupings owner n less (row e) enough known.0))
+
+      one_told : (x : Option Break) (s : Source) (below : Forest Source) → Known (part_of s below) → meant (part_of s below) ≡ 0
+          → least_from x (told_list (refine_by refines set s.number) ++ all_refine_breaks below) ≡ least_from x (unfit_for set groupings owner n (part_of s below))
+      one_told x s below known none =
+          let u = part_of s below in
+          let inner = nodes_for set owner less (row_used set groupings u) in
+          let empty : inner ≡ end = none_in inner refl (sym (used_is u) ∙ none) in
+          let own : all_refine_breaks below ≡ refine_breaks set owner below inner = sym (ap (refine_breaks set owner below) empty ∙ refines_of_none set owner below) in
+          least_of_both x (told_list (refine_by refines set s.number)) (all_refine_breaks below)
+          ∙ (ap₂ least_from (inner_told x s below known none) own
+          ∙ (sym (least_of_both x (breaks_for set owner less (row_used set groupings u)) (refine_breaks set owner below inner))
+          ∙ ap (least_from x) (sym (unfit_so set owner s below n some))))
+
+      statement_told : (x : Option Break) (s : Source) (below : Forest Source) → UsesAre Known (laid (node s below end)) → counted meant (laid (node s below end)) ≡ 0
+          → (d : Bool) → defines_node s.keyword ≡ d → (u : Bool) → is_source_of uses_word s ≡ u
+          → least_from x (cond (is_source_of uses_word s) (told_list (refine_by refines set s.number) ++ all_refine_breaks below) [])
+          ≡ least_from x (breaks_for set owner n (laid (node s below end)))
+      statement_told x s below are none d is true used =
+          let p = part_of s below in
+          let laid_is : laid (node s below end) ≡ node p end end = laid_so s below false true (no_node s.keyword used) used in
+          let known = (subst (UsesAre Known) laid_is are).0 used in
+          let counts : meant p ≡ 0 = sym (counted_uses meant p used) ∙ (ap (counted meant) (sym laid_is) ∙ none) in
+          ap (λ b. least_from x (cond b (told_list (refine_by refines set s.number) ++ all_refine_breaks below) [])) used
+          ∙ (one_told x s below known counts ∙ ap (least_from x) (sym (breaks_uses set owner n p used) ∙ ap (breaks_for set owner n) (sym laid_is)))
+      statement_told x s below are none true is false used = absurd (
+          let p = part_of s below in
+          let inside = within s (laid below) in
+          let laid_is : laid (node s below end) ≡ node p inside end = laid_so s below true false is used in
+          let counts = sym (ap (counted meant) laid_is ∙ counted_node meant p inside used) ∙ none in
+          omega (arith, counts))
+      statement_told x s below are none false is false used =
+          let laid_is : laid (node s below end) ≡ end = laid_so s below false false is used in
+          ap (λ b. least_from x (cond b (told_list (refine_by refines set s.number) ++ all_refine_breaks below) [])) used
+          ∙ ap (least_from x) (sym (breaks_none set owner n) ∙ ap (breaks_for set owner n) (sym laid_is))
+
+      row_told : (x : Option Break) (g : Forest Source) → UsesAre Known (laid g) → counted meant (laid g) ≡ 0
+          → least_from x (top_refines refines set g) ≡ least_from x (breaks_for set owner n (laid g))
+      unfolding laid counted
+      row_told x end are none = ap (least_from x) (sym (breaks_none set owner n))
+      row_told x (node s below after) are none =
+          let first = laid (node s below end) in
+          let split : laid (node s below after) ≡ join first (laid after) = chosen-first false s below after in
+          let both = are_join Known first (laid after) (subst (UsesAre Known) split are) in
+          let sum : counted meant first + counted meant (laid after) ≡ 0 = sym (counted_join meant first (laid after)) ∙ (sym (ap (counted meant) split) ∙ none) in
+          let here = cond (is_source_of uses_word s) (told_list (refine_by refines set s.number) ++ all_refine_breaks below) [] in
+          let others = top_refines refines set after in
+          let own = breaks_for set owner n first in
+          let rest = breaks_for set owner n (laid after) in
+          least_of_both x here others
+          ∙ (row_told (least_from x here) after both.1 (omega (arith, sum))
+          ∙ (ap (λ o. least_from o rest) (statement_told x s below both.0 (omega (arith, sum)) (defines_node s.keyword) refl (is_source_of uses_word s) refl)
+          ∙ (sym (least_of_both x own rest) ∙ ap (least_from x) (sym (breaks_join set owner n first (laid after)) ∙ ap (breaks_for set owner n) (sym split)))))
+
+    -- ---- one grouping after another
+
+    told_own : (refines : List (Option BrokenRule)) (owner i : ℕ) → AreTold nodes (refine_at refines) i → i < length nodes → total f (get_or nodes i 0) ≡ 0
+        → (own : Forest Source) → laid own ≡ row (get_or nodes i 0)
+        → least_from None (top_refines refines set own) ≡ least_from None (breaks_for set owner n (row (get_or nodes i 0)))
+    told_own refines owner i so_far within none own is =
+        let d = get_or nodes i 0 in
+        let below = order.within i within in
+        let some : n ≡ 0 → ⊥ = λ e. absurd (omega (arith, e, below)) in
+        row_told refines owner some None own (subst (UsesAre (Known refines owner some)) (sym is)
+        (all_used f (Knows refines owner) d (λ e edge. empty_or_not (row e) (Knows refines owner e)
+        (λ empty. (enough_none e empty, (λ t. so_far.others e empty ∙ sym (ap (λ r. least_from None (breaks_for set owner n r)) empty ∙ ap (least_from None) (breaks_none set owner n)))))
+        (λ full.
+        let at = order.among e full in
+        let inside = at.1 in
+        let stands : get_or nodes at.0 0 ≡ e = get_or_default nodes at.0 0 e inside ∙ at.2 in
+        let before = order.behind d e edge i at.0 within inside refl stands in
+        let few = order.count in
+        subst (Knows refines owner) stands
+        (all_deeper_to set groupings (suc at.0) (n - 1) (row (get_or nodes at.0 0)) (omega (arith, before, within, few)) (good_at f nodes order (suc at.0) at.0 (omega arith) inside),
+        so_far.known at.0 before inside owner)))))
+        (ap (counted meant) is ∙ none)
+        ∙ ap (λ r. least_from None (breaks_for set owner n r)) is
+      where
+        enough_none : (e : ℕ) → row e ≡ end → AllEnd set (n - 1) (row e)
+        enough_none e empty = all_end_none set (n - 1) (row e) empty
+
+    pub told_next : (refines more : List (Option BrokenRule)) (i : ℕ) → AreTold nodes (refine_at refines) i → i < length nodes → total f (get_or nodes i 0) ≡ 0
+        → (own : Forest Source) → laid own ≡ row (get_or nodes i 0)
+        → ((e : ℕ) → refine_at more e ≡ cond (e == get_or nodes i 0) (least_from None (top_refines refines set own)) (refine_at refines e))
+        → AreTold nodes (refine_at more) (i + 1)
+    told_next refines more i so_far within none own own_is set_to = record { known = known; others = others }
+      where
+        d : ℕ
+        d = get_or nodes i 0
+
+        told : Option Break
+        told = least_from None (top_refines refines set own)
+
+        known : (j : ℕ) → j < i + 1 → j < length nodes → (owner : ℕ) → total f (get_or nodes j 0) ≡ 0
+            → refine_at more (get_or nodes j 0) ≡ least_from None (breaks_for set owner n (row (get_or nodes j 0)))
+        known j below inside owner empty = set_to (get_or nodes j 0) ∙ by (get_or nodes j 0 == d) refl
+          where
+            earlier : (get_or nodes j 0 == d) ≡ false → j < i
+            earlier other = less_than (i == j) refl
+              where
+                clash : i ≡ j → ⊥
+                clash same = absurd (let e : false ≡ true = sym other ∙ (Decides-eqb (get_or nodes j 0) d).1 (ap (λ k. get_or nodes k 0) (sym same)) in cc)
+
+                less_than : (b : Bool) → (i == j) ≡ b → j < i
+                less_than true is = absurd (clash ((Decides-eqb i j).0 is))
+                less_than false is = let differ : (i ≡ j) → ⊥ = clash in omega (arith, below, differ)
+
+            by : (b : Bool) → (get_or nodes j 0 == d) ≡ b → cond b told (refine_at refines (get_or nodes j 0)) ≡ least_from None (breaks_for set owner n (row (get_or nodes j 0)))
+            by true is = told_own refines owner i so_far within none own own_is
+                ∙ ap (λ e. least_from None (breaks_for set owner n (row e))) (sym ((Decides-eqb (get_or nodes j 0) d).0 is))
+            by false is = so_far.known j (earlier is) inside owner empty
+
+        others : (e : ℕ) → row e ≡ end → refine_at more e ≡ None
+        others e empty = set_to e ∙ by (e == d) refl
+          where
+            by : (b : Bool) → (e == d) ≡ b → cond b told (refine_at refines e) ≡ None
+            by true is =
+                let same : e ≡ d = (Decides-eqb e d).0 is in
+                let row_is : row d ≡ end = ap row (sym same) ∙ empty in
+                told_own refines 0 i so_far within none own own_is
+                ∙ (ap (λ r. least_from None (breaks_for set 0 n r)) row_is ∙ ap (least_from None) (breaks_none set 0 n))
+            by false is = so_far.others e empty
+
+    -- one that has nodes is passed over
+    pub told_passed : (refines : ℕ → Option Break) (i : ℕ) → AreTold nodes refines i → (total f (get_or nodes i 0) ≡ 0 → ⊥) → AreTold nodes refines (i + 1)
+    told_passed refines i so_far full = record { known = λ j below inside owner empty. by j below inside owner empty (i == j) refl; others = so_far.others }
+      where
+        by : (j : ℕ) → j < i + 1 → j < length nodes → (owner : ℕ) → total f (get_or nodes j 0) ≡ 0 → (b : Bool) → (i == j) ≡ b
+            → refines (get_or nodes j 0) ≡ least_from None (breaks_for set owner n (row (get_or nodes j 0)))
+        by j below inside owner empty true is =
+            let same : i ≡ j = (Decides-eqb i j).0 is in
+            absurd (full (ap (λ k. total f (get_or nodes k 0)) same ∙ empty))
+        by j below inside owner empty false is =
+            let differ : (i ≡ j) → ⊥ = λ same. let clash : false ≡ true = sym is ∙ (Decides-eqb i j).1 same in absurd cc in
+            so_far.known j (omega (arith, below, differ)) inside owner empty
+
+    -- and in the end of all
+    pub told_all : (refines : ℕ → Option Break) → AreTold nodes refines (length nodes) → (e owner : ℕ) → total f e ≡ 0
+        → refines e ≡ least_from None (breaks_for set owner n (row e))
+    told_all refines so_far e owner empty = empty_or_not (row e) (refines e ≡ least_from None (breaks_for set owner n (row e)))
+        (λ none. so_far.others e none ∙ sym (ap (λ r. least_from None (breaks_for set owner n r)) none ∙ ap (least_from None) (breaks_none set owner n)))
+        (λ some.
+        let at = order.among e some in
+        let inside = at.1 in
+        let stands : get_or nodes at.0 0 ≡ e = get_or_default nodes at.0 0 e inside ∙ at.2 in
+        subst (λ d. total f d ≡ 0 → refines d ≡ least_from None (breaks_for set owner n (row d))) stands (so_far.known at.0 inside inside owner) empty)
