@@ -1,5 +1,5 @@
 -- Which refines are told in groupings without nodes, learned in the same order.
-use Rattle.std.proofs.Common.{◌≡◌, ℕ, zero, suc, ◌+◌, ◌-◌, ◌<◌, ◌≤◌, Bool, true, false, cond, ◌||◌, List, [], ◌∷◌, ◌++◌, length, get_or, Option, Some, None, refl, sym, ap, ap₂, ◌∙◌, arith, subst}
+use Rattle.std.proofs.Common.{◌≡◌, ℕ, zero, suc, ◌+◌, ◌-◌, ◌<◌, ◌≤◌, Bool, true, false, cond, ◌||◌, List, [], ◌∷◌, ◌++◌, length, get_or, min, Option, Some, None, refl, sym, ap, ap₂, ◌∙◌, arith, subst}
 use Rattle.std.specs.Prelude.{⊤, ◌==◌, option_and_then}
 use Rattle.std.specs.List.{Contains}
 use Rattle.std.specs.Option.{option_map_or}
@@ -22,7 +22,7 @@ use Rattle.ypreorder.specs.Layout.{numbered_by}
 use Rattle.ygrammar.specs.declared.fault.BrokenRule.{BrokenRule}
 use Rattle.ygrammar.specs.declared.source.Source as held
 use Rattle.ygrammar.specs.SourceView.{source_view}
-use Rattle.yexpand.specs.Counting.{refine_at, refine_by, told_list, top_refines}
+use Rattle.yexpand.specs.Counting.{many, refine_at, refine_by, told_list, top_refines}
 use Rattle.yexpand.specs.Ordered.{AreInOrder}
 use Rattle.yexpand.specs.Walk.{nodes_for, breaks_for, AllEnd}
 use Rattle.yexpand.proofs.CountLemmas.{counted_join, counted_node, counted_uses}
@@ -30,7 +30,7 @@ use Rattle.yexpand.proofs.DepthLemmas.{all_deeper_to, same_nodes, same_breaks}
 use Rattle.yexpand.proofs.LeastLemmas.{least_told}
 use Rattle.yexpand.proofs.OrderLemmas.{total, total_size, total_none, good, good_at, empty_or_not}
 use Rattle.yexpand.proofs.UsedLemmas.{OnSome, UsesAre, are_join, are_weaker, all_used}
-use Rattle.yexpand.proofs.WalkLemmas.{chosen-first, laid_so, no_node, all_end_none, breaks_join, breaks_uses, breaks_none, unfit_so}
+use Rattle.yexpand.proofs.WalkLemmas.{chosen-first, laid_so, no_node, all_end_none, breaks_join, breaks_uses, breaks_none, nodes_none, unfit_so}
 
 module _ (f : Forest held.Source) where
   abbrev set : Forest Source
@@ -237,3 +237,21 @@ module _ (f : Forest held.Source) where
         let inside = at.1 in
         let stands : get_or nodes at.0 0 ≡ e = get_or_default nodes at.0 0 e inside ∙ at.2 in
         subst (λ d. total f d ≡ 0 → refines d ≡ least_from None (breaks_for set owner n (row d))) stands (so_far.known at.0 inside inside owner) empty)
+
+    -- ---- what is known when a grouping without nodes is used
+
+    pub known_used : (counts : ℕ → ℕ) (refines : ℕ → Option Break) → ((e : ℕ) → counts e ≡ min (total f e) many)
+        → ((e owner : ℕ) → total f e ≡ 0 → refines e ≡ least_from None (breaks_for set owner n (row e)))
+        → (o : Option ℕ) (owner depth : ℕ) → option_map_or counts o 0 ≡ 0 → AllEnd set depth (option_map_or row o end)
+        → (nodes_for set owner depth (option_map_or row o end) ≡ end)
+        × (option_and_then refines o ≡ least_from None (breaks_for set owner depth (option_map_or row o end)))
+    known_used counts refines counts_are refines_are None owner depth none ends =
+        (nodes_none set owner depth, sym (ap (least_from None) (breaks_none set owner depth)))
+    known_used counts refines counts_are refines_are (Some e) owner depth none ends =
+        let is = counts_are e in
+        let empty : total f e ≡ 0 = omega (arith, is, none) in
+        let enough = good f nodes order e in (
+          same_nodes set groupings owner depth n (row e) ends enough
+              ∙ none_in (nodes_for set owner n (row e)) refl (sym (total_size f nodes order owner e) ∙ empty),
+          refines_are e owner empty ∙ ap (least_from None) (same_breaks set groupings owner n depth (row e) enough ends),
+        )

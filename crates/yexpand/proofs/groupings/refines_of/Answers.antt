@@ -28,3 +28,28 @@ returns c = λ e owner empty.
     let nodes = c.args.order.now in
     let refines = refine_at c.loop-number.refines.items in
     told_all f nodes c.requires.order refines (told_further f nodes refines c.loop-number.number-index (length nodes) c.loop-number-test.false c.loop-number.invariant.known) e owner empty
+
+pub loop-number-preserved : goal.loop-number-preserved
+loop-number-preserved c =
+    let m = modules_of c.args.named.now in
+    let f = forest_in c.args.named.now.sources.now.table in
+    let nodes = c.args.order.now in
+    let i = c.loop-number.number-index in
+    let old = c.loop-number.refines.items in
+    let new = c.set_refine.new.refines.items in
+    let number = get_or nodes i 0 in
+    let within : i < length nodes = c.loop-number-test.true in
+    let below = c.requires.order.within i within in
+    let long = c.loop-number.invariant.count in
+    let inside : number < length old = omega (arith, below, long) in
+    let held : count_at c.args.counts.now number ≡ 0 = sym c.count_at.ensures ∙ first_of (search rules, grind arith, cc) in
+    let counted_is = c.requires.counts number in
+    let empty : total f number ≡ 0 = omega (arith, held, counted_is) in
+    let told = c.refine_told-refine.ensures in
+    let own : seen c.refine_told-refine.result ≡ least_from None (top_refines old m told.0) =
+    told.2 ∙ ap (λ rs. least_from None (top_refines rs m told.0)) c.deref.ensures.value in
+    record {
+      count = c.set_refine.ensures.length ∙ long;
+      known = told_next f nodes c.requires.order old new i c.loop-number.invariant.known within empty told.0 told.1
+          (λ e. c.set_refine.ensures.refine e inside ∙ ap (λ o. cond (e == number) o (refine_at old e)) own);
+    }
