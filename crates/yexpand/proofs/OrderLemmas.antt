@@ -24,7 +24,7 @@ use Rattle.yexpand.specs.Ordered.{AreInOrder}
 use Rattle.yexpand.specs.Walk.{nodes_for, breaks_for, AllEnd}
 use Rattle.yexpand.proofs.CountLemmas.{counted_capped, counted_size}
 use Rattle.yexpand.proofs.DepthLemmas.{all_deeper_to, same_nodes}
-use Rattle.yexpand.proofs.UsedLemmas.{OnSome, UsesAre, are_weaker, tested, all_used}
+use Rattle.yexpand.proofs.UsedLemmas.{OnSome, UsesAre, are_all, are_weaker, tested, all_used}
 use Rattle.yexpand.proofs.WalkLemmas.{all_pass}
 
 -- a row is empty or not
@@ -67,6 +67,37 @@ module _ (f : Forest held.Source) where
 
   abbrev by_table : (ℕ → ℕ) → Part → ℕ
   by_table table u = option_map_or table (number_named set u.source.number) 0
+
+  pub total_size : (owner e : ℕ) → total e ≡ size (nodes_for set owner n (row e))
+  total_size owner e = counted_size owner meant (stands_for set groupings owner n) (count_is_size set groupings owner n) (row e)
+
+  -- of what a `uses` stands for
+  abbrev pub used : Part → ℕ
+  used = count_used set (counts_within set groupings (suc n))
+
+  used_is : (u : Part) → used u ≡ size (nodes_for set 0 n (row_used set groupings u))
+  used_is u = count_used_is_size set groupings 0 n u
+
+  -- what a table holds of what a `uses` names is what that has, up to the bound
+  pub used_capped : (table : ℕ → ℕ) (u : Part) → OnSome (number_named set u.source.number) (λ e. min (table e) many ≡ min (total e) many)
+      → min (by_table table u) many ≡ min (used u) many
+  unfolding replaced
+  used_capped table u are = by (number_named set u.source.number) are ∙ ap (λ k. min k many) (sym (used_is u))
+    where
+      by : (o : Option ℕ) → OnSome o (λ e. min (table e) many ≡ min (total e) many)
+          → min (option_map_or table o 0) many ≡ min (size (nodes_for set 0 n (option_map_or row o end))) many
+      by None is = refl
+      by (Some e) is = is ∙ ap (λ k. min k many) (total_size 0 e)
+
+  -- a row counted by a table of all
+  pub row_capped : (table : ℕ → ℕ) → ((e : ℕ) → table e ≡ min (total e) many) → (g : Forest Part)
+      → min (counted (by_table table) g) many ≡ min (counted used g) many
+  row_capped table known g = counted_capped (by_table table) used g (are_all (λ u. min (by_table table u) many ≡ min (used u) many)
+      (λ u. used_capped table u (on_all (number_named set u.source.number))) g)
+    where
+      on_all : (o : Option ℕ) → OnSome o (λ e. min (table e) many ≡ min (total e) many)
+      on_all None = tt
+      on_all (Some e) = let is = known e in omega (arith, is)
 
   -- ---- and in an order
 
@@ -112,16 +143,6 @@ module _ (f : Forest held.Source) where
 
     -- ---- how many nodes each has
 
-    pub total_size : (owner e : ℕ) → total e ≡ size (nodes_for set owner n (row e))
-    total_size owner e = counted_size owner meant (stands_for set groupings owner n) (count_is_size set groupings owner n) (row e)
-
-    -- of what a `uses` stands for
-    abbrev used : Part → ℕ
-    used = count_used set (counts_within set groupings (suc n))
-
-    used_is : (u : Part) → used u ≡ size (nodes_for set 0 n (row_used set groupings u))
-    used_is u = count_used_is_size set groupings 0 n u
-
     pub total_none : (e : ℕ) → row e ≡ end → total e ≡ 0
     unfolding counted
     total_none e none = ap (counted meant) none
@@ -130,17 +151,6 @@ module _ (f : Forest held.Source) where
     total_deeper : (e : ℕ) → counted used (row e) ≡ total e
     total_deeper e = counted_size 0 used (stands_for set groupings 0 (suc n)) (count_is_size set groupings 0 (suc n)) (row e)
         ∙ (ap size (same_nodes set groupings 0 (suc n) n (row e) (all_pass (ends_within set groupings (suc n)) straight (row e)) (good e)) ∙ sym (total_size 0 e))
-
-    -- what a table holds of what a `uses` names is what that has, up to the bound
-    used_capped : (table : ℕ → ℕ) (u : Part) → OnSome (number_named set u.source.number) (λ e. min (table e) many ≡ min (total e) many)
-        → min (by_table table u) many ≡ min (used u) many
-    unfolding replaced
-    used_capped table u are = by (number_named set u.source.number) are ∙ ap (λ k. min k many) (sym (used_is u))
-      where
-        by : (o : Option ℕ) → OnSome o (λ e. min (table e) many ≡ min (total e) many)
-            → min (option_map_or table o 0) many ≡ min (size (nodes_for set 0 n (option_map_or row o end))) many
-        by None is = refl
-        by (Some e) is = is ∙ ap (λ k. min k many) (total_size 0 e)
 
     counted_own : (table : ℕ → ℕ) (i : ℕ) → AreCounted nodes table i → i < length nodes
         → min (counted (by_table table) (row (get_or nodes i 0))) many ≡ min (total (get_or nodes i 0)) many

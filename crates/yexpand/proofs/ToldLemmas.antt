@@ -89,7 +89,7 @@ module _ (f : Forest held.Source) where
           by None known none = ap (least_from x) (sym (breaks_none set owner less))
           by (Some e) known none =
               let enough = good f nodes order e in
-              let total_is : total f e ≡ 0 = total_size f nodes order owner e ∙ (ap size (same_nodes set groupings owner n less (row e) enough known.0) ∙ none) in
+              let total_is : total f e ≡ 0 = total_size f owner e ∙ (ap size (same_nodes set groupings owner n less (row e) enough known.0) ∙ none) in
               ap (λ o. least_from x (told_list o)) (known.1 total_is)
               ∙ (least_told x (breaks_for set owner n (row e)) ∙ ap (least_from x) (same_breaks set groupings owner n less (row e) enough known.0))
 
@@ -252,6 +252,6 @@ module _ (f : Forest held.Source) where
         let empty : total f e ≡ 0 = omega (arith, is, none) in
         let enough = good f nodes order e in (
           same_nodes set groupings owner depth n (row e) ends enough
-              ∙ none_in (nodes_for set owner n (row e)) refl (sym (total_size f nodes order owner e) ∙ empty),
+              ∙ none_in (nodes_for set owner n (row e)) refl (sym (total_size f owner e) ∙ empty),
           refines_are e owner empty ∙ ap (least_from None) (same_breaks set groupings owner n depth (row e) enough ends),
         )

@@ -42,6 +42,10 @@ are_weaker P Q gives end are = tt
 are_weaker P Q gives (node p below after) are =
     ((λ e. gives p (are.0 e)), (λ e. are_weaker P Q gives below (are.1 e)), are_weaker P Q gives after are.2)
 
+pub are_all : (P : Part → Type 0) → ((u : Part) → P u) → (f : Forest Part) → UsesAre P f
+are_all P all end = tt
+are_all P all (node p below after) = ((λ e. all p), (λ e. are_all P all below), are_all P all after)
+
 pub are_join : (P : Part → Type 0) (f g : Forest Part) → UsesAre P (join f g) → UsesAre P f × UsesAre P g
 are_join P end g are = (tt, are)
 are_join P (node p below after) g are = let rest = are_join P after g are.2 in ((are.0, are.1, rest.0), rest.1)

@@ -21,7 +21,7 @@ use yword::Keyword;
 const MANY: u32 = 65_536;
 
 /// A count, or that from which on all are the same.
-fn capped(count: u32) -> u32
+pub(crate) fn capped(count: u32) -> u32
     ensures { result ≡ min count many }
 {
     count.min(MANY)

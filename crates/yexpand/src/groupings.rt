@@ -15,7 +15,7 @@ ghost use Rattle.yexpand.specs.Knowing.{AreCounts, AreRefines};
 ghost use Rattle.yexpand.specs.Ordered.{AreInOrder};
 ghost use Rattle.yexpand.specs.NamedView.{modules_of};
 
-use crate::counting::{count_at, count_nodes};
+use crate::counting::{capped, count_at, count_nodes};
 use crate::named::Named;
 use std::alloc::{AllocError, Global};
 use ygrammar::{BrokenRule, CompileCode, Source, broken, least};
@@ -223,7 +223,7 @@ impl Groupings {
     ghost use Rattle.std.specs.Prelude.{◌≡◌, ◌==◌, ◌<◌, ℕ, IfOk, None, min, length, if◌then◌else◌};
     ghost use Rattle.yspec.specs.schema.Breaks.{least_from};
     ghost use Rattle.yspec.specs.linking.Expansion.{groupings_of, row_in};
-    ghost use Rattle.yspec.specs.linking.NodeCounts.{counted};
+    ghost use Rattle.yspec.specs.linking.NodeCounts.{counted, node_count};
     ghost use Rattle.ygrammar.specs.BreakView.{seen};
     ghost use Rattle.yexpand.specs.NamedView.{modules_of};
     ghost use Rattle.yexpand.specs.Counting.{count_at, count_by, many, refine_at};
@@ -243,6 +243,18 @@ impl Groupings {
         let counts = counts_of(alloc, named, order)?;
         let refines = refines_of(alloc, named, order, &counts)?;
         Ok(Groupings { counts, refines })
+    }
+
+    /// How many nodes the set defines, without expanding; 65,536 stands for more.
+    pub fn node_count(&self, named: &Named<'_, '_>) -> u32
+        requires { AreCounts self.now.counts.items (modules_of named.now) }
+        ensures { result ≡ min (node_count (modules_of named.now)) many }
+    {
+        let mut count = 0;
+        for top in named.sources().modules() {
+            count = capped(count + count_nodes(named, &self.counts, false, top.children()));
+        }
+        count
     }
 
     /// Whether the grouping that the statement of a number uses has no nodes.
