@@ -1,5 +1,5 @@
 -- Counting parts, up to a bound.
-use Rattle.std.proofs.Common.{◌≡◌, ℕ, suc, ◌+◌, ◌≤◌, Bool, true, false, cond, min, refl, sym, ap, ap₂, ◌∙◌, arith}
+use Rattle.std.proofs.Common.{◌≡◌, ℕ, suc, ◌+◌, ◌≤◌, Bool, true, false, cond, min, refl, ap, ◌∙◌, arith}
 use Rattle.yspec.specs.Forest.{Forest, node, end, join, size}
 use Rattle.yspec.specs.linking.Parts.{Part}
 use Rattle.yspec.specs.linking.Expansion.{is_uses, owned_by, replaced}

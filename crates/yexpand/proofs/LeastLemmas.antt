@@ -1,5 +1,5 @@
 -- The least of a list from one so far on is the lesser of that one and the least of the list.
-use Rattle.std.proofs.Common.{◌≡◌, ℕ, ◌<◌, ◌≤◌, Bool, true, false, cond, List, [], ◌∷◌, Option, Some, None, refl, sym, ap, ◌∙◌, arith}
+use Rattle.std.proofs.Common.{◌≡◌, ℕ, ◌<◌, Bool, true, false, cond, List, [], ◌∷◌, Option, Some, None, refl, sym, ap, ◌∙◌, arith}
 use Rattle.std.specs.Prelude.{nat_lt, ◌==◌, ◌&&◌, ◌||◌}
 use Rattle.std.proofs.lemmas.Bool.{lt-ltb, ltb-true, le-ltb, ltb-false}
 use Rattle.std.proofs.lemmas.Bool.Decides.{Decides-eqb}
@@ -31,9 +31,9 @@ module _ {A : Type 0} (key : A → ℕ) (others : A → A → Bool) where
       same true is less e = alike ((Decides-eqb (key a) (key b)).0 is) e
       same false is less e = apart (λ yes. let clash : false ≡ true = e ∙ yes in absurd cc)
           (λ no.
-              let above = ltb-false (key a) (key b) less in
-              let differ : (key a ≡ key b) → ⊥ = (λ s. let clash : false ≡ true = sym is ∙ (Decides-eqb (key a) (key b)).1 s in absurd cc) in
-              omega (arith, above, differ))
+          let above = ltb-false (key a) (key b) less in
+          let differ : (key a ≡ key b) → ⊥ = (λ s. let clash : false ≡ true = sym is ∙ (Decides-eqb (key a) (key b)).1 s in absurd cc) in
+          omega (arith, above, differ))
 
       by : (x : Bool) → nat_lt (key a) (key b) ≡ x → (x || (key a == key b && others a b)) ≡ answer → Compared a b answer
       by true is e = apart (λ yes. ltb-true (key a) (key b) is) (λ no. let clash : true ≡ false = e ∙ no in absurd cc)

@@ -1,5 +1,5 @@
 -- What nodes state after refines.
-use Rattle.std.proofs.Common.{◌≡◌, List, [], ◌∷◌, ◌++◌, map, refl, sym, ap, ◌∙◌}
+use Rattle.std.proofs.Common.{◌≡◌, List, [], ◌∷◌, ◌++◌, map, refl, ap, ◌∙◌}
 use Rattle.std.proofs.lemmas.List.{map-append}
 use Rattle.yspec.specs.Forest.{Forest, join}
 use Rattle.yspec.specs.linking.Source.{Source}

@@ -1,30 +1,26 @@
 -- What is known of groupings, learned in an order in which each stands behind those that it uses.
-use Rattle.std.proofs.Common.{◌≡◌, ℕ, zero, suc, ◌+◌, ◌<◌, ◌≤◌, Bool, true, false, cond, ◌&&◌, List, [], ◌∷◌, ◌++◌, length, get_or, min, Option, Some, None, refl, sym, ap, ap₂, ◌∙◌, arith, subst}
-use Rattle.std.specs.Prelude.{⊤, ◌==◌, find}
-use Rattle.std.specs.List.{Contains}
+use Rattle.std.proofs.Common.{◌≡◌, ℕ, zero, suc, ◌+◌, ◌<◌, ◌≤◌, Bool, true, false, cond, List, length, get_or, min, Option, Some, None, refl, sym, ap, ◌∙◌, arith, subst}
+use Rattle.std.specs.Prelude.{◌==◌}
 use Rattle.std.specs.Option.{option_map_or}
-use Rattle.std.proofs.lemmas.Bool.{and_parts}
 use Rattle.std.proofs.lemmas.Bool.Decides.{Decides-eqb}
 use Rattle.std.proofs.lemmas.List.{get_or_default}
-use Rattle.yspec.specs.Forest.{Forest, end, node, size, join}
-use Rattle.yspec.specs.linking.Circles.{definition_edges}
+use Rattle.yspec.specs.Forest.{Forest, end, node, size}
 use Rattle.yspec.specs.linking.DerivedTypes.{number_named}
-use Rattle.yspec.specs.linking.Expansion.{Grouping, is_uses, owned_by, groupings_of, row_in, row_used, replaced, stands_for}
+use Rattle.yspec.specs.linking.Expansion.{Grouping, groupings_of, row_in, row_used, replaced, stands_for}
 use Rattle.yspec.specs.linking.NodeCounts.{counted, count_used, counts_within}
 use Rattle.yspec.specs.linking.Parts.{Part}
 use Rattle.yspec.specs.linking.Rewriting.{all_uses, ends_within, Ends}
 use Rattle.yspec.specs.linking.Source.{Source}
-use Rattle.yspec.proofs.LinkingProofs.ExpansionLemmas.{count_is_size, count_used_is_size, size_join}
-use Rattle.ygraph.specs.Reaching.{HasEdge}
+use Rattle.yspec.proofs.LinkingProofs.ExpansionLemmas.{count_is_size, count_used_is_size}
 use Rattle.ypreorder.specs.Layout.{numbered_by}
 use Rattle.ygrammar.specs.declared.source.Source as held
 use Rattle.ygrammar.specs.SourceView.{source_view}
 use Rattle.yexpand.specs.Counting.{many}
 use Rattle.yexpand.specs.Ordered.{AreInOrder}
-use Rattle.yexpand.specs.Walk.{nodes_for, breaks_for, AllEnd}
+use Rattle.yexpand.specs.Walk.{nodes_for, AllEnd}
 use Rattle.yexpand.proofs.CountLemmas.{counted_capped, counted_size}
 use Rattle.yexpand.proofs.DepthLemmas.{all_deeper_to, same_nodes}
-use Rattle.yexpand.proofs.UsedLemmas.{OnSome, UsesAre, are_all, are_weaker, tested, all_used}
+use Rattle.yexpand.proofs.UsedLemmas.{OnSome, are_all, are_weaker, tested, all_used}
 use Rattle.yexpand.proofs.WalkLemmas.{all_pass}
 
 -- a row is empty or not

@@ -1,5 +1,5 @@
 -- Statements where they stand, by their numbers: the one of a number, what it names, and those that stand below it.
-use Rattle.std.proofs.Common.{◌≡◌, ℕ, zero, suc, ◌+◌, ◌<◌, Bool, true, false, cond, List, [], ◌∷◌, ◌++◌, length, map, get_or, Option, Some, None, refl, sym, ap, ◌∙◌, arith, subst}
+use Rattle.std.proofs.Common.{◌≡◌, ℕ, zero, suc, ◌+◌, ◌<◌, Bool, true, false, cond, List, [], ◌∷◌, ◌++◌, length, get_or, Option, Some, None, refl, sym, ap, ◌∙◌, arith, subst}
 use Rattle.std.specs.Prelude.{⊤, slice_get, option_map, option_and_then, find, ◌==◌}
 use Rattle.std.specs.List.{Contains}
 use Rattle.std.proofs.lemmas.Bool.Decides.{Decides-eqb}
@@ -7,7 +7,7 @@ use Rattle.std.proofs.lemmas.List.Elements.{Contains-append_left, Contains-appen
 use Rattle.std.proofs.lemmas.Option.{slice_get-map, slice_get-get_or}
 use mathlib.Core.Logic.{⊎_elim}
 use Rattle.yspec.specs.Forest.{Forest, end, node, size}
-use Rattle.yspec.specs.linking.Source.{Source, is_source_of}
+use Rattle.yspec.specs.linking.Source.{Source}
 use Rattle.yspec.specs.linking.Scopes.{Placed, placed, statements_of, statement_at, meaning}
 use Rattle.yspec.specs.linking.DerivedTypes.{number_named}
 use Rattle.ypreorder.specs.Layout.{numbered_by}

@@ -1,11 +1,11 @@
 -- What a refine does to nodes, by where its target stands.
 use Rattle.std.proofs.Common.{◌≡◌, ℕ, ◌++◌, Bool, true, false, cond, not, ◌&&◌, List, [], length, Option, Some, None, refl, sym, ap, ap₂, ◌∙◌}
-use Rattle.std.specs.Prelude.{option_map, option_and_then}
+use Rattle.std.specs.Prelude.{option_map}
 use Rattle.std.specs.Option.{option_map_or}
 use Rattle.yspec.specs.Forest.{Forest, node, end}
 use Rattle.yspec.specs.linking.Source.{Source}
 use Rattle.yspec.specs.linking.Parts.{Part}
-use Rattle.yspec.specs.linking.Expansion.{is_refine, is_fit, may_bear, refine_steps, part_at, changed_at, overridden, after_refine, refined}
+use Rattle.yspec.specs.linking.Expansion.{is_refine, is_fit, may_bear, refine_steps, changed_at, overridden, after_refine, refined}
 use Rattle.yspec.specs.schema.Breaks.{Break, when}
 use Rattle.ypreorder.specs.Layout.{Place, places}
 use Rattle.yexpand.specs.TableView.{changed_place, refined_part}

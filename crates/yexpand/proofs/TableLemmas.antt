@@ -1,11 +1,11 @@
 -- The parts that lie in a table once one of them is changed, and the row that begins at a number.
-use Rattle.std.proofs.Common.{◌≡◌, ℕ, zero, suc, ◌+◌, ◌≤◌, List, [], ◌∷◌, ◌++◌, length, take, drop, Option, Some, slice_set, refl, sym, ap, ap₂, ◌∙◌, arith}
+use Rattle.std.proofs.Common.{◌≡◌, ℕ, zero, suc, ◌+◌, ◌≤◌, List, [], ◌∷◌, ◌++◌, length, drop, Option, Some, slice_set, refl, sym, ap, ◌∙◌, arith}
 use Rattle.std.specs.Prelude.{slice_get}
 use Rattle.yspec.specs.Forest.{Forest}
 use Rattle.yspec.specs.linking.Parts.{Part}
 use Rattle.ypreorder.specs.Layout.{Place, places, laid, seen, numbered_by, forest_of}
 use Rattle.ypreorder.specs.declared.slot.Slot.{Slot}
-use Rattle.ypreorder.proofs.LayoutLemmas.{forest_seen, length-seen, length-laid, length-places}
+use Rattle.ypreorder.proofs.LayoutLemmas.{forest_seen}
 use Rattle.yexpand.specs.declared.nodes.ExpandedNode.{ExpandedNode}
 use Rattle.yexpand.specs.NodeView.{numbered_part, part_view}
 use Rattle.yexpand.specs.TableView.{changed_place}

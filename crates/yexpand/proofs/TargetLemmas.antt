@@ -1,5 +1,5 @@
 -- The target of a refine among the places of a row, and the row with it changed.
-use Rattle.std.proofs.Common.{◌≡◌, ℕ, zero, suc, ◌+◌, ◌<◌, Bool, true, false, cond, List, [], ◌∷◌, ◌++◌, length, Option, Some, None, refl, sym, ap, ap₂, ◌∙◌, arith, subst, length-append}
+use Rattle.std.proofs.Common.{◌≡◌, ℕ, zero, suc, ◌+◌, ◌<◌, Bool, true, false, cond, List, [], ◌∷◌, ◌++◌, length, Option, Some, None, refl, sym, ap, ◌∙◌, arith, subst}
 use Rattle.std.specs.Prelude.{option_map, option_and_then}
 use Rattle.yspec.specs.Forest.{Forest, end, node, size, row, change_nth, below_nth}
 use Rattle.yspec.specs.linking.Parts.{Part}

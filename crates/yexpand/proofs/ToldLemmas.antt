@@ -1,12 +1,10 @@
 -- Which refines are told in groupings without nodes, learned in the same order.
-use Rattle.std.proofs.Common.{◌≡◌, ℕ, zero, suc, ◌+◌, ◌-◌, ◌<◌, ◌≤◌, Bool, true, false, cond, ◌||◌, List, [], ◌∷◌, ◌++◌, length, get_or, min, Option, Some, None, refl, sym, ap, ap₂, ◌∙◌, arith, subst}
-use Rattle.std.specs.Prelude.{⊤, ◌==◌, option_and_then}
-use Rattle.std.specs.List.{Contains}
+use Rattle.std.proofs.Common.{◌≡◌, ℕ, suc, ◌+◌, ◌-◌, ◌<◌, ◌≤◌, Bool, true, false, cond, List, [], ◌++◌, length, get_or, min, Option, Some, None, refl, sym, ap, ap₂, ◌∙◌, arith, subst}
+use Rattle.std.specs.Prelude.{◌==◌, option_and_then}
 use Rattle.std.specs.Option.{option_map_or}
 use Rattle.std.proofs.lemmas.Bool.Decides.{Decides-eqb}
 use Rattle.std.proofs.lemmas.List.{get_or_default}
 use Rattle.yspec.specs.Forest.{Forest, end, node, size, join}
-use Rattle.yspec.specs.linking.Circles.{definition_edges}
 use Rattle.yspec.specs.linking.DerivedTypes.{number_named}
 use Rattle.yspec.specs.linking.Expansion.{Grouping, groupings_of, laid, row_in, row_used, all_refine_breaks, refine_breaks, unfit_for}
 use Rattle.yspec.specs.linking.Keyword.{uses_word}
@@ -17,7 +15,6 @@ use Rattle.yspec.specs.schema.Breaks.{Break, least_from}
 use Rattle.yspec.proofs.LinkingProofs.ExpansionLemmas.{count_used_is_size, none_in}
 use Rattle.yspec.proofs.LinkingProofs.GroupingLemmas.{refines_of_none}
 use Rattle.yspec.proofs.SchemaProofs.LeastLemmas.{least_of_both}
-use Rattle.ygraph.specs.Reaching.{HasEdge}
 use Rattle.ypreorder.specs.Layout.{numbered_by}
 use Rattle.ygrammar.specs.declared.fault.BrokenRule.{BrokenRule}
 use Rattle.ygrammar.specs.declared.source.Source as held
@@ -28,8 +25,8 @@ use Rattle.yexpand.specs.Walk.{nodes_for, breaks_for, AllEnd}
 use Rattle.yexpand.proofs.CountLemmas.{counted_join, counted_node, counted_uses}
 use Rattle.yexpand.proofs.DepthLemmas.{all_deeper_to, same_nodes, same_breaks}
 use Rattle.yexpand.proofs.LeastLemmas.{least_told}
-use Rattle.yexpand.proofs.OrderLemmas.{total, total_size, total_none, good, good_at, empty_or_not}
-use Rattle.yexpand.proofs.UsedLemmas.{OnSome, UsesAre, are_join, are_weaker, all_used}
+use Rattle.yexpand.proofs.OrderLemmas.{total, total_size, good, good_at, empty_or_not}
+use Rattle.yexpand.proofs.UsedLemmas.{OnSome, UsesAre, are_join, all_used}
 use Rattle.yexpand.proofs.WalkLemmas.{chosen-first, laid_so, no_node, all_end_none, breaks_join, breaks_uses, breaks_none, nodes_none, unfit_so}
 
 module _ (f : Forest held.Source) where
@@ -163,9 +160,10 @@ module _ (f : Forest held.Source) where
         let stands : get_or nodes at.0 0 ≡ e = get_or_default nodes at.0 0 e inside ∙ at.2 in
         let before = order.behind d e edge i at.0 within inside refl stands in
         let few = order.count in
-        subst (Knows refines owner) stands
-        (all_deeper_to set groupings (suc at.0) (n - 1) (row (get_or nodes at.0 0)) (omega (arith, before, within, few)) (good_at f nodes order (suc at.0) at.0 (omega arith) inside),
-        so_far.known at.0 before inside owner)))))
+        subst (Knows refines owner) stands (
+          all_deeper_to set groupings (suc at.0) (n - 1) (row (get_or nodes at.0 0)) (omega (arith, before, within, few)) (good_at f nodes order (suc at.0) at.0 (omega arith) inside),
+          so_far.known at.0 before inside owner,
+        )))))
         (ap (counted meant) is ∙ none)
         ∙ ap (λ r. least_from None (breaks_for set owner n r)) is
       where

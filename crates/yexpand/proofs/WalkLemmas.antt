@@ -193,7 +193,7 @@ adds_join parent f g bs cs a b c first second =
     ∙ (length-append (parts_in a.table) here
     ∙ ap₂ (λ m n. m + n) (length-seen numbered_part 0 (layout.laid (slots_of a.table)) ∙ length-laid (slots_of a.table)) (length-places parent k f)))) in (
       second.0 ∙ (ap₂ (λ ps n. ps ++ places parent n g) first.0 count
-      ∙ (append_assoc (parts_in a.table) here (places parent (k + size f) g) ∙ ap (λ rest. parts_in a.table ++ rest) (sym (places-join parent k f g)))),
+          ∙ (append_assoc (parts_in a.table) here (places parent (k + size f) g) ∙ ap (λ rest. parts_in a.table ++ rest) (sym (places-join parent k f g)))),
       second.1 ∙ (ap (λ o. least_from o cs) first.1 ∙ sym (least_of_both (seen a.told) bs cs)),
     )
 
@@ -272,10 +272,10 @@ module _ (modules : Forest Source) (owner depth : ℕ) where
       let k = length (slots_of old.table) in
       let inner = nodes below in (
         grown numbered_part (slots_of old.table) (slots_of mid.table) (slots_of full.table) (slots_of new.table) parent l n inner mid_is n_is full_is.0 new_is
-        ∙ ap (λ ps. parts_in old.table ++ ps)
-        (ap₂ (λ (q : Part) m. record { parent = parent; label = q; below = size inner } ∷ places (Some m) (m + 1) inner) label n_is
-        ∙ (sym (append-nil (record { parent = parent; label = owned_by owner p; below = size inner } ∷ places (Some k) (k + 1) inner))
-        ∙ ap (places parent k) (sym (nodes_node p below other)))),
+            ∙ ap (λ ps. parts_in old.table ++ ps)
+            (ap₂ (λ (q : Part) m. record { parent = parent; label = q; below = size inner } ∷ places (Some m) (m + 1) inner) label n_is
+            ∙ (sym (append-nil (record { parent = parent; label = owned_by owner p; below = size inner } ∷ places (Some k) (k + 1) inner))
+            ∙ ap (places parent k) (sym (nodes_node p below other)))),
         ap seen new_told ∙ (full_is.1 ∙ (ap (λ o. least_from (seen o) (breaks below)) mid_told ∙ ap (least_from (seen old.told)) (sym (breaks_node p below other)))),
       )
 

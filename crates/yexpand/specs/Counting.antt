@@ -1,14 +1,13 @@
 -- What tables say of the groupings that statements use.
-use Rattle.std.specs.Prelude.{◌≡◌, ℕ, zero, suc, ◌++◌, Bool, true, List, [], ◌∷◌, Option, Some, None, option_and_then, slice_get, min, map, option_map, if◌then◌else◌}
+use Rattle.std.specs.Prelude.{ℕ, ◌++◌, List, [], ◌∷◌, Option, Some, None, option_and_then, slice_get, if◌then◌else◌}
 use Rattle.std.specs.Option.{option_map_or}
-use Rattle.yspec.specs.Forest.{Forest, end, node, size}
+use Rattle.yspec.specs.Forest.{Forest, end, node}
 use Rattle.yspec.specs.linking.Keyword.{uses_word}
 use Rattle.yspec.specs.linking.Source.{Source, is_source_of}
 use Rattle.yspec.specs.linking.Parts.{Part}
 use Rattle.yspec.specs.linking.DerivedTypes.{number_named}
-use Rattle.yspec.specs.linking.Expansion.{groupings_of, row_in, all_refine_breaks}
-use Rattle.yspec.specs.linking.NodeCounts.{counted}
-use Rattle.yspec.specs.schema.Breaks.{Break, least_from}
+use Rattle.yspec.specs.linking.Expansion.{all_refine_breaks}
+use Rattle.yspec.specs.schema.Breaks.{Break}
 use Rattle.ygrammar.specs.BreakView.{seen}
 use Rattle.ygrammar.specs.declared.fault.BrokenRule.{BrokenRule}
 

@@ -1,11 +1,11 @@
 -- What is known of groupings before they are used.
-use Rattle.std.specs.Prelude.{◌≡◌, ℕ, suc, List, Bool, true, Option, None, option_and_then, min}
+use Rattle.std.specs.Prelude.{◌≡◌, ℕ, suc, List, Option, None, option_and_then, min}
 use Rattle.std.specs.Option.{option_map_or}
 use Rattle.yspec.specs.Forest.{Forest, end, size}
 use Rattle.yspec.specs.linking.Source.{Source}
 use Rattle.yspec.specs.linking.DerivedTypes.{number_named}
 use Rattle.yspec.specs.linking.Expansion.{groupings_of, row_in}
-use Rattle.yspec.specs.linking.NodeCounts.{counted, count_used, counts_within, node_count}
+use Rattle.yspec.specs.linking.NodeCounts.{counted, count_used, counts_within}
 use Rattle.yspec.specs.linking.Rewriting.{Ends}
 use Rattle.yspec.specs.schema.Breaks.{Break, least_from}
 use Rattle.yexpand.specs.NamedView.{row_named}

@@ -1,5 +1,5 @@
 -- What comes of the statements of a row where each `uses` is replaced.
-use Rattle.std.specs.Prelude.{◌≡◌, ◌++◌, ◌||◌, ℕ, suc, Bool, true, List, length, Option, Some, None, if◌then◌else◌}
+use Rattle.std.specs.Prelude.{◌≡◌, ◌++◌, ◌||◌, ℕ, Bool, true, List, length, Option, if◌then◌else◌}
 use Rattle.yspec.specs.Forest.{Forest}
 use Rattle.yspec.specs.linking.Keyword.{uses_word}
 use Rattle.yspec.specs.linking.Source.{Source, is_source_of}

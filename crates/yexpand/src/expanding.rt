@@ -132,7 +132,14 @@ fn add_node<'a, 't>(
         parent: Some(number),
         ..place
     };
-    add_nodes(alloc, context, inside, in_choice, statement.children(), made)?;
+    add_nodes(
+        alloc,
+        context,
+        inside,
+        in_choice,
+        statement.children(),
+        made,
+    )?;
     made.table.close(number);
     Ok(())
 }
@@ -216,7 +223,10 @@ fn add_grouping<'a, 't>(
         (row_named (modules_of context.now.named.now) number) made.old made.new) }
 {
     if context.groupings.is_without_nodes(context.named, number) {
-        made.told = least_of(made.told, context.groupings.refine_in(context.named, number));
+        made.told = least_of(
+            made.told,
+            context.groupings.refine_in(context.named, number),
+        );
         return Ok(());
     }
     match context.named.grouping_used(number) {

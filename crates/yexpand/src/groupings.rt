@@ -77,7 +77,10 @@ fn least_refine(
     for statement in statements {
         let source = statement.label();
         if Keyword::Refine.is(source.keyword) {
-            told = least(told, broken(CompileCode::C14, source.home, source.statement));
+            told = least(
+                told,
+                broken(CompileCode::C14, source.home, source.statement),
+            );
         }
     }
     told
@@ -137,11 +140,7 @@ fn set_count(counts: &mut Vec<u32>, number: u32, count: u32)
 }
 
 /// How many nodes each grouping has, by their numbers, given an order in which each stands behind those that it uses.
-fn counts_of(
-    alloc: Global,
-    named: &Named<'_, '_>,
-    order: &[u32],
-) -> Result<Vec<u32>, AllocError>
+fn counts_of(alloc: Global, named: &Named<'_, '_>, order: &[u32]) -> Result<Vec<u32>, AllocError>
     requires { AreInOrder order.now (modules_of named.now) }
     ensures { IfOk result (λ counts. AreCounts counts.items (modules_of named.now)) }
 {
@@ -182,11 +181,7 @@ fn refine_told(
 }
 
 /// Sets what is told of a number.
-fn set_refine(
-    refines: &mut Vec<Option<BrokenRule>>,
-    number: u32,
-    refine: Option<BrokenRule>,
-)
+fn set_refine(refines: &mut Vec<Option<BrokenRule>>, number: u32, refine: Option<BrokenRule>)
     ensures length { length refines.new.items ≡ length refines.old.items }
     ensures refine { (e : ℕ) → number < length refines.old.items → refine_at refines.new.items e
         ≡ (if e == number then seen refine else refine_at refines.old.items e) }
@@ -231,11 +226,7 @@ impl Groupings {
     ghost use Rattle.yexpand.specs.Ordered.{AreInOrder};
 
     /// What is known of the groupings of a set, given an order in which each stands behind those that it uses.
-    pub fn of(
-        alloc: Global,
-        named: &Named<'_, '_>,
-        order: &[u32],
-    ) -> Result<Groupings, AllocError>
+    pub fn of(alloc: Global, named: &Named<'_, '_>, order: &[u32]) -> Result<Groupings, AllocError>
         requires { AreInOrder order.now (modules_of named.now) }
         ensures knows { IfOk result (λ g. Knows g (modules_of named.now)) }
         ensures counts { IfOk result (λ g. AreCounts g.counts.items (modules_of named.now)) }

@@ -40,7 +40,9 @@ fn target_in(
     };
     let home = refine.label().home;
     match node_at(prefixes, home, owner, &path, nodes) {
-        Some(node) if may_bear(node.label().keyword(), refine.children()) => Ok(Some(node.number())),
+        Some(node) if may_bear(node.label().keyword(), refine.children()) => Ok(Some(
+            node.number(),
+        )),
         _ => Ok(None),
     }
 }

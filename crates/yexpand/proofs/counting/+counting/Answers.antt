@@ -1,4 +1,4 @@
-use Rattle.std.proofs.Common.{rules, ◌≡◌, ◌+◌, ◌||◌, ◌&&◌, not, suc, min, true, false, cond, arith, sym, ap, ap₂, ◌∙◌, refl}
+use Rattle.std.proofs.Common.{◌≡◌, ◌+◌, ◌||◌, ◌&&◌, not, min, true, false, cond, arith, sym, ap, ap₂, ◌∙◌, refl}
 use Rattle.yspec.specs.Forest.{end, node, size}
 use Rattle.yspec.specs.linking.Expansion.{laid}
 use Rattle.yspec.specs.linking.Keyword.{same_keyword, choice_word, case_word, uses_word}

@@ -1,4 +1,4 @@
-use Rattle.std.proofs.Common.{rules, ◌≡◌, ◌++◌, ◌-◌, ◌&&◌, ◌||◌, not, [], true, false, cond, suc, length, arith, sym, ap, ap₂, ◌∙◌, refl, subst, Some}
+use Rattle.std.proofs.Common.{rules, ◌≡◌, ◌++◌, ◌-◌, ◌&&◌, ◌||◌, not, true, false, cond, suc, length, arith, sym, ap, ap₂, ◌∙◌, refl, subst, Some}
 use Rattle.std.proofs.lemmas.Bool.{and_parts}
 use Rattle.std.proofs.lemmas.Bool.Decides.{Decides-eqb}
 use Rattle.std.proofs.lemmas.Result.{on_ok_weaker}
@@ -7,7 +7,7 @@ use Rattle.yspec.specs.Forest.{end, node, size}
 use Rattle.yspec.specs.linking.Keyword.{same_keyword, choice_word, case_word, uses_word}
 use Rattle.yspec.specs.linking.Source.{is_source_of}
 use Rattle.yspec.specs.linking.Parts.{defines_node, part_of, case_for, within, as_cases}
-use Rattle.yspec.specs.linking.Expansion.{laid, row_used, groupings_of, stands_for, unfit_for, refined, refine_breaks}
+use Rattle.yspec.specs.linking.Expansion.{laid, row_used, groupings_of, stands_for, refined, refine_breaks}
 use Rattle.yspec.specs.schema.Breaks.{least_from}
 use Rattle.yspec.proofs.SchemaProofs.LeastLemmas.{least_of_both}
 use Rattle.ypreorder.specs.Layout.{places}
@@ -25,7 +25,7 @@ use Rattle.yexpand.specs.TableView.{parts_in, slots_of}
 use Rattle.yexpand.specs.Walk.{chosen, is_laid, nodes_for, breaks_for, AllEnd, AddsParts}
 use Rattle.yexpand.specs.declared.expanding.Made.{Made}
 use Rattle.yexpand.proofs.GroupingLemmas.{laid_end}
-use Rattle.yexpand.proofs.LeastLemmas.{least_apart, least_told}
+use Rattle.yexpand.proofs.LeastLemmas.{least_told}
 use Rattle.yexpand.proofs.WalkLemmas.{chosen-first, chosen_none, laid_none, laid_uses, laid_node, laid_single, laid_own, adds_nothing, adds_both, adds_node, ends_join, ends_node, ends_uses, ends_so, few, some, four, chosen_empty, one_less, nodes_uses, breaks_uses, stands_so, unfit_so}
 use Rattle.yexpand.proofs.expanding.+nodes.Goals as goal
 
@@ -214,8 +214,11 @@ add_statement-add_case-requires t c =
     sym (c.is_single.ensures ∙ ap (λ k. c.args.in_choice && not (same_keyword case_word k)) keyword) ∙ c.if-is_single.true in
     let measure = four c.args.in_choice (and_parts c.args.in_choice (not (same_keyword case_word s.keyword)) single).0 in (
       omega (arith, c.decreases, measure),
-      (c.requires.known, ends_node m owner depth (case_for (part_of s below)) (laid (node s below end)) refl
-          (subst (AllEnd m depth) (laid_single c.args.in_choice s below is single) c.requires.ends)),
+      (
+        c.requires.known,
+        ends_node m owner depth (case_for (part_of s below)) (laid (node s below end)) refl
+            (subst (AllEnd m depth) (laid_single c.args.in_choice s below is single) c.requires.ends),
+      ),
     )
 
 pub add_statement-returns-then-is_single : goal.add_statement-returns-then-is_single
@@ -243,8 +246,14 @@ add_statement-add_uses-requires t c =
     sym (c.is_single.ensures ∙ ap (λ k. c.args.in_choice && not (same_keyword case_word k)) keyword) ∙ c.if-is_single.false in
     let used : is_source_of uses_word s ≡ true = sym (c.is.ensures ∙ ap (same_keyword uses_word) keyword) ∙ c.if-is.true in (
       omega (arith, c.decreases, some c.args.in_choice),
-      (c.requires.known, (used, ends_uses m owner depth (part_of s below) used
-          (subst (AllEnd m depth) (laid_own c.args.in_choice s below is single ∙ laid_uses s below used) c.requires.ends))),
+      (
+        c.requires.known,
+        (
+          used,
+          ends_uses m owner depth (part_of s below) used
+              (subst (AllEnd m depth) (laid_own c.args.in_choice s below is single ∙ laid_uses s below used) c.requires.ends),
+        ),
+      ),
     )
 
 pub add_statement-returns-then-is : goal.add_statement-returns-then-is
@@ -273,8 +282,14 @@ add_statement-add_node-requires t c =
     sym (c.is_single.ensures ∙ ap (λ k. c.args.in_choice && not (same_keyword case_word k)) keyword) ∙ c.if-is_single.false in
     let unused : is_source_of uses_word s ≡ false = sym (c.is.ensures ∙ ap (same_keyword uses_word) keyword) ∙ c.if-is.false in (
       omega (arith, c.decreases, some c.args.in_choice),
-      (c.requires.known, (unused, ends_node m owner depth (part_of s below) (within s (laid below)) unused
-          (subst (AllEnd m depth) (laid_own c.args.in_choice s below is single ∙ laid_node s below is unused) c.requires.ends))),
+      (
+        c.requires.known,
+        (
+          unused,
+          ends_node m owner depth (part_of s below) (within s (laid below)) unused
+              (subst (AllEnd m depth) (laid_own c.args.in_choice s below is single ∙ laid_node s below is unused) c.requires.ends),
+        ),
+      ),
     )
 
 pub add_statement-returns : goal.add_statement-returns

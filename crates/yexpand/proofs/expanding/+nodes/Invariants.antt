@@ -1,4 +1,4 @@
-use Rattle.std.proofs.Common.{◌≡◌, ℕ, suc, ◌+◌, ◌*◌, ◌≤◌, cond}
+use Rattle.std.proofs.Common.{ℕ, suc, ◌+◌, ◌*◌, ◌≤◌, cond}
 use Rattle.yspec.specs.Forest.{size}
 use Rattle.yspec.specs.linking.Expansion.{laid}
 use Rattle.ypreorder.specs.View.{row_by, row_view}

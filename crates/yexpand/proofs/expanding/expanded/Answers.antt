@@ -1,18 +1,13 @@
-use Rattle.std.proofs.Common.{rules, ◌≡◌, ◌+◌, ◌++◌, ℕ, suc, false, None, List, [], length, arith, sym, ap, ap₂, ◌∙◌, refl, subst}
-use Rattle.yspec.specs.Forest.{Forest, end, size, join}
+use Rattle.std.proofs.Common.{rules, ◌≡◌, ◌+◌, suc, None, length, sym, ap, ◌∙◌, subst}
+use Rattle.yspec.specs.Forest.{size}
 use Rattle.yspec.specs.linking.Expansion.{laid, groupings_of, expanded_from, unfit_from}
 use Rattle.yspec.specs.linking.Rewriting.{ends_within}
-use Rattle.yspec.specs.schema.Breaks.{least_from}
-use Rattle.ypreorder.specs.Layout.{places}
-use Rattle.ypreorder.specs.View.{row_by, label_by, forest_in, slots_in}
-use Rattle.ypreorder.proofs.LabelLemmas.{size-by}
-use Rattle.ypreorder.proofs.RowLemmas.{takes_by, takes_none_by, size_forest}
-use Rattle.ygrammar.specs.BreakView.{seen}
+use Rattle.ypreorder.specs.View.{row_by, label_by, slots_in}
+use Rattle.ypreorder.proofs.RowLemmas.{takes_by, takes_none_by}
 use Rattle.ygrammar.specs.SourceView.{source_view}
 use Rattle.yexpand.specs.NamedView.{modules_of}
-use Rattle.yexpand.specs.Walk.{Adds, AddsParts, nodes_for, breaks_for, chosen}
+use Rattle.yexpand.specs.Walk.{Adds, AddsParts, nodes_for, breaks_for}
 use Rattle.yexpand.specs.declared.expanding.Made.{Made}
-use Rattle.yexpand.specs.TableView.{parts_in, slots_of}
 use Rattle.yexpand.proofs.WalkLemmas.{adds_join, adds_none, all_pass, begun, depth_of}
 use Rattle.yexpand.proofs.expanding.expanded.Goals as goal
 

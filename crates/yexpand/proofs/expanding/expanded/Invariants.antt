@@ -1,5 +1,4 @@
-use Rattle.std.proofs.Common.{◌≡◌, suc, None}
-use Rattle.yspec.specs.Forest.{size}
+use Rattle.std.proofs.Common.{None}
 use Rattle.yspec.specs.linking.Expansion.{groupings_of, expanded_from, unfit_from}
 use Rattle.ypreorder.specs.View.{row_by}
 use Rattle.ygrammar.specs.SourceView.{source_view}

@@ -1,8 +1,8 @@
-use Rattle.std.proofs.Common.{◌≡◌, ◌∙◌, min, arith, sym, ap}
+use Rattle.std.proofs.Common.{◌≡◌, ◌∙◌, arith, sym, ap}
 use Rattle.yspec.specs.Forest.{end}
 use Rattle.yspec.specs.linking.Expansion.{laid, groupings_of, row_in}
 use Rattle.yspec.specs.linking.NodeCounts.{counted}
-use Rattle.yexpand.specs.Counting.{count_by, many}
+use Rattle.yexpand.specs.Counting.{count_by}
 use Rattle.yexpand.specs.NamedView.{modules_of, row_or_none}
 use Rattle.yexpand.proofs.CountLemmas.{counted_none}
 use Rattle.yexpand.proofs.GroupingLemmas.{laid_end}

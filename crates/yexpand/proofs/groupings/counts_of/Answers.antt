@@ -1,6 +1,5 @@
 use Rattle.std.proofs.Common.{◌≡◌, ◌∙◌, ◌<◌, length, get_or, min, cond, arith, sym, ap}
 use Rattle.std.specs.Prelude.{◌==◌}
-use Rattle.yspec.specs.Forest.{size}
 use Rattle.yspec.specs.linking.Expansion.{groupings_of, row_in}
 use Rattle.yspec.specs.linking.NodeCounts.{counted}
 use Rattle.ypreorder.specs.View.{forest_in, slots_in}

@@ -1,4 +1,4 @@
-use Rattle.std.proofs.Common.{rules, ◌≡◌, ◌++◌, [], None, true, cond, sym, ap, ◌∙◌}
+use Rattle.std.proofs.Common.{◌≡◌, ◌++◌, [], true, cond, sym, ap, ◌∙◌}
 use Rattle.yspec.specs.linking.Expansion.{all_refine_breaks}
 use Rattle.yspec.specs.linking.Keyword.{same_keyword, uses_word}
 use Rattle.yspec.specs.linking.Source.{is_source_of}

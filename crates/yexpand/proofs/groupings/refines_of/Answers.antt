@@ -1,13 +1,12 @@
-use Rattle.std.proofs.Common.{rules, ◌≡◌, ◌∙◌, ◌<◌, None, length, get_or, min, cond, arith, sym, ap}
+use Rattle.std.proofs.Common.{rules, ◌≡◌, ◌∙◌, ◌<◌, None, length, get_or, cond, arith, sym, ap}
 use Rattle.std.specs.Prelude.{◌==◌}
-use Rattle.yspec.specs.Forest.{size}
 use Rattle.yspec.specs.schema.Breaks.{least_from}
 use Rattle.ypreorder.specs.View.{forest_in, slots_in}
 use Rattle.ygrammar.specs.BreakView.{seen}
-use Rattle.yexpand.specs.Counting.{count_at, many, refine_at, top_refines}
+use Rattle.yexpand.specs.Counting.{count_at, refine_at, top_refines}
 use Rattle.yexpand.specs.NamedView.{modules_of}
 use Rattle.yexpand.proofs.OrderLemmas.{total}
-use Rattle.yexpand.proofs.ToldLemmas.{told_start, told_next, told_passed, told_all, told_further}
+use Rattle.yexpand.proofs.ToldLemmas.{told_start, told_next, told_all, told_further}
 use Rattle.yexpand.proofs.WalkLemmas.{depth_of}
 use Rattle.yexpand.proofs.groupings.refines_of.Goals as goal
 

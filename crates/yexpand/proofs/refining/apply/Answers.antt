@@ -22,7 +22,7 @@ returns-in-Some c = λ modules nodes of_it. on_ok_weaker c.refine.result (λ e. 
     let there : Some c.in-Some.number ≡ target_in modules owner s given first nodes = sym c.in-Some.is ∙ (c.in_ok-number.ensures modules of_it
     ∙ ap₂ (target_in modules owner s given) c.from.ensures.number (c.from.ensures.row ∙ row_from first (slots_of c.args.made.now.table) earlier parent nodes count at)) in (
       e ∙ (ap₂ (λ g ps. changed_place c.in-Some.number (refined_part g) ps) (ap (row_by source_view) c.children.ensures) at
-      ∙ applied modules owner s given first nodes c.in-Some.number earlier parent refines count there),
+          ∙ applied modules owner s given first nodes c.in-Some.number earlier parent refines count there),
       sym (ap (least_from (seen c.args.made.now.told)) (nothing_told modules owner s given first nodes (broken 14 s.home s.statement.line) c.in-Some.number there)),
     )) c.refine.ensures
 

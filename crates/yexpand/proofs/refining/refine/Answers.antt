@@ -1,5 +1,4 @@
-use Rattle.std.proofs.Common.{◌≡◌, ◌++◌, ◌∙◌, ◌&&◌, not, sym, ap}
-use Rattle.yspec.specs.Forest.{Forest}
+use Rattle.std.proofs.Common.{◌++◌, ◌∙◌, ◌&&◌, not, sym, ap}
 use Rattle.yspec.specs.linking.Expansion.{after_refine, refined, refine_breaks, is_refine, is_fit}
 use Rattle.yspec.specs.schema.Breaks.{broken, least_from, when}
 use Rattle.yspec.proofs.SchemaProofs.LeastLemmas.{least_of_both}

@@ -1,5 +1,5 @@
-use Rattle.std.proofs.Common.{rules, ◌≡◌, ◌+◌, List, [], ◌∷◌, Option, Some, false, map, length, sym, ap, ap₂, ◌∙◌, arith, refl}
-use Rattle.std.specs.Prelude.{option_map, option_and_then}
+use Rattle.std.proofs.Common.{rules, ◌≡◌, ◌+◌, ◌∷◌, Some, map, length, sym, ap, ap₂, ◌∙◌}
+use Rattle.std.specs.Prelude.{option_map}
 use Rattle.std.proofs.lemmas.List.{length-map}
 use Rattle.yspec.specs.linking.Expansion.{is_step}
 use Rattle.yspec.specs.linking.Prefixes as spec
@@ -7,7 +7,7 @@ use Rattle.ypreorder.specs.View.{row_by}
 use Rattle.ygrammar.specs.NameView.{name_view, names_view}
 use Rattle.ynames.specs.PrefixView.{node_name_view}
 use Rattle.yexpand.specs.NodeView.{numbered_part}
-use Rattle.yexpand.specs.Targets.{Found, node_seen, found_in, found_at}
+use Rattle.yexpand.specs.Targets.{node_seen, found_in, found_at}
 use Rattle.yexpand.proofs.TargetLemmas.{found_next}
 use Rattle.yexpand.proofs.target.+node_at.Goals as goal
 

@@ -1,11 +1,11 @@
-use Rattle.std.proofs.Common.{rules, ◌≡◌, ◌+◌, suc, Bool, true, false, cond, Some, sym, ap, ap₂, ◌∙◌}
+use Rattle.std.proofs.Common.{rules, ◌≡◌, ◌+◌, suc, false, cond, Some, sym, ap, ◌∙◌}
 use Rattle.yspec.specs.Forest.{size}
 use Rattle.yspec.specs.linking.Expansion.{is_step}
-use Rattle.ypreorder.specs.View.{row_by, label_by, below_of}
+use Rattle.ypreorder.specs.View.{row_by, below_of}
 use Rattle.ypreorder.proofs.LabelLemmas.{size-by}
 use Rattle.ypreorder.proofs.RowLemmas.{takes_by}
 use Rattle.ynames.specs.PrefixView.{node_name_view}
-use Rattle.yexpand.specs.NodeView.{numbered_part, part_view}
+use Rattle.yexpand.specs.NodeView.{numbered_part}
 use Rattle.yexpand.specs.Targets.{node_seen, found_in}
 use Rattle.yexpand.proofs.target.child_called.Goals as goal
 

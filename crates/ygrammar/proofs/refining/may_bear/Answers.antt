@@ -1,4 +1,4 @@
-use Rattle.std.proofs.Common.{rules, ◌≡◌, ◌&&◌, ◌∙◌, Bool, true, false, not, count_by, sym, ap, ap₂, List}
+use Rattle.std.proofs.Common.{rules, ◌≡◌, ◌&&◌, ◌∙◌, true, false, not, count_by, sym, ap, ap₂, List}
 use Rattle.std.specs.List.{list_any, list_all}
 use Rattle.yspec.specs.Forest.{row}
 use Rattle.yspec.specs.linking.Expansion.{is_borne}

@@ -2,7 +2,7 @@ use Rattle.std.proofs.Common.{rules, ◌≡◌, ◌∙◌, ◌+◌, suc, min, ar
 use Rattle.yspec.specs.Forest.{size}
 use Rattle.yspec.specs.linking.Expansion.{laid, groupings_of}
 use Rattle.yspec.specs.linking.NodeCounts.{counted, counted_from, count_used, counts_within}
-use Rattle.ypreorder.specs.View.{row_by, label_by, forest_in}
+use Rattle.ypreorder.specs.View.{row_by, forest_in}
 use Rattle.ypreorder.proofs.RowLemmas.{takes_by, takes_none_by}
 use Rattle.ygrammar.specs.SourceView.{source_view}
 use Rattle.yexpand.specs.Counting.{count_at, count_by, many}

@@ -1,4 +1,3 @@
-use Rattle.std.proofs.Common.{◌≡◌, ◌∙◌}
 use Rattle.yspec.specs.linking.DerivedTypes.{number_named}
 use Rattle.ypreorder.specs.View.{forest_in}
 use Rattle.yexpand.specs.Counting.{count_at, refine_at}

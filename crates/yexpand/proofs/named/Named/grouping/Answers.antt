@@ -1,11 +1,9 @@
-use Rattle.std.proofs.Common.{◌≡◌, ◌≤◌, ◌∙◌, None, Some, arith, ap, sym, refl, length, drop, take, ◌+◌, false, true, cond}
+use Rattle.std.proofs.Common.{◌≡◌, ◌∙◌, None, Some, arith, ap, sym, refl, length, drop, take, ◌+◌, cond}
 use Rattle.std.specs.Prelude.{slice_get}
 use Rattle.std.proofs.lemmas.List.{length-take, length-drop}
 use Rattle.std.proofs.lemmas.Option.{slice_get_read, slice_get_past}
 use Rattle.yspec.specs.Forest.{size, end}
 use Rattle.yspec.specs.linking.Expansion.{laid}
-use Rattle.yspec.specs.linking.Keyword.{grouping_word}
-use Rattle.yspec.specs.linking.Source.{is_source_of}
 use Rattle.ypreorder.specs.Layout.{numbered_by, forest_of}
 use Rattle.ypreorder.specs.View.{row_by, row_view, slots_in}
 use Rattle.ypreorder.proofs.LabelLemmas.{size-by}

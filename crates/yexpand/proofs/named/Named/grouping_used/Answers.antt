@@ -1,4 +1,4 @@
-use Rattle.std.proofs.Common.{◌≡◌, ◌∙◌, ap, sym}
+use Rattle.std.proofs.Common.{◌∙◌, ap, sym}
 use Rattle.std.specs.Option.{option_map_or}
 use Rattle.yspec.specs.Forest.{end}
 use Rattle.yspec.specs.linking.Expansion.{laid, groupings_of, row_in}

@@ -1,5 +1,5 @@
-use Rattle.std.proofs.Common.{◌≡◌, ◌+◌, take, drop, ap, ap₂, ◌∙◌}
-use Rattle.ypreorder.specs.Layout.{forest_of, numbered_by}
+use Rattle.std.proofs.Common.{ap, ap₂}
+use Rattle.ypreorder.specs.Layout.{numbered_by}
 use Rattle.ygrammar.specs.SourceView.{source_view}
 use Rattle.ygrammar.proofs.sources.Sources.below.Goals as goal
 
