@@ -21,7 +21,7 @@ pub use name::{
     Name, absolute_path, key_names, leafref_path, name_of, relative_path, unique_paths,
 };
 pub use number::{count, enum_value, fraction_digits, max_elements};
-pub use row::{argument_of, argument_with, built_in_of, first_with, found_with};
+pub use row::{argument_of, argument_with, first_with, found_with};
 pub use source::Source;
 pub use sources::Sources;
 pub use span::spans;
