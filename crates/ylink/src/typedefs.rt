@@ -121,7 +121,8 @@ impl<'t> Typedefs<'t> {
 
     /// What is known of the typedef that the statement of a number names.
     pub(crate) fn named(&self, number: u32) -> Option<&Known<'t>>
-        ensures { option_map_or (λ k. known_view k.now) result spec.unknown ≡ names_in self.now number }
+        ensures { option_map_or (λ k. known_view k.now) result spec.unknown
+            ≡ names_in self.now number }
     {
         match self.meanings.get(number as usize)? {
             Some(definition) => self.known.get(*definition as usize)?.as_ref(),
@@ -210,7 +211,8 @@ impl<'t> Typedefs<'t> {
         requires meant { AreMeanings meanings.items (view sources.now) }
         requires straight { definition_circles (view sources.now) ≡ [] }
         ensures known { IfOk result (λ typedefs. IsOf typedefs (view sources.now)) }
-        ensures meanings { IfOk result (λ typedefs. AreMeanings typedefs.meanings.items (view sources.now)) }
+        ensures meanings { IfOk result
+            (λ typedefs. AreMeanings typedefs.meanings.items (view sources.now)) }
     {
         let rows = typedef_rows(alloc, sources)?;
         let edges = definition_edges_of(alloc, holders, &meanings)?;
