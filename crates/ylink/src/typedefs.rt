@@ -1,6 +1,7 @@
 //! What typedefs mean, each made once (RFC 7950, 7.3).
 
-ghost use Rattle.std.specs.Prelude.{◌≡◌, ◌++◌, List, IfOk, OnOk, length, map, option_map, option_and_then, slice_get};
+ghost use Rattle.std.specs.Prelude.{◌≡◌, ◌++◌, List, IfOk, OnOk, is_some, length, map, option_map, option_and_then, slice_get};
+ghost use Rattle.std.specs.List.{list_any};
 ghost use Rattle.yspec.specs.linking.Scopes.{placed};
 ghost use Rattle.ypreorder.specs.View.{row_by, label_by};
 ghost use Rattle.ygrammar.specs.LinkView.{view};
@@ -87,6 +88,18 @@ fn row_of<'a, 't>(
         Some(row) => *row,
         None => None,
     }
+}
+
+/// Whether a statement names a definition.
+fn names_any(meanings: &[Option<u32>]) -> bool
+    ensures { result ≡ list_any is_some meanings.now }
+{
+    for meaning in meanings {
+        if meaning.is_some() {
+            return true;
+        }
+    }
+    false
 }
 
 /// So many typedefs of which nothing is known.
@@ -202,6 +215,27 @@ impl<'t> Typedefs<'t> {
     /// The typedefs of a set in which none refers to itself, given the innermost definition around each statement and what
     /// each means.
     pub(crate) fn of(
+        alloc: Global,
+        sources: &Sources<'t>,
+        holders: &[Option<u32>],
+        meanings: Vec<Option<u32>>,
+    ) -> Result<Typedefs<'t>, AllocError>
+        requires held { AreReferring holders.now (view sources.now) }
+        requires meant { AreMeanings meanings.items (view sources.now) }
+        requires straight { definition_circles (view sources.now) ≡ [] }
+        ensures known { IfOk result (λ typedefs. IsOf typedefs (view sources.now)) }
+        ensures meanings { IfOk result
+            (λ typedefs. AreMeanings typedefs.meanings.items (view sources.now)) }
+    {
+        if !names_any(&meanings) {
+            let known = Vec::new(alloc);
+            return Ok(Typedefs { meanings, known });
+        }
+        Typedefs::learned(alloc, sources, holders, meanings)
+    }
+
+    /// The same, each learned behind those that it names.
+    fn learned(
         alloc: Global,
         sources: &Sources<'t>,
         holders: &[Option<u32>],
