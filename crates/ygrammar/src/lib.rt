@@ -23,7 +23,7 @@ pub use name::{
 };
 pub use number::{count, enum_value, fraction_digits, max_elements};
 pub use refining::may_bear;
-pub use row::{argument_of, argument_with, built_in_of, first_with, found_with};
+pub use row::{argument_of, argument_with, first_with, found_with};
 pub use source::Source;
 pub use sources::Sources;
 pub use span::spans;

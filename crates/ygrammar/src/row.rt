@@ -4,13 +4,11 @@ ghost use Rattle.std.specs.Prelude.{◌≡◌, option_map};
 ghost use Rattle.yspec.specs.linking.Source as spec;
 ghost use Rattle.ypreorder.specs.View.{row_by, label_by};
 ghost use Rattle.yword.specs.KeywordView.{keyword_view};
-ghost use Rattle.yspec.specs.linking.TypeStatements.{built_in_named};
 ghost use Rattle.ygrammar.specs.SourceView.{source_view, node_view};
-ghost use Rattle.yword.specs.BuiltInView.{built_in_view};
 
 use crate::source::Source;
 use ypreorder::{Node, Siblings};
-use yword::{BuiltIn, Keyword};
+use yword::Keyword;
 
 /// The first statement of a row with a keyword.
 pub fn first_with<'a, 't>(
@@ -28,14 +26,6 @@ pub fn argument_of<'a, 't>(statement: Node<'a, Source<'t>>) -> &'t str
     ensures { result.now ≡ spec.argument_in (label_by source_view statement.entry) }
 {
     statement.label().statement.argument().unwrap_or("")
-}
-
-/// The built-in type that the argument of a statement names.
-pub fn built_in_of(statement: Node<'_, Source<'_>>) -> Option<BuiltIn>
-    ensures { option_map built_in_view result
-        ≡ built_in_named (spec.argument_in (label_by source_view statement.entry)) }
-{
-    statement.label().built_in()
 }
 
 /// The argument of the first statement of a row with a keyword.

@@ -71,9 +71,10 @@ impl<'a> Source<'a> {
         ensures { option_map built_in_view result
             ≡ built_in_named (argument_text (view self.now.statement.now).0) }
     {
-        match self.type_name {
-            Some(found) => Some(found),
-            None => BuiltIn::named(self.argument()),
+        if Keyword::Type.is(self.keyword) {
+            self.type_name
+        } else {
+            BuiltIn::named(self.argument())
         }
     }
 }

@@ -1,7 +1,7 @@
 -- What is known of typedefs, learned in an order in which each stands behind those that it names.
 use Rattle.std.proofs.Common.{◌≡◌, ℕ, zero, suc, ◌+◌, ◌<◌, ◌≤◌, Bool, true, false, cond, List, [], ◌∷◌, length, map, get_or, slice_set, Option, Some, None, refl, sym, ap, ap₂, ◌∙◌, arith, subst}
-use Rattle.std.specs.Prelude.{option_map, option_and_then, ◌==◌, ◌&&◌, ◌||◌, slice_get, if◌then◌else◌}
-use Rattle.std.specs.List.{Contains, range_with_len, flat_map, filter_map, cons_option}
+use Rattle.std.specs.Prelude.{is_some, option_map, option_and_then, ◌==◌, ◌&&◌, ◌||◌, slice_get, if◌then◌else◌}
+use Rattle.std.specs.List.{Contains, range_with_len, flat_map, filter_map, cons_option, list_any}
 use Rattle.std.specs.List.Sorted.{IsPermutation}
 use Rattle.std.specs.Option.{option_map_or}
 use Rattle.std.proofs.lemmas.Bool.{and_parts}
@@ -166,6 +166,20 @@ no_circle edges h a b (p ∷ ps) none e =
 pub straight : (modules : Forest Source) → definition_circles modules ≡ [] → (a b : ℕ) → HasEdge (definition_edges modules) a b
     → is_on_circle (definition_edges modules) (record { source = a; target = b }) ≡ false
 straight modules none a b edge = no_circle (definition_edges modules) (definition_edge modules) a b (statements_of modules) none edge
+
+-- where no statement names a definition
+none_at : (meanings : List (Option ℕ)) (n : ℕ) → list_any is_some meanings ≡ false → meaning_at meanings n ≡ None
+none_at [] n none = refl
+none_at (None ∷ ms) zero none = refl
+none_at (None ∷ ms) (suc n) none = none_at ms n none
+none_at (Some m ∷ ms) n none = absurd cc
+
+pub none_named : (f : Forest held.Source) (meanings : List (Option ℕ)) (known : ℕ → Known) → AreMeanings meanings (numbered_by source_view 0 f)
+    → list_any is_some meanings ≡ false → (n : ℕ) → option_map_or known (meaning_at meanings n) unknown ≡ known_named (numbered_by source_view 0 f) n
+none_named f meanings known are none n =
+    let modules = numbered_by source_view 0 f in
+    ap (λ o. option_map_or known o unknown) (none_at meanings n none)
+    ∙ sym (ap (λ o. option_map_or (known_within modules (size modules)) o unknown) (number_named_at f meanings are n ∙ none_at meanings n none))
 
 -- as many rows as statements
 pub rows_count : (f : Forest held.Source) (rows : List (Option (Siblings held.Source))) → AreRows rows (numbered_by source_view 0 f) → length rows ≡ size f

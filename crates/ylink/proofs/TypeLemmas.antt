@@ -8,16 +8,14 @@ use Rattle.yspec.specs.linking.Keyword.{Keyword}
 use Rattle.yspec.specs.linking.Arguments.{Name}
 use Rattle.yspec.specs.linking.Source.{Source, is_source_of, argument_in, first_with}
 use Rattle.yspec.specs.linking.TypeStatements as spec
-use Rattle.yspec.specs.linking.TypeStatements.{namings, verdicts, verdict, told, member_types, union_verdict, single_type}
+use Rattle.yspec.specs.linking.TypeStatements.{namings, verdicts, verdict, member_types, union_verdict, single_type}
 use Rattle.std.specs.Prelude.{◌==◌, ℕ, is_some, length, map, not, option_map, option_and_then}
 use Rattle.std.specs.Option.{option_map_or}
 use Rattle.yspec.specs.types.Types.{YangType}
 use Rattle.yspec.specs.types.Restriction.{union_type}
 use Rattle.yspec.specs.linking.Keyword.{type_word}
-use Rattle.yspec.specs.schema.Breaks.{Break, least_from, when, broken}
-use Rattle.yspec.proofs.SchemaProofs.LeastLemmas.{least_of_both}
 use Rattle.ylink.specs.declared.types.Verdict.{Verdict}
-use Rattle.ylink.specs.TypeView.{verdict_view, is_wrong}
+use Rattle.ylink.specs.TypeView.{verdict_view}
 
 -- ---- names of enumerations and bits
 
@@ -56,11 +54,6 @@ union_of (v ∷ vs) types made some is made_is =
     ∙ ap (λ o. option_map_or (λ types. spec.means (spec.own (union_type types))) o spec.unjudged) is
 
 -- ---- `type` statements of a row, one after another
-
-told_wrong : (s : Source) (v : spec.Verdict) → told s v ≡ when (is_wrong v) (broken 10 s.home s.statement.line)
-told_wrong s (spec.means m) = refl
-told_wrong s spec.wrong = refl
-told_wrong s spec.unjudged = refl
 
 module _ (modules : Forest Source) (named : ℕ → spec.Verdict) (s : Source) (below after before : Forest Source) (first : before ≡ node s below after) where
   pub no_verdict : (so_far whole : List spec.Verdict) → is_source_of type_word s ≡ false

@@ -1,5 +1,4 @@
 -- What `type` statements mean, as the specification's.
-use Rattle.std.specs.Prelude.{Bool, true, false}
 use Rattle.yspec.specs.linking.TypeStatements as spec
 use Rattle.ylink.specs.declared.types.Meant.{Meant}
 use Rattle.ylink.specs.declared.types.Meant.TheVariants as meants
@@ -15,8 +14,3 @@ abbrev pub verdict_view : Verdict → spec.Verdict
 verdict_view (verdicts.Means meant) = spec.means (meant_view meant)
 verdict_view verdicts.Wrong = spec.wrong
 verdict_view verdicts.Unjudged = spec.unjudged
-
-abbrev pub is_wrong : spec.Verdict → Bool
-is_wrong (spec.means meant) = false
-is_wrong spec.wrong = true
-is_wrong spec.unjudged = false

@@ -20,7 +20,8 @@ fn judge_verdict(
     so_far: Option<BrokenRule>,
 ) -> Option<BrokenRule>
     ensures { (number : ℕ) → seen result ≡ least_from (seen so_far)
-        (told_by (source_view number statement.now) (option_map (λ v. verdict_view v.now) verdict.entry)) }
+        (told_by (source_view number statement.now)
+        (option_map (λ v. verdict_view v.now) verdict.entry)) }
 {
     least_when(
         matches!(verdict, Some(Verdict::Wrong)),

@@ -1,6 +1,7 @@
 //! What typedefs mean, each made once (RFC 7950, 7.3).
 
-ghost use Rattle.std.specs.Prelude.{◌≡◌, ◌++◌, List, IfOk, OnOk, length, map, option_map, option_and_then, slice_get};
+ghost use Rattle.std.specs.Prelude.{◌≡◌, ◌++◌, List, IfOk, OnOk, is_some, length, map, option_map, option_and_then, slice_get};
+ghost use Rattle.std.specs.List.{list_any};
 ghost use Rattle.yspec.specs.linking.Scopes.{placed};
 ghost use Rattle.ypreorder.specs.View.{row_by, label_by};
 ghost use Rattle.ygrammar.specs.LinkView.{view};
@@ -89,6 +90,18 @@ fn row_of<'a, 't>(
     }
 }
 
+/// Whether a statement names a definition.
+fn names_any(meanings: &[Option<u32>]) -> bool
+    ensures { result ≡ list_any is_some meanings.now }
+{
+    for meaning in meanings {
+        if meaning.is_some() {
+            return true;
+        }
+    }
+    false
+}
+
 /// So many typedefs of which nothing is known.
 fn none_known<'t>(alloc: Global, count: usize) -> Result<Vec<Option<Known<'t>>>, AllocError>
     ensures { IfOk result (λ table. length table.items ≡ count) }
@@ -121,7 +134,8 @@ impl<'t> Typedefs<'t> {
 
     /// What is known of the typedef that the statement of a number names.
     pub(crate) fn named(&self, number: u32) -> Option<&Known<'t>>
-        ensures { option_map_or (λ k. known_view k.now) result spec.unknown ≡ names_in self.now number }
+        ensures { option_map_or (λ k. known_view k.now) result spec.unknown
+            ≡ names_in self.now number }
     {
         match self.meanings.get(number as usize)? {
             Some(definition) => self.known.get(*definition as usize)?.as_ref(),
@@ -210,7 +224,29 @@ impl<'t> Typedefs<'t> {
         requires meant { AreMeanings meanings.items (view sources.now) }
         requires straight { definition_circles (view sources.now) ≡ [] }
         ensures known { IfOk result (λ typedefs. IsOf typedefs (view sources.now)) }
-        ensures meanings { IfOk result (λ typedefs. AreMeanings typedefs.meanings.items (view sources.now)) }
+        ensures meanings { IfOk result
+            (λ typedefs. AreMeanings typedefs.meanings.items (view sources.now)) }
+    {
+        if !names_any(&meanings) {
+            let known = Vec::new(alloc);
+            return Ok(Typedefs { meanings, known });
+        }
+        Typedefs::learned(alloc, sources, holders, meanings)
+    }
+
+    /// The same, each learned behind those that it names.
+    fn learned(
+        alloc: Global,
+        sources: &Sources<'t>,
+        holders: &[Option<u32>],
+        meanings: Vec<Option<u32>>,
+    ) -> Result<Typedefs<'t>, AllocError>
+        requires held { AreReferring holders.now (view sources.now) }
+        requires meant { AreMeanings meanings.items (view sources.now) }
+        requires straight { definition_circles (view sources.now) ≡ [] }
+        ensures known { IfOk result (λ typedefs. IsOf typedefs (view sources.now)) }
+        ensures meanings { IfOk result
+            (λ typedefs. AreMeanings typedefs.meanings.items (view sources.now)) }
     {
         let rows = typedef_rows(alloc, sources)?;
         let edges = definition_edges_of(alloc, holders, &meanings)?;

@@ -1,31 +1,33 @@
 -- Statements where they stand, one after another, and the scopes that they are in.
-use Rattle.std.proofs.Common.{◌≡◌, Bool, true, false, not, List, [], ◌∷◌, ◌++◌, Option, refl, sym, ap, ap₂, ◌∙◌}
+use Rattle.std.proofs.Common.{◌≡◌, Bool, true, false, not, List, [], ◌∷◌, ◌++◌, Option, None, refl, sym, ap, ap₂, ◌∙◌}
 use Rattle.std.specs.Prelude.{reverse, ◌&&◌, ◌||◌, ◌==◌}
-use Rattle.std.specs.List.{flat_map}
+use Rattle.std.specs.List.{flat_map, list_any}
 use Rattle.std.specs.Option.{option_map_or}
 use Rattle.std.proofs.lemmas.Grind.{flat_map-append}
 use Rattle.std.proofs.lemmas.List.{append-nil, reverse-append}
-use Rattle.yspec.specs.Forest.{Forest, end, node, row, first_of}
+use Rattle.std.proofs.lemmas.List.Folds.{list_any-append}
+use Rattle.yspec.specs.Forest.{Forest, end, node, row, first_of, preorder}
 use Rattle.yspec.specs.text.Text.{Text}
 use Rattle.yspec.specs.linking.Keyword.{same_keyword, typedef_word, grouping_word}
-use Rattle.yspec.specs.linking.Source.{Source, argument_in}
-use Rattle.yspec.specs.linking.Scopes.{Placed, placed, around, holder, is_taken, is_built_in}
-use Rattle.yspec.specs.schema.Breaks.{Break, least_from}
+use Rattle.yspec.specs.linking.Source.{Source, is_source_of, argument_in}
+use Rattle.yspec.specs.linking.Scopes.{Placed, placed, around, holder, is_taken, is_built_in, is_definition, taken_break}
+use Rattle.yspec.specs.schema.Breaks.{Break, broken, least_from, when}
+use Rattle.yspec.proofs.BasicLemmas.{first_of_none}
 use Rattle.yspec.proofs.SchemaProofs.LeastLemmas.{least_of_both}
 use Rattle.ynames.specs.declared.definitions.Definitions.{Definitions}
 use Rattle.ynames.specs.declared.definitions.DefinitionKind.{DefinitionKind}
 use Rattle.ynames.specs.declared.definitions.Scope.{Scope}
-use Rattle.ynames.specs.DefinitionView.{kind_word, first_number, first_in, AreOf, innermost_in, outermost_in, IsAround}
+use Rattle.ynames.specs.DefinitionView.{kind_word, first_number, first_within, AreIn, innermost_in, outermost_in, IsAround}
 use Rattle.ynames.specs.ScopeView.{placed_at}
-use Rattle.ynames.proofs.DefinitionLemmas.{first_append}
+use Rattle.ynames.proofs.DefinitionLemmas.{first_append, neither}
 
 -- ---- the scope of what stands below a statement
 
-module _ (d : Definitions) (s : Source) (f : Forest Source) (scope : Scope) (ancestors : List (Source × Forest Source)) where
-  pub around_row : AreOf d f → IsAround scope ancestors → (kind : DefinitionKind) (name : Text)
-      → (first_of (first_in kind d name) (innermost_in kind scope name) ≡ first_number (kind_word kind) name (around ((s, f) ∷ ancestors)))
-      × (first_of (outermost_in kind scope name) (first_in kind d name) ≡ first_number (kind_word kind) name (around (reverse ((s, f) ∷ ancestors))))
-  around_row own above kind name =
+module _ (s : Source) (f : Forest Source) (scope : Scope) (ancestors : List (Source × Forest Source)) where
+  pub around_row : (d : Option Definitions) → AreIn d f → IsAround scope ancestors → (kind : DefinitionKind) (name : Text)
+      → (first_of (first_within kind d name) (innermost_in kind scope name) ≡ first_number (kind_word kind) name (around ((s, f) ∷ ancestors)))
+      × (first_of (outermost_in kind scope name) (first_within kind d name) ≡ first_number (kind_word kind) name (around (reverse ((s, f) ∷ ancestors))))
+  around_row d own above kind name =
       let k = kind_word kind in
       let first = own kind name in
       let inner = (above kind name).0 in
@@ -36,6 +38,12 @@ module _ (d : Definitions) (s : Source) (f : Forest Source) (scope : Scope) (anc
         ap₂ first_of first inner ∙ sym (first_append k name (row f) (around ancestors)),
         ap₂ first_of outer first ∙ (sym (first_append k name (around (reverse ancestors)) (row f)) ∙ ap (first_number k name) (sym last)),
       )
+
+  -- a row without definitions adds nothing
+  pub around_none : AreIn None f → IsAround scope ancestors → IsAround scope ((s, f) ∷ ancestors)
+  around_none own above kind name =
+      let both = around_row None own above kind name in
+      (both.0, sym (first_of_none (outermost_in kind scope name)) ∙ both.1)
 
 -- ---- what statements break, one after another
 
@@ -90,3 +98,20 @@ module _ (p : Placed) where
   pub taken_grouping : (held : Bool) → p.source.keyword ≡ grouping_word → held ≡ is_held p → held ≡ is_taken p
   taken_grouping held is held_is =
       held_is ∙ sym (ap (λ k. (same_keyword typedef_word k || same_keyword grouping_word k) && (is_held p || (same_keyword typedef_word k && is_built_in (argument_in p.source)))) is ∙ or_false (is_held p))
+
+-- ---- a set without definitions
+
+pub none_taken : (ancestors : List (Source × Forest Source)) (f : Forest Source) → list_any is_definition (preorder f) ≡ false
+    → flat_map taken_break (placed ancestors f) ≡ []
+unfolding placed
+none_taken ancestors end none = refl
+none_taken ancestors (node s below after) none =
+    let p = placed_at s below ancestors in
+    let under = placed ((s, below) ∷ ancestors) below in
+    let behind = placed ancestors after in
+    let own = neither (is_definition s) (list_any is_definition (preorder below ++ preorder after)) none in
+    let others = neither (list_any is_definition (preorder below)) (list_any is_definition (preorder after))
+    (sym (list_any-append is_definition (preorder below) (preorder after)) ∙ own.1) in
+    ap (λ b. when (b && (is_held p || (is_source_of typedef_word s && is_built_in (argument_in s)))) (broken 7 s.home s.statement.line) ++ flat_map taken_break (under ++ behind)) own.0
+    ∙ (flat_map-append taken_break under behind
+    ∙ ap₂ (λ a b. a ++ b) (none_taken ((s, below) ∷ ancestors) below others.0) (none_taken ancestors after others.1))

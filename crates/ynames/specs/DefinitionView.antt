@@ -1,5 +1,5 @@
 -- The definitions of rows, by kind and name.
-use Rattle.std.specs.Prelude.{◌≡◌, ℕ, List, Option, None, find, option_map, reverse}
+use Rattle.std.specs.Prelude.{◌≡◌, ℕ, List, Option, None, find, option_map, option_and_then, reverse}
 use Rattle.yspec.specs.Forest.{Forest, row, first_of}
 use Rattle.yspec.specs.text.Text.{Text}
 use Rattle.yspec.specs.linking.Keyword.{Keyword, typedef_word, grouping_word}
@@ -31,6 +31,13 @@ first_in Grouping d = named d.groupings
 -- the definitions are those of a row
 abbrev pub AreOf : Definitions → Forest Source → Type 0
 AreOf d f = (kind : DefinitionKind) (name : Text) → first_in kind d name ≡ first_number (kind_word kind) name (row f)
+
+-- the same of a row that may have none
+abbrev pub first_within : DefinitionKind → Option Definitions → Text → Option ℕ
+first_within kind d name = option_and_then (λ d. first_in kind d name) d
+
+abbrev pub AreIn : Option Definitions → Forest Source → Type 0
+AreIn d f = (kind : DefinitionKind) (name : Text) → first_within kind d name ≡ first_number (kind_word kind) name (row f)
 
 -- the innermost definition of a kind and name, and the outermost one
 abbrev pub innermost_in : DefinitionKind → Scope → Text → Option ℕ

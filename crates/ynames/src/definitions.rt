@@ -1,16 +1,19 @@
 //! The definitions that stand in rows of statements, found by kind and name (RFC 7950, 5.5 and 6.2.1).
 
-ghost use Rattle.std.specs.Prelude.{◌≡◌, None, Some, if◌then◌else◌, IfOk, OnOk};
-ghost use Rattle.yspec.specs.Forest.{first_of, row};
+ghost use Rattle.std.specs.Prelude.{◌≡◌, ℕ, None, Some, if◌then◌else◌, IfOk, OnOk};
+ghost use Rattle.std.specs.List.{list_any};
+ghost use Rattle.yspec.specs.Forest.{first_of, preorder, row};
+ghost use Rattle.yspec.specs.linking.Scopes.{is_definition};
 ghost use Rattle.yspec.specs.text.Text.{is_text};
 ghost use Rattle.ypreorder.specs.View.{row_by};
 ghost use Rattle.yword.specs.KeywordView.{keyword_view};
+ghost use Rattle.ygrammar.specs.LinkView.{view};
 ghost use Rattle.ygrammar.specs.SourceView.{source_view};
 ghost use Rattle.ynames.specs.DefinitionView.{AreFirst, AreOf};
 
 use crate::first_named::FirstNamed;
 use std::alloc::{AllocError, Global};
-use ygrammar::Source;
+use ygrammar::{Source, Sources};
 use ypreorder::Siblings;
 use yword::Keyword;
 
@@ -41,6 +44,37 @@ pub(crate) enum Scope<'a, 't> {
     },
 }
 
+/// Whether a statement is a definition.
+fn is_definition(statement: &Source<'_>) -> bool
+    ensures { (number : ℕ) → result ≡ is_definition (source_view number statement.now) }
+{
+    matches!(statement.keyword, Keyword::Typedef | Keyword::Grouping)
+}
+
+/// Whether a row has definitions.
+fn has_definitions(statements: Siblings<'_, Source<'_>>) -> bool
+    ensures { result ≡ list_any is_definition (row (row_by source_view statements.entry)) }
+{
+    for statement in statements {
+        if is_definition(statement.label()) {
+            return true;
+        }
+    }
+    false
+}
+
+/// Whether a set has definitions.
+pub(crate) fn has_any_definition(sources: &Sources<'_>) -> bool
+    ensures { result ≡ list_any is_definition (preorder (view sources.now)) }
+{
+    for row in sources.slots() {
+        if is_definition(&row.label) {
+            return true;
+        }
+    }
+    false
+}
+
 /// The numbers of the statements of a keyword in a row, by their arguments: of several with one argument the first.
 fn first_named<'t>(
     alloc: Global,
@@ -64,7 +98,7 @@ impl<'t> Definitions<'t> {
     ghost use Rattle.std.specs.Prelude.{◌≡◌, IfOk};
     ghost use Rattle.ypreorder.specs.View.{row_by};
     ghost use Rattle.ygrammar.specs.SourceView.{source_view};
-    ghost use Rattle.ynames.specs.DefinitionView.{first_in, AreOf};
+    ghost use Rattle.ynames.specs.DefinitionView.{first_in, AreOf, AreIn};
 
     /// The definitions of a row.
     pub(crate) fn of(
@@ -81,6 +115,19 @@ impl<'t> Definitions<'t> {
         })
     }
 
+    /// The definitions of a row, where it has any.
+    pub(crate) fn within(
+        alloc: Global,
+        statements: Siblings<'_, Source<'t>>,
+    ) -> Result<Option<Definitions<'t>>, AllocError>
+        ensures { IfOk result (λ d. AreIn d (row_by source_view statements.entry)) }
+    {
+        if !has_definitions(statements) {
+            return Ok(None);
+        }
+        Ok(Some(Definitions::of(alloc, statements)?))
+    }
+
     /// The number of the first definition of a kind and name.
     pub(crate) fn first(&self, kind: DefinitionKind, name: &str) -> Option<u32>
         ensures { result ≡ first_in kind self.now name.now }
@@ -93,8 +140,21 @@ impl<'t> Definitions<'t> {
 }
 
 impl<'a, 't> Scope<'a, 't> {
-    ghost use Rattle.std.specs.Prelude.{◌≡◌};
-    ghost use Rattle.ynames.specs.DefinitionView.{innermost_in, outermost_in};
+    ghost use Rattle.std.specs.Prelude.{◌≡◌, ◌∷◌, List};
+    ghost use Rattle.yspec.specs.Forest.{Forest};
+    ghost use Rattle.yspec.specs.linking.Source as sources;
+    ghost use Rattle.ynames.specs.DefinitionView.{innermost_in, outermost_in, AreIn, IsAround};
+
+    /// The scope of a row in this one, given its definitions; a row without any adds nothing.
+    pub(crate) fn inside<'b>(&'b self, row: &'b Option<Definitions<'t>>) -> Scope<'b, 't>
+        ensures { (s : sources.Source) (f : Forest sources.Source) (ancestors : List _)
+            → AreIn row.entry.now f → IsAround self.entry.now ancestors → IsAround result ((s, f) ∷ ancestors) }
+    {
+        match row {
+            Some(row) => Scope::Below { row, above: self },
+            None => *self,
+        }
+    }
 
     /// The number of the innermost definition of a kind and name.
     pub(crate) fn innermost(&self, kind: DefinitionKind, name: &str) -> Option<u32>

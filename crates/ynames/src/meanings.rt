@@ -151,11 +151,8 @@ fn add_meanings<'t>(
 {
     for statement in statements {
         made.push(modules.meaning(scope, statement.label()))?;
-        let row = Definitions::of(alloc, statement.children())?;
-        let inner = Scope::Below {
-            row: &row,
-            above: &*scope,
-        };
+        let row = Definitions::within(alloc, statement.children())?;
+        let inner = (&*scope).inside(&row);
         add_meanings(alloc, modules, &inner, statement.children(), made)?;
     }
     Ok(())

@@ -35,8 +35,9 @@ fn innermost_below(
 /// The innermost definition of the kind that a statement with a keyword names, given those of both kinds.
 fn holder_of(keyword: Keyword, typedef: Option<u32>, grouping: Option<u32>) -> Option<u32>
     ensures { (ancestors : List _) → typedef ≡ innermost_of typedef_word ancestors
-        → grouping ≡ innermost_of grouping_word ancestors → result
-        ≡ option_and_then (λ kind. innermost_of kind ancestors) (kind_named (keyword_view keyword)) }
+        → grouping ≡ innermost_of grouping_word ancestors
+        → result ≡ option_and_then (λ kind. innermost_of kind ancestors)
+        (kind_named (keyword_view keyword)) }
 {
     match keyword {
         Keyword::Type => typedef,

@@ -18,7 +18,7 @@ ghost use Rattle.ygrammar.specs.SourceView.{source_view};
 ghost use Rattle.ynames.specs.DefinitionView.{IsAround, kind_word};
 ghost use Rattle.ynames.specs.ScopeView.{placed_at};
 
-use crate::definitions::{DefinitionKind, Definitions, Scope};
+use crate::definitions::{DefinitionKind, Definitions, Scope, has_any_definition};
 use std::alloc::{AllocError, Global};
 use ygrammar::{BrokenRule, CompileCode, Source, Sources, broken, least_when};
 use ypreorder::{Node, Siblings};
@@ -85,11 +85,8 @@ fn broken_taken_rule_in<'t>(
             told,
             broken(CompileCode::C7, source.home, source.statement),
         );
-        let row = Definitions::of(alloc, statement.children())?;
-        let inner = Scope::Below {
-            row: &row,
-            above: &*scope,
-        };
+        let row = Definitions::within(alloc, statement.children())?;
+        let inner = (&*scope).inside(&row);
         told = broken_taken_rule_in(alloc, &inner, statement.children(), told)?;
     }
     Ok(told)
@@ -104,5 +101,8 @@ pub fn broken_taken_rule(
     ensures { IfOk result (λ told. seen told
         ≡ least_from (seen so_far) (spec.taken_breaks (view sources.now))) }
 {
+    if !has_any_definition(sources) {
+        return Ok(so_far);
+    }
     broken_taken_rule_in(alloc, &Scope::Top, sources.modules(), so_far)
 }

@@ -5,7 +5,7 @@ use Rattle.ynames.specs.MeaningView.{AreMeanings}
 use Rattle.ygrammar.specs.LinkView.{view}
 use Rattle.ylink.specs.TypedefView.{known_at}
 use Rattle.ylink.proofs.OrderLemmas.{IsLearned}
-use Rattle.ylink.proofs.typedefs.Typedefs.of.Given as goal
+use Rattle.ylink.proofs.typedefs.Typedefs.learned.Given as goal
 
 abbrev pub invariant-loop-number : goal.invariant-loop-number
 invariant-loop-number l = record {
