@@ -16,6 +16,8 @@ mod kinds;
 #[cfg(test)]
 mod limits;
 #[cfg(test)]
+mod linking;
+#[cfg(test)]
 mod memory;
 #[cfg(test)]
 mod schemas;

@@ -1,9 +1,8 @@
 -- What stands below the node of a number, from the rows that it lies in.
-use Rattle.std.proofs.Common.{◌≡◌, ℕ, zero, suc, ◌+◌, ◌-◌, ◌≤◌, ◌≢◌, Bool, true, false, cond, ◌&&◌, min, List, [], ◌∷◌, ◌++◌, length, take, drop, Option, Some, None, refl, sym, ap, ap₂, ◌∙◌, arith, length-append, length-take, length-drop}
-use Rattle.std.specs.Prelude.{◌==◌, option_map, find, slice_get, nat_le}
+use Rattle.std.proofs.Common.{◌≡◌, ℕ, zero, suc, ◌+◌, ◌≤◌, ◌≢◌, Bool, true, false, cond, ◌&&◌, List, [], ◌∷◌, ◌++◌, length, take, drop, Option, Some, None, refl, sym, ap, ap₂, ◌∙◌, arith, length-append, length-take, length-drop}
+use Rattle.std.specs.Prelude.{◌==◌, option_map, find, slice_get, nat_le, unwrap_or}
 use Rattle.std.proofs.lemmas.Bool.{eq-eqb, ne_eqb, le-leb, leb-true, and_parts, and_from}
-use Rattle.std.proofs.lemmas.List.{take-append-drop, take_min}
-use Rattle.std.proofs.lemmas.Option.{slice_get_past}
+use Rattle.std.proofs.lemmas.List.{take-append-drop}
 use Rattle.yspec.specs.Forest.{Forest, node, end, size, first_of, find_below, joined_below}
 use Rattle.yspec.specs.linking.Planned.{Planned}
 use Rattle.ypreorder.specs.Layout.{Place, places, laid, forest_of, numbered_by, seen, IsLaidOut}
@@ -179,31 +178,24 @@ fits_laid (node l below after) p (suc n) k (r ∷ rows) h e =
 laid_out_fits : (rows : List (Slot code.Planned)) → IsLaidOut rows → fits_within (length rows) rows ≡ true
 laid_out_fits rows laid_out = fits_laid (forest_of rows) None (length rows) 0 rows (omega arith) (as_they_are 0 (laid rows) ∙ laid_out)
 
--- ---- the two answers
+-- ---- the answer
 
-pub rows_below : (rows from rest inner : List (Slot code.Planned)) (first : Slot code.Planned) (id b : ℕ) (below : Forest Planned)
-    → IsLaidOut rows → from ≡ drop (min id (length rows)) rows → from ≡ first ∷ rest → b ≡ min first.below (length rest)
-    → inner ≡ take b rest → below ≡ numbered_by planned_view (id + 1) (forest_of inner)
-    → Some below ≡ find_below (λ p. p.number == id) (numbered_by planned_view 0 (forest_of rows))
-rows_below rows from rest inner first id b below laid_out from_is split b_is inner_is below_is =
-    let some : suc (length rest) ≡ length rows - min id (length rows) = ap length (sym split ∙ from_is) ∙ length-drop (min id (length rows)) rows in
-    let within : min id (length rows) ≡ id = omega (arith, some) in
-    let here : drop id rows ≡ first ∷ rest = ap (λ n. drop n rows) (sym within) ∙ (sym from_is ∙ split) in
-    let parts = drop_parts rows id first rest here in
-    let taken : inner ≡ take first.below (drop (suc id) rows) = inner_is ∙ (ap (λ n. take n rest) b_is ∙ (take_min first.below rest ∙ ap (take first.below) (sym parts.1))) in
-    ap Some (below_is ∙ ap (λ xs. numbered_by planned_view (id + 1) (forest_of xs)) taken)
-    ∙ (sym (ap (option_map (λ r. numbered_by planned_view (id + 1) (forest_of (take r.below (drop (suc id) rows))))) parts.0) ∙ sym (below_at rows id (laid_out_fits rows laid_out)))
+pub row_found : (rows : List (Slot code.Planned)) (id : ℕ) (below : Forest Planned) → IsLaidOut rows
+    → ((r : Slot code.Planned) → slice_get rows id ≡ Some r
+    → below ≡ numbered_by planned_view (id + 1) (forest_of (take r.below (drop (id + 1) rows))))
+    → (slice_get rows id ≡ None → below ≡ end)
+    → below ≡ unwrap_or (find_below (λ p. p.number == id) (numbered_by planned_view 0 (forest_of rows))) end
+row_found rows id below laid_out some none = by (slice_get rows id) refl
   where
-    drop_parts : (xs : List (Slot code.Planned)) (i : ℕ) (y : Slot code.Planned) (ys : List (Slot code.Planned)) → drop i xs ≡ y ∷ ys → (slice_get xs i ≡ Some y) × (drop (suc i) xs ≡ ys)
-    drop_parts [] zero y ys e = absurd cc
-    drop_parts [] (suc i) y ys e = absurd cc
-    drop_parts (x ∷ xs) zero y ys e = (cc, cc)
-    drop_parts (x ∷ xs) (suc i) y ys e = drop_parts xs i y ys e
+    next : suc id ≡ id + 1
+    next = omega arith
 
-pub no_rows_below : (rows from : List (Slot code.Planned)) (id : ℕ) → IsLaidOut rows → from ≡ drop (min id (length rows)) rows → length from ≡ 0
-    → None ≡ find_below (λ p. p.number == id) (numbered_by planned_view 0 (forest_of rows))
-no_rows_below rows from id laid_out from_is empty =
-    let none : length rows - min id (length rows) ≡ 0 = sym (length-drop (min id (length rows)) rows) ∙ (ap length (sym from_is) ∙ empty) in
-    let past : length rows ≤ id = omega (arith, none) in
-    sym (ap (option_map (λ r. numbered_by planned_view (id + 1) (forest_of (take r.below (drop (suc id) rows))))) (slice_get_past rows id past))
-    ∙ sym (below_at rows id (laid_out_fits rows laid_out))
+    by : (o : Option (Slot code.Planned)) → slice_get rows id ≡ o
+        → below ≡ unwrap_or (find_below (λ p. p.number == id) (numbered_by planned_view 0 (forest_of rows))) end
+    by (Some r) at = some r at
+        ∙ (ap (λ n. numbered_by planned_view (id + 1) (forest_of (take r.below (drop n rows)))) (sym next)
+        ∙ ap (λ o. unwrap_or o end) (sym (ap (option_map (λ r. numbered_by planned_view (id + 1) (forest_of (take r.below (drop (suc id) rows))))) at)
+        ∙ sym (below_at rows id (laid_out_fits rows laid_out))))
+    by None at = none at
+        ∙ ap (λ o. unwrap_or o end) (sym (ap (option_map (λ r. numbered_by planned_view (id + 1) (forest_of (take r.below (drop (suc id) rows))))) at)
+        ∙ sym (below_at rows id (laid_out_fits rows laid_out)))

@@ -233,15 +233,7 @@ impl<'a, 't> Plan<'a, 't> {
     pub(crate) fn row_below(&self, number: u32) -> Siblings<'_, Planned<'a, 't>>
         ensures { row_by planned_view result ≡ row_below (view self.now) number }
     {
-        let rows = self.table.slots();
-        let (_, from) = rows.split_at((number as usize).min(rows.len()));
-        match from.split_first() {
-            Some((first, rest)) => {
-                let (below, _) = rest.split_at(first.below.min(rest.len()));
-                Siblings::new(below, number + 1)
-            }
-            None => Siblings::new(from, 0),
-        }
+        self.table.children(number)
     }
 
     /// Whether the node above one is configuration; so is what stands above the top nodes.

@@ -9,7 +9,7 @@ use Rattle.yspec.specs.linking.Prefixes.{NodeName, node_name}
 use Rattle.yspec.specs.linking.TypeStatements as stated
 use Rattle.yspec.specs.linking.TypeStatements.{own, of_target}
 use Rattle.yspec.specs.linking.Planned as spec
-use Rattle.yspec.specs.linking.Planned.{nodes_of, node_of, is_data, same_number, is_called, data_child_called, data_node_at, leaf_found, is_leaf_or_leaf_list, meant_in, target_meant, target_of, type_of, is_on_circle}
+use Rattle.yspec.specs.linking.Planned.{nodes_of, is_data, same_number, is_called, data_child_called, data_node_at, leaf_found, is_leaf_or_leaf_list, meant_in, target_meant, target_of, type_of, is_on_circle}
 use Rattle.yspec.specs.linking.SchemaNodes.{number_in}
 use Rattle.ypreorder.specs.View.{slots_in, forest_in}
 use Rattle.ypreorder.specs.declared.slot.Slot.{Slot}

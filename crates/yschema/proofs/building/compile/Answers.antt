@@ -1,6 +1,4 @@
-use Rattle.std.proofs.Common.{sym, ap, subst, ◌∙◌}
 use Rattle.ytext.specs.View.{modules_view}
-use Rattle.yspec.specs.linking.Compiling.{linked}
 use Rattle.ylink.specs.Told.{told_by}
 use Rattle.ymodel.proofs.CallerLemmas.{names_differ, leafs_are_bare, not_deep}
 use Rattle.yschema.proofs.ToldLemmas.{refused_linking, if_ok_any}
