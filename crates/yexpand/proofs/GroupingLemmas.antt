@@ -14,8 +14,8 @@ use Rattle.ypreorder.specs.Layout.{IsLaidOut, numbered_by, forest_of}
 use Rattle.ypreorder.specs.declared.slot.Slot.{Slot}
 use Rattle.ygrammar.specs.SourceView.{source_view}
 use Rattle.ygrammar.specs.declared.source.Source as held
-use Rattle.yexpand.proofs.PlacedLemmas.{AreFrom, are_from}
-use Rattle.yexpand.proofs.BelowLemmas.{source_at, below_found}
+use Rattle.ynames.proofs.PlacedLemmas.{AreFrom, are_from}
+use Rattle.ynames.proofs.BelowLemmas.{source_at, below_found}
 
 later_none : (k : ℕ) (ps : List Placed) → AreFrom k ps → (n : ℕ) → n < k → find (λ (g : Grouping). g.number == n) (filter_map grouping_at ps) ≡ None
 later_none k [] are n less = refl

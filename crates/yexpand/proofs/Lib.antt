@@ -1,5 +1,3 @@
-pub mod PlacedLemmas
-pub mod BelowLemmas
 pub mod GroupingLemmas
 pub mod UsedLemmas
 pub mod NodeLemmas

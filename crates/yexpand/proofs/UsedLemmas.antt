@@ -22,7 +22,7 @@ use Rattle.ygrammar.specs.declared.source.Source as held
 use Rattle.ygrammar.specs.SourceView.{source_view}
 use Rattle.ynames.specs.ReferringView.{innermost_of}
 use Rattle.ynames.specs.ScopeView.{placed_at}
-use Rattle.yexpand.proofs.PlacedLemmas.{stands_at, among_them, below_them}
+use Rattle.ynames.proofs.PlacedLemmas.{edge_among, stands_at, among_them, below_them}
 use Rattle.yexpand.proofs.GroupingLemmas.{row_if, row_at}
 
 -- what holds of what is inside, where there is something
@@ -126,27 +126,6 @@ module _ (good : ℕ → Type 0) (d : ℕ) where
             rest,
           )
       by false stands false used inner_row rest = rest
-
--- ---- edges
-
-edge_among : (h : Placed → Option Edge) (ps : List Placed) (p : Placed) (a b : ℕ) → Contains ps p → h p ≡ Some (record { source = a; target = b })
-    → has_edge (filter_map h ps) a b ≡ true
-edge_among h [] p a b at e = absurd (let within = at.1 in omega (arith, within))
-edge_among h (q ∷ ps) p a b (zero, within, is) e = ap (λ o. has_edge (cons_option o (filter_map h ps)) a b) (ap h is ∙ e)
-    ∙ first ((a == a) && (b == b)) (ap₂ (λ x y. x && y) ((Decides-eqb a a).1 refl) ((Decides-eqb b b).1 refl))
-  where
-    first : (x : Bool) → x ≡ true → (x || has_edge (filter_map h ps) a b) ≡ true
-    first true is = refl
-    first false is = absurd cc
-edge_among h (q ∷ ps) p a b (suc k, within, is) e = by (h q) (edge_among h ps p a b (k, omega (arith, within), is) e)
-  where
-    by : (o : Option Edge) → has_edge (filter_map h ps) a b ≡ true → has_edge (cons_option o (filter_map h ps)) a b ≡ true
-    by None rest = rest
-    by (Some x) rest = or_right (leads a b x) rest
-      where
-        or_right : (y : Bool) → has_edge (filter_map h ps) a b ≡ true → (y || has_edge (filter_map h ps) a b) ≡ true
-        or_right true rest = refl
-        or_right false rest = rest
 
 -- ---- a set of modules
 

@@ -1,6 +1,6 @@
 pub mod KnownLemmas
 pub mod OrderLemmas
-pub mod PlacedLemmas
+pub mod RowLemmas
 pub mod TypeLemmas
 pub mod WithinLemmas
 pub mod VerdictLemmas
@@ -8,4 +8,3 @@ pub mod ModuleLemmas
 mod RepeatedLemmas
 pub mod PhaseLemmas
 pub mod LinkingLemmas
-pub mod BelowLemmas

@@ -17,7 +17,7 @@ use Rattle.ygrammar.specs.declared.source.Source as held
 use Rattle.ygrammar.specs.SourceView.{source_view}
 use Rattle.ynames.proofs.NumberedLemmas.{by_number_from}
 use Rattle.ylink.specs.VerdictView.{members_in, members_below, judged, verdict_held, told_by}
-use Rattle.ylink.proofs.PlacedLemmas.{found_at}
+use Rattle.ynames.proofs.PlacedLemmas.{found_at}
 use Rattle.ylink.proofs.TypeLemmas.{no_verdict, next_verdict, no_more_verdicts}
 
 -- what was pushed first is set once what stands below it is pushed

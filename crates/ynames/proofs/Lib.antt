@@ -1,3 +1,4 @@
+pub mod BelowLemmas
 pub mod DeclaredLemmas
 pub mod DefinitionLemmas
 pub mod EdgeLemmas
@@ -6,6 +7,7 @@ pub mod ImportingLemmas
 pub mod MeaningLemmas
 pub mod NumberedLemmas
 pub mod PlaceLemmas
+pub mod PlacedLemmas
 pub mod PrefixLemmas
 pub mod ReferringLemmas
 pub mod RepeatedLemmas

@@ -1,6 +1,6 @@
 use Rattle.std.proofs.Common.{sym, ◌∙◌}
 use Rattle.ypreorder.specs.View.{forest_in}
-use Rattle.yexpand.proofs.PlacedLemmas.{number_named_at}
+use Rattle.ynames.proofs.PlacedLemmas.{number_named_at}
 use Rattle.yexpand.proofs.named.Named.meaning.Goals as goal
 
 pub returns : goal.returns

@@ -5,7 +5,7 @@ use Rattle.ypreorder.specs.View.{slots_in}
 use Rattle.ypreorder.specs.declared.slot.Slot.{Slot}
 use Rattle.ygrammar.specs.declared.source.Source as held
 use Rattle.ygrammar.specs.SourceView.{source_view}
-use Rattle.ylink.proofs.BelowLemmas.{source_at}
+use Rattle.ynames.proofs.BelowLemmas.{source_at}
 use Rattle.ylink.proofs.linked.Linked.source.Goals as goal
 
 pub returns-in-Some : goal.returns-in-Some

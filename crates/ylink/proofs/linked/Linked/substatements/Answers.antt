@@ -2,7 +2,7 @@ use Rattle.std.proofs.Common.{ap, ◌∙◌}
 use Rattle.ypreorder.specs.View.{row_by, slots_in}
 use Rattle.ygrammar.specs.SourceView.{source_view}
 use Rattle.ylink.specs.StatementsView.{numbers_of}
-use Rattle.ylink.proofs.BelowLemmas.{below_found}
+use Rattle.ynames.proofs.BelowLemmas.{below_found}
 use Rattle.ylink.proofs.linked.Linked.substatements.Goals as goal
 
 pub returns : goal.returns

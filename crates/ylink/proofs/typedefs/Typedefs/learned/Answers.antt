@@ -16,7 +16,8 @@ use Rattle.ygrammar.specs.SourceView.{source_view}
 use Rattle.ynames.specs.MeaningView.{AreMeanings}
 use Rattle.ylink.specs.TypedefView.{known_at, names_in}
 use Rattle.ylink.proofs.OrderLemmas.{IsLearned, entry_within, learned_next, learned_all, straight, rows_count}
-use Rattle.ylink.proofs.PlacedLemmas.{number_named_at, row_found}
+use Rattle.ynames.proofs.PlacedLemmas.{number_named_at}
+use Rattle.ylink.proofs.RowLemmas.{row_found}
 use Rattle.ylink.proofs.WithinLemmas.{edges_within}
 use Rattle.ylink.proofs.typedefs.Typedefs.learned.Goals as goal
 

@@ -1,25 +1,23 @@
 -- Statements where they stand, by their numbers: the one of a number, what it names, and those that stand below it.
-use Rattle.std.proofs.Common.{◌≡◌, ℕ, zero, suc, ◌+◌, ◌<◌, Bool, true, false, cond, List, [], ◌∷◌, ◌++◌, length, map, get_or, Option, Some, None, refl, sym, ap, ◌∙◌, arith, subst}
-use Rattle.std.specs.Prelude.{⊤, slice_get, option_map, option_and_then, find, ◌==◌}
-use Rattle.std.specs.List.{Contains}
+use Rattle.std.proofs.Common.{◌≡◌, ℕ, zero, suc, ◌+◌, ◌<◌, Bool, true, false, cond, List, [], ◌∷◌, ◌++◌, length, map, get_or, Option, Some, None, refl, sym, ap, ap₂, ◌∙◌, arith, subst}
+use Rattle.std.specs.Prelude.{⊤, slice_get, option_map, option_and_then, find, ◌==◌, ◌&&◌, ◌||◌}
+use Rattle.std.specs.List.{Contains, filter_map, cons_option}
 use Rattle.std.proofs.lemmas.Bool.Decides.{Decides-eqb}
 use Rattle.std.proofs.lemmas.List.Elements.{Contains-append_left, Contains-append_right, Contains-append_cases}
 use Rattle.std.proofs.lemmas.Option.{slice_get-map, slice_get-get_or}
 use mathlib.Core.Logic.{⊎_elim}
 use Rattle.yspec.specs.Forest.{Forest, end, node, size}
-use Rattle.yspec.specs.linking.Keyword.{typedef_word}
-use Rattle.yspec.specs.linking.Source.{Source, is_source_of}
+use Rattle.yspec.specs.linking.Graph.{Edge}
+use Rattle.yspec.specs.linking.Source.{Source}
+use Rattle.ygraph.specs.Reaching.{leads, has_edge}
 use Rattle.yspec.specs.linking.Scopes.{Placed, placed, statements_of, statement_at, meaning}
-use Rattle.yspec.specs.linking.DerivedTypes.{number_named, typedef_row}
+use Rattle.yspec.specs.linking.DerivedTypes.{number_named}
 use Rattle.ypreorder.specs.Layout.{numbered_by}
-use Rattle.ypreorder.specs.View.{row_by}
-use Rattle.ypreorder.specs.declared.siblings.Siblings.{Siblings}
 use Rattle.ygrammar.specs.declared.source.Source as held
 use Rattle.ygrammar.specs.SourceView.{source_view}
 use Rattle.ynames.specs.MeaningView.{number_meant, meaning_at, AreMeanings}
 use Rattle.ynames.specs.ScopeView.{placed_at}
 use Rattle.ynames.proofs.NumberedLemmas.{length_placed}
-use Rattle.ylink.specs.TypedefView.{row_at, AreRows}
 
 -- ---- numbers
 
@@ -34,7 +32,7 @@ from_append k (p ∷ ps) qs are others =
     let same : k + suc (length ps) ≡ (k + 1) + length ps = omega arith in
     (are.0, from_append (k + 1) ps qs are.1 (subst (λ n. AreFrom n qs) same others))
 
-are_from : (ancestors : List (Source × Forest Source)) (k : ℕ) (f : Forest held.Source) → AreFrom k (placed ancestors (numbered_by source_view k f))
+pub are_from : (ancestors : List (Source × Forest Source)) (k : ℕ) (f : Forest held.Source) → AreFrom k (placed ancestors (numbered_by source_view k f))
 unfolding placed
 are_from ancestors k end = tt
 are_from ancestors k (node l below after) =
@@ -114,23 +112,6 @@ module _ (f : Forest held.Source) where
       by None = refl
       by (Some p) = refl
 
-  pub row_found : (rows : List (Option (Siblings held.Source))) → AreRows rows modules → (n : ℕ)
-      → option_map (row_by source_view) (option_and_then (λ r. r) (slice_get rows n)) ≡ typedef_row modules n
-  row_found rows are n =
-      let ps = statements_of modules in
-      by (slice_get rows n)
-      ∙ (ap (option_and_then (λ r. r)) (sym (slice_get-map (option_map (row_by source_view)) rows n) ∙ (ap (λ l. slice_get l n) are ∙ slice_get-map row_at ps n))
-      ∙ (all (slice_get ps n) ∙ ap (option_and_then row_at) (sym (found_at n))))
-    where
-      by : (o : Option (Option (Siblings held.Source))) → option_map (row_by source_view) (option_and_then (λ r. r) o)
-          ≡ option_and_then (λ r. r) (option_map (option_map (row_by source_view)) o)
-      by None = refl
-      by (Some r) = refl
-
-      all : (o : Option Placed) → option_and_then (λ r. r) (option_map row_at o) ≡ option_and_then row_at o
-      all None = refl
-      all (Some p) = refl
-
 -- ---- what stands below a statement
 
 -- the statements below one of some are among them
@@ -154,3 +135,24 @@ below_them ancestors (node s below after) p q (suc k, within, is) inside =
     (Contains-append_cases under behind p (k, omega (arith, within), is)) in
     let within_them = among.1 in
     (suc among.0, omega (arith, within_them), among.2)
+
+-- ---- edges
+
+pub edge_among : (h : Placed → Option Edge) (ps : List Placed) (p : Placed) (a b : ℕ) → Contains ps p → h p ≡ Some (record { source = a; target = b })
+    → has_edge (filter_map h ps) a b ≡ true
+edge_among h [] p a b at e = absurd (let within = at.1 in omega (arith, within))
+edge_among h (q ∷ ps) p a b (zero, within, is) e = ap (λ o. has_edge (cons_option o (filter_map h ps)) a b) (ap h is ∙ e)
+    ∙ first ((a == a) && (b == b)) (ap₂ (λ x y. x && y) ((Decides-eqb a a).1 refl) ((Decides-eqb b b).1 refl))
+  where
+    first : (x : Bool) → x ≡ true → (x || has_edge (filter_map h ps) a b) ≡ true
+    first true is = refl
+    first false is = absurd cc
+edge_among h (q ∷ ps) p a b (suc k, within, is) e = by (h q) (edge_among h ps p a b (k, omega (arith, within), is) e)
+  where
+    by : (o : Option Edge) → has_edge (filter_map h ps) a b ≡ true → has_edge (cons_option o (filter_map h ps)) a b ≡ true
+    by None rest = rest
+    by (Some x) rest = or_right (leads a b x) rest
+      where
+        or_right : (y : Bool) → has_edge (filter_map h ps) a b ≡ true → (y || has_edge (filter_map h ps) a b) ≡ true
+        or_right true rest = refl
+        or_right false rest = rest

@@ -14,7 +14,7 @@ use Rattle.ypreorder.proofs.LabelLemmas.{preorder_by, label_at, size-by}
 use Rattle.ypreorder.proofs.LayoutLemmas.{parts_of, forest_seen, length-places, seen-append}
 use Rattle.ygrammar.specs.declared.source.Source as held
 use Rattle.ygrammar.specs.SourceView.{source_view}
-use Rattle.ylink.proofs.PlacedLemmas.{found_at}
+use Rattle.ynames.proofs.PlacedLemmas.{found_at}
 
 -- ---- a statement itself
 
