@@ -30,7 +30,7 @@ use Rattle.ynames.proofs.NumberedLemmas.{length_placed}
 use Rattle.ylink.specs.TypedefView.{known_at, known_view, row_at, AreRows}
 use Rattle.ylink.specs.declared.typedefs.Known as known_in_code
 use Rattle.ylink.proofs.KnownLemmas.{same_known}
-use Rattle.ynames.proofs.PlacedLemmas.{among_them}
+use Rattle.ynames.proofs.PlacedLemmas.{among_them, number_named_at}
 use Rattle.ylink.proofs.WithinLemmas.{Each, IsWithin', each_edge, meant_within}
 
 target_within : (n : ℕ) (edges : List graph.Edge) → Each (IsWithin' n) edges → (a b : ℕ) → has_edge edges a b ≡ true → b < n
