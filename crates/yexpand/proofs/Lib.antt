@@ -10,3 +10,4 @@ pub mod WalkLemmas
 pub mod OrderLemmas
 pub mod ToldLemmas
 pub mod LeastLemmas
+pub mod StatingLemmas

@@ -6,3 +6,4 @@ pub mod Walk
 pub mod Counting
 pub mod Knowing
 pub mod Ordered
+pub mod Stating

@@ -8,6 +8,7 @@ mod laying;
 mod named;
 mod nodes;
 mod refining;
+mod stating;
 mod table;
 mod target;
 

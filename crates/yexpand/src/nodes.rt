@@ -16,7 +16,7 @@ pub struct ExpandedNode<'a, 't> {
     // The number of the module to which it belongs.
     owner: usize,
     // What refines give it, one after another.
-    refines: Vec<Siblings<'a, Source<'t>>>,
+    pub(crate) refines: Vec<Siblings<'a, Source<'t>>>,
 }
 
 impl<'a, 't> ExpandedNode<'a, 't> {
@@ -25,7 +25,9 @@ impl<'a, 't> ExpandedNode<'a, 't> {
     ghost use Rattle.ypreorder.specs.View.{row_by, label_by};
     ghost use Rattle.yword.specs.KeywordView.{keyword_view};
     ghost use Rattle.ygrammar.specs.SourceView.{source_view};
-    ghost use Rattle.yexpand.specs.NodeView.{part_for, part_view};
+    ghost use Rattle.yspec.specs.linking.Parts.{own_of};
+    ghost use Rattle.yexpand.specs.NamedView.{row_or_none};
+    ghost use Rattle.yexpand.specs.NodeView.{part_for, part_view, plain_part};
     ghost use Rattle.yexpand.specs.TableView.{refined_part};
 
     /// The node that a statement defines, or the case that it stands for, in a module, before refines.
@@ -53,6 +55,17 @@ impl<'a, 't> ExpandedNode<'a, 't> {
     {
         self.refines.push(given)?;
         Ok(())
+    }
+
+    /// The row in which its own statements stand, besides those that define nodes; a case that is implied has none.
+    pub(crate) fn own(&self) -> Option<Siblings<'a, Source<'t>>>
+        ensures { own_of (row_or_none result) ≡ (plain_part self.now).own }
+    {
+        if self.is_implied {
+            None
+        } else {
+            Some(self.source.children())
+        }
     }
 
     /// The keyword of its statement; that of a case, where one is implied.

@@ -1,0 +1,41 @@
+use Rattle.std.proofs.Common.{◌≡◌, ◌∙◌, true, false, map, sym, ap, subst}
+use Rattle.yspec.specs.Forest.{join}
+use Rattle.yspec.specs.linking.Expansion.{others}
+use Rattle.yspec.specs.linking.Parts.{own_of}
+use Rattle.ypreorder.specs.View.{row_by}
+use Rattle.yword.specs.KeywordView.{keyword_view}
+use Rattle.ygrammar.specs.SourceView.{source_view}
+use Rattle.yexpand.specs.NamedView.{row_or_none}
+use Rattle.yexpand.specs.NodeView.{part_view, plain_part, stated_after}
+use Rattle.yexpand.specs.Stating.{SameFor}
+use Rattle.yexpand.proofs.StatingLemmas.{own_same, given_same, kept_same, stated_same, turned, next_refine}
+use Rattle.yexpand.proofs.nodes.ExpandedNode.row_stating.Goals as goal
+
+pub loop-given-init : goal.loop-given-init
+loop-given-init c =
+    let k = keyword_view c.args.keyword in
+    let node = c.args.self.now in
+    let own = row_or_none c.own-stating.result in
+    let plain = (plain_part node).own in
+    let rows = map (row_by source_view) node.refines.items in
+    let same : SameFor k own plain = turned k plain own (subst (λ f. SameFor k f own) c.own-stating.ensures (own_same k c.requires own)) in
+    subst (λ items. SameFor k (stated_after own (map (row_by source_view) items)) (part_view node).own) (sym c.deref-given-items.ensures.value)
+    (stated_same k rows own plain same)
+
+pub loop-given-preserved-then-not-has_any : goal.loop-given-preserved-then-not-has_any
+loop-given-preserved-then-not-has_any c =
+    let k = keyword_view c.args.keyword in
+    let row = row_or_none c.loop-given.stating in
+    let given = row_by source_view c.given-item.result in
+    next_refine k (row_by source_view) c.deref-given-items.result.now c.loop-given.given-index c.given-item.result row row (part_view c.args.self.now).own
+    c.loop-given-test.true c.given-item.is (turned k (join (others given row) given) row (kept_same k given row (sym c.has_any.ensures ∙ c.if-not-has_any.true)))
+    c.loop-given.invariant
+
+pub loop-given-preserved : goal.loop-given-preserved
+loop-given-preserved c =
+    let k = keyword_view c.args.keyword in
+    let row = row_or_none c.loop-given.stating in
+    let given = row_by source_view c.given-item.result in
+    next_refine k (row_by source_view) c.deref-given-items.result.now c.loop-given.given-index c.given-item.result row given (part_view c.args.self.now).own
+    c.loop-given-test.true c.given-item.is (turned k (join (others given row) given) given (given_same k given row (sym c.has_any.ensures ∙ c.if-not-has_any.false)))
+    c.loop-given.invariant
