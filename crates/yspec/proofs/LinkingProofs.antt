@@ -10,7 +10,6 @@ pub mod LinkedSchemaLemmas
 pub mod LinkedTextLemmas
 pub mod NewestLemmas
 pub mod ExpansionLemmas
-pub mod UnusedLemmas
 pub mod RightExpandedLemmas
 pub mod StepLemmas
 pub mod RefineLemmas

@@ -19,7 +19,6 @@ pub mod Compiling
 pub mod Expansion
 pub mod NodeCounts
 pub mod Rewriting
-pub mod ExpandedCompiling
 pub mod LinkingSamples
 pub mod ScopeSamples
 pub mod CompilingSamples

@@ -3,16 +3,11 @@
 ghost use Rattle.std.specs.Prelude.{◌≡◌, ◌++◌, ℕ, suc, List, [], Some, true, if◌then◌else◌};
 ghost use Rattle.std.specs.List.{list_any};
 ghost use Rattle.yspec.specs.Forest.{Forest, end, first_of, join, row, size};
-ghost use Rattle.yspec.specs.document.Fitting.{LeafsAreBare};
 ghost use Rattle.yspec.specs.linking.Source.{Source, all_with, found_with, is_source_of};
 ghost use Rattle.yspec.specs.linking.Keyword.{Keyword, grouping_word};
 ghost use Rattle.yspec.specs.linking.Parts.{Part};
 ghost use Rattle.yspec.specs.linking.Expansion.{Grouping, all_refine_breaks, expanded_parts, groupings_of, laid, others, replaced, row_in, row_used, stands_for, unfit_for, unfit_in};
 ghost use Rattle.yspec.specs.linking.Scopes.{Placed, statement_at};
-ghost use Rattle.yspec.specs.text.Statement.{Statement};
-ghost use Rattle.yspec.specs.linking.StatementBreaks.{statement_phase};
-ghost use Rattle.yspec.specs.linking.Compiling.{compiled};
-ghost use Rattle.yspec.specs.linking.ExpandedCompiling.{expanded_compiled, expanded_schema_of};
 ghost use Rattle.yspec.specs.linking.NodeCounts.{count_used, counts_within, node_count};
 ghost use Rattle.yspec.specs.linking.Rewriting.{Ends, Rewritten, is_settled, settled};
 
@@ -68,15 +63,4 @@ pub fn stated_after_refines()
     ensures all { (k : Keyword) (given own : Forest Source)
         → all_with k (join (others given own) given)
         ≡ (if list_any (is_source_of k) (row given) then all_with k given else all_with k own) }
-{}
-
-/// As long as the table lets no `uses` through, the phases tell what they told before, and schemas are the same.
-pub fn compiled_without_uses()
-    ensures { (modules : Forest Statement) → expanded_compiled modules ≡ compiled modules }
-{}
-
-/// Of modules that break no rule of the table the expanded leafs have nothing below them, whatever a `uses` stands for.
-pub fn expanded_leafs()
-    ensures { (modules : Forest Statement) → statement_phase modules ≡ []
-        → LeafsAreBare (expanded_schema_of modules).nodes }
 {}

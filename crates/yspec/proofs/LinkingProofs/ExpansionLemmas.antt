@@ -1,5 +1,5 @@
 -- What `uses` stand for, by recursion and by single steps; and how many nodes that is.
-use Rattle.std.proofs.Common.{◌≡◌, ℕ, zero, suc, ◌+◌, Bool, true, false, not, cond, ◌&&◌, List, [], ◌∷◌, map, length, Option, Some, None, refl, sym, ap, ap₂, ◌∙◌, arith}
+use Rattle.std.proofs.Common.{◌≡◌, ℕ, zero, suc, ◌+◌, Bool, true, false, not, cond, ◌&&◌, List, [], ◌∷◌, map, Option, Some, None, refl, sym, ap, ap₂, ◌∙◌, arith}
 use Rattle.std.specs.Prelude.{find, ◌==◌}
 use Rattle.std.specs.Option.{option_map_or}
 use Rattle.std.proofs.lemmas.Bool.{and_parts}
@@ -151,7 +151,7 @@ replaced_join meant owner (node p below after) g plain = front_node (is_uses p) 
 
 -- ---- two meanings that agree where they are asked
 
-agree : (test : Part → Bool) (first second : Part → Nodes) → ((u : Part) → test u ≡ true → first u ≡ second u) → (owner : ℕ) (f : Nodes) → all_uses test f ≡ true
+pub agree : (test : Part → Bool) (first second : Part → Nodes) → ((u : Part) → test u ≡ true → first u ≡ second u) → (owner : ℕ) (f : Nodes) → all_uses test f ≡ true
     → replaced first owner f ≡ replaced second owner f
 unfolding replaced all_uses
 agree test first second same owner end all = refl
@@ -187,7 +187,7 @@ replaced_settled meant owner f none = agree (λ u. false) meant (λ u. end) (λ 
 abbrev pub StandsFor : Forest Source → List Grouping → ℕ → (Part → Nodes) → Type 0
 StandsFor modules groupings owner meant = (u : Part) → meant u ≡ refined modules owner u.own (replaced meant owner (row_used modules groupings u))
 
-one_deeper : (modules : Forest Source) (groupings : List Grouping) (owner depth : ℕ) (u : Part) → ends_within modules groupings depth u ≡ true
+pub one_deeper : (modules : Forest Source) (groupings : List Grouping) (owner depth : ℕ) (u : Part) → ends_within modules groupings depth u ≡ true
     → stands_for modules groupings owner depth u ≡ stands_for modules groupings owner (suc depth) u
 unfolding stands_for ends_within
 one_deeper modules groupings owner zero u ends = absurd cc
@@ -262,7 +262,7 @@ pub size_join : (f g : Nodes) → size (join f g) ≡ size f + size g
 size_join end g = omega arith
 size_join (node p below after) g = let e = size_join after g in omega (arith, e)
 
-counted_is_size : (owner : ℕ) (count : Part → ℕ) (meant : Part → Nodes) → ((u : Part) → count u ≡ size (meant u)) → (f : Nodes) → counted count f ≡ size (replaced meant owner f)
+pub counted_is_size : (owner : ℕ) (count : Part → ℕ) (meant : Part → Nodes) → ((u : Part) → count u ≡ size (meant u)) → (f : Nodes) → counted count f ≡ size (replaced meant owner f)
 unfolding counted replaced
 counted_is_size owner count meant same end = refl
 counted_is_size owner count meant same (node p below after) = by (is_uses p) (counted_is_size owner count meant same below) (counted_is_size owner count meant same after)

@@ -1,5 +1,5 @@
 -- Of the groupings of a set: the row of each, and the refines in those that have no nodes.
-use Rattle.std.proofs.Common.{◌≡◌, ℕ, suc, Bool, true, false, not, cond, ◌&&◌, List, [], ◌∷◌, ◌++◌, Option, Some, None, refl, sym, ap, ap₂, ◌∙◌, subst}
+use Rattle.std.proofs.Common.{◌≡◌, ℕ, suc, Bool, true, false, not, cond, ◌&&◌, List, [], ◌∷◌, ◌++◌, Option, Some, None, refl, ap, ap₂, ◌∙◌}
 use Rattle.std.specs.Prelude.{find, unwrap_or, ◌==◌}
 use Rattle.std.specs.List.{filter_map, cons_option}
 use Rattle.std.specs.Option.{option_map_or}
@@ -12,7 +12,7 @@ use Rattle.yspec.specs.linking.Prefixes.{NodeName}
 use Rattle.yspec.specs.linking.Parts.{Part}
 use Rattle.yspec.specs.linking.Expansion.{Grouping, laid, grouping_at, groupings_of, row_in, row_used, part_at, is_refine, is_fit, refine_steps, may_bear, changed_at, overridden, after_refine, refine_breaks, all_refine_breaks, replaced, stands_for, unfit_in, unfit_for}
 use Rattle.yspec.specs.linking.NodeCounts.{count_used, counts_within}
-use Rattle.yspec.proofs.LinkingProofs.ExpansionLemmas.{Nodes, count_used_is_size, none_in}
+use Rattle.yspec.proofs.LinkingProofs.ExpansionLemmas.{count_used_is_size, none_in}
 
 -- ---- rows
 

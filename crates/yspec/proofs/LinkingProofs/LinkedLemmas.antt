@@ -14,14 +14,17 @@ use Rattle.yspec.specs.linking.Imports.{repeated_prefixes}
 use Rattle.yspec.specs.linking.Prefixes.{prefix_breaks}
 use Rattle.yspec.specs.linking.DerivedTypes.{type_breaks}
 use Rattle.yspec.specs.linking.Scopes.{taken_breaks}
-use Rattle.yspec.specs.linking.Parts.{Part, parts_of_modules}
+use Rattle.yspec.specs.linking.Parts.{Part}
+use Rattle.yspec.specs.linking.Expansion.{expanded_parts, unfit_breaks}
+use Rattle.yspec.specs.linking.NodeCounts.{node_count}
 use Rattle.yspec.specs.linking.Planned.{Plan, Around, around_below, planned}
 use Rattle.yspec.specs.linking.SchemaNodes.{schema_node}
 use Rattle.yspec.specs.linking.NodeBreaks.{name_breaks, node_breaks}
 use Rattle.yspec.specs.linking.Compiling.{plan_of, schema_of, is_too_deep, names_phase, meanings_phase, phases, compiled}
 use Rattle.yspec.proofs.LinkingProofs.BreakLemmas.{none_first, none_second, none_told}
-use Rattle.yspec.proofs.LinkingProofs.LegalLemmas.{are_modules}
-use Rattle.yspec.proofs.LinkingProofs.RightPartLemmas.{AreRight, right_all, bare_of}
+use Rattle.yspec.proofs.LinkingProofs.LegalLemmas.{are_modules, are_at}
+use Rattle.yspec.proofs.LinkingProofs.RightPartLemmas.{AreRight, bare_of}
+use Rattle.yspec.proofs.LinkingProofs.RightExpandedLemmas.{right_expanded}
 use Rattle.yspec.proofs.BasicLemmas.{or_parts}
 
 abbrev pub plan_in : Forest Statement → Plan
@@ -60,7 +63,8 @@ breaks_nothing modules e =
     let deep = limit_breaks (is_too_deep plan.nodes) modules in
     let of_nodes = node_breaks plan ∷ deep ∷ [] in
     let of_names = name_breaks plan ∷ of_nodes in
-    let of_sizes = limit_breaks (nat_lt node_limit (size plan.nodes)) modules ∷ of_names in
+    let of_refines = unfit_breaks sources ∷ of_names in
+    let of_sizes = limit_breaks (nat_lt node_limit (node_count sources)) modules ∷ of_refines in
     let of_types = type_breaks sources ∷ of_sizes in
     let of_meanings = meanings_phase sources ∷ of_types in
     let of_modules = names_phase modules sources ∷ of_meanings in
@@ -68,18 +72,19 @@ breaks_nothing modules e =
     let second = none_told (names_phase modules sources) (first_broken of_meanings) first.1 in
     let third = none_told (meanings_phase sources) (first_broken of_types) second.1 in
     let fourth = none_told (type_breaks sources) (first_broken of_sizes) third.1 in
-    let fifth = none_told (limit_breaks (nat_lt node_limit (size plan.nodes)) modules) (first_broken of_names) fourth.1 in
-    let sixth = none_told (name_breaks plan) (first_broken of_nodes) fifth.1 in
-    let seventh = none_told (node_breaks plan) (first_broken (deep ∷ [])) sixth.1 in
-    let eighth = none_told deep None seventh.1 in
+    let fifth = none_told (limit_breaks (nat_lt node_limit (node_count sources)) modules) (first_broken of_refines) fourth.1 in
+    let sixth = none_told (unfit_breaks sources) (first_broken of_names) fifth.1 in
+    let seventh = none_told (name_breaks plan) (first_broken of_nodes) sixth.1 in
+    let eighth = none_told (node_breaks plan) (first_broken (deep ∷ [])) seventh.1 in
+    let ninth = none_told deep None eighth.1 in
     let limits = or_parts (nat_lt node_limit (size plan.nodes)) (nat_lt level_limit (levels plan.nodes))
-    (not_passed (λ m. is_too_deep (plan_in m).nodes) none_deep modules (is_too_deep plan.nodes) refl eighth.0) in
+    (not_passed (λ m. is_too_deep (plan_in m).nodes) none_deep modules (is_too_deep plan.nodes) refl ninth.0) in
     record {
       statements = first.0;
       module_names = none_first (module_breaks 0 [] modules) (taken_breaks sources)
           (none_second (repeated_prefixes sources) (module_breaks 0 [] modules ++ taken_breaks sources)
           (none_second (prefix_breaks sources) (repeated_prefixes sources ++ (module_breaks 0 [] modules ++ taken_breaks sources)) second.0));
-      names = sixth.0;
+      names = seventh.0;
       few = ltb-false node_limit (size plan.nodes) limits.0;
       within = ltb-false level_limit (levels plan.nodes) limits.1;
     }
@@ -148,8 +153,9 @@ linked_numbered modules schema e =
 
 -- ---- leafs
 
-pub right_plan : (modules : Forest Statement) → BreaksNothing modules → AreRight (length (schema_of modules).modules) (parts_of_modules (sources_of modules))
-right_plan modules none = right_all (sources_of modules) (are_modules 0 modules none.statements 0)
+pub right_plan : (modules : Forest Statement) → BreaksNothing modules → AreRight (length (schema_of modules).modules) (expanded_parts (sources_of modules))
+right_plan modules none =
+    right_expanded (sources_of modules) (are_modules 0 modules none.statements 0) (are_at 0 modules none.statements 0)
 
 pub linked_bare : (modules : Forest Statement) (schema : Schema) → compiled modules ≡ Ok schema → LeafsAreBare schema.nodes
 linked_bare modules schema e =

@@ -12,7 +12,8 @@ use Rattle.yspec.specs.document.Writing.{IsPlain, IsNamed, NodesAreNamed, HasIts
 use Rattle.yspec.specs.linking.Keyword.{Keyword, same_keyword, choice_word, case_word}
 use Rattle.yspec.specs.linking.Source.{Source, sources_from, sources_of, argument_in}
 use Rattle.yspec.specs.linking.StatementBreaks.{top_breaks, breaks_from}
-use Rattle.yspec.specs.linking.Parts.{Part, defines_node, parts_of_modules}
+use Rattle.yspec.specs.linking.Parts.{Part, defines_node}
+use Rattle.yspec.specs.linking.Expansion.{expanded_parts}
 use Rattle.yspec.specs.linking.Planned.{Planned, Plan, Around, at_top, planned_node, data_parent_below, around_below, planned}
 use Rattle.yspec.specs.linking.SchemaNodes.{kind_by, schema_node}
 use Rattle.yspec.specs.linking.Compiling.{schema_modules, schema_of, compiled}
@@ -198,8 +199,8 @@ are_named modules none =
     let plan = plan_in modules in
     let right = right_plan modules none in
     let apart = apart_of [] (preorder plan.nodes) none.names in (
-      row_named (schema_of modules) plan 0 at_top (parts_of_modules (sources_of modules)) right (inl refl) apart,
-      all_named (schema_of modules) plan 0 at_top (parts_of_modules (sources_of modules)) right apart,
+      row_named (schema_of modules) plan 0 at_top (expanded_parts (sources_of modules)) right (inl refl) apart,
+      all_named (schema_of modules) plan 0 at_top (expanded_parts (sources_of modules)) right apart,
     )
 
 nodes_named : (schema : Schema) (plan : Plan) (next : ℕ) (around : Around) (f : Forest Part) → AreRight (length schema.modules) f
@@ -300,4 +301,4 @@ pub linked_nodes : (modules : Forest Statement) (schema : Schema) → compiled m
 linked_nodes modules schema e =
     let i = compiles modules schema e in
     subst (λ (s : Schema). NodesAreNamed s s.nodes) i.is
-    (nodes_named (schema_of modules) (plan_in modules) 0 at_top (parts_of_modules (sources_of modules)) (right_plan modules i.none))
+    (nodes_named (schema_of modules) (plan_in modules) 0 at_top (expanded_parts (sources_of modules)) (right_plan modules i.none))

@@ -1,9 +1,8 @@
 -- What a node states after a refine: of each keyword what the refine gives, or where it gives none what the node stated.
-use Rattle.std.proofs.Common.{◌≡◌, Bool, true, false, cond, ◌||◌, List, [], ◌∷◌, Option, Some, None, refl, sym, ap, ◌∙◌, subst}
-use Rattle.std.specs.Prelude.{filter}
+use Rattle.std.proofs.Common.{◌≡◌, Bool, true, false, cond, ◌||◌, [], ◌∷◌, Option, Some, None, refl, sym, ap, ◌∙◌}
 use Rattle.std.specs.List.{list_any}
 use Rattle.yspec.specs.Forest.{Forest, end, node, row, join, first_of}
-use Rattle.yspec.specs.linking.Keyword.{Keyword, same_keyword}
+use Rattle.yspec.specs.linking.Keyword.{Keyword}
 use Rattle.yspec.specs.linking.Source.{Source, is_source_of, found_with, all_with}
 use Rattle.yspec.specs.linking.Expansion.{others}
 use Rattle.yspec.proofs.LinkingProofs.KeywordLemmas.{same_is}

@@ -11,7 +11,8 @@ use Rattle.yspec.specs.linking.Prefixes.{prefix_breaks}
 use Rattle.yspec.specs.linking.Scopes.{taken_breaks, lost_breaks}
 use Rattle.yspec.specs.linking.Circles.{import_circles, definition_circles}
 use Rattle.yspec.specs.linking.DerivedTypes.{type_breaks}
-use Rattle.yspec.specs.linking.Parts.{parts_of_modules}
+use Rattle.yspec.specs.linking.Expansion.{expanded_parts, unfit_breaks}
+use Rattle.yspec.specs.linking.NodeCounts.{node_count}
 use Rattle.yspec.specs.linking.Planned.{Planned, Plan, at_top, planned}
 use Rattle.yspec.specs.linking.SchemaNodes.{schema_nodes}
 use Rattle.yspec.specs.linking.NodeBreaks.{name_breaks, node_breaks}
@@ -20,7 +21,7 @@ use Rattle.yspec.specs.schema.Schema.{Schema, SchemaModule}
 
 -- the nodes of a set of modules, in order of definition
 abbrev pub plan_of : Forest Source → Plan
-plan_of modules = record { modules = modules; nodes = planned 0 at_top (parts_of_modules modules) }
+plan_of modules = record { modules = modules; nodes = planned 0 at_top (expanded_parts modules) }
 
 abbrev pub schema_modules : Forest Source → List SchemaModule
 schema_modules end = []
@@ -39,8 +40,10 @@ schema_of modules = schema_of_plan (plan_of (sources_of modules))
 abbrev pub is_too_deep : Forest Planned → Bool
 is_too_deep nodes = nat_lt node_limit (size nodes) || nat_lt level_limit (levels nodes)
 
+-- the number of nodes is counted before any grouping is expanded
 abbrev pub phases_of_plan : Forest Statement → Plan → List (List Break)
-phases_of_plan modules plan = limit_breaks (nat_lt node_limit (size plan.nodes)) modules
+phases_of_plan modules plan = limit_breaks (nat_lt node_limit (node_count plan.modules)) modules
+    ∷ unfit_breaks plan.modules
     ∷ name_breaks plan
     ∷ node_breaks plan
     ∷ limit_breaks (is_too_deep plan.nodes) modules ∷ []

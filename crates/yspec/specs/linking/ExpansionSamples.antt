@@ -1,9 +1,7 @@
 -- Worked examples: modules whose groupings are used, and the schema that they make or what is told of them.
 use Rattle.std.specs.Prelude.{ℕ, zero, suc, false, Option, List, [], ◌∷◌, ◌++◌, codes, decimal, map, Result, Ok, Err}
-use Rattle.std.specs.Option.{option_map_or}
-use Rattle.yspec.specs.Forest.{Forest, preorder}
+use Rattle.yspec.specs.Forest.{preorder}
 use Rattle.yspec.specs.text.Text.{Text}
-use Rattle.yspec.specs.text.Statement.{Statement}
 use Rattle.yspec.specs.program.Examples.{module_text}
 use Rattle.yspec.specs.schema.Breaks.{Break, first_broken}
 use Rattle.yspec.specs.schema.Diagram.{diagram}
@@ -13,20 +11,7 @@ use Rattle.yspec.specs.schema.Schema.{Schema, SchemaNode, Kind, container, leaf,
 use Rattle.yspec.specs.linking.Source.{sources_of}
 use Rattle.yspec.specs.linking.LinkingSamples.{statements_in}
 use Rattle.yspec.specs.linking.NodeCounts.{node_count}
-use Rattle.yspec.specs.linking.ExpandedCompiling.{expanded_plan_of, expanded_schema_of, expanded_phases_of_plan, expanded_phases_of_sources}
-
--- the phases behind that of the table of statements
-abbrev pub expanded_or_told : Forest Statement → Result Schema Break
-expanded_or_told modules = option_map_or Err
-    (first_broken (expanded_phases_of_sources modules (sources_of modules))) (Ok (expanded_schema_of modules))
-
--- what comes of some texts
-abbrev pub expanded_texts : List Text → Result Schema Break
-expanded_texts texts = expanded_or_told (statements_in texts)
-
--- the same of one module, named m, with these lines from line 5 on
-abbrev pub expanded_lines : Text → Result Schema Break
-expanded_lines lines = expanded_texts (module_text (codes "m") lines ∷ [])
+use Rattle.yspec.specs.linking.Compiling.{plan_of, schema_of, phases_of_plan}
 
 -- ---- shown in short
 
@@ -53,7 +38,7 @@ drawn m (Err told) = []
 -- the kinds of all nodes, whatever is told
 abbrev pub kinds_made : Text → List (Text × Kind)
 kinds_made lines =
-    kinds_in (Ok (expanded_schema_of (statements_in (module_text (codes "m") lines ∷ []))))
+    kinds_in (Ok (schema_of (statements_in (module_text (codes "m") lines ∷ []))))
 
 -- leafs of numbers and of texts, and a container
 abbrev pub number_leaf : Text → Absence → Text × Kind
@@ -102,4 +87,4 @@ count_of_texts texts = node_count (sources_of (statements_in texts))
 -- what is told of the nodes, given that nothing is told of statements, names and types
 abbrev pub told_of_nodes : List Text → Option Break
 told_of_nodes texts = let modules = statements_in texts in
-    first_broken (expanded_phases_of_plan modules (expanded_plan_of (sources_of modules)))
+    first_broken (phases_of_plan modules (plan_of (sources_of modules)))

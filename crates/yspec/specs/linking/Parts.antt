@@ -1,6 +1,6 @@
 -- Parts: the statements that define schema nodes, with what they state of them (RFC 7950, 7.5 to 7.9).
 use Rattle.std.specs.Prelude.{ℕ, Bool, true, false, if◌then◌else◌}
-use Rattle.yspec.specs.Forest.{Forest, end, node, join}
+use Rattle.yspec.specs.Forest.{Forest, end, node}
 use Rattle.yspec.specs.linking.Keyword.{Keyword}
 use Rattle.yspec.specs.linking.Keyword as word
 use Rattle.yspec.specs.linking.Source.{Source, is_source_of}
@@ -41,16 +41,3 @@ as_cases (node p below after) = if is_source_of word.case_word p.source then nod
 
 abbrev pub within : Source → Forest Part → Forest Part
 within s parts = if is_source_of word.choice_word s then as_cases parts else parts
-
--- ---- all
-
--- the parts of a row of statements
-unfoldable pub parts : Forest Source → Forest Part
-parts end = end
-parts (node s below after) = if defines_node s.keyword
-    then node (part_of s below) (within s (parts below)) (parts after) else parts after
-
--- those of the row of `module` statements: the top nodes of all modules
-abbrev pub parts_of_modules : Forest Source → Forest Part
-parts_of_modules end = end
-parts_of_modules (node s below after) = join (parts below) (parts_of_modules after)

@@ -136,7 +136,7 @@ whole_rule_of unique_word = rule unique_form []
 
 -- Statements that no part of the compiler knows yet. They are misplaced wherever they stand.
 abbrev pub not_yet : List Keyword
-not_yet = augment_word ∷ uses_word ∷ refine_word ∷ []
+not_yet = augment_word ∷ []
 
 abbrev pub is_compiled : Allowed → Bool
 is_compiled a = not (list_any (same_keyword a.keyword) not_yet)

@@ -1,5 +1,5 @@
 -- The types that `type` statements mean, and where one breaks a rule of its own (RFC 7950, 7.3, 7.4 and 9).
-use Rattle.std.specs.Prelude.{ℕ, ℤ, pos, ◌++◌, ◌&&◌, Bool, true, false, List, [], ◌∷◌, map, codes, Option, Some, None, find, option_map, option_and_then, unwrap_or, if◌then◌else◌}
+use Rattle.std.specs.Prelude.{ℕ, ℤ, pos, ◌&&◌, Bool, true, false, List, [], ◌∷◌, map, codes, Option, Some, None, find, option_map, option_and_then, unwrap_or, if◌then◌else◌}
 use Rattle.std.specs.List.{list_all}
 use Rattle.std.specs.Option.{option_map_or}
 use Rattle.yspec.specs.Forest.{Forest, end, node, row}
