@@ -4,7 +4,6 @@ use Rattle.yspec.specs.Forest.{Forest, node, end, join, size}
 use Rattle.yspec.specs.linking.Parts.{Part}
 use Rattle.yspec.specs.linking.Expansion.{is_uses, owned_by, replaced}
 use Rattle.yspec.specs.linking.NodeCounts.{counted}
-use Rattle.yspec.proofs.LinkingProofs.ExpansionLemmas.{size_join}
 use Rattle.yexpand.specs.Counting.{many}
 use Rattle.yexpand.proofs.UsedLemmas.{UsesAre}
 
@@ -28,21 +27,6 @@ module _ (meant : Part → ℕ) where
   pub counted_uses : (p : Part) → is_uses p ≡ true → counted meant (node p end end) ≡ meant p
   unfolding counted
   counted_uses p is = ap (λ b. cond b (meant p) (suc (counted meant end)) + 0) is ∙ omega arith
-
--- ---- and what they are replaced by
-
--- with counts that are those of what each `uses` stands for
-pub counted_size : (owner : ℕ) (count : Part → ℕ) (meant : Part → Forest Part) → ((u : Part) → count u ≡ size (meant u)) → (f : Forest Part)
-    → counted count f ≡ size (replaced meant owner f)
-unfolding counted replaced
-counted_size owner count meant same end = refl
-counted_size owner count meant same (node p below after) = by (is_uses p) (counted_size owner count meant same below) (counted_size owner count meant same after)
-  where
-    by : (b : Bool) → counted count below ≡ size (replaced meant owner below) → counted count after ≡ size (replaced meant owner after)
-        → cond b (count p) (suc (counted count below)) + counted count after
-        ≡ size (cond b (join (meant p) (replaced meant owner after)) (node (owned_by owner p) (replaced meant owner below) (replaced meant owner after)))
-    by true inner rest = let e = size_join (meant p) (replaced meant owner after) in let s = same p in omega (arith, e, s, rest)
-    by false inner rest = omega (arith, inner, rest)
 
 -- counts that are the same up to the bound
 pub counted_capped : (count other : Part → ℕ) (f : Forest Part) → UsesAre (λ u. min (count u) many ≡ min (other u) many) f

@@ -7,25 +7,9 @@ use Rattle.yspec.specs.linking.Parts.{Part}
 use Rattle.yspec.specs.linking.Expansion.{Grouping, is_uses, owned_by, row_used, refined, replaced, stands_for, refine_breaks, unfit_in, unfit_for}
 use Rattle.yspec.specs.linking.Rewriting.{all_uses, ends_within}
 use Rattle.yspec.specs.schema.Breaks.{Break}
+use Rattle.yspec.proofs.LinkingProofs.ExpansionLemmas.{agree, one_deeper}
 
 -- ---- two meanings that agree where they are asked
-
-pub agree_nodes : (test : Part → Bool) (first second : Part → Forest Part) → ((u : Part) → test u ≡ true → first u ≡ second u) → (owner : ℕ) (f : Forest Part)
-    → all_uses test f ≡ true → replaced first owner f ≡ replaced second owner f
-unfolding replaced all_uses
-agree_nodes test first second same owner end all = refl
-agree_nodes test first second same owner (node p below after) all =
-    by (is_uses p) all (agree_nodes test first second same owner below) (agree_nodes test first second same owner after)
-  where
-    by : (b : Bool) → (cond b (test p) (all_uses test below) && all_uses test after) ≡ true
-        → (all_uses test below ≡ true → replaced first owner below ≡ replaced second owner below)
-        → (all_uses test after ≡ true → replaced first owner after ≡ replaced second owner after)
-        → cond b (join (first p) (replaced first owner after)) (node (owned_by owner p) (replaced first owner below) (replaced first owner after))
-        ≡ cond b (join (second p) (replaced second owner after)) (node (owned_by owner p) (replaced second owner below) (replaced second owner after))
-    by true all inner rest = let parts = and_parts (test p) (all_uses test after) all in ap₂ join (same p parts.0) (rest parts.1)
-    by false all inner rest =
-        let parts = and_parts (all_uses test below) (all_uses test after) all in
-        ap₂ (node (owned_by owner p)) (inner parts.0) (rest parts.1)
 
 pub agree_breaks : (test : Part → Bool) (first second : Part → List Break) → ((u : Part) → test u ≡ true → first u ≡ second u) → (f : Forest Part)
     → all_uses test f ≡ true → unfit_in first f ≡ unfit_in second f
@@ -84,14 +68,6 @@ module _ (modules : Forest Source) (groupings : List Grouping) where
       weaker_test (ends_within modules groupings depth) (ends_within modules groupings (suc depth)) (ends_deeper depth) (row_used modules groupings u) ends
 
   module _ (owner : ℕ) where
-    stands_deeper : (depth : ℕ) (u : Part) → ends_within modules groupings depth u ≡ true
-        → stands_for modules groupings owner depth u ≡ stands_for modules groupings owner (suc depth) u
-    unfolding stands_for ends_within
-    stands_deeper zero u ends = absurd cc
-    stands_deeper (suc depth) u ends = ap (refined modules owner u.own)
-        (agree_nodes (ends_within modules groupings depth) (stands_for modules groupings owner depth) (stands_for modules groupings owner (suc depth))
-        (stands_deeper depth) owner (row_used modules groupings u) ends)
-
     unfit_deeper : (depth : ℕ) (u : Part) → ends_within modules groupings depth u ≡ true
         → unfit_for modules groupings owner depth u ≡ unfit_for modules groupings owner (suc depth) u
     unfolding unfit_for ends_within
@@ -99,8 +75,8 @@ module _ (modules : Forest Source) (groupings : List Grouping) where
     unfit_deeper (suc depth) u ends = ap₂ (λ x y. x ++ refine_breaks modules owner u.own y)
         (agree_breaks (ends_within modules groupings depth) (unfit_for modules groupings owner depth) (unfit_for modules groupings owner (suc depth))
         (unfit_deeper depth) (row_used modules groupings u) ends)
-        (agree_nodes (ends_within modules groupings depth) (stands_for modules groupings owner depth) (stands_for modules groupings owner (suc depth))
-        (stands_deeper depth) owner (row_used modules groupings u) ends)
+        (agree (ends_within modules groupings depth) (stands_for modules groupings owner depth) (stands_for modules groupings owner (suc depth))
+        (one_deeper modules groupings owner depth) owner (row_used modules groupings u) ends)
 
   all_deeper : (more depth : ℕ) (f : Forest Part) → all_uses (ends_within modules groupings depth) f ≡ true
       → all_uses (ends_within modules groupings (deeper more depth)) f ≡ true
@@ -119,8 +95,8 @@ module _ (modules : Forest Source) (groupings : List Grouping) where
       → replaced (stands_for modules groupings owner depth) owner f ≡ replaced (stands_for modules groupings owner (deeper more depth)) owner f
   nodes_deeper owner zero depth f all = refl
   nodes_deeper owner (suc more) depth f all = nodes_deeper owner more depth f all
-      ∙ agree_nodes (ends_within modules groupings (deeper more depth)) (stands_for modules groupings owner (deeper more depth)) (stands_for modules groupings owner (suc (deeper more depth)))
-      (stands_deeper owner (deeper more depth)) owner f (all_deeper more depth f all)
+      ∙ agree (ends_within modules groupings (deeper more depth)) (stands_for modules groupings owner (deeper more depth)) (stands_for modules groupings owner (suc (deeper more depth)))
+      (one_deeper modules groupings owner (deeper more depth)) owner f (all_deeper more depth f all)
 
   breaks_deeper : (owner more depth : ℕ) (f : Forest Part) → all_uses (ends_within modules groupings depth) f ≡ true
       → unfit_in (unfit_for modules groupings owner depth) f ≡ unfit_in (unfit_for modules groupings owner (deeper more depth)) f

@@ -11,14 +11,14 @@ use Rattle.yspec.specs.linking.NodeCounts.{counted, count_used, counts_within}
 use Rattle.yspec.specs.linking.Parts.{Part}
 use Rattle.yspec.specs.linking.Rewriting.{all_uses, ends_within, Ends}
 use Rattle.yspec.specs.linking.Source.{Source}
-use Rattle.yspec.proofs.LinkingProofs.ExpansionLemmas.{count_is_size, count_used_is_size}
+use Rattle.yspec.proofs.LinkingProofs.ExpansionLemmas.{count_is_size, count_used_is_size, counted_is_size}
 use Rattle.ypreorder.specs.Layout.{numbered_by}
 use Rattle.ygrammar.specs.declared.source.Source as held
 use Rattle.ygrammar.specs.SourceView.{source_view}
 use Rattle.yexpand.specs.Counting.{many}
 use Rattle.yexpand.specs.Ordered.{AreInOrder}
 use Rattle.yexpand.specs.Walk.{nodes_for, AllEnd}
-use Rattle.yexpand.proofs.CountLemmas.{counted_capped, counted_size}
+use Rattle.yexpand.proofs.CountLemmas.{counted_capped}
 use Rattle.yexpand.proofs.DepthLemmas.{all_deeper_to, same_nodes}
 use Rattle.yexpand.proofs.UsedLemmas.{OnSome, are_all, are_weaker, tested, all_used}
 use Rattle.yexpand.proofs.WalkLemmas.{all_pass}
@@ -65,7 +65,7 @@ module _ (f : Forest held.Source) where
   by_table table u = option_map_or table (number_named set u.source.number) 0
 
   pub total_size : (owner e : ℕ) → total e ≡ size (nodes_for set owner n (row e))
-  total_size owner e = counted_size owner meant (stands_for set groupings owner n) (count_is_size set groupings owner n) (row e)
+  total_size owner e = counted_is_size owner meant (stands_for set groupings owner n) (count_is_size set groupings owner n) (row e)
 
   -- of what a `uses` stands for
   abbrev pub used : Part → ℕ
@@ -145,7 +145,7 @@ module _ (f : Forest held.Source) where
 
     -- one deeper is the same
     total_deeper : (e : ℕ) → counted used (row e) ≡ total e
-    total_deeper e = counted_size 0 used (stands_for set groupings 0 (suc n)) (count_is_size set groupings 0 (suc n)) (row e)
+    total_deeper e = counted_is_size 0 used (stands_for set groupings 0 (suc n)) (count_is_size set groupings 0 (suc n)) (row e)
         ∙ (ap size (same_nodes set groupings 0 (suc n) n (row e) (all_pass (ends_within set groupings (suc n)) straight (row e)) (good e)) ∙ sym (total_size 0 e))
 
     counted_own : (table : ℕ → ℕ) (i : ℕ) → AreCounted nodes table i → i < length nodes

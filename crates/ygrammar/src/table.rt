@@ -41,6 +41,7 @@ const IN_MODULE: &[Allowed] = &[
     Allowed(Keyword::Reference, Count::AtMostOne),
     Allowed(Keyword::Typedef, Count::Any),
     Allowed(Keyword::Grouping, Count::Any),
+    Allowed(Keyword::Uses, Count::Any),
     Allowed(Keyword::Container, Count::Any),
     Allowed(Keyword::Leaf, Count::Any),
     Allowed(Keyword::LeafList, Count::Any),
@@ -72,6 +73,7 @@ const IN_TYPEDEF: &[Allowed] = &[
 const IN_GROUPING: &[Allowed] = &[
     Allowed(Keyword::Typedef, Count::Any),
     Allowed(Keyword::Grouping, Count::Any),
+    Allowed(Keyword::Uses, Count::Any),
     Allowed(Keyword::Container, Count::Any),
     Allowed(Keyword::Leaf, Count::Any),
     Allowed(Keyword::LeafList, Count::Any),
@@ -83,6 +85,7 @@ const IN_GROUPING: &[Allowed] = &[
 ];
 
 const IN_CASE: &[Allowed] = &[
+    Allowed(Keyword::Uses, Count::Any),
     Allowed(Keyword::Container, Count::Any),
     Allowed(Keyword::Leaf, Count::Any),
     Allowed(Keyword::LeafList, Count::Any),
@@ -95,6 +98,7 @@ const IN_CASE: &[Allowed] = &[
 
 const IN_AUGMENT: &[Allowed] = &[
     Allowed(Keyword::Case, Count::Any),
+    Allowed(Keyword::Uses, Count::Any),
     Allowed(Keyword::Container, Count::Any),
     Allowed(Keyword::Leaf, Count::Any),
     Allowed(Keyword::LeafList, Count::Any),
@@ -110,6 +114,7 @@ const IN_CONTAINER: &[Allowed] = &[
     Allowed(Keyword::Config, Count::AtMostOne),
     Allowed(Keyword::Typedef, Count::Any),
     Allowed(Keyword::Grouping, Count::Any),
+    Allowed(Keyword::Uses, Count::Any),
     Allowed(Keyword::Container, Count::Any),
     Allowed(Keyword::Leaf, Count::Any),
     Allowed(Keyword::LeafList, Count::Any),
@@ -153,6 +158,7 @@ const IN_LIST: &[Allowed] = &[
     Allowed(Keyword::MaxElements, Count::AtMostOne),
     Allowed(Keyword::Typedef, Count::Any),
     Allowed(Keyword::Grouping, Count::Any),
+    Allowed(Keyword::Uses, Count::Any),
     Allowed(Keyword::Container, Count::Any),
     Allowed(Keyword::Leaf, Count::Any),
     Allowed(Keyword::LeafList, Count::Any),
@@ -179,6 +185,7 @@ const IN_CHOICE: &[Allowed] = &[
 ];
 
 const IN_USES: &[Allowed] = &[
+    Allowed(Keyword::Refine, Count::Any),
     Allowed(Keyword::Status, Count::AtMostOne),
     Allowed(Keyword::Description, Count::AtMostOne),
     Allowed(Keyword::Reference, Count::AtMostOne),

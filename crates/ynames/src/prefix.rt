@@ -5,7 +5,7 @@ ghost use Rattle.std.specs.List.{list_any};
 ghost use Rattle.yspec.specs.Forest.{Forest, first_of};
 ghost use Rattle.yspec.specs.linking.Prefixes as spec;
 ghost use Rattle.yspec.specs.linking.Imports.{repeated_prefixes};
-ghost use Rattle.yspec.specs.linking.Keyword.{type_word};
+ghost use Rattle.yspec.specs.linking.Keyword.{type_word, uses_word};
 ghost use Rattle.yspec.specs.linking.Source as sources;
 ghost use Rattle.ypreorder.specs.View.{row_by, label_by};
 ghost use Rattle.yspec.specs.schema.Breaks.{least_from};
@@ -24,7 +24,7 @@ use crate::repeated::repeated_prefix;
 use std::alloc::{AllocError, Global};
 use ygrammar::{
     BrokenRule, CompileCode, Name, Source, Sources, argument_of, argument_with, broken, key_names,
-    leafref_path, least, name_of, unique_paths,
+    leafref_path, least, name_of, relative_path, unique_paths,
 };
 use ypreorder::{Node, Siblings};
 use yword::Keyword;
@@ -198,6 +198,18 @@ fn has_unknown_among(prefixes: &Prefixes<'_>, home: usize, names: Option<Vec<Nam
     }
 }
 
+/// Whether the argument of a statement, as a name, has a prefix that names nothing.
+fn is_unknown_name(prefixes: &Prefixes<'_>, source: &Source<'_>) -> bool
+    ensures { (modules : Forest sources.Source) → IsOf prefixes.now modules
+        → result ≡ list_any (spec.is_unknown_prefix modules source.now.home)
+        (spec.names_given uses_word (argument_text (text.view source.now.statement.now).0)) }
+{
+    match name_of(source.argument()) {
+        Some(name) => prefixes.is_unknown(source.home, &name),
+        None => false,
+    }
+}
+
 /// Whether the argument of a statement, as the name of a type, has a prefix that names nothing. A built-in type has none.
 fn is_unknown_type(prefixes: &Prefixes<'_>, source: &Source<'_>) -> bool
     ensures { (modules : Forest sources.Source) → IsOf prefixes.now modules
@@ -207,10 +219,7 @@ fn is_unknown_type(prefixes: &Prefixes<'_>, source: &Source<'_>) -> bool
     if source.built_in().is_some() {
         return false;
     }
-    match name_of(source.argument()) {
-        Some(name) => prefixes.is_unknown(source.home, &name),
-        None => false,
-    }
+    is_unknown_name(prefixes, source)
 }
 
 /// Whether a name in the argument of a statement has a prefix that names nothing.
@@ -227,6 +236,10 @@ fn has_unknown_prefix(
     let home = source.home;
     Ok(match source.keyword {
         Keyword::Type => is_unknown_type(prefixes, source),
+        Keyword::Uses => is_unknown_name(prefixes, source),
+        Keyword::Refine => {
+            has_unknown_among(prefixes, home, relative_path(alloc, source.argument())?)
+        }
         Keyword::Key => has_unknown_among(prefixes, home, key_names(alloc, source.argument())?),
         Keyword::Path => {
             has_unknown_among(prefixes, home, leafref_path(alloc, source.argument())?)
