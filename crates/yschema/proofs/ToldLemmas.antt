@@ -1,18 +1,22 @@
 -- What is told of several phases.
 use Rattle.std.proofs.Common.{◌≡◌, ℕ, zero, suc, ◌+◌, ◌-◌, ◌<◌, Bool, true, List, [], ◌∷◌, ◌++◌, length, get_or, Option, Some, None, Result, Ok, Err, IfOk, sym, ap, ap₂, ◌∙◌, arith}
+use Rattle.std.specs.Prelude.{nat_lt}
 use Rattle.std.specs.Option.{option_map_or}
 use Rattle.ytext.specs.View.{view, modules_view}
 use Rattle.ytext.specs.declared.statement.Module.{Module}
 use Rattle.yspec.specs.Forest.{Forest}
 use Rattle.yspec.specs.Results.{Fails}
 use Rattle.yspec.specs.text.Statement.{Statement}
-use Rattle.yspec.specs.schema.Breaks.{Break, broken, when, least_from, first_broken, last_module, limit_breaks}
-use Rattle.yspec.specs.linking.Source.{sources_of}
+use Rattle.yspec.specs.schema.Breaks.{Break, broken, when, least_from, first_broken, last_module, limit_breaks, node_limit}
+use Rattle.yspec.specs.linking.Source.{Source, sources_of}
+use Rattle.yspec.specs.linking.Expansion.{unfit_breaks}
+use Rattle.yspec.specs.linking.NodeBreaks.{name_breaks}
+use Rattle.yspec.specs.linking.NodeCounts.{node_count}
 use Rattle.yspec.specs.linking.Planned.{Plan}
 use Rattle.yspec.specs.linking.Compiling.{linking_phases, linked, phases, phases_of_plan, compiled, plan_of, schema_of, schema_of_plan}
-use Rattle.yschema.specs.Phases.{plan_part, rule_part}
+use Rattle.yschema.specs.Phases.{expansion_part, plan_part, rule_part}
 use Rattle.ylink.proofs.LinkingLemmas.{refused}
-use Rattle.ylink.proofs.PhaseLemmas.{told_first, told_then}
+use Rattle.ylink.proofs.PhaseLemmas.{told_here, told_later, told_last, told_first, told_then}
 
 -- ---- limits
 
@@ -54,6 +58,29 @@ refused_linking f None h = tt
 refused_linking f (Some b) h = not_linked f b h
 
 module _ (f : Forest Statement) where
+  module _ (s : Forest Source) (s_is : s ≡ sources_of f) (first : None ≡ first_broken (linking_phases f)) where
+    expansion : linking_phases f ++ (expansion_part f s ++ (name_breaks (plan_of s) ∷ rule_part f (plan_of s))) ≡ phases f
+    expansion = ap (λ m. linking_phases f ++ (expansion_part f m ++ (name_breaks (plan_of m) ∷ rule_part f (plan_of m)))) s_is
+
+    pub in_expansion : (b : Break) → Some b ≡ first_broken (expansion_part f s) → compiled f ≡ Err b
+    in_expansion b e = refused_as f b (told_first (expansion_part f s) (name_breaks (plan_of s) ∷ rule_part f (plan_of s)) b e
+        ∙ (sym (told_then (linking_phases f) (expansion_part f s ++ (name_breaks (plan_of s) ∷ rule_part f (plan_of s))) first) ∙ ap first_broken expansion))
+
+  -- too many nodes are told, and else the refines
+  module _ (s : Forest Source) where
+    pub many_told : (b : Break) → Some b ≡ least_from None (limit_breaks (nat_lt node_limit (node_count s)) f) → Some b ≡ first_broken (expansion_part f s)
+    many_told b e = told_here (limit_breaks (nat_lt node_limit (node_count s)) f) (first_broken (unfit_breaks s ∷ [])) b e
+
+    pub refines_told : (t : Option Break) → None ≡ least_from None (limit_breaks (nat_lt node_limit (node_count s)) f) → t ≡ least_from None (unfit_breaks s)
+        → t ≡ first_broken (expansion_part f s)
+    refines_told t few e = e ∙ (sym (told_last (unfit_breaks s))
+        ∙ sym (told_later (limit_breaks (nat_lt node_limit (node_count s)) f) (first_broken (unfit_breaks s ∷ [])) few))
+
+  -- and then names
+  pub names_told : (p : Plan) (t : Option Break) → None ≡ first_broken (expansion_part f p.modules) → t ≡ least_from None (name_breaks p)
+      → t ≡ first_broken (plan_part f p)
+  names_told p t none e = e ∙ (sym (told_last (name_breaks p)) ∙ sym (told_then (expansion_part f p.modules) (name_breaks p ∷ []) none))
+
   module _ (p : Plan) (p_is : p ≡ plan_of (sources_of f)) (first : None ≡ first_broken (linking_phases f)) where
     parts : linking_phases f ++ (plan_part f p ++ rule_part f p) ≡ phases f
     parts = ap (λ q. linking_phases f ++ (plan_part f q ++ rule_part f q)) p_is

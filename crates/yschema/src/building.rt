@@ -1,17 +1,23 @@
 //! From modules to their schema.
 
-ghost use Rattle.std.specs.Prelude.{◌≡◌, ◌≤◌, [], Ok, Some, None, IfOk, unwrap_or, map};
+ghost use Rattle.std.specs.Prelude.{◌≡◌, ◌≤◌, [], Ok, Some, None, IfOk, nat_lt, unwrap_or, map};
 ghost use Rattle.yspec.specs.Forest.{levels};
 ghost use Rattle.yspec.specs.Results.{Gives};
 ghost use Rattle.yspec.specs.document.Fitting.{LeafsAreBare};
 ghost use Rattle.yspec.specs.document.Writing.{NamesDiffer};
-ghost use Rattle.yspec.specs.schema.Breaks.{first_broken, least_from, level_limit, limit_breaks};
+ghost use Rattle.yspec.specs.schema.Breaks.{first_broken, least_from, level_limit, limit_breaks, node_limit};
+ghost use Rattle.yspec.specs.linking.Expansion.{expanded_parts};
+ghost use Rattle.yspec.specs.linking.NodeCounts.{node_count};
 ghost use Rattle.yspec.specs.linking.Compiling as spec;
 ghost use Rattle.yspec.specs.linking.Compiling.{compiled, linking_phases, IsCompiled};
-ghost use Rattle.yschema.specs.Phases.{plan_part, rule_part};
+ghost use Rattle.yschema.specs.Phases.{expansion_part, plan_part, rule_part};
 ghost use Rattle.yspec.specs.linking.Source.{sources_of};
 ghost use Rattle.ytext.specs.View.{modules_view};
 ghost use Rattle.ygrammar.specs.LinkView as link;
+ghost use Rattle.ypreorder.specs.Layout.{places};
+ghost use Rattle.yexpand.specs.Knowing.{AreCounts};
+ghost use Rattle.yexpand.specs.NamedView.{modules_of};
+ghost use Rattle.yexpand.specs.TableView.{parts_in};
 ghost use Rattle.yplan.specs.PlanView as plans;
 ghost use Rattle.ylink.specs.LinkedView as statements;
 ghost use Rattle.yresolve.specs.ResolvedView.{IsOf};
@@ -28,6 +34,7 @@ use std::alloc::{AllocError, Global};
 use ygrammar::{BrokenRule, CompileCode, Source, Sources, argument_of, argument_with, broken};
 use ylink::{CompileFault, Linked, link};
 use ymodel::{Schema, SchemaModule};
+use yexpand::{Groupings, Named, NodeTable, expanded};
 use yplan::{Plan, broken_name_rule};
 use ypreorder::Node;
 use yresolve::{Resolved, broken_node_rule};
@@ -36,7 +43,7 @@ use yword::Keyword;
 
 /// The schema of a set of modules, or the least broken rule, by module, line and number, of the first phase that has one.
 /// Phases: the table of statements; prefixes, and names of modules and definitions; imports, and what names mean; types; the
-/// number of nodes; names of siblings; what nodes state and refer to; levels. Of no modules it is a schema without nodes.
+/// number of nodes; refines; names of siblings; what nodes state and refer to; levels. Of no modules it is a schema without nodes.
 pub fn compile(alloc: Global, modules: &[Module]) -> Result<Schema, CompileFault>
     ensures exact { Gives view told_by result (compiled (modules_view modules.now)) }
     ensures names { IfOk result (λ schema. NamesDiffer (view schema)) }
@@ -58,8 +65,33 @@ fn compile_linked<'t>(
     requires links { spec.linked (modules_view modules.now) ≡ Ok (statements.view linked.now) }
     ensures { Gives view told_by result (compiled (modules_view modules.now)) }
 {
-    let plan = Plan::of(alloc, linked.sources(), linked.prefixes())?;
-    if let Some(found) = broken_plan_rule(modules, &plan) {
+    let named = Named::new(linked.sources(), linked.prefixes(), linked.meanings());
+    let groupings = Groupings::of(alloc, &named, linked.order())?;
+    if let Some(found) = broken_count_rule(modules, &named, &groupings) {
+        return Err(CompileFault::from(found));
+    }
+    let made = expanded(alloc, &named, &groupings)?;
+    if let Some(found) = made.told {
+        return Err(CompileFault::from(found));
+    }
+    compile_expanded(alloc, modules, linked, &made.table)
+}
+
+/// Compiles modules whose groupings are expanded, and that have no more nodes than they may.
+fn compile_expanded<'t>(
+    alloc: Global,
+    modules: &[Module],
+    linked: &Linked<'t>,
+    nodes: &NodeTable<'_, 't>,
+) -> Result<Schema, CompileFault>
+    requires links { spec.linked (modules_view modules.now) ≡ Ok (statements.view linked.now) }
+    requires made { parts_in nodes.now ≡ places None 0 (expanded_parts (statements.view linked.now)) }
+    requires none { None ≡ first_broken
+        (expansion_part (modules_view modules.now) (statements.view linked.now)) }
+    ensures { Gives view told_by result (compiled (modules_view modules.now)) }
+{
+    let plan = Plan::of(alloc, linked.sources(), linked.prefixes(), nodes)?;
+    if let Some(found) = broken_name_rule(&plan) {
         return Err(CompileFault::from(found));
     }
     let resolved = Resolved::of(alloc, &plan, linked)?;
@@ -96,15 +128,17 @@ fn at_last(modules: &[Module], is_passed: bool) -> Option<BrokenRule>
     }
 }
 
-/// The rule that is told of the number of nodes, or of names of siblings.
-fn broken_plan_rule(modules: &[Module], plan: &Plan<'_, '_>) -> Option<BrokenRule>
-    ensures { let p = plans.view plan.now in
-        seen result ≡ first_broken (plan_part (modules_view modules.now) p) }
+/// The rule that is told of the number of nodes, which are counted before any grouping is expanded.
+fn broken_count_rule(
+    modules: &[Module],
+    named: &Named<'_, '_>,
+    groupings: &Groupings,
+) -> Option<BrokenRule>
+    requires { AreCounts groupings.now.counts.items (modules_of named.now) }
+    ensures { seen result ≡ least_from None (limit_breaks
+        (nat_lt node_limit (node_count (modules_of named.now))) (modules_view modules.now)) }
 {
-    if let Some(found) = at_last(modules, plan.nodes() > NODE_LIMIT) {
-        return Some(found);
-    }
-    broken_name_rule(plan)
+    at_last(modules, groupings.node_count(named) as usize > NODE_LIMIT)
 }
 
 /// Whether a plan has too many nodes or levels.
