@@ -11,3 +11,4 @@ pub mod OrderLemmas
 pub mod ToldLemmas
 pub mod LeastLemmas
 pub mod StatingLemmas
+pub mod TaskLemmas

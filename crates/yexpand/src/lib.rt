@@ -11,6 +11,7 @@ mod refining;
 mod stating;
 mod table;
 mod target;
+mod walking;
 
 pub use expanding::{Made, expanded};
 pub use groupings::Groupings;
