@@ -1,8 +1,8 @@
 -- Counting parts, up to a bound.
 use Rattle.std.proofs.Common.{◌≡◌, ℕ, suc, ◌+◌, ◌≤◌, Bool, true, false, cond, min, refl, ap, ◌∙◌, arith}
-use Rattle.yspec.specs.Forest.{Forest, node, end, join, size}
+use Rattle.yspec.specs.Forest.{Forest, node, end, join}
 use Rattle.yspec.specs.linking.Parts.{Part}
-use Rattle.yspec.specs.linking.Expansion.{is_uses, owned_by, replaced}
+use Rattle.yspec.specs.linking.Expansion.{is_uses}
 use Rattle.yspec.specs.linking.NodeCounts.{counted}
 use Rattle.yexpand.specs.Counting.{many}
 use Rattle.yexpand.proofs.UsedLemmas.{UsesAre}

@@ -1,10 +1,10 @@
 -- Where no `uses` leads over more groupings than a number, any number from that one on gives the same.
 use Rattle.std.proofs.Common.{◌≡◌, ℕ, zero, suc, ◌+◌, ◌-◌, ◌≤◌, Bool, true, false, cond, ◌&&◌, List, ◌++◌, refl, sym, ap, ap₂, ◌∙◌, arith, subst}
 use Rattle.std.proofs.lemmas.Bool.{and_parts}
-use Rattle.yspec.specs.Forest.{Forest, end, node, join}
+use Rattle.yspec.specs.Forest.{Forest, end, node}
 use Rattle.yspec.specs.linking.Source.{Source}
 use Rattle.yspec.specs.linking.Parts.{Part}
-use Rattle.yspec.specs.linking.Expansion.{Grouping, is_uses, owned_by, row_used, refined, replaced, stands_for, refine_breaks, unfit_in, unfit_for}
+use Rattle.yspec.specs.linking.Expansion.{Grouping, is_uses, row_used, replaced, stands_for, refine_breaks, unfit_in, unfit_for}
 use Rattle.yspec.specs.linking.Rewriting.{all_uses, ends_within}
 use Rattle.yspec.specs.schema.Breaks.{Break}
 use Rattle.yspec.proofs.LinkingProofs.ExpansionLemmas.{agree, one_deeper}

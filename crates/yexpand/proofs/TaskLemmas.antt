@@ -1,5 +1,5 @@
 -- What tasks come to, one after another.
-use Rattle.std.proofs.Common.{◌≡◌, ℕ, zero, suc, ◌+◌, ◌-◌, ◌≤◌, ◌++◌, List, [], ◌∷◌, Bool, true, false, cond, refl, sym, ap, ◌∙◌, subst, arith}
+use Rattle.std.proofs.Common.{◌≡◌, ℕ, zero, suc, ◌+◌, ◌-◌, ◌≤◌, ◌++◌, Result, Ok, Err, OnOk, List, [], ◌∷◌, true, false, cond, refl, sym, ap, ◌∙◌, subst, arith}
 use Rattle.yspec.specs.Forest.{Forest, end, node, size, join}
 use Rattle.yspec.specs.linking.Source.{Source}
 use Rattle.yspec.specs.linking.Parts.{Part}
@@ -58,9 +58,9 @@ module _ (modules : Forest Source) where
       → Leads modules this most (before ++ t ∷ []) after mid new → Leads modules that more before after old new
   leads_behind this that most more t before after old mid new both one few leads = record {
     runs = λ final runs.
-    let all = leads.runs final runs in
-    let rest = runs_pop before t all.0 final all.2 in
-    (rest.0, both all.0 rest.0 all.1 rest.1, rest.2);
+        let all = leads.runs final runs in
+        let rest = runs_pop before t all.0 final all.2 in
+        (rest.0, both all.0 rest.0 all.1 rest.1, rest.2);
     ends = λ all. leads.ends (ends_push before t all one);
     less = let less = leads.less in let more = work_push before t in omega (arith, few, less, more);
   }
@@ -99,3 +99,8 @@ toll_less modules zero u some = absurd (some refl)
 toll_less modules (suc depth) u some =
     let less : suc depth - 1 ≡ depth = omega arith in
     ap (λ n. 2 + (size modules + tolls (toll_for modules n) (row_used modules (groupings_of modules) u))) (sym less)
+
+-- what is answered of each is answered of all
+pub on_ok_all : {A E X : Type 0} (P : X → Type 0) (r : Result A E) → ((x : X) → OnOk r (P x)) → OnOk r ((x : X) → P x)
+on_ok_all P (Ok a) all = all
+on_ok_all P (Err e) all = tt

@@ -1,5 +1,5 @@
 -- What comes of statements, one after another, as it comes into a table.
-use Rattle.std.proofs.Common.{◌≡◌, ℕ, zero, suc, ◌+◌, ◌-◌, ◌*◌, ◌≤◌, Bool, true, false, cond, not, ◌&&◌, ◌||◌, List, [], ◌∷◌, ◌++◌, length, Option, Some, None, refl, sym, ap, ap₂, ◌∙◌, append_assoc, arith, length-append, subst}
+use Rattle.std.proofs.Common.{◌≡◌, ℕ, zero, suc, ◌+◌, ◌-◌, Bool, true, false, cond, not, ◌&&◌, ◌||◌, List, [], ◌∷◌, ◌++◌, length, Option, Some, None, refl, sym, ap, ap₂, ◌∙◌, append_assoc, arith, length-append, subst}
 use Rattle.std.proofs.lemmas.Bool.{and_parts}
 use Rattle.std.proofs.lemmas.List.{append-nil}
 use Rattle.yspec.specs.Forest.{Forest, node, end, size, join}
@@ -377,28 +377,3 @@ depth_of modules rows slots is same =
 -- what comes into an empty table
 abbrev pub begun : List (Slot ExpandedNode) → Forest Part → List (Place Part)
 begun slots f = layout.seen numbered_part 0 (layout.laid slots) ++ places None (length slots) f
-
--- ---- measures
-
-pub one_less : (d n : ℕ) → (d ≡ 0 → ⊥) → d * n ≡ (d - 1) * n + n
-one_less zero n some = absurd (some refl)
-one_less (suc d) n some =
-    let less : suc d - 1 ≡ d = omega arith in
-    let more : suc d * n ≡ n + d * n = mul-suc d n in
-    let same : d * n ≡ (suc d - 1) * n = ap (λ k. k * n) (sym less) in
-    omega (arith, more, same)
-  where
-    mul-suc : (d n : ℕ) → suc d * n ≡ n + d * n
-    mul-suc d n = omega arith
-
-pub some : (b : Bool) → 2 ≤ cond b 4 2
-some true = omega arith
-some false = omega arith
-
-pub four : (b : Bool) → b ≡ true → 4 ≤ cond b 4 2
-four true is = omega arith
-four false is = absurd cc
-
-pub few : (b : Bool) → cond b 4 2 ≤ 4
-few true = omega arith
-few false = omega arith

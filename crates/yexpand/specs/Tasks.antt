@@ -1,5 +1,5 @@
 -- What tasks do, one after another, and how much there is to do.
-use Rattle.std.specs.Prelude.{◌≡◌, ◌+◌, ◌≤◌, ◌++◌, ℕ, zero, suc, List, [], ◌∷◌, if◌then◌else◌}
+use Rattle.std.specs.Prelude.{◌≡◌, ◌+◌, ◌≤◌, ℕ, zero, suc, List, [], ◌∷◌, if◌then◌else◌}
 use Rattle.yspec.specs.Forest.{Forest, end, node, size}
 use Rattle.yspec.specs.linking.Source.{Source}
 use Rattle.yspec.specs.linking.Parts.{Part}

@@ -1,7 +1,7 @@
 //! How nodes are made, step by step: what is still to be done stands in a list, since groupings may lead through as many
 //! others as there are statements.
 
-ghost use Rattle.std.specs.Prelude.{◌≡◌, OnOk, true, false};
+ghost use Rattle.std.specs.Prelude.{◌≡◌, ◌+◌, OnOk, true, false};
 ghost use Rattle.yspec.specs.Forest.{end, node, size};
 ghost use Rattle.yspec.specs.linking.Expansion.{groupings_of, is_uses, laid};
 ghost use Rattle.yspec.specs.linking.Parts.{case_for, part_of, within};
@@ -279,7 +279,7 @@ fn add_grouping<'a, 't>(
         (row_named (modules_of context.now.named.now) number) }
     ensures { let m = modules_of context.now.named.now in
         OnOk result (Leads m (AddsParts m place.parent place.owner place.depth (row_named m number))
-        (1 + toll_of m place.depth (size m) (row_named m number))
+        (toll_of m place.depth (size m) (row_named m number) + 1)
         tasks.old.items tasks.new.items made.old made.new) }
 {
     if context.groupings.is_without_nodes(context.named, number) {

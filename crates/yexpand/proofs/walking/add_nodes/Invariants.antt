@@ -1,4 +1,3 @@
-use Rattle.std.proofs.Common.{ℕ}
 use Rattle.yspec.specs.linking.Expansion.{laid}
 use Rattle.ypreorder.specs.View.{row_by}
 use Rattle.ygrammar.specs.SourceView.{source_view}
@@ -13,7 +12,7 @@ abbrev pub invariant-loop-task : goal.invariant-loop-task
 invariant-loop-task l = record {
   ends : TasksEnd (modules_of l.context.named.now) l.tasks.items;
   so_far : (final : Made) → Runs (modules_of l.context.named.now) l.tasks.items l.made final
-      → AddsParts (modules_of l.context.named.now) l.place.parent l.place.owner l.place.depth (laid (row_by source_view l.fn.statements)) l.fn.made final;
+      → AddsParts (modules_of l.context.named.now) l.fn.place.parent l.fn.place.owner l.fn.place.depth (laid (row_by source_view l.fn.statements)) l.fn.made final;
 }
 
 abbrev pub decreases-loop-task : goal.decreases-loop-task

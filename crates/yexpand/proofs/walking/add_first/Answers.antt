@@ -1,0 +1,69 @@
+use Rattle.std.proofs.Common.{◌≡◌, arith, sym, ap, ◌∙◌, subst}
+use Rattle.std.proofs.lemmas.Result.{on_ok_weaker}
+use Rattle.yspec.specs.Forest.{end, node, size}
+use Rattle.yspec.specs.linking.Expansion.{laid}
+use Rattle.ypreorder.specs.View.{row_by, row_view, label_by}
+use Rattle.ypreorder.proofs.RowLemmas.{takes_by, takes_none_by}
+use Rattle.ygrammar.specs.SourceView.{source_view}
+use Rattle.yexpand.specs.NamedView.{modules_of}
+use Rattle.yexpand.specs.Tasks.{toll_for, toll_of, tolls, Leads}
+use Rattle.yexpand.specs.Walk.{chosen, AllEnd, AddsParts}
+use Rattle.yexpand.specs.declared.walking.Task.{Task}
+use Rattle.yexpand.specs.declared.walking.Task.TheVariants.{Add}
+use Rattle.yexpand.proofs.TaskLemmas.{leads_done, leads_behind, tolls_join}
+use Rattle.yexpand.proofs.WalkLemmas.{chosen-first, chosen_none, adds_nothing, adds_both, ends_join}
+use Rattle.yexpand.proofs.walking.add_first.Goals as goal
+
+pub returns-in_default : goal.returns-in_default
+returns-in_default c =
+    let m = modules_of c.args.context.now.named.now in
+    let parent = c.args.place.parent in
+    let owner = c.args.place.owner in
+    let depth = c.args.place.depth in
+    let before = c.args.statements in
+    let none = (takes_none_by source_view before c.next.new.self c.in_default.ensures.steps).0 in
+    let parts = chosen c.args.in_choice (laid (row_by source_view before)) in
+    leads_done m (AddsParts m parent owner depth parts) _ c.args.tasks.now.items c.args.made.now c.args.made.now
+    (adds_nothing m owner depth parent parts c.args.made.now (chosen_none c.args.in_choice (row_by source_view before) none))
+
+pub add_statement-requires-clause-ends : goal.add_statement-requires-clause-ends
+add_statement-requires-clause-ends c =
+    let m = modules_of c.args.context.now.named.now in
+    let depth = c.args.place.depth in
+    let chooses = c.args.in_choice in
+    let before = c.args.statements in
+    let after = c.next.new.self in
+    let s = label_by source_view c.in-Some.statement in
+    let below = row_by source_view c.in-Some.statement.children in
+    let rest = row_by source_view after in
+    let taken = takes_by source_view before after c.in-Some.statement c.in-Some.ensures.steps in
+    let split = ap (λ r. chosen chooses (laid r)) taken ∙ chosen-first chooses s below rest in
+    (ends_join m c.args.place.owner depth (chosen chooses (laid (node s below end))) (chosen chooses (laid rest)) (subst (AllEnd m depth) split c.requires.ends)).0
+
+pub returns : goal.returns
+returns c =
+    let m = modules_of c.args.context.now.named.now in
+    let parent = c.args.place.parent in
+    let owner = c.args.place.owner in
+    let depth = c.args.place.depth in
+    let chooses = c.args.in_choice in
+    let before = c.args.statements in
+    let after = c.next.new.self in
+    let s = label_by source_view c.in-Some.statement in
+    let below = row_by source_view c.in-Some.statement.children in
+    let rest = row_by source_view after in
+    let taken = takes_by source_view before after c.in-Some.statement c.in-Some.ensures.steps in
+    let one = chosen chooses (laid (node s below end)) in
+    let others = chosen chooses (laid rest) in
+    let all = chosen chooses (laid (row_by source_view before)) in
+    let split : all ≡ _ = ap (λ r. chosen chooses (laid r)) taken ∙ chosen-first chooses s below rest in
+    let sized = ap size c.in-Some.ensures.steps.0 in
+    let cost = ap (tolls (toll_for m depth)) split ∙ tolls_join (toll_for m depth) one others in
+    let t : Task = Add c.args.place chooses after in
+    on_ok_weaker c.add_statement.result (λ leads. leads_behind m (AddsParts m parent owner depth one) (AddsParts m parent owner depth all)
+    (toll_of m depth (size (row_view c.in-Some.statement.children)) one) (toll_of m depth (size (row_view before)) all) t c.args.tasks.now.items c.add_statement.new.tasks.items c.args.made.now c.args.made.now c.add_statement.new.made
+    (λ full final first then. subst (λ parts. AddsParts m parent owner depth parts c.args.made.now final) (sym split) (adds_both m owner depth parent one others c.args.made.now full final first then))
+    (ends_join m owner depth one others (subst (AllEnd m depth) split c.requires.ends)).1
+    (omega (arith, cost, sized))
+    (subst (λ ts. Leads m (AddsParts m parent owner depth one) (toll_of m depth (size (row_view c.in-Some.statement.children)) one) ts c.add_statement.new.tasks.items c.args.made.now c.add_statement.new.made) c.in_ok-push.ensures.items leads))
+    c.add_statement.ensures

@@ -1,0 +1,81 @@
+use Rattle.std.proofs.Common.{◌≡◌, ◌&&◌, ◌||◌, not, true, false, sym, ap, ◌∙◌, refl, subst}
+use Rattle.std.proofs.lemmas.Result.{on_ok_weaker}
+use Rattle.yspec.specs.Forest.{end, node, size}
+use Rattle.yspec.specs.linking.Keyword.{same_keyword, case_word, uses_word}
+use Rattle.yspec.specs.linking.Parts.{defines_node, part_of, case_for}
+use Rattle.yspec.specs.linking.Expansion.{laid}
+use Rattle.ypreorder.specs.View.{row_by, row_view, label_by}
+use Rattle.yword.specs.KeywordView.{keyword_view}
+use Rattle.ygrammar.specs.SourceView.{source_view}
+use Rattle.yexpand.specs.NamedView.{modules_of}
+use Rattle.yexpand.specs.Tasks.{toll_of, Leads}
+use Rattle.yexpand.specs.Walk.{chosen, is_laid, AllEnd, AddsParts}
+use Rattle.yexpand.proofs.TaskLemmas.{leads_done}
+use Rattle.yexpand.proofs.WalkLemmas.{laid_none, laid_single, laid_own, adds_nothing, ends_node, chosen_empty}
+use Rattle.yexpand.proofs.walking.add_statement.Goals as goal
+
+pub returns-then-not-is_laid : goal.returns-then-not-is_laid
+returns-then-not-is_laid c =
+    let m = modules_of c.args.context.now.named.now in
+    let parent = c.args.place.parent in
+    let owner = c.args.place.owner in
+    let depth = c.args.place.depth in
+    let s = label_by source_view c.args.statement in
+    let below = row_by source_view c.args.statement.children in
+    let keyword : keyword_view c.label.result.now.keyword ≡ s.keyword = ap (λ l. keyword_view l.keyword) c.label.ensures in
+    let other : is_laid s ≡ false = sym (c.is_laid.ensures ∙ ap (λ k. defines_node k || same_keyword uses_word k) keyword) ∙ c.if-not-is_laid.true in
+    leads_done m (AddsParts m parent owner depth (chosen c.args.in_choice (laid (node s below end)))) _ c.args.tasks.now.items c.args.made.now c.args.made.now
+    (adds_nothing m owner depth parent (chosen c.args.in_choice (laid (node s below end))) c.args.made.now (chosen_empty c.args.in_choice (laid (node s below end)) (laid_none s below other)))
+
+pub add_case-requires-clause-ends : goal.add_case-requires-clause-ends
+add_case-requires-clause-ends c =
+    let m = modules_of c.args.context.now.named.now in
+    let s = label_by source_view c.args.statement in
+    let below = row_by source_view c.args.statement.children in
+    let keyword : keyword_view c.label.result.now.keyword ≡ s.keyword = ap (λ l. keyword_view l.keyword) c.label.ensures in
+    let is : is_laid s ≡ true = sym (c.is_laid.ensures ∙ ap (λ k. defines_node k || same_keyword uses_word k) keyword) ∙ c.if-not-is_laid.false in
+    let single : (c.args.in_choice && not (same_keyword case_word s.keyword)) ≡ true =
+    sym (c.is_single.ensures ∙ ap (λ k. c.args.in_choice && not (same_keyword case_word k)) keyword) ∙ c.if-is_single.true in
+    ends_node m c.args.place.owner c.args.place.depth (case_for (part_of s below)) (laid (node s below end)) refl
+    (subst (AllEnd m c.args.place.depth) (laid_single c.args.in_choice s below is single) c.requires.ends)
+
+pub returns-then-is_single : goal.returns-then-is_single
+returns-then-is_single c =
+    let m = modules_of c.args.context.now.named.now in
+    let parent = c.args.place.parent in
+    let owner = c.args.place.owner in
+    let depth = c.args.place.depth in
+    let s = label_by source_view c.args.statement in
+    let below = row_by source_view c.args.statement.children in
+    let keyword : keyword_view c.label.result.now.keyword ≡ s.keyword = ap (λ l. keyword_view l.keyword) c.label.ensures in
+    let is : is_laid s ≡ true = sym (c.is_laid.ensures ∙ ap (λ k. defines_node k || same_keyword uses_word k) keyword) ∙ c.if-not-is_laid.false in
+    let single : (c.args.in_choice && not (same_keyword case_word s.keyword)) ≡ true =
+    sym (c.is_single.ensures ∙ ap (λ k. c.args.in_choice && not (same_keyword case_word k)) keyword) ∙ c.if-is_single.true in
+    on_ok_weaker c.add_case.result (subst (λ parts. Leads m (AddsParts m parent owner depth parts) (toll_of m depth (size (row_view c.args.statement.children)) parts)
+    c.args.tasks.now.items c.add_case.new.tasks.items c.args.made.now c.add_case.new.made) (sym (laid_single c.args.in_choice s below is single))) c.add_case.ensures
+
+pub add_alone-requires-clause-ends : goal.add_alone-requires-clause-ends
+add_alone-requires-clause-ends c =
+    let m = modules_of c.args.context.now.named.now in
+    let s = label_by source_view c.args.statement in
+    let below = row_by source_view c.args.statement.children in
+    let keyword : keyword_view c.label.result.now.keyword ≡ s.keyword = ap (λ l. keyword_view l.keyword) c.label.ensures in
+    let is : is_laid s ≡ true = sym (c.is_laid.ensures ∙ ap (λ k. defines_node k || same_keyword uses_word k) keyword) ∙ c.if-not-is_laid.false in
+    let single : (c.args.in_choice && not (same_keyword case_word s.keyword)) ≡ false =
+    sym (c.is_single.ensures ∙ ap (λ k. c.args.in_choice && not (same_keyword case_word k)) keyword) ∙ c.if-is_single.false in
+    subst (AllEnd m c.args.place.depth) (laid_own c.args.in_choice s below is single) c.requires.ends
+
+pub returns : goal.returns
+returns c =
+    let m = modules_of c.args.context.now.named.now in
+    let parent = c.args.place.parent in
+    let owner = c.args.place.owner in
+    let depth = c.args.place.depth in
+    let s = label_by source_view c.args.statement in
+    let below = row_by source_view c.args.statement.children in
+    let keyword : keyword_view c.label.result.now.keyword ≡ s.keyword = ap (λ l. keyword_view l.keyword) c.label.ensures in
+    let is : is_laid s ≡ true = sym (c.is_laid.ensures ∙ ap (λ k. defines_node k || same_keyword uses_word k) keyword) ∙ c.if-not-is_laid.false in
+    let single : (c.args.in_choice && not (same_keyword case_word s.keyword)) ≡ false =
+    sym (c.is_single.ensures ∙ ap (λ k. c.args.in_choice && not (same_keyword case_word k)) keyword) ∙ c.if-is_single.false in
+    on_ok_weaker c.add_alone.result (subst (λ parts. Leads m (AddsParts m parent owner depth parts) (toll_of m depth (size (row_view c.args.statement.children)) parts)
+    c.args.tasks.now.items c.add_alone.new.tasks.items c.args.made.now c.add_alone.new.made) (sym (laid_own c.args.in_choice s below is single))) c.add_alone.ensures
