@@ -1,4 +1,4 @@
-use Rattle.std.proofs.Common.{◌≡◌, ◌++◌, length, arith, sym, ap, ◌∙◌}
+use Rattle.std.proofs.Common.{◌≡◌, ◌++◌, length, arith, ap, ◌∙◌}
 use Rattle.yspec.specs.Forest.{size}
 use Rattle.yspec.specs.linking.Planned.{planned_node}
 use Rattle.ypreorder.specs.View.{slots_in, row_by, label_by}
