@@ -4,7 +4,7 @@ use Rattle.yspec.specs.Forest.{Forest, join}
 use Rattle.yspec.specs.linking.Source.{Source}
 use Rattle.yspec.specs.linking.Parts.{Part}
 use Rattle.yspec.specs.linking.Expansion.{others}
-use Rattle.ypreorder.specs.Layout.{Place, laid, seen}
+use Rattle.ypreorder.specs.Layout.{Place, forest_of, laid, numbered_by, seen}
 use Rattle.ypreorder.specs.declared.slot.Slot.{Slot}
 use Rattle.yexpand.specs.declared.nodes.ExpandedNode.{ExpandedNode}
 use Rattle.yexpand.specs.declared.table.NodeTable.{NodeTable}
@@ -16,6 +16,10 @@ slots_of t = t.slots.items
 -- the parts as they lie in a table
 abbrev pub parts_in : NodeTable → List (Place Part)
 parts_in t = seen numbered_part 0 (laid (slots_of t))
+
+-- the forest of the parts in a table
+abbrev pub nodes_in : NodeTable → Forest Part
+nodes_in t = numbered_by numbered_part 0 (forest_of (slots_of t))
 
 -- a part once a refine has given it a row
 abbrev pub refined_part : Forest Source → Part → Part

@@ -1,7 +1,7 @@
 //! Nodes that stand for statements.
 
 use std::alloc::{AllocError, Global};
-use ygrammar::{Source, argument_of};
+use ygrammar::{BrokenRule, CompileCode, Source, argument_of, broken};
 use ypreorder::{Node, Siblings};
 use yword::Keyword;
 
@@ -22,6 +22,8 @@ pub struct ExpandedNode<'a, 't> {
 impl<'a, 't> ExpandedNode<'a, 't> {
     ghost use Rattle.std.specs.Prelude.{◌≡◌, ◌++◌, ◌∷◌, [], OnOk};
     ghost use Rattle.yspec.specs.linking.Source as sources;
+    ghost use Rattle.yspec.specs.schema.Breaks as breaks;
+    ghost use Rattle.ygrammar.specs.BreakView.{break_view, code_number};
     ghost use Rattle.ypreorder.specs.View.{row_by, label_by};
     ghost use Rattle.yword.specs.KeywordView.{keyword_view};
     ghost use Rattle.ygrammar.specs.SourceView.{source_view};
@@ -91,5 +93,14 @@ impl<'a, 't> ExpandedNode<'a, 't> {
         ensures { result.now ≡ sources.argument_in (part_view self.now).source }
     {
         argument_of(self.source)
+    }
+
+    /// A rule that it breaks, which is told at its statement, wherever that stands.
+    pub fn broken(&self, code: CompileCode) -> BrokenRule
+        ensures { let s = (part_view self.now).source in
+            break_view result ∷ [] ≡ breaks.broken (code_number code) s.home s.statement.line }
+    {
+        let label = self.source.label();
+        broken(code, label.home, label.statement)
     }
 }

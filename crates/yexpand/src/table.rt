@@ -20,7 +20,7 @@ impl<'a, 't> NodeTable<'a, 't> {
     ghost use Rattle.ypreorder.specs.View.{row_by};
     ghost use Rattle.ygrammar.specs.SourceView.{source_view};
     ghost use Rattle.yexpand.specs.NodeView.{numbered_part};
-    ghost use Rattle.yexpand.specs.TableView.{slots_of, parts_in, refined_part, changed_place};
+    ghost use Rattle.yexpand.specs.TableView.{slots_of, parts_in, nodes_in, refined_part, changed_place};
 
     /// A table without nodes.
     pub(crate) fn new(alloc: Global) -> NodeTable<'a, 't>
@@ -29,6 +29,13 @@ impl<'a, 't> NodeTable<'a, 't> {
         NodeTable {
             slots: Vec::new(alloc),
         }
+    }
+
+    /// The top nodes, in order.
+    pub fn roots(&self) -> Siblings<'_, ExpandedNode<'a, 't>>
+        ensures { row_by numbered_part result ≡ nodes_in self.now }
+    {
+        self.from(0)
     }
 
     /// The nodes from that of a number on.

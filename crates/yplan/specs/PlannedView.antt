@@ -1,29 +1,18 @@
 -- Planned nodes as the specification's.
-use Rattle.std.specs.Prelude.{ℕ, Bool, true, false, List}
+use Rattle.std.specs.Prelude.{ℕ, List}
 use Rattle.yspec.specs.Forest.{Forest}
-use Rattle.yspec.specs.linking.Parts.{Part, part_of, case_for}
-use Rattle.yspec.specs.linking.Keyword as words
+use Rattle.yspec.specs.linking.Parts.{Part}
 use Rattle.yspec.specs.linking.Planned as spec
 use Rattle.yspec.specs.linking.Planned.{planned}
 use Rattle.ypreorder.specs.Layout.{Place, places, laid, seen}
-use Rattle.ypreorder.specs.View.{slots_in, row_by, label_by}
+use Rattle.ypreorder.specs.View.{slots_in}
 use Rattle.ypreorder.specs.declared.table.Table.{Table}
-use Rattle.ygrammar.specs.SourceView.{source_view}
+use Rattle.yexpand.specs.NodeView.{part_view}
 use Rattle.yplan.specs.declared.planned.Planned.{Planned}
 use Rattle.yplan.specs.declared.planned.Around.{Around}
 
--- a part, or the case that it stands for
-abbrev pub implied_or : Bool → Part → Part
-implied_or true p = case_for p
-implied_or false p = p
-
--- the keyword of that
-abbrev pub shown_keyword : Bool → words.Keyword → words.Keyword
-shown_keyword true k = words.case_word
-shown_keyword false k = k
-
 abbrev pub part_at : Planned → Part
-part_at p = implied_or p.is_implied (part_of (label_by source_view p.source) (row_by source_view p.source.children))
+part_at p = part_view p.node.now
 
 -- the planned node of a number
 abbrev pub planned_view : ℕ → Planned → spec.Planned

@@ -16,14 +16,15 @@ impl<'a, 't> OwnStatements<'a, 't> {
     ghost use Rattle.std.specs.Prelude.{◌≡◌};
     ghost use Rattle.yspec.specs.linking.Source.{all_with};
     ghost use Rattle.yword.specs.KeywordView.{keyword_view};
-    ghost use Rattle.yplan.specs.OwnView.{left, row_in};
+    ghost use Rattle.yexpand.specs.NamedView.{row_or_none};
+    ghost use Rattle.yplan.specs.OwnView.{left};
 
     /// Those of a row.
     pub(crate) fn new(
         keyword: Keyword,
         statements: Option<Siblings<'a, Source<'t>>>,
     ) -> OwnStatements<'a, 't>
-        ensures { left result ≡ all_with (keyword_view keyword) (row_in statements.entry) }
+        ensures { left result ≡ all_with (keyword_view keyword) (row_or_none statements.entry) }
     {
         OwnStatements {
             keyword,

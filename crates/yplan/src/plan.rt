@@ -15,6 +15,7 @@ use crate::nodes::{PlanNode, PlanNodes};
 use crate::planned::Planned;
 use crate::planning::planned;
 use std::alloc::{AllocError, Global};
+use yexpand::NodeTable;
 use ygrammar::{Name, Sources};
 use yindex::{Among, Names, NodeIndex};
 use ynames::{NodeName, Prefixes};
@@ -38,17 +39,19 @@ pub struct Plan<'a, 't> {
 }
 
 impl<'a, 't> Plan<'a, 't> {
-    ghost use Rattle.std.specs.Prelude.{◌≡◌, IfOk, Some, option_map, slice_get, find, false, map};
+    ghost use Rattle.std.specs.Prelude.{◌≡◌, IfOk, None, Some, option_map, slice_get, find, false, map};
     ghost use Rattle.yindex.specs.declared.keys.Among.TheVariants as among;
     ghost use Rattle.yindex.specs.Names.{AreNamesOf};
     ghost use Rattle.yplan.specs.Finding.{is_before, is_found, name_of};
-    ghost use Rattle.yspec.specs.linking.Compiling.{plan_of};
+    ghost use Rattle.yspec.specs.linking.ExpandedCompiling.{expanded_plan_of};
+    ghost use Rattle.yspec.specs.linking.Expansion.{expanded_parts};
+    ghost use Rattle.yexpand.specs.TableView.{parts_in};
     ghost use Rattle.yspec.specs.linking.Planned as spec;
     ghost use Rattle.ygrammar.specs.LinkView as link;
     ghost use Rattle.yspec.specs.Forest.{size, levels};
     ghost use Rattle.yspec.specs.linking.NodeBreaks.{is_config_above, row_below};
     ghost use Rattle.yspec.specs.linking.SchemaNodes.{number_in, default_case};
-    ghost use Rattle.ypreorder.specs.Layout.{labels_by};
+    ghost use Rattle.ypreorder.specs.Layout.{labels_by, places};
     ghost use Rattle.ypreorder.specs.View.{row_by};
     ghost use Rattle.yplan.specs.PlannedView.{planned_view};
     ghost use Rattle.yplan.specs.PlanView.{view};
@@ -57,16 +60,20 @@ impl<'a, 't> Plan<'a, 't> {
     ghost use Rattle.ygrammar.specs.NameView.{name_view};
     ghost use Rattle.ynames.specs.PrefixView.{node_name_view};
 
-    /// The nodes that the statements of a set of modules define, given what their prefixes stand for.
+    /// The plan of a set of modules, given what their prefixes stand for and the nodes that they define.
     pub fn of(
         alloc: Global,
         sources: &'a Sources<'t>,
         prefixes: &'a Prefixes<'t>,
+        nodes: &'a NodeTable<'a, 't>,
     ) -> Result<Plan<'a, 't>, AllocError>
-        requires { IsOf prefixes.now (link.view sources.now) }
-        ensures { IfOk result (λ plan. view plan ≡ plan_of (link.view sources.entry.now)) }
+        requires prefixed { IsOf prefixes.now (link.view sources.now) }
+        requires expanded { parts_in nodes.now
+            ≡ places None 0 (expanded_parts (link.view sources.now)) }
+        ensures { IfOk result (λ plan. view plan
+            ≡ expanded_plan_of (link.view sources.entry.now)) }
     {
-        let table = planned(alloc, sources)?;
+        let table = planned(alloc, nodes.roots())?;
         let index = index_of(alloc, &table)?;
         Ok(Plan {
             sources,

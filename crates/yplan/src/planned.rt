@@ -1,17 +1,16 @@
 //! Planned nodes.
 
 use crate::own::OwnStatements;
-use ygrammar::{BrokenRule, CompileCode, Source, argument_of, argument_with, broken, found_with};
-use ypreorder::{Node, Siblings};
+use yexpand::ExpandedNode;
+use ygrammar::{BrokenRule, CompileCode, Source};
+use ypreorder::Node;
 use yword::Keyword;
 
-/// A schema node that a statement defines, or the case that a single node of a choice stands for (RFC 7950, 7.9.2).
+/// A schema node, with what stands around it.
 #[derive(Clone, Copy)]
 pub struct Planned<'a, 't> {
-    // Its statement. What it states of the node is read through `own` alone.
-    source: Node<'a, Source<'t>>,
-    // Whether it is the case that its statement stands for, and not the node itself.
-    is_implied: bool,
+    // What it is, and what it states.
+    node: &'a ExpandedNode<'a, 't>,
     /// The number of the node above it.
     pub parent: Option<u32>,
     /// The number of the node whose children share its name: the data node above it, choices and cases passed through; of
@@ -25,30 +24,22 @@ impl<'a, 't> Planned<'a, 't> {
     ghost use Rattle.std.specs.Prelude.{◌≡◌, [], ◌∷◌, false, option_map};
     ghost use Rattle.yspec.specs.linking.NodeBreaks.{broken_at};
     ghost use Rattle.ygrammar.specs.BreakView.{break_view, code_number};
-    ghost use Rattle.yspec.specs.linking.Parts.{defines_node, own_of, part_of};
+    ghost use Rattle.yspec.specs.linking.Parts.{defines_node};
     ghost use Rattle.yspec.specs.linking.Planned as spec;
     ghost use Rattle.yspec.specs.linking.Source as sources;
-    ghost use Rattle.ypreorder.specs.View.{row_by, label_by};
     ghost use Rattle.yword.specs.KeywordView.{keyword_view};
-    ghost use Rattle.ygrammar.specs.SourceView.{source_view, node_view};
-    ghost use Rattle.yplan.specs.PlannedView.{around_view, implied_or, part_at, planned_view};
-    ghost use Rattle.yplan.specs.OwnView.{left, row_in};
+    ghost use Rattle.ygrammar.specs.SourceView.{node_view};
+    ghost use Rattle.yexpand.specs.NodeView.{part_view};
+    ghost use Rattle.yplan.specs.PlannedView.{around_view, part_at, planned_view};
+    ghost use Rattle.yplan.specs.OwnView.{left};
 
-    /// The node that a statement defines, or the case that it stands for, with what stands around it.
-    pub(crate) fn new(
-        source: Node<'a, Source<'t>>,
-        is_implied: bool,
-        around: Around,
-    ) -> Planned<'a, 't>
-        ensures { let s = label_by source_view source.entry in
-            let below = row_by source_view source.entry.children in
-            (number : _) → planned_view number result
-            ≡ spec.planned_node number (around_view around)
-            (implied_or is_implied (part_of s below)) }
+    /// A node with what stands around it.
+    pub(crate) fn new(node: &'a ExpandedNode<'a, 't>, around: Around) -> Planned<'a, 't>
+        ensures { (number : _) → planned_view number result
+            ≡ spec.planned_node number (around_view around) (part_view node.entry.now) }
     {
         let mut planned = Planned {
-            source,
-            is_implied,
+            node,
             parent: around.parent,
             scope: around.scope,
             config: around.config,
@@ -59,57 +50,42 @@ impl<'a, 't> Planned<'a, 't> {
         planned
     }
 
-    /// The row in which its own statements stand, besides those that define nodes; a case that is implied has none.
-    fn own(&self) -> Option<Siblings<'a, Source<'t>>>
-        ensures { own_of (row_in result) ≡ (part_at self.now).own }
-    {
-        if self.is_implied {
-            None
-        } else {
-            Some(self.source.children())
-        }
-    }
-
     /// The first of its own statements with a keyword, which is none of those that define nodes.
     pub fn first_own(&self, keyword: Keyword) -> Option<Node<'a, Source<'t>>>
         requires { defines_node (keyword_view keyword) ≡ false }
         ensures { option_map node_view result
             ≡ sources.found_with (keyword_view keyword) (part_at self.now).own }
     {
-        found_with(keyword, self.own()?)
+        self.node.first_own(keyword)
     }
 
-    /// All of its own statements with a keyword, which is none of those that define nodes, in order.
+    /// Its own statements with a keyword, which is none of those that define nodes, in order.
     pub fn own_with(&self, keyword: Keyword) -> OwnStatements<'a, 't>
         requires { defines_node (keyword_view keyword) ≡ false }
         ensures { left result ≡ sources.all_with (keyword_view keyword) (part_at self.now).own }
     {
-        OwnStatements::new(keyword, self.own())
+        OwnStatements::new(keyword, self.node.row_stating(keyword))
     }
 
     /// The keyword of its statement; that of a case, where one is implied.
     pub fn keyword(&self) -> Keyword
         ensures { keyword_view result ≡ (part_at self.now).source.keyword }
     {
-        if self.is_implied {
-            Keyword::Case
-        } else {
-            self.source.label().keyword
-        }
+        self.node.keyword()
     }
 
     /// The module to which it belongs, by its number in the set.
     pub fn owner(&self) -> usize
         ensures { result ≡ (part_at self.now).owner }
     {
-        self.source.label().home
+        self.node.owner()
     }
 
     /// Its name.
     pub fn name(&self) -> &'t str
         ensures { result.now ≡ sources.argument_in (part_at self.now).source }
     {
-        argument_of(self.source)
+        self.node.name()
     }
 
     /// The argument of the first of its own statements with a keyword, which is none of those that define nodes.
@@ -118,7 +94,7 @@ impl<'a, 't> Planned<'a, 't> {
         ensures { (number : _) → option_map (λ text. text.now) result
             ≡ spec.stated_in (keyword_view keyword) (planned_view number self.now) }
     {
-        argument_with(keyword, self.own()?)
+        self.node.own_argument(keyword)
     }
 
     /// A rule that it breaks, which is told at its statement.
@@ -126,8 +102,7 @@ impl<'a, 't> Planned<'a, 't> {
         ensures { (number : _) → break_view result ∷ []
             ≡ broken_at (code_number code) (planned_view number self.now) }
     {
-        let label = self.source.label();
-        broken(code, label.home, label.statement)
+        self.node.broken(code)
     }
 
     /// Whether it holds values.

@@ -1,23 +1,24 @@
 use Rattle.std.proofs.Common.{ap}
-use Rattle.yspec.specs.linking.Parts.{parts_of_modules}
+use Rattle.yspec.specs.linking.Expansion.{expanded_parts}
 use Rattle.yspec.specs.linking.Planned as spec
 use Rattle.yspec.specs.linking.Planned.{at_top, planned}
-use Rattle.ypreorder.specs.View.{slots_in}
-use Rattle.ypreorder.proofs.LayoutLemmas.{shown}
+use Rattle.ypreorder.specs.View.{row_by}
 use Rattle.ygrammar.specs.LinkView as link
-use Rattle.yplan.specs.PlannedView.{planned_view}
+use Rattle.yexpand.specs.NodeView.{numbered_part}
+use Rattle.yplan.proofs.PartLemmas.{all_planned}
 use Rattle.yplan.proofs.plan.Plan.of.Goals as goal
 
 pub invariant_of-result : goal.invariant_of-result
 invariant_of-result c = record {
-  prefixed = c.requires;
-  laid_out = (shown planned_view (planned 0 at_top (parts_of_modules (link.view c.args.sources.now))) (slots_in c.in_ok-table.table) c.in_ok-table.ensures).1;
+  prefixed = c.requires.prefixed;
+  laid_out = (all_planned c.in_ok-table.table c.args.nodes.now (row_by numbered_part c.roots.result) (expanded_parts (link.view c.args.sources.now)) c.in_ok-table.ensures c.roots.ensures c.requires.expanded).1;
   named = c.in_ok-index.ensures.texts;
   indexed = c.in_ok-index.ensures.nodes;
 }
 
 pub returns : goal.returns
 returns c =
-    let made : spec.Plan = record { modules = link.view c.args.sources.now; nodes = planned 0 at_top (parts_of_modules (link.view c.args.sources.now)) } in
+    let modules = link.view c.args.sources.now in
+    let made : spec.Plan = record { modules = modules; nodes = planned 0 at_top (expanded_parts modules) } in
     ap (λ nodes. record made { nodes = nodes })
-    (shown planned_view (planned 0 at_top (parts_of_modules (link.view c.args.sources.now))) (slots_in c.in_ok-table.table) c.in_ok-table.ensures).0
+    (all_planned c.in_ok-table.table c.args.nodes.now (row_by numbered_part c.roots.result) (expanded_parts modules) c.in_ok-table.ensures c.roots.ensures c.requires.expanded).0
