@@ -1,9 +1,9 @@
 -- What is known of groupings, learned in an order in which each stands behind those that it uses.
-use Rattle.std.proofs.Common.{◌≡◌, ℕ, zero, suc, ◌+◌, ◌<◌, ◌≤◌, Bool, true, false, cond, List, length, get_or, min, Option, Some, None, refl, sym, ap, ◌∙◌, arith, subst}
+use Rattle.std.proofs.Common.{◌≡◌, ℕ, zero, suc, ◌+◌, ◌<◌, Bool, true, false, cond, List, length, get_or, min, Option, Some, None, refl, sym, ap, ◌∙◌, arith, subst}
 use Rattle.std.specs.Prelude.{◌==◌}
 use Rattle.std.specs.Option.{option_map_or}
 use Rattle.std.proofs.lemmas.Bool.Decides.{Decides-eqb}
-use Rattle.yspec.specs.Forest.{Forest, end, node, size}
+use Rattle.yspec.specs.Forest.{Forest, end, size}
 use Rattle.yspec.specs.linking.DerivedTypes.{number_named}
 use Rattle.yspec.specs.linking.Expansion.{Grouping, groupings_of, row_in, row_used, replaced, stands_for}
 use Rattle.yspec.specs.linking.NodeCounts.{counted, count_used, counts_within}

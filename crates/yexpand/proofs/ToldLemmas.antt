@@ -1,5 +1,5 @@
 -- Which refines are told in groupings without nodes, learned in the same order.
-use Rattle.std.proofs.Common.{◌≡◌, ℕ, suc, ◌+◌, ◌-◌, ◌<◌, ◌≤◌, Bool, true, false, cond, List, [], ◌++◌, length, get_or, min, Option, Some, None, refl, sym, ap, ap₂, ◌∙◌, arith, subst}
+use Rattle.std.proofs.Common.{◌≡◌, ℕ, suc, ◌+◌, ◌-◌, ◌<◌, Bool, true, false, cond, List, [], ◌++◌, length, get_or, min, Option, Some, None, refl, sym, ap, ap₂, ◌∙◌, arith, subst}
 use Rattle.std.specs.Prelude.{◌==◌, option_and_then}
 use Rattle.std.specs.Option.{option_map_or}
 use Rattle.std.proofs.lemmas.Bool.Decides.{Decides-eqb}
@@ -27,7 +27,7 @@ use Rattle.yexpand.proofs.DepthLemmas.{all_deeper_to, same_nodes, same_breaks}
 use Rattle.yexpand.proofs.LeastLemmas.{least_told}
 use Rattle.yexpand.proofs.OrderLemmas.{total, total_size, good, good_at}
 use Rattle.yexpand.proofs.UsedLemmas.{OnSome, UsesAre, are_join, all_used}
-use Rattle.yexpand.proofs.WalkLemmas.{chosen-first, laid_so, no_node, all_end_none, breaks_join, breaks_uses, breaks_none, nodes_none, unfit_so}
+use Rattle.yexpand.proofs.WalkLemmas.{chosen-first, laid_so, no_node, breaks_join, breaks_uses, breaks_none, nodes_none, unfit_so}
 
 module _ (f : Forest held.Source) where
   abbrev set : Forest Source

@@ -226,7 +226,11 @@ impl Groupings {
     ghost use Rattle.ynames.specs.Ordered.{AreInOrder};
 
     /// What is known of the groupings of a set, given an order in which each stands behind those that it uses.
-    pub fn of(alloc: Global, named: &Named<'_, '_>, order: &[usize]) -> Result<Groupings, AllocError>
+    pub fn of(
+        alloc: Global,
+        named: &Named<'_, '_>,
+        order: &[usize],
+    ) -> Result<Groupings, AllocError>
         requires { AreInOrder order.now (modules_of named.now) }
         ensures knows { IfOk result (λ g. Knows g (modules_of named.now)) }
         ensures counts { IfOk result (λ g. AreCounts g.counts.items (modules_of named.now)) }

@@ -1,15 +1,14 @@
 -- What is known of typedefs, learned in an order in which each stands behind those that it names.
-use Rattle.std.proofs.Common.{◌≡◌, ℕ, zero, suc, ◌+◌, ◌<◌, ◌≤◌, Bool, true, false, cond, List, [], ◌∷◌, length, map, get_or, slice_set, Option, Some, None, Result, Ok, Err, refl, sym, ap, ap₂, ◌∙◌, arith, subst}
-use Rattle.std.specs.Prelude.{IfOk, is_some, option_map, option_and_then, ◌==◌, ◌&&◌, ◌||◌, slice_get, if◌then◌else◌}
-use Rattle.std.specs.List.{Contains, range_with_len, flat_map, filter_map, cons_option, list_any}
+use Rattle.std.proofs.Common.{◌≡◌, ℕ, zero, suc, ◌+◌, ◌<◌, Bool, true, false, cond, List, [], ◌∷◌, length, get_or, slice_set, Option, Some, None, Result, Ok, Err, refl, sym, ap, ap₂, ◌∙◌, arith, subst}
+use Rattle.std.specs.Prelude.{IfOk, is_some, option_map, option_and_then, ◌==◌, ◌||◌, if◌then◌else◌}
+use Rattle.std.specs.List.{range_with_len, flat_map, filter_map, cons_option, list_any}
 use Rattle.std.specs.List.Sorted.{IsPermutation}
 use Rattle.std.specs.Option.{option_map_or}
 use Rattle.std.proofs.lemmas.Bool.{and_parts}
 use Rattle.std.proofs.lemmas.Bool.Decides.{Decides-eqb}
-use Rattle.std.proofs.lemmas.List.{get_or_default, length-map}
+use Rattle.std.proofs.lemmas.List.{length-map}
 use Rattle.std.proofs.lemmas.List.FromFn.{length-range_with_len, get_or-range_with_len}
 use Rattle.std.proofs.lemmas.List.Sorted.{All-permutation, Contains-permutation, length_permutation}
-use mathlib.Core.Path.{fun_ext}
 use Rattle.yspec.specs.Forest.{Forest, size}
 use Rattle.yspec.specs.linking.Circles.{circle_break, definition_circles, definition_edge, definition_edges}
 use Rattle.yspec.specs.linking.DerivedTypes.{Known, unknown, number_named, named, known_named, known_in_row, known_within, typedef_row}

@@ -91,9 +91,7 @@ fn link_types<'t>(
     if let Some(found) = broken_type_rule(&sources, &verdicts) {
         return Err(CompileFault::from(found));
     }
-    Ok(Linked::new(
-        sources, prefixes, order, typedefs, verdicts,
-    ))
+    Ok(Linked::new(sources, prefixes, order, typedefs, verdicts))
 }
 
 /// The rule that is told of prefixes, or of names of modules and definitions.
