@@ -1,10 +1,9 @@
 -- What is known of groupings, learned in an order in which each stands behind those that it uses.
-use Rattle.std.proofs.Common.{◌≡◌, ℕ, zero, suc, ◌+◌, ◌<◌, ◌≤◌, Bool, true, false, cond, List, length, get_or, min, Option, Some, None, refl, sym, ap, ◌∙◌, arith, subst}
+use Rattle.std.proofs.Common.{◌≡◌, ℕ, zero, suc, ◌+◌, ◌<◌, Bool, true, false, cond, List, length, get_or, min, Option, Some, None, refl, sym, ap, ◌∙◌, arith, subst}
 use Rattle.std.specs.Prelude.{◌==◌}
 use Rattle.std.specs.Option.{option_map_or}
 use Rattle.std.proofs.lemmas.Bool.Decides.{Decides-eqb}
-use Rattle.std.proofs.lemmas.List.{get_or_default}
-use Rattle.yspec.specs.Forest.{Forest, end, node, size}
+use Rattle.yspec.specs.Forest.{Forest, end, size}
 use Rattle.yspec.specs.linking.DerivedTypes.{number_named}
 use Rattle.yspec.specs.linking.Expansion.{Grouping, groupings_of, row_in, row_used, replaced, stands_for}
 use Rattle.yspec.specs.linking.NodeCounts.{counted, count_used, counts_within}
@@ -16,17 +15,13 @@ use Rattle.ypreorder.specs.Layout.{numbered_by}
 use Rattle.ygrammar.specs.declared.source.Source as held
 use Rattle.ygrammar.specs.SourceView.{source_view}
 use Rattle.yexpand.specs.Counting.{many}
-use Rattle.yexpand.specs.Ordered.{AreInOrder}
+use Rattle.ynames.specs.Ordered.{IsNamed, AreInOrder}
+use Rattle.ynames.proofs.OrderedLemmas.{edge_named, place_of}
 use Rattle.yexpand.specs.Walk.{nodes_for, AllEnd}
 use Rattle.yexpand.proofs.CountLemmas.{counted_capped}
 use Rattle.yexpand.proofs.DepthLemmas.{all_deeper_to, same_nodes}
 use Rattle.yexpand.proofs.UsedLemmas.{OnSome, are_all, are_weaker, tested, all_used}
 use Rattle.yexpand.proofs.WalkLemmas.{all_pass}
-
--- a row is empty or not
-pub empty_or_not : (f : Forest Part) (P : Type 0) → (f ≡ end → P) → ((f ≡ end → ⊥) → P) → P
-empty_or_not end P none some = none refl
-empty_or_not (node p below after) P none some = some (λ e. absurd cc)
 
 -- ---- a set of modules, as it is held
 
@@ -50,16 +45,9 @@ module _ (f : Forest held.Source) where
   abbrev pub total : ℕ → ℕ
   total e = counted meant (row e)
 
-  -- of the first groupings in an order it is known how many nodes they have; others have none
-  pub record AreCounted (nodes : List ℕ) (table : ℕ → ℕ) (i : ℕ) : Type 0 where
-    pub known : (j : ℕ) → j < i → j < length nodes → table (get_or nodes j 0) ≡ min (total (get_or nodes j 0)) many
-    pub others : (e : ℕ) → row e ≡ end → table e ≡ 0
-
-  pub counted_start : (nodes : List ℕ) (table : ℕ → ℕ) → ((e : ℕ) → table e ≡ 0) → AreCounted nodes table 0
-  counted_start nodes table none = record { known = λ j before inside. absurd (omega (arith, before)); others = λ e is. none e }
-
-  pub counted_further : (nodes : List ℕ) (table : ℕ → ℕ) (i j : ℕ) → j ≤ i → AreCounted nodes table i → AreCounted nodes table j
-  counted_further nodes table i j less so_far = record { known = λ k before inside. so_far.known k (omega (arith, before, less)) inside; others = so_far.others }
+  -- of the first groupings in an order it is known how many nodes they have
+  abbrev pub AreCounted : List ℕ → (ℕ → ℕ) → ℕ → Type 0
+  AreCounted nodes table i = (j : ℕ) → j < i → j < length nodes → table (get_or nodes j 0) ≡ min (total (get_or nodes j 0)) many
 
   abbrev by_table : (ℕ → ℕ) → Part → ℕ
   by_table table u = option_map_or table (number_named set u.source.number) 0
@@ -85,15 +73,15 @@ module _ (f : Forest held.Source) where
       by None is = refl
       by (Some e) is = is ∙ ap (λ k. min k many) (total_size 0 e)
 
-  -- a row counted by a table of all
-  pub row_capped : (table : ℕ → ℕ) → ((e : ℕ) → table e ≡ min (total e) many) → (g : Forest Part)
+  -- a row counted by a table of all that are named
+  pub row_capped : (table : ℕ → ℕ) → ((e : ℕ) → IsNamed set e → table e ≡ min (total e) many) → (g : Forest Part)
       → min (counted (by_table table) g) many ≡ min (counted used g) many
   row_capped table known g = counted_capped (by_table table) used g (are_all (λ u. min (by_table table u) many ≡ min (used u) many)
-      (λ u. used_capped table u (on_all (number_named set u.source.number))) g)
+      (λ u. used_capped table u (on_named u.source.number (number_named set u.source.number) refl)) g)
     where
-      on_all : (o : Option ℕ) → OnSome o (λ e. min (table e) many ≡ min (total e) many)
-      on_all None = tt
-      on_all (Some e) = let is = known e in omega (arith, is)
+      on_named : (number : ℕ) (o : Option ℕ) → number_named set number ≡ o → OnSome o (λ e. min (table e) many ≡ min (total e) many)
+      on_named number None is = tt
+      on_named number (Some e) is = let held = known e (number, is) in omega (arith, held)
 
   -- ---- and in an order
 
@@ -107,46 +95,43 @@ module _ (f : Forest held.Source) where
         tested (ends_within set groupings (suc i)) (row (get_or nodes i 0))
         (are_weaker (λ u. OnSome (number_named set u.source.number) (λ e. AllEnd set i (row e))) (λ u. ends_within set groupings (suc i) u ≡ true)
         (λ u is. of_one (number_named set u.source.number) is) (row (get_or nodes i 0)) (all_used f (λ e. AllEnd set i (row e)) (get_or nodes i 0) (λ e edge.
-        empty_or_not (row e) (AllEnd set i (row e)) (λ none. ap (all_uses (ends_within set groupings i)) none) (λ some.
-        let at = order.among e some in
+        let at = place_of nodes set order e (edge_named f (get_or nodes i 0) e edge) in
         let inside = at.1 in
-        let stands : get_or nodes at.0 0 ≡ e = get_or_default nodes at.0 0 e inside ∙ at.2 in
-        let before = order.behind (get_or nodes i 0) e edge i at.0 within inside refl stands in
+        let before = order.behind (get_or nodes i 0) e edge i at.0 within inside refl at.2 in
         all_deeper_to set groupings (suc at.0) i (row e) (omega (arith, before))
-        (subst (λ d. AllEnd set (suc at.0) (row d)) stands (good_at bound at.0 (omega (arith, before, below)) inside))))))
+        (subst (λ d. AllEnd set (suc at.0) (row d)) at.2 (good_at bound at.0 (omega (arith, before, below)) inside)))))
       where
         of_one : (o : Option ℕ) → OnSome o (λ e. AllEnd set i (row e)) → all_uses (ends_within set groupings i) (option_map_or row o end) ≡ true
         of_one None is = refl
         of_one (Some e) is = is
 
-    pub good : (e : ℕ) → AllEnd set n (row e)
-    unfolding all_uses
-    good e = empty_or_not (row e) (AllEnd set n (row e)) (λ none. ap (all_uses (ends_within set groupings n)) none) (λ some.
-        let at = order.among e some in
-        let inside = at.1 in
+    good_there : (i : ℕ) → i < length nodes → AllEnd set n (row (get_or nodes i 0))
+    good_there i within =
         let few = order.count in
-        let stands : get_or nodes at.0 0 ≡ e = get_or_default nodes at.0 0 e inside ∙ at.2 in
-        all_deeper_to set groupings (suc at.0) n (row e) (omega (arith, inside, few))
-        (subst (λ d. AllEnd set (suc at.0) (row d)) stands (good_at (suc at.0) at.0 (omega arith) inside)))
+        all_deeper_to set groupings (suc i) n (row (get_or nodes i 0)) (omega (arith, within, few)) (good_at (suc i) i (omega arith) within)
+
+    pub good : (e : ℕ) → IsNamed set e → AllEnd set n (row e)
+    good e named =
+        let at = place_of nodes set order e named in
+        let inside = at.1 in
+        subst (λ d. AllEnd set n (row d)) at.2 (good_there at.0 inside)
 
     pub straight : Ends set groupings (suc n)
     unfolding ends_within all_uses
-    straight u = by (number_named set u.source.number)
+    straight u = by (number_named set u.source.number) refl
       where
-        by : (o : Option ℕ) → all_uses (ends_within set groupings n) (option_map_or row o end) ≡ true
-        by None = refl
-        by (Some e) = good e
+        by : (o : Option ℕ) → number_named set u.source.number ≡ o → all_uses (ends_within set groupings n) (option_map_or row o end) ≡ true
+        by None is = refl
+        by (Some e) is = good e (u.source.number, is)
 
     -- ---- how many nodes each has
 
-    pub total_none : (e : ℕ) → row e ≡ end → total e ≡ 0
-    unfolding counted
-    total_none e none = ap (counted meant) none
-
     -- one deeper is the same
-    total_deeper : (e : ℕ) → counted used (row e) ≡ total e
-    total_deeper e = counted_is_size 0 used (stands_for set groupings 0 (suc n)) (count_is_size set groupings 0 (suc n)) (row e)
-        ∙ (ap size (same_nodes set groupings 0 (suc n) n (row e) (all_pass (ends_within set groupings (suc n)) straight (row e)) (good e)) ∙ sym (total_size 0 e))
+    total_deeper : (i : ℕ) → i < length nodes → counted used (row (get_or nodes i 0)) ≡ total (get_or nodes i 0)
+    total_deeper i within =
+        let own = row (get_or nodes i 0) in
+        counted_is_size 0 used (stands_for set groupings 0 (suc n)) (count_is_size set groupings 0 (suc n)) own
+        ∙ (ap size (same_nodes set groupings 0 (suc n) n own (all_pass (ends_within set groupings (suc n)) straight own) (good_there i within)) ∙ sym (total_size 0 (get_or nodes i 0)))
 
     counted_own : (table : ℕ → ℕ) (i : ℕ) → AreCounted nodes table i → i < length nodes
         → min (counted (by_table table) (row (get_or nodes i 0))) many ≡ min (total (get_or nodes i 0)) many
@@ -154,20 +139,16 @@ module _ (f : Forest held.Source) where
         counted_capped (by_table table) used (row (get_or nodes i 0))
         (are_weaker (λ u. OnSome (number_named set u.source.number) (λ e. min (table e) many ≡ min (total e) many)) (λ u. min (by_table table u) many ≡ min (used u) many)
         (used_capped table) (row (get_or nodes i 0)) (all_used f (λ e. min (table e) many ≡ min (total e) many) (get_or nodes i 0) (λ e edge.
-        empty_or_not (row e) (min (table e) many ≡ min (total e) many)
-        (λ none. let held = so_far.others e none in let zero_of = total_none e none in omega (arith, held, zero_of))
-        (λ some.
-        let at = order.among e some in
+        let at = place_of nodes set order e (edge_named f (get_or nodes i 0) e edge) in
         let inside = at.1 in
-        let stands : get_or nodes at.0 0 ≡ e = get_or_default nodes at.0 0 e inside ∙ at.2 in
-        let before = order.behind (get_or nodes i 0) e edge i at.0 within inside refl stands in
-        let known = subst (λ d. table d ≡ min (total d) many) stands (so_far.known at.0 before inside) in omega (arith, known)))))
-        ∙ ap (λ k. min k many) (total_deeper (get_or nodes i 0))
+        let before = order.behind (get_or nodes i 0) e edge i at.0 within inside refl at.2 in
+        let known = subst (λ d. table d ≡ min (total d) many) at.2 (so_far at.0 before inside) in omega (arith, known))))
+        ∙ ap (λ k. min k many) (total_deeper i within)
 
     pub counted_next : (table more : ℕ → ℕ) (i : ℕ) → AreCounted nodes table i → i < length nodes
         → ((e : ℕ) → more e ≡ (cond (e == get_or nodes i 0) (min (counted (by_table table) (row (get_or nodes i 0))) many) (table e)))
         → AreCounted nodes more (i + 1)
-    counted_next table more i so_far within set_to = record { known = known; others = others }
+    counted_next table more i so_far within set_to j below inside = set_to (get_or nodes j 0) ∙ by (get_or nodes j 0 == d) refl
       where
         d : ℕ
         d = get_or nodes i 0
@@ -175,40 +156,23 @@ module _ (f : Forest held.Source) where
         own : ℕ
         own = min (counted (by_table table) (row d)) many
 
-        known : (j : ℕ) → j < i + 1 → j < length nodes → more (get_or nodes j 0) ≡ min (total (get_or nodes j 0)) many
-        known j below inside = set_to (get_or nodes j 0) ∙ by (get_or nodes j 0 == d) refl
+        earlier : (get_or nodes j 0 == d) ≡ false → j < i
+        earlier other = less (i == j) refl
           where
-            earlier : (get_or nodes j 0 == d) ≡ false → j < i
-            earlier other = less (i == j) refl
-              where
-                clash : i ≡ j → ⊥
-                clash same = absurd (let e : false ≡ true = sym other ∙ (Decides-eqb (get_or nodes j 0) d).1 (ap (λ k. get_or nodes k 0) (sym same)) in cc)
+            clash : i ≡ j → ⊥
+            clash same = absurd (let e : false ≡ true = sym other ∙ (Decides-eqb (get_or nodes j 0) d).1 (ap (λ k. get_or nodes k 0) (sym same)) in cc)
 
-                less : (b : Bool) → (i == j) ≡ b → j < i
-                less true is = absurd (clash ((Decides-eqb i j).0 is))
-                less false is = let differ : (i ≡ j) → ⊥ = clash in omega (arith, below, differ)
+            less : (b : Bool) → (i == j) ≡ b → j < i
+            less true is = absurd (clash ((Decides-eqb i j).0 is))
+            less false is = let differ : (i ≡ j) → ⊥ = clash in omega (arith, below, differ)
 
-            by : (b : Bool) → (get_or nodes j 0 == d) ≡ b → cond b own (table (get_or nodes j 0)) ≡ min (total (get_or nodes j 0)) many
-            by true is = counted_own table i so_far within ∙ ap (λ e. min (total e) many) (sym ((Decides-eqb (get_or nodes j 0) d).0 is))
-            by false is = so_far.known j (earlier is) inside
+        by : (b : Bool) → (get_or nodes j 0 == d) ≡ b → cond b own (table (get_or nodes j 0)) ≡ min (total (get_or nodes j 0)) many
+        by true is = counted_own table i so_far within ∙ ap (λ e. min (total e) many) (sym ((Decides-eqb (get_or nodes j 0) d).0 is))
+        by false is = so_far j (earlier is) inside
 
-        others : (e : ℕ) → row e ≡ end → more e ≡ 0
-        others e none = set_to e ∙ by (e == d) refl
-          where
-            by : (b : Bool) → (e == d) ≡ b → cond b own (table e) ≡ 0
-            by true is =
-                let same : e ≡ d = (Decides-eqb e d).0 is in
-                let whole = counted_own table i so_far within in
-                let zero_of = total_none d (ap row (sym same) ∙ none) in
-                omega (arith, whole, zero_of)
-            by false is = so_far.others e none
-
-    -- and in the end of all
-    pub counted_all : (table : ℕ → ℕ) → AreCounted nodes table (length nodes) → (e : ℕ) → table e ≡ min (total e) many
-    counted_all table so_far e = empty_or_not (row e) (table e ≡ min (total e) many)
-        (λ none. let zero_of = total_none e none in let held = so_far.others e none in omega (arith, zero_of, held))
-        (λ some.
-        let at = order.among e some in
+    -- and in the end of all that are named
+    pub counted_all : (table : ℕ → ℕ) → AreCounted nodes table (length nodes) → (e : ℕ) → IsNamed set e → table e ≡ min (total e) many
+    counted_all table so_far e named =
+        let at = place_of nodes set order e named in
         let inside = at.1 in
-        let stands : get_or nodes at.0 0 ≡ e = get_or_default nodes at.0 0 e inside ∙ at.2 in
-        subst (λ d. table d ≡ min (total d) many) stands (so_far.known at.0 inside inside))
+        subst (λ d. table d ≡ min (total d) many) at.2 (so_far at.0 inside inside)

@@ -1,9 +1,8 @@
 -- Which refines are told in groupings without nodes, learned in the same order.
-use Rattle.std.proofs.Common.{◌≡◌, ℕ, suc, ◌+◌, ◌-◌, ◌<◌, ◌≤◌, Bool, true, false, cond, List, [], ◌++◌, length, get_or, min, Option, Some, None, refl, sym, ap, ap₂, ◌∙◌, arith, subst}
+use Rattle.std.proofs.Common.{◌≡◌, ℕ, suc, ◌+◌, ◌-◌, ◌<◌, Bool, true, false, cond, List, [], ◌++◌, length, get_or, min, Option, Some, None, refl, sym, ap, ap₂, ◌∙◌, arith, subst}
 use Rattle.std.specs.Prelude.{◌==◌, option_and_then}
 use Rattle.std.specs.Option.{option_map_or}
 use Rattle.std.proofs.lemmas.Bool.Decides.{Decides-eqb}
-use Rattle.std.proofs.lemmas.List.{get_or_default}
 use Rattle.yspec.specs.Forest.{Forest, end, node, size, join}
 use Rattle.yspec.specs.linking.DerivedTypes.{number_named}
 use Rattle.yspec.specs.linking.Expansion.{Grouping, groupings_of, laid, row_in, row_used, all_refine_breaks, refine_breaks, unfit_for}
@@ -20,14 +19,15 @@ use Rattle.ygrammar.specs.declared.fault.BrokenRule.{BrokenRule}
 use Rattle.ygrammar.specs.declared.source.Source as held
 use Rattle.ygrammar.specs.SourceView.{source_view}
 use Rattle.yexpand.specs.Counting.{many, refine_at, refine_by, told_list, top_refines}
-use Rattle.yexpand.specs.Ordered.{AreInOrder}
+use Rattle.ynames.specs.Ordered.{IsNamed, AreInOrder}
+use Rattle.ynames.proofs.OrderedLemmas.{edge_named, place_of}
 use Rattle.yexpand.specs.Walk.{nodes_for, breaks_for, AllEnd}
 use Rattle.yexpand.proofs.CountLemmas.{counted_join, counted_node, counted_uses}
 use Rattle.yexpand.proofs.DepthLemmas.{all_deeper_to, same_nodes, same_breaks}
 use Rattle.yexpand.proofs.LeastLemmas.{least_told}
-use Rattle.yexpand.proofs.OrderLemmas.{total, total_size, good, good_at, empty_or_not}
+use Rattle.yexpand.proofs.OrderLemmas.{total, total_size, good, good_at}
 use Rattle.yexpand.proofs.UsedLemmas.{OnSome, UsesAre, are_join, all_used}
-use Rattle.yexpand.proofs.WalkLemmas.{chosen-first, laid_so, no_node, all_end_none, breaks_join, breaks_uses, breaks_none, nodes_none, unfit_so}
+use Rattle.yexpand.proofs.WalkLemmas.{chosen-first, laid_so, no_node, breaks_join, breaks_uses, breaks_none, nodes_none, unfit_so}
 
 module _ (f : Forest held.Source) where
   abbrev set : Forest Source
@@ -45,17 +45,10 @@ module _ (f : Forest held.Source) where
   abbrev meant : Part → ℕ
   meant = count_used set (counts_within set groupings n)
 
-  -- of the first groupings in an order that have no nodes it is known which refine is told; in others none is
-  pub record AreTold (nodes : List ℕ) (refines : ℕ → Option Break) (i : ℕ) : Type 0 where
-    pub known : (j : ℕ) → j < i → j < length nodes → (owner : ℕ) → total f (get_or nodes j 0) ≡ 0
-        → refines (get_or nodes j 0) ≡ least_from None (breaks_for set owner n (row (get_or nodes j 0)))
-    pub others : (e : ℕ) → row e ≡ end → refines e ≡ None
-
-  pub told_start : (nodes : List ℕ) (refines : ℕ → Option Break) → ((e : ℕ) → refines e ≡ None) → AreTold nodes refines 0
-  told_start nodes refines none = record { known = λ j before inside owner is. absurd (omega (arith, before)); others = λ e is. none e }
-
-  pub told_further : (nodes : List ℕ) (refines : ℕ → Option Break) (i j : ℕ) → j ≤ i → AreTold nodes refines i → AreTold nodes refines j
-  told_further nodes refines i j less so_far = record { known = λ k before inside. so_far.known k (omega (arith, before, less)) inside; others = so_far.others }
+  -- of the first groupings in an order that are named and have no nodes it is known which refine is told
+  abbrev pub AreTold : List ℕ → (ℕ → Option Break) → ℕ → Type 0
+  AreTold nodes refines i = (j : ℕ) → j < i → j < length nodes → IsNamed set (get_or nodes j 0) → (owner : ℕ) → total f (get_or nodes j 0) ≡ 0
+      → refines (get_or nodes j 0) ≡ least_from None (breaks_for set owner n (row (get_or nodes j 0)))
 
   module _ (nodes : List ℕ) (order : AreInOrder nodes set) where
     -- ---- a row without nodes
@@ -79,13 +72,13 @@ module _ (f : Forest held.Source) where
 
       inner_told : (x : Option Break) (s : Source) (below : Forest Source) → Known (part_of s below) → meant (part_of s below) ≡ 0
           → least_from x (told_list (refine_by refines set s.number)) ≡ least_from x (breaks_for set owner less (row_used set groupings (part_of s below)))
-      inner_told x s below known none = by (number_named set s.number) known (sym (used_is (part_of s below)) ∙ none)
+      inner_told x s below known none = by (number_named set s.number) refl known (sym (used_is (part_of s below)) ∙ none)
         where
-          by : (o : Option ℕ) → OnSome o (Knows refines owner) → size (nodes_for set owner less (option_map_or row o end)) ≡ 0
+          by : (o : Option ℕ) → number_named set s.number ≡ o → OnSome o (Knows refines owner) → size (nodes_for set owner less (option_map_or row o end)) ≡ 0
               → least_from x (told_list (option_and_then (refine_at refines) o)) ≡ least_from x (breaks_for set owner less (option_map_or row o end))
-          by None known none = ap (least_from x) (sym (breaks_none set owner less))
-          by (Some e) known none =
-              let enough = good f nodes order e in
+          by None is known none = ap (least_from x) (sym (breaks_none set owner less))
+          by (Some e) is known none =
+              let enough = good f nodes order e (s.number, is) in
               let total_is : total f e ≡ 0 = total_size f owner e ∙ (ap size (same_nodes set groupings owner n less (row e) enough known.0) ∙ none) in
               ap (λ o. least_from x (told_list o)) (known.1 total_is)
               ∙ (least_told x (breaks_for set owner n (row e)) ∙ ap (least_from x) (same_breaks set groupings owner n less (row e) enough known.0))
@@ -152,29 +145,25 @@ module _ (f : Forest held.Source) where
         let below = order.within i within in
         let some : n ≡ 0 → ⊥ = λ e. absurd (omega (arith, e, below)) in
         row_told refines owner some None own (subst (UsesAre (Known refines owner some)) (sym is)
-        (all_used f (Knows refines owner) d (λ e edge. empty_or_not (row e) (Knows refines owner e)
-        (λ empty. (enough_none e empty, (λ t. so_far.others e empty ∙ sym (ap (λ r. least_from None (breaks_for set owner n r)) empty ∙ ap (least_from None) (breaks_none set owner n)))))
-        (λ full.
-        let at = order.among e full in
+        (all_used f (Knows refines owner) d (λ e edge.
+        let named = edge_named f d e edge in
+        let at = place_of nodes set order e named in
         let inside = at.1 in
-        let stands : get_or nodes at.0 0 ≡ e = get_or_default nodes at.0 0 e inside ∙ at.2 in
-        let before = order.behind d e edge i at.0 within inside refl stands in
+        let before = order.behind d e edge i at.0 within inside refl at.2 in
         let few = order.count in
-        subst (Knows refines owner) stands (
+        subst (λ k. IsNamed set k → Knows refines owner k) at.2 (λ named_there. (
           all_deeper_to set groupings (suc at.0) (n - 1) (row (get_or nodes at.0 0)) (omega (arith, before, within, few)) (good_at f nodes order (suc at.0) at.0 (omega arith) inside),
-          so_far.known at.0 before inside owner,
-        )))))
+          so_far at.0 before inside named_there owner,
+        )) named)))
         (ap (counted meant) is ∙ none)
         ∙ ap (λ r. least_from None (breaks_for set owner n r)) is
-      where
-        enough_none : (e : ℕ) → row e ≡ end → AllEnd set (n - 1) (row e)
-        enough_none e empty = all_end_none set (n - 1) (row e) empty
 
-    pub told_next : (refines more : List (Option BrokenRule)) (i : ℕ) → AreTold nodes (refine_at refines) i → i < length nodes → total f (get_or nodes i 0) ≡ 0
+    pub told_next : (refines more : List (Option BrokenRule)) (i : ℕ) → AreTold nodes (refine_at refines) i → i < length nodes
+        → (IsNamed set (get_or nodes i 0) → total f (get_or nodes i 0) ≡ 0)
         → (own : Forest Source) → laid own ≡ row (get_or nodes i 0)
         → ((e : ℕ) → refine_at more e ≡ cond (e == get_or nodes i 0) (least_from None (top_refines refines set own)) (refine_at refines e))
         → AreTold nodes (refine_at more) (i + 1)
-    told_next refines more i so_far within none own own_is set_to = record { known = known; others = others }
+    told_next refines more i so_far within none own own_is set_to j below inside named owner empty = set_to (get_or nodes j 0) ∙ by (get_or nodes j 0 == d) refl
       where
         d : ℕ
         d = get_or nodes i 0
@@ -182,74 +171,60 @@ module _ (f : Forest held.Source) where
         told : Option Break
         told = least_from None (top_refines refines set own)
 
-        known : (j : ℕ) → j < i + 1 → j < length nodes → (owner : ℕ) → total f (get_or nodes j 0) ≡ 0
-            → refine_at more (get_or nodes j 0) ≡ least_from None (breaks_for set owner n (row (get_or nodes j 0)))
-        known j below inside owner empty = set_to (get_or nodes j 0) ∙ by (get_or nodes j 0 == d) refl
+        earlier : (get_or nodes j 0 == d) ≡ false → j < i
+        earlier other = less_than (i == j) refl
           where
-            earlier : (get_or nodes j 0 == d) ≡ false → j < i
-            earlier other = less_than (i == j) refl
-              where
-                clash : i ≡ j → ⊥
-                clash same = absurd (let e : false ≡ true = sym other ∙ (Decides-eqb (get_or nodes j 0) d).1 (ap (λ k. get_or nodes k 0) (sym same)) in cc)
+            clash : i ≡ j → ⊥
+            clash same = absurd (let e : false ≡ true = sym other ∙ (Decides-eqb (get_or nodes j 0) d).1 (ap (λ k. get_or nodes k 0) (sym same)) in cc)
 
-                less_than : (b : Bool) → (i == j) ≡ b → j < i
-                less_than true is = absurd (clash ((Decides-eqb i j).0 is))
-                less_than false is = let differ : (i ≡ j) → ⊥ = clash in omega (arith, below, differ)
+            less_than : (b : Bool) → (i == j) ≡ b → j < i
+            less_than true is = absurd (clash ((Decides-eqb i j).0 is))
+            less_than false is = let differ : (i ≡ j) → ⊥ = clash in omega (arith, below, differ)
 
-            by : (b : Bool) → (get_or nodes j 0 == d) ≡ b → cond b told (refine_at refines (get_or nodes j 0)) ≡ least_from None (breaks_for set owner n (row (get_or nodes j 0)))
-            by true is = told_own refines owner i so_far within none own own_is
-                ∙ ap (λ e. least_from None (breaks_for set owner n (row e))) (sym ((Decides-eqb (get_or nodes j 0) d).0 is))
-            by false is = so_far.known j (earlier is) inside owner empty
-
-        others : (e : ℕ) → row e ≡ end → refine_at more e ≡ None
-        others e empty = set_to e ∙ by (e == d) refl
-          where
-            by : (b : Bool) → (e == d) ≡ b → cond b told (refine_at refines e) ≡ None
-            by true is =
-                let same : e ≡ d = (Decides-eqb e d).0 is in
-                let row_is : row d ≡ end = ap row (sym same) ∙ empty in
-                told_own refines 0 i so_far within none own own_is
-                ∙ (ap (λ r. least_from None (breaks_for set 0 n r)) row_is ∙ ap (least_from None) (breaks_none set 0 n))
-            by false is = so_far.others e empty
+        by : (b : Bool) → (get_or nodes j 0 == d) ≡ b → cond b told (refine_at refines (get_or nodes j 0)) ≡ least_from None (breaks_for set owner n (row (get_or nodes j 0)))
+        by true is =
+            let same : get_or nodes j 0 ≡ d = (Decides-eqb (get_or nodes j 0) d).0 is in
+            told_own refines owner i so_far within (none (subst (IsNamed set) same named)) own own_is
+            ∙ ap (λ e. least_from None (breaks_for set owner n (row e))) (sym same)
+        by false is = so_far j (earlier is) inside named owner empty
 
     -- one that has nodes is passed over
-    pub told_passed : (refines : ℕ → Option Break) (i : ℕ) → AreTold nodes refines i → (total f (get_or nodes i 0) ≡ 0 → ⊥) → AreTold nodes refines (i + 1)
-    told_passed refines i so_far full = record { known = λ j below inside owner empty. by j below inside owner empty (i == j) refl; others = so_far.others }
+    pub told_passed : (refines : ℕ → Option Break) (i : ℕ) → AreTold nodes refines i → (IsNamed set (get_or nodes i 0) → total f (get_or nodes i 0) ≡ 0 → ⊥)
+        → AreTold nodes refines (i + 1)
+    told_passed refines i so_far full j below inside named owner empty = by (i == j) refl
       where
-        by : (j : ℕ) → j < i + 1 → j < length nodes → (owner : ℕ) → total f (get_or nodes j 0) ≡ 0 → (b : Bool) → (i == j) ≡ b
-            → refines (get_or nodes j 0) ≡ least_from None (breaks_for set owner n (row (get_or nodes j 0)))
-        by j below inside owner empty true is =
+        by : (b : Bool) → (i == j) ≡ b → refines (get_or nodes j 0) ≡ least_from None (breaks_for set owner n (row (get_or nodes j 0)))
+        by true is =
             let same : i ≡ j = (Decides-eqb i j).0 is in
-            absurd (full (ap (λ k. total f (get_or nodes k 0)) same ∙ empty))
-        by j below inside owner empty false is =
+            absurd (full (subst (λ k. IsNamed set (get_or nodes k 0)) (sym same) named) (ap (λ k. total f (get_or nodes k 0)) same ∙ empty))
+        by false is =
             let differ : (i ≡ j) → ⊥ = λ same. let clash : false ≡ true = sym is ∙ (Decides-eqb i j).1 same in absurd cc in
-            so_far.known j (omega (arith, below, differ)) inside owner empty
+            so_far j (omega (arith, below, differ)) inside named owner empty
 
-    -- and in the end of all
-    pub told_all : (refines : ℕ → Option Break) → AreTold nodes refines (length nodes) → (e owner : ℕ) → total f e ≡ 0
+    -- and in the end of all that are named
+    pub told_all : (refines : ℕ → Option Break) → AreTold nodes refines (length nodes) → (e owner : ℕ) → IsNamed set e → total f e ≡ 0
         → refines e ≡ least_from None (breaks_for set owner n (row e))
-    told_all refines so_far e owner empty = empty_or_not (row e) (refines e ≡ least_from None (breaks_for set owner n (row e)))
-        (λ none. so_far.others e none ∙ sym (ap (λ r. least_from None (breaks_for set owner n r)) none ∙ ap (least_from None) (breaks_none set owner n)))
-        (λ some.
-        let at = order.among e some in
+    told_all refines so_far e owner named empty =
+        let at = place_of nodes set order e named in
         let inside = at.1 in
-        let stands : get_or nodes at.0 0 ≡ e = get_or_default nodes at.0 0 e inside ∙ at.2 in
-        subst (λ d. total f d ≡ 0 → refines d ≡ least_from None (breaks_for set owner n (row d))) stands (so_far.known at.0 inside inside owner) empty)
+        subst (λ d. IsNamed set d → total f d ≡ 0 → refines d ≡ least_from None (breaks_for set owner n (row d))) at.2
+        (λ named_there. so_far at.0 inside inside named_there owner) named empty
 
     -- ---- what is known when a grouping without nodes is used
 
-    pub known_used : (counts : ℕ → ℕ) (refines : ℕ → Option Break) → ((e : ℕ) → counts e ≡ min (total f e) many)
-        → ((e owner : ℕ) → total f e ≡ 0 → refines e ≡ least_from None (breaks_for set owner n (row e)))
-        → (o : Option ℕ) (owner depth : ℕ) → option_map_or counts o 0 ≡ 0 → AllEnd set depth (option_map_or row o end)
+    pub known_used : (counts : ℕ → ℕ) (refines : ℕ → Option Break) → ((e : ℕ) → IsNamed set e → counts e ≡ min (total f e) many)
+        → ((e owner : ℕ) → IsNamed set e → total f e ≡ 0 → refines e ≡ least_from None (breaks_for set owner n (row e)))
+        → (number : ℕ) (o : Option ℕ) → number_named set number ≡ o → (owner depth : ℕ) → option_map_or counts o 0 ≡ 0 → AllEnd set depth (option_map_or row o end)
         → (nodes_for set owner depth (option_map_or row o end) ≡ end)
         × (option_and_then refines o ≡ least_from None (breaks_for set owner depth (option_map_or row o end)))
-    known_used counts refines counts_are refines_are None owner depth none ends =
+    known_used counts refines counts_are refines_are number None names owner depth none ends =
         (nodes_none set owner depth, sym (ap (least_from None) (breaks_none set owner depth)))
-    known_used counts refines counts_are refines_are (Some e) owner depth none ends =
-        let is = counts_are e in
+    known_used counts refines counts_are refines_are number (Some e) names owner depth none ends =
+        let named : IsNamed set e = (number, names) in
+        let is = counts_are e named in
         let empty : total f e ≡ 0 = omega (arith, is, none) in
-        let enough = good f nodes order e in (
+        let enough = good f nodes order e named in (
           same_nodes set groupings owner depth n (row e) ends enough
               ∙ none_in (nodes_for set owner n (row e)) refl (sym (total_size f owner e) ∙ empty),
-          refines_are e owner empty ∙ ap (least_from None) (same_breaks set groupings owner n depth (row e) enough ends),
+          refines_are e owner named empty ∙ ap (least_from None) (same_breaks set groupings owner n depth (row e) enough ends),
         )

@@ -8,6 +8,7 @@ use Rattle.yspec.specs.linking.Expansion.{groupings_of, row_in}
 use Rattle.yspec.specs.linking.NodeCounts.{counted, count_used, counts_within}
 use Rattle.yspec.specs.linking.Rewriting.{Ends}
 use Rattle.yspec.specs.schema.Breaks.{Break, least_from}
+use Rattle.ynames.specs.Ordered.{IsNamed}
 use Rattle.yexpand.specs.NamedView.{row_named}
 use Rattle.yexpand.specs.Walk.{nodes_for, breaks_for, AllEnd}
 use Rattle.yexpand.specs.Counting.{count_at, many, refine_at}
@@ -22,14 +23,14 @@ count_named g modules number = option_map_or (count_at g.counts.items) (number_n
 abbrev pub refine_named : Groupings → Forest Source → ℕ → Option Break
 refine_named g modules number = option_and_then (refine_at g.refines.items) (number_named modules number)
 
--- a table holds how many nodes each grouping has, up to the bound
+-- a table holds how many nodes each grouping has that a statement names, up to the bound
 abbrev pub AreCounts : List ℕ → Forest Source → Type 0
-AreCounts counts modules = (e : ℕ) → count_at counts e
+AreCounts counts modules = (e : ℕ) → IsNamed modules e → count_at counts e
     ≡ min (counted (count_used modules (counts_within modules (groupings_of modules) (size modules))) (row_in (groupings_of modules) e)) many
 
 -- and which refine is told in each that has none
 abbrev pub AreRefines : List (Option BrokenRule) → Forest Source → Type 0
-AreRefines refines modules = (e owner : ℕ)
+AreRefines refines modules = (e owner : ℕ) → IsNamed modules e
     → counted (count_used modules (counts_within modules (groupings_of modules) (size modules))) (row_in (groupings_of modules) e) ≡ 0
     → refine_at refines e ≡ least_from None (breaks_for modules owner (size modules) (row_in (groupings_of modules) e))
 

@@ -5,6 +5,5 @@ pub mod Targets
 pub mod Walk
 pub mod Counting
 pub mod Knowing
-pub mod Ordered
 pub mod Stating
 pub mod Tasks

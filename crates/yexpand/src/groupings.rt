@@ -12,7 +12,7 @@ ghost use Rattle.ygrammar.specs.BreakView.{seen};
 ghost use Rattle.ygrammar.specs.SourceView.{source_view};
 ghost use Rattle.yexpand.specs.Counting.{count_at, count_by, many, refine_at, refine_by, told_list, top_refines};
 ghost use Rattle.yexpand.specs.Knowing.{AreCounts, AreRefines};
-ghost use Rattle.yexpand.specs.Ordered.{AreInOrder};
+ghost use Rattle.ynames.specs.Ordered.{AreInOrder};
 ghost use Rattle.yexpand.specs.NamedView.{modules_of};
 
 use crate::counting::{capped, count_at, count_nodes};
@@ -118,7 +118,7 @@ fn zeros(alloc: Global, count: usize) -> Result<Vec<u32>, AllocError>
 }
 
 /// How many nodes the grouping of a number has, given how many those have that it uses; other statements have none.
-fn count_in(named: &Named<'_, '_>, counts: &[u32], number: u32) -> u32
+fn count_in(named: &Named<'_, '_>, counts: &[u32], number: usize) -> u32
     ensures { let m = modules_of named.now in result
         ≡ min (counted (count_by counts.now m) (row_in (groupings_of m) number)) many }
 {
@@ -129,18 +129,18 @@ fn count_in(named: &Named<'_, '_>, counts: &[u32], number: u32) -> u32
 }
 
 /// Sets the count of a number.
-fn set_count(counts: &mut Vec<u32>, number: u32, count: u32)
+fn set_count(counts: &mut Vec<u32>, number: usize, count: u32)
     ensures length { length counts.new.items ≡ length counts.old.items }
     ensures count { (e : ℕ) → number < length counts.old.items → count_at counts.new.items e
         ≡ (if e == number then count else count_at counts.old.items e) }
 {
-    if let Some(place) = counts.get_mut(number as usize) {
+    if let Some(place) = counts.get_mut(number) {
         *place = count;
     }
 }
 
 /// How many nodes each grouping has, by their numbers, given an order in which each stands behind those that it uses.
-fn counts_of(alloc: Global, named: &Named<'_, '_>, order: &[u32]) -> Result<Vec<u32>, AllocError>
+fn counts_of(alloc: Global, named: &Named<'_, '_>, order: &[usize]) -> Result<Vec<u32>, AllocError>
     requires { AreInOrder order.now (modules_of named.now) }
     ensures { IfOk result (λ counts. AreCounts counts.items (modules_of named.now)) }
 {
@@ -168,7 +168,7 @@ fn none_told(alloc: Global, count: usize) -> Result<Vec<Option<BrokenRule>>, All
 fn refine_told(
     named: &Named<'_, '_>,
     refines: &[Option<BrokenRule>],
-    number: u32,
+    number: usize,
 ) -> Option<BrokenRule>
     ensures { let m = modules_of named.now in (row : Forest sources.Source)
         × (laid row ≡ row_in (groupings_of m) number)
@@ -181,12 +181,12 @@ fn refine_told(
 }
 
 /// Sets what is told of a number.
-fn set_refine(refines: &mut Vec<Option<BrokenRule>>, number: u32, refine: Option<BrokenRule>)
+fn set_refine(refines: &mut Vec<Option<BrokenRule>>, number: usize, refine: Option<BrokenRule>)
     ensures length { length refines.new.items ≡ length refines.old.items }
     ensures refine { (e : ℕ) → number < length refines.old.items → refine_at refines.new.items e
         ≡ (if e == number then seen refine else refine_at refines.old.items e) }
 {
-    if let Some(place) = refines.get_mut(number as usize) {
+    if let Some(place) = refines.get_mut(number) {
         *place = refine;
     }
 }
@@ -196,7 +196,7 @@ fn set_refine(refines: &mut Vec<Option<BrokenRule>>, number: u32, refine: Option
 fn refines_of(
     alloc: Global,
     named: &Named<'_, '_>,
-    order: &[u32],
+    order: &[usize],
     counts: &[u32],
 ) -> Result<Vec<Option<BrokenRule>>, AllocError>
     requires order { AreInOrder order.now (modules_of named.now) }
@@ -205,7 +205,7 @@ fn refines_of(
 {
     let mut refines = none_told(alloc, named.sources().slots().len())?;
     for number in order {
-        if count_at(counts, *number as usize) != 0 {
+        if count_at(counts, *number) != 0 {
             continue;
         }
         let refine = refine_told(named, &refines, *number);
@@ -223,10 +223,14 @@ impl Groupings {
     ghost use Rattle.yexpand.specs.NamedView.{modules_of};
     ghost use Rattle.yexpand.specs.Counting.{count_at, count_by, many, refine_at};
     ghost use Rattle.yexpand.specs.Knowing.{count_named, refine_named, AreCounts, Knows};
-    ghost use Rattle.yexpand.specs.Ordered.{AreInOrder};
+    ghost use Rattle.ynames.specs.Ordered.{AreInOrder};
 
     /// What is known of the groupings of a set, given an order in which each stands behind those that it uses.
-    pub fn of(alloc: Global, named: &Named<'_, '_>, order: &[u32]) -> Result<Groupings, AllocError>
+    pub fn of(
+        alloc: Global,
+        named: &Named<'_, '_>,
+        order: &[usize],
+    ) -> Result<Groupings, AllocError>
         requires { AreInOrder order.now (modules_of named.now) }
         ensures knows { IfOk result (λ g. Knows g (modules_of named.now)) }
         ensures counts { IfOk result (λ g. AreCounts g.counts.items (modules_of named.now)) }

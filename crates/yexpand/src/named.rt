@@ -69,14 +69,14 @@ impl<'a, 't> Named<'a, 't> {
     }
 
     /// The row of the grouping of a number; none of any other statement.
-    pub(crate) fn grouping(&self, number: u32) -> Option<Siblings<'a, Source<'t>>>
+    pub(crate) fn grouping(&self, number: usize) -> Option<Siblings<'a, Source<'t>>>
         ensures row { laid (row_or_none result) ≡ row_in (groupings_of (modules_of self.now)) number }
         ensures within { IfSome result
             (λ row. size (row_view row) ≤ size (modules_of self.now)) }
     {
-        let slot = self.sources.slots().get(number as usize)?;
+        let slot = self.sources.slots().get(number)?;
         if Keyword::Grouping.is(slot.label.keyword) {
-            Some(self.sources.below(number))
+            Some(self.sources.below(number as u32))
         } else {
             None
         }
@@ -88,6 +88,6 @@ impl<'a, 't> Named<'a, 't> {
         ensures within { IfSome result
             (λ row. size (row_view row) ≤ size (modules_of self.now)) }
     {
-        self.grouping(self.meaning(number)?)
+        self.grouping(self.meaning(number)? as usize)
     }
 }

@@ -1,21 +1,19 @@
 -- What is known of a typedef rests on what is known of those alone that its `type` statements name.
-use Rattle.std.proofs.Common.{◌≡◌, ℕ, zero, suc, Bool, true, false, cond, List, [], ◌∷◌, ◌++◌, Option, Some, None, refl, sym, ap, ap₂, ◌∙◌, arith, subst}
-use Rattle.std.specs.Prelude.{⊤, option_map, option_and_then, find, ◌==◌, ◌&&◌, ◌||◌}
-use Rattle.std.specs.List.{Contains, list_any, filter_map, cons_option}
+use Rattle.std.proofs.Common.{◌≡◌, ℕ, suc, Bool, true, false, cond, List, [], ◌∷◌, Option, Some, None, refl, sym, ap, ap₂, ◌∙◌, arith, subst}
+use Rattle.std.specs.Prelude.{⊤, option_map, option_and_then, find}
+use Rattle.std.specs.List.{Contains}
 use Rattle.std.specs.Option.{option_map_or}
-use Rattle.std.proofs.lemmas.Bool.Decides.{Decides-eqb}
 use Rattle.std.proofs.lemmas.List.Elements.{Contains-append_left, Contains-append_right}
 use Rattle.yspec.specs.Forest.{Forest, end, node, first_of}
 use Rattle.yspec.specs.text.Text.{Text}
 use Rattle.yspec.specs.linking.Circles.{referring, innermost, definition_edge, definition_edges}
-use Rattle.yspec.specs.linking.DerivedTypes.{Known, unknown, number_named, named, verdict_by, known_by, known_in_row, typedef_row}
-use Rattle.yspec.specs.linking.Graph.{Edge}
-use Rattle.yspec.specs.linking.Keyword.{Keyword, same_keyword, type_word, typedef_word, default_word}
+use Rattle.yspec.specs.linking.DerivedTypes.{Known, unknown, named, verdict_by, known_by, known_in_row, typedef_row}
+use Rattle.yspec.specs.linking.Keyword.{same_keyword, type_word, typedef_word, default_word}
 use Rattle.yspec.specs.linking.Scopes.{Placed, placed, statements_of, statement_at, meaning, kind_named}
 use Rattle.yspec.specs.linking.Source.{Source, is_source_of, found_with, argument_with}
-use Rattle.yspec.specs.linking.TypeStatements.{Verdict, BuiltIn, wrong, verdict, verdicts, verdict_on, verdict_in_place, are_in_place, built_in_meant, derived}
+use Rattle.yspec.specs.linking.TypeStatements.{wrong, verdict, verdicts, verdict_on, verdict_in_place, are_in_place, built_in_meant, derived}
 use Rattle.yspec.proofs.LinkingProofs.KeywordLemmas.{same_is}
-use Rattle.ygraph.specs.Reaching.{leads, has_edge, HasEdge}
+use Rattle.ygraph.specs.Reaching.{HasEdge}
 use Rattle.ypreorder.specs.Layout.{numbered_by}
 use Rattle.ygrammar.specs.declared.source.Source as held
 use Rattle.ygrammar.specs.SourceView.{source_view}

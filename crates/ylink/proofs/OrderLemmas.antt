@@ -1,15 +1,14 @@
 -- What is known of typedefs, learned in an order in which each stands behind those that it names.
-use Rattle.std.proofs.Common.{◌≡◌, ℕ, zero, suc, ◌+◌, ◌<◌, ◌≤◌, Bool, true, false, cond, List, [], ◌∷◌, length, map, get_or, slice_set, Option, Some, None, refl, sym, ap, ap₂, ◌∙◌, arith, subst}
-use Rattle.std.specs.Prelude.{is_some, option_map, option_and_then, ◌==◌, ◌&&◌, ◌||◌, slice_get, if◌then◌else◌}
-use Rattle.std.specs.List.{Contains, range_with_len, flat_map, filter_map, cons_option, list_any}
+use Rattle.std.proofs.Common.{◌≡◌, ℕ, zero, suc, ◌+◌, ◌<◌, Bool, true, false, cond, List, [], ◌∷◌, length, get_or, slice_set, Option, Some, None, Result, Ok, Err, refl, sym, ap, ap₂, ◌∙◌, arith, subst}
+use Rattle.std.specs.Prelude.{IfOk, is_some, option_map, option_and_then, ◌==◌, ◌||◌, if◌then◌else◌}
+use Rattle.std.specs.List.{range_with_len, flat_map, filter_map, cons_option, list_any}
 use Rattle.std.specs.List.Sorted.{IsPermutation}
 use Rattle.std.specs.Option.{option_map_or}
 use Rattle.std.proofs.lemmas.Bool.{and_parts}
 use Rattle.std.proofs.lemmas.Bool.Decides.{Decides-eqb}
-use Rattle.std.proofs.lemmas.List.{get_or_default, length-map}
+use Rattle.std.proofs.lemmas.List.{length-map}
 use Rattle.std.proofs.lemmas.List.FromFn.{length-range_with_len, get_or-range_with_len}
 use Rattle.std.proofs.lemmas.List.Sorted.{All-permutation, Contains-permutation, length_permutation}
-use mathlib.Core.Path.{fun_ext}
 use Rattle.yspec.specs.Forest.{Forest, size}
 use Rattle.yspec.specs.linking.Circles.{circle_break, definition_circles, definition_edge, definition_edges}
 use Rattle.yspec.specs.linking.DerivedTypes.{Known, unknown, number_named, named, known_named, known_in_row, known_within, typedef_row}
@@ -26,67 +25,55 @@ use Rattle.ypreorder.specs.declared.siblings.Siblings.{Siblings}
 use Rattle.ygrammar.specs.declared.source.Source as held
 use Rattle.ygrammar.specs.SourceView.{source_view}
 use Rattle.ynames.specs.MeaningView.{meaning_at, AreMeanings}
+use Rattle.ynames.specs.Ordered.{IsNamed, AreInOrder}
 use Rattle.ynames.proofs.NumberedLemmas.{length_placed}
 use Rattle.ylink.specs.TypedefView.{known_at, known_view, row_at, AreRows}
 use Rattle.ylink.specs.declared.typedefs.Known as known_in_code
 use Rattle.ylink.proofs.KnownLemmas.{same_known}
+use Rattle.ynames.proofs.OrderedLemmas.{edge_named, place_of}
 use Rattle.ynames.proofs.PlacedLemmas.{among_them, number_named_at}
-use Rattle.ylink.proofs.WithinLemmas.{Each, IsWithin', each_edge, meant_within}
+use Rattle.ylink.proofs.WithinLemmas.{meant_within}
 
-target_within : (n : ℕ) (edges : List graph.Edge) → Each (IsWithin' n) edges → (a b : ℕ) → has_edge edges a b ≡ true → b < n
-target_within n [] all a b e = absurd cc
-target_within n (x ∷ xs) all a b e = by (leads a b x) refl e (λ later. target_within n xs all.1 a b later)
+none_at : (meanings : List (Option ℕ)) (n : ℕ) → list_any is_some meanings ≡ false → meaning_at meanings n ≡ None
+none_at [] n none = refl
+none_at (None ∷ ms) zero none = refl
+none_at (None ∷ ms) (suc n) none = none_at ms n none
+none_at (Some m ∷ ms) n none = absurd cc
+
+any_at : (e : ℕ) (nodes : List ℕ) (i : ℕ) → i < length nodes → get_or nodes i e ≡ e → list_any (λ k. e == k) nodes ≡ true
+any_at e [] i within is = absurd (omega (arith, within))
+any_at e (x ∷ xs) zero within is = ap (λ b. b || list_any (λ k. e == k) xs) ((Decides-eqb e x).1 (sym is))
+any_at e (x ∷ xs) (suc i) within is = by (e == x) (any_at e xs i (omega (arith, within)) is)
   where
-    by : (y : Bool) → leads a b x ≡ y → (y || has_edge xs a b) ≡ true → (has_edge xs a b ≡ true → b < n) → b < n
-    by true is e rest = subst (λ k. k < n) ((Decides-eqb x.target b).0 (and_parts (x.source == a) (x.target == b) is).1) all.0.1
-    by false is e rest = rest e
+    by : (b : Bool) → list_any (λ k. e == k) xs ≡ true → (b || list_any (λ k. e == k) xs) ≡ true
+    by true rest = refl
+    by false rest = rest
 
 -- of the first typedefs in an order it is known what they mean in the end
 abbrev pub IsLearned : Forest held.Source → List ℕ → (ℕ → Known) → ℕ → Type 0
 IsLearned f nodes table i = (j : ℕ) → j < i → j < length nodes
-    → table (get_or nodes j 0) ≡ known_within (numbered_by source_view 0 f) (size f) (get_or nodes j 0)
+    → table (get_or nodes j 0) ≡ known_within (numbered_by source_view 0 f) (size (numbered_by source_view 0 f)) (get_or nodes j 0)
 
-module _ (f : Forest held.Source) (nodes : List ℕ) (all : IsPermutation (range_with_len 0 (size f)) nodes) where
+module _ (f : Forest held.Source) where
   abbrev set : Forest Source
   set = numbered_by source_view 0 f
 
   abbrev finally : ℕ → Known
-  finally = known_within set (size f)
+  finally = known_within set (size set)
 
   same_size : size set ≡ size f
   same_size = size-by source_view 0 f
 
-  pub count : length nodes ≡ size f
-  count = length_permutation (range_with_len 0 (size f)) nodes all ∙ length-range_with_len 0 (size f)
-
-  -- each is the number of a statement
-  pub entry_within : (i : ℕ) → i < length nodes → get_or nodes i 0 < size f
-  entry_within i within = All-permutation (λ m. m < size f) (range_with_len 0 (size f)) nodes all each i 0 within
-    where
-      each : (k d : ℕ) → k < length (range_with_len 0 (size f)) → get_or (range_with_len 0 (size f)) k d < size f
-      each k d inside =
-          let long = length-range_with_len 0 (size f) in
-          let is = get_or-range_with_len 0 (size f) k d (omega (arith, inside, long)) in
-          omega (arith, is, inside, long)
-
-  place_of : (e : ℕ) → e < size f → (j : ℕ) × (j < length nodes) × (get_or nodes j 0 ≡ e)
-  place_of e within =
-      let numbers = range_with_len 0 (size f) in
-      let long = length-range_with_len 0 (size f) in
-      let plain : 0 + e ≡ e = omega arith in
-      let at = Contains-permutation numbers nodes e all (e, omega (arith, within, long), get_or-range_with_len 0 (size f) e e within ∙ plain) in
-      (at.0, at.1, get_or_default nodes at.0 0 e at.1 ∙ at.2)
-
-  module _ (behind : (a b : ℕ) → HasEdge (definition_edges set) a b → StandsBefore nodes b a) where
+  module _ (nodes : List ℕ) (order : AreInOrder nodes set) where
     -- with as many steps as stand before a typedef, and one more, all is known of it
     stable : (n i : ℕ) → i < n → i < length nodes → known_within set (suc n) (get_or nodes i 0) ≡ known_within set n (get_or nodes i 0)
     unfolding known_within
     stable zero i below within = absurd (omega (arith, below))
     stable (suc m) i below within =
         same_known f (known_within set (suc m)) (known_within set m) (get_or nodes i 0) (λ e edge.
-        let at = place_of e (target_within (size f) (definition_edges set) (each_edge f) (get_or nodes i 0) e edge) in
+        let at = place_of nodes set order e (edge_named f (get_or nodes i 0) e edge) in
         let inside = at.1 in
-        let before = behind (get_or nodes i 0) e edge i at.0 within inside refl at.2 in
+        let before = order.behind (get_or nodes i 0) e edge i at.0 within inside refl at.2 in
         subst (λ d. known_within set (suc m) d ≡ known_within set m d) at.2 (stable m at.0 (omega (arith, before, below)) inside))
 
     learned_own : (table : ℕ → Known) (i : ℕ) → IsLearned f nodes table i → i < length nodes
@@ -94,11 +81,11 @@ module _ (f : Forest held.Source) (nodes : List ℕ) (all : IsPermutation (range
     unfolding known_within
     learned_own table i so_far within =
         same_known f table finally (get_or nodes i 0) (λ e edge.
-        let at = place_of e (target_within (size f) (definition_edges set) (each_edge f) (get_or nodes i 0) e edge) in
+        let at = place_of nodes set order e (edge_named f (get_or nodes i 0) e edge) in
         let inside = at.1 in
-        let before = behind (get_or nodes i 0) e edge i at.0 within inside refl at.2 in
+        let before = order.behind (get_or nodes i 0) e edge i at.0 within inside refl at.2 in
         subst (λ d. table d ≡ finally d) at.2 (so_far at.0 before inside))
-        ∙ stable (size f) i (let long = count in omega (arith, within, long)) within
+        ∙ stable (size set) i (let few = order.count in omega (arith, within, few)) within
 
     pub learned_next : (table more : ℕ → Known) (i : ℕ) → IsLearned f nodes table i → i < length nodes
         → ((e : ℕ) → more e ≡ (if e == get_or nodes i 0 then option_map_or (known_in_row set (named set table)) (typedef_row set (get_or nodes i 0)) unknown else table e))
@@ -124,20 +111,80 @@ module _ (f : Forest held.Source) (nodes : List ℕ) (all : IsPermutation (range
 
     -- and in the end of all that statements name
     pub learned_all : (table : ℕ → Known) → IsLearned f nodes table (length nodes) → (number : ℕ) → named set table number ≡ known_named set number
-    learned_all table so_far number = by (statement_at set number) refl ∙ ap (λ n. named set (known_within set n) number) (sym same_size)
+    learned_all table so_far number = by (number_named set number) refl
       where
-        of_place : (p : Placed) → statement_at set number ≡ Some p → (o : Option Source) → meaning set p ≡ o
-            → option_map_or table (option_map (λ (x : Source). x.number) o) unknown ≡ option_map_or finally (option_map (λ (x : Source). x.number) o) unknown
-        of_place p at None meant = refl
-        of_place p at (Some x) meant =
-            let place = place_of x.number (meant_within f p (among_them f number p at).0 x meant) in
-            subst (λ d. table d ≡ finally d) place.2 (so_far place.0 place.1 place.1)
+        by : (o : Option ℕ) → number_named set number ≡ o → option_map_or table o unknown ≡ option_map_or finally o unknown
+        by None is = refl
+        by (Some e) is =
+            let at = place_of nodes set order e (number, is) in
+            let inside = at.1 in
+            subst (λ d. table d ≡ finally d) at.2 (so_far at.0 inside inside)
 
-        by : (o : Option Placed) → statement_at set number ≡ o
-            → option_map_or table (option_map (λ (x : Source). x.number) (option_and_then (meaning set) o)) unknown
-            ≡ option_map_or finally (option_map (λ (x : Source). x.number) (option_and_then (meaning set) o)) unknown
-        by None at = refl
-        by (Some p) at = of_place p at (meaning set p) refl
+  -- ---- what is in order
+
+  -- what is named is a statement
+  named_within : (e : ℕ) → IsNamed set e → e < size f
+  named_within e named = of_statement (statement_at set named.0) refl named.1
+    where
+      of_meaning : (p : Placed) (o : Option Source) → statement_at set named.0 ≡ Some p → meaning set p ≡ o
+          → option_map (λ (d : Source). d.number) o ≡ Some e → e < size f
+      of_meaning p None at meant is = absurd cc
+      of_meaning p (Some d) at meant is =
+          let same : d.number ≡ e = cc in
+          subst (λ k. k < size f) same (meant_within f p (among_them f named.0 p at).0 d meant)
+
+      of_statement : (o : Option Placed) → statement_at set named.0 ≡ o
+          → option_map (λ (d : Source). d.number) (option_and_then (meaning set) o) ≡ Some e → e < size f
+      of_statement None at is = absurd cc
+      of_statement (Some p) at is = of_meaning p (meaning set p) at refl is
+
+  -- all statements, where each definition stands behind those to which it refers
+  pub all_in_order : (nodes : List ℕ) → IsPermutation (range_with_len 0 (size f)) nodes
+      → ((a b : ℕ) → HasEdge (definition_edges set) a b → StandsBefore nodes b a) → AreInOrder nodes set
+  all_in_order nodes all behind = record { among = among; behind = behind; within = within; count = omega (arith, long, same_size) }
+    where
+      numbers : List ℕ
+      numbers = range_with_len 0 (size f)
+
+      count : length numbers ≡ size f
+      count = length-range_with_len 0 (size f)
+
+      long : length nodes ≡ size f
+      long = length_permutation numbers nodes all ∙ count
+
+      among : (e : ℕ) → IsNamed set e → list_any (λ k. e == k) nodes ≡ true
+      among e named =
+          let inside = named_within e named in
+          let plain : 0 + e ≡ e = omega arith in
+          let at = Contains-permutation numbers nodes e all
+          (e, (let whole = count in omega (arith, inside, whole)), get_or-range_with_len 0 (size f) e e inside ∙ plain) in
+          any_at e nodes at.0 at.1 at.2
+
+      each : (k d : ℕ) → k < length numbers → get_or numbers k d < size set
+      each k d inside =
+          let whole = count in
+          let same = same_size in
+          let is = get_or-range_with_len 0 (size f) k d (omega (arith, inside, whole)) in
+          omega (arith, is, inside, whole, same)
+
+      within : (i : ℕ) → i < length nodes → get_or nodes i 0 < size set
+      within i inside = All-permutation (λ m. m < size set) numbers nodes all each i 0 inside
+
+  -- where no statement names a definition there is nothing to be in order
+  pub none_in_order : (meanings : List (Option ℕ)) → AreMeanings meanings set → list_any is_some meanings ≡ false → AreInOrder [] set
+  none_in_order meanings are none = record {
+    among = λ e named.
+        let is = sym named.1 ∙ (number_named_at f meanings are named.0 ∙ none_at meanings named.0 none) in
+        absurd cc;
+    behind = λ a b edge i j within. absurd (omega (arith, within));
+    within = λ i within. absurd (omega (arith, within));
+    count = omega arith;
+  }
+
+-- what two clauses say of one call
+pub both_ok : {X Y : Type 0} (r : Result X Y) (P Q R : X → Type 0) → ((x : X) → P x → Q x → R x) → IfOk r P → IfOk r Q → IfOk r R
+both_ok (Ok x) P Q R gives first second = gives x first second
+both_ok (Err e) P Q R gives first second = tt
 
 -- ---- where nothing refers to itself
 
@@ -167,25 +214,12 @@ pub straight : (modules : Forest Source) → definition_circles modules ≡ [] �
     → is_on_circle (definition_edges modules) (record { source = a; target = b }) ≡ false
 straight modules none a b edge = no_circle (definition_edges modules) (definition_edge modules) a b (statements_of modules) none edge
 
--- where no statement names a definition
-none_at : (meanings : List (Option ℕ)) (n : ℕ) → list_any is_some meanings ≡ false → meaning_at meanings n ≡ None
-none_at [] n none = refl
-none_at (None ∷ ms) zero none = refl
-none_at (None ∷ ms) (suc n) none = none_at ms n none
-none_at (Some m ∷ ms) n none = absurd cc
-
-pub none_named : (f : Forest held.Source) (meanings : List (Option ℕ)) (known : ℕ → Known) → AreMeanings meanings (numbered_by source_view 0 f)
-    → list_any is_some meanings ≡ false → (n : ℕ) → option_map_or known (meaning_at meanings n) unknown ≡ known_named (numbered_by source_view 0 f) n
-none_named f meanings known are none n =
-    let modules = numbered_by source_view 0 f in
-    ap (λ o. option_map_or known o unknown) (none_at meanings n none)
-    ∙ sym (ap (λ o. option_map_or (known_within modules (size modules)) o unknown) (number_named_at f meanings are n ∙ none_at meanings n none))
-
 -- as many rows as statements
-pub rows_count : (f : Forest held.Source) (rows : List (Option (Siblings held.Source))) → AreRows rows (numbered_by source_view 0 f) → length rows ≡ size f
+pub rows_count : (f : Forest held.Source) (rows : List (Option (Siblings held.Source))) → AreRows rows (numbered_by source_view 0 f)
+    → length rows ≡ size (numbered_by source_view 0 f)
 rows_count f rows are =
     let statements = statements_of (numbered_by source_view 0 f) in
-    sym (length-map rows (option_map (row_by source_view))) ∙ (ap length are ∙ (length-map statements row_at ∙ length_placed source_view [] 0 f))
+    sym (length-map rows (option_map (row_by source_view))) ∙ (ap length are ∙ (length-map statements row_at ∙ (length_placed source_view [] 0 f ∙ sym (size-by source_view 0 f))))
 
 -- ---- a table in which what is known of one typedef is set
 

@@ -1,15 +1,13 @@
 -- Names that statements give, and types, one after another.
-use Rattle.std.proofs.Common.{◌≡◌, ℤ, Bool, true, false, cond, List, [], ◌∷◌, ◌++◌, Option, Some, None, arith, refl, sym, ap, ◌∙◌}
-use Rattle.std.proofs.lemmas.Bool.Decides.{Decides-eqb}
+use Rattle.std.proofs.Common.{◌≡◌, ℤ, true, false, cond, List, [], ◌∷◌, ◌++◌, Option, Some, sym, ap, ◌∙◌}
 use Rattle.std.proofs.lemmas.List.{append_assoc, append-nil}
-use Rattle.yspec.specs.Forest.{Forest, end, node, row}
+use Rattle.yspec.specs.Forest.{Forest, end, node}
 use Rattle.yspec.specs.types.Names.{Naming}
 use Rattle.yspec.specs.linking.Keyword.{Keyword}
-use Rattle.yspec.specs.linking.Arguments.{Name}
-use Rattle.yspec.specs.linking.Source.{Source, is_source_of, argument_in, first_with}
+use Rattle.yspec.specs.linking.Source.{Source, is_source_of, argument_in}
 use Rattle.yspec.specs.linking.TypeStatements as spec
 use Rattle.yspec.specs.linking.TypeStatements.{namings, verdicts, verdict, member_types, union_verdict, single_type}
-use Rattle.std.specs.Prelude.{◌==◌, ℕ, is_some, length, map, not, option_map, option_and_then}
+use Rattle.std.specs.Prelude.{◌==◌, ℕ, length, map, option_and_then}
 use Rattle.std.specs.Option.{option_map_or}
 use Rattle.yspec.specs.types.Types.{YangType}
 use Rattle.yspec.specs.types.Restriction.{union_type}

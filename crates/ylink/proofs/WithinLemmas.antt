@@ -1,7 +1,7 @@
 -- The numbers of statements, of what they name and of what holds them lie below how many statements there are.
-use Rattle.std.proofs.Common.{◌≡◌, ℕ, zero, suc, ◌+◌, ◌<◌, ◌≤◌, Bool, true, false, cond, List, [], ◌∷◌, ◌++◌, length, map, get_or, Option, Some, None, refl, sym, ap, ◌∙◌, arith, subst}
+use Rattle.std.proofs.Common.{◌≡◌, ℕ, zero, suc, ◌+◌, ◌<◌, ◌≤◌, Bool, true, false, cond, List, [], ◌∷◌, ◌++◌, length, map, get_or, Option, Some, None, refl, sym, arith, subst}
 use Rattle.std.specs.Prelude.{⊤, option_map, option_and_then, find}
-use Rattle.std.specs.List.{All, Contains, filter_map, flat_map, cons_option}
+use Rattle.std.specs.List.{All, Contains, filter_map, cons_option}
 use Rattle.std.specs.Option.{option_map_or}
 use Rattle.yspec.specs.Forest.{Forest, end, node, size, row}
 use Rattle.yspec.specs.linking.Arguments.{Name, name_of}

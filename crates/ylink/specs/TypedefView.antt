@@ -5,7 +5,7 @@ use Rattle.yspec.specs.Forest.{Forest}
 use Rattle.yspec.specs.linking.Keyword.{typedef_word}
 use Rattle.yspec.specs.linking.Source.{Source, is_source_of}
 use Rattle.yspec.specs.linking.Scopes.{Placed, statements_of}
-use Rattle.yspec.specs.linking.TypeStatements.{Verdict, unjudged}
+use Rattle.yspec.specs.linking.TypeStatements.{Verdict}
 use Rattle.yspec.specs.linking.DerivedTypes as spec
 use Rattle.ypreorder.specs.View.{row_by}
 use Rattle.ypreorder.specs.declared.siblings.Siblings.{Siblings}

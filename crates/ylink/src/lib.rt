@@ -7,6 +7,7 @@ mod limit;
 mod linked;
 mod linking;
 mod naming;
+mod ordering;
 mod repeated;
 mod statements;
 mod typedefs;

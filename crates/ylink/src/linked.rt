@@ -2,6 +2,7 @@
 
 ghost use Rattle.ygrammar.specs.LinkView as statements;
 ghost use Rattle.ynames.specs.MeaningView.{AreMeanings};
+ghost use Rattle.ynames.specs.Ordered.{AreInOrder};
 ghost use Rattle.ynames.specs.PrefixView as prefix;
 ghost use Rattle.ylink.specs.TypedefView as typedef;
 ghost use Rattle.ylink.specs.VerdictView.{AreVerdicts};
@@ -24,10 +25,13 @@ pub struct StmtId(pub u32);
 pub struct Linked<'t> {
     sources: Sources<'t>,
     prefixes: Prefixes<'t>,
+    // The numbers of the definitions that statements name, each behind those that it uses.
+    order: Vec<usize>,
     typedefs: Typedefs<'t>,
     // The verdict on each `type` statement, by its number.
     verdicts: Vec<Option<Box<Verdict<'t>>>>,
     ghost prefixed: { prefix.IsOf prefixes (statements.view sources) },
+    ghost ordered: { AreInOrder order.items (statements.view sources) },
     ghost named: { typedef.IsOf typedefs (statements.view sources) },
     ghost meant: { AreMeanings typedefs.meanings.items (statements.view sources) },
     ghost judged: { AreVerdicts verdicts.items (statements.view sources) },
@@ -44,6 +48,7 @@ impl<'t> Linked<'t> {
     ghost use Rattle.ygrammar.specs.LinkView as statements;
     ghost use Rattle.ygrammar.specs.SourceView.{source_view};
     ghost use Rattle.ynames.specs.MeaningView.{AreMeanings};
+    ghost use Rattle.ynames.specs.Ordered.{AreInOrder};
     ghost use Rattle.ynames.specs.PrefixView as prefix;
     ghost use Rattle.ylink.specs.TypedefView as typedef;
     ghost use Rattle.ylink.specs.TypeView.{meant_view};
@@ -55,10 +60,12 @@ impl<'t> Linked<'t> {
     pub(crate) fn new(
         sources: Sources<'t>,
         prefixes: Prefixes<'t>,
+        order: Vec<usize>,
         typedefs: Typedefs<'t>,
         verdicts: Vec<Option<Box<Verdict<'t>>>>,
     ) -> Linked<'t>
         requires prefixed { prefix.IsOf prefixes (statements.view sources) }
+        requires ordered { AreInOrder order.items (statements.view sources) }
         requires named { typedef.IsOf typedefs (statements.view sources) }
         requires meant { AreMeanings typedefs.meanings.items (statements.view sources) }
         requires judged { AreVerdicts verdicts.items (statements.view sources) }
@@ -67,6 +74,7 @@ impl<'t> Linked<'t> {
         Linked {
             sources,
             prefixes,
+            order,
             typedefs,
             verdicts,
         }
@@ -84,6 +92,20 @@ impl<'t> Linked<'t> {
         ensures { prefix.IsOf result.now (view self.now) }
     {
         &self.prefixes
+    }
+
+    /// The numbers of all typedefs and groupings that statements name, each behind those that it uses.
+    pub fn order(&self) -> &[usize]
+        ensures { AreInOrder result.now (view self.now) }
+    {
+        &self.order
+    }
+
+    /// The number of the typedef or grouping that each statement names, by its own.
+    pub fn meanings(&self) -> &[Option<u32>]
+        ensures { AreMeanings result.now (view self.now) }
+    {
+        self.typedefs.meanings()
     }
 
     fn source(&self, id: StmtId) -> Option<&Source<'t>>

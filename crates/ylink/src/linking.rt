@@ -10,6 +10,7 @@ ghost use Rattle.ytext.specs.View.{modules_view};
 ghost use Rattle.ygrammar.specs.BreakView.{seen};
 ghost use Rattle.ygrammar.specs.LinkView as statements;
 ghost use Rattle.ynames.specs.MeaningView.{AreMeanings};
+ghost use Rattle.ynames.specs.Ordered.{AreInOrder};
 ghost use Rattle.ynames.specs.PrefixView as prefix;
 ghost use Rattle.ylink.specs.TypedefView as typedef;
 ghost use Rattle.ylink.specs.LinkedView.{view};
@@ -18,6 +19,7 @@ ghost use Rattle.ylink.specs.Told.{told_by};
 use crate::fault::CompileFault;
 use crate::judging::broken_type_rule;
 use crate::linked::Linked;
+use crate::ordering::order_of;
 use crate::repeated::repeated_module;
 use crate::typedefs::Typedefs;
 use crate::verdicts::verdicts_of;
@@ -60,8 +62,9 @@ fn link_sources<'t>(
     if let Some(found) = broken_meaning_rule(alloc, &sources, &holders, &meanings)? {
         return Err(CompileFault::from(found));
     }
-    let typedefs = Typedefs::of(alloc, &sources, &holders, meanings)?;
-    link_types(alloc, modules, sources, prefixes, typedefs)
+    let order = order_of(alloc, &sources, &holders, &meanings)?;
+    let typedefs = Typedefs::of(alloc, &sources, meanings, &order)?;
+    link_types(alloc, modules, sources, prefixes, order, typedefs)
 }
 
 /// Links modules whose names are right.
@@ -70,10 +73,12 @@ fn link_types<'t>(
     modules: &'t [Module],
     sources: Sources<'t>,
     prefixes: Prefixes<'t>,
+    order: Vec<usize>,
     typedefs: Typedefs<'t>,
 ) -> Result<Linked<'t>, CompileFault>
     requires made { statements.view sources ≡ sources_of (modules_view modules.now) }
     requires prefixed { prefix.IsOf prefixes (statements.view sources) }
+    requires ordered { AreInOrder order.items (statements.view sources) }
     requires named { typedef.IsOf typedefs (statements.view sources) }
     requires meant { AreMeanings typedefs.meanings.items (statements.view sources) }
     requires first { None ≡ least_from None (statement_phase (modules_view modules.now)) }
@@ -86,7 +91,7 @@ fn link_types<'t>(
     if let Some(found) = broken_type_rule(&sources, &verdicts) {
         return Err(CompileFault::from(found));
     }
-    Ok(Linked::new(sources, prefixes, typedefs, verdicts))
+    Ok(Linked::new(sources, prefixes, order, typedefs, verdicts))
 }
 
 /// The rule that is told of prefixes, or of names of modules and definitions.

@@ -1,7 +1,6 @@
 //! What typedefs mean, each made once (RFC 7950, 7.3).
 
-ghost use Rattle.std.specs.Prelude.{◌≡◌, ◌++◌, List, IfOk, OnOk, is_some, length, map, option_map, option_and_then, slice_get};
-ghost use Rattle.std.specs.List.{list_any};
+ghost use Rattle.std.specs.Prelude.{◌≡◌, ◌++◌, List, IfOk, OnOk, length, map, option_map, option_and_then, slice_get};
 ghost use Rattle.yspec.specs.linking.Scopes.{placed};
 ghost use Rattle.ypreorder.specs.View.{row_by, label_by};
 ghost use Rattle.ygrammar.specs.LinkView.{view};
@@ -11,8 +10,7 @@ ghost use Rattle.ylink.specs.TypedefView.{row_at, rows_view, AreRows};
 use crate::types::{Verdict, verdict_on};
 use std::alloc::{AllocError, Global};
 use ygrammar::{Source, Sources, argument_with, found_with};
-use ygraph::in_order;
-use ynames::{definition_edges_of, meaning_at};
+use ynames::meaning_at;
 use ypreorder::{Node, Siblings};
 use yword::Keyword;
 
@@ -90,18 +88,6 @@ fn row_of<'a, 't>(
     }
 }
 
-/// Whether a statement names a definition.
-fn names_any(meanings: &[Option<u32>]) -> bool
-    ensures { result ≡ list_any is_some meanings.now }
-{
-    for meaning in meanings {
-        if meaning.is_some() {
-            return true;
-        }
-    }
-    false
-}
-
 /// So many typedefs of which nothing is known.
 fn none_known<'t>(alloc: Global, count: usize) -> Result<Vec<Option<Known<'t>>>, AllocError>
     ensures { IfOk result (λ table. length table.items ≡ count) }
@@ -114,16 +100,22 @@ fn none_known<'t>(alloc: Global, count: usize) -> Result<Vec<Option<Known<'t>>>,
 }
 
 impl<'t> Typedefs<'t> {
-    ghost use Rattle.std.specs.Prelude.{◌≡◌, ◌==◌, ◌<◌, ℕ, [], IfOk, OnOk, length, option_map, if◌then◌else◌};
+    ghost use Rattle.std.specs.Prelude.{◌≡◌, ◌==◌, ◌<◌, ℕ, IfOk, OnOk, length, option_map, if◌then◌else◌};
     ghost use Rattle.std.specs.Option.{option_map_or};
-    ghost use Rattle.yspec.specs.linking.Circles.{definition_circles};
     ghost use Rattle.yspec.specs.linking.DerivedTypes as spec;
     ghost use Rattle.ypreorder.specs.View.{row_by};
     ghost use Rattle.ygrammar.specs.LinkView.{view};
     ghost use Rattle.ygrammar.specs.SourceView.{node_view, source_view};
     ghost use Rattle.ynames.specs.MeaningView.{meaning_at, AreMeanings};
-    ghost use Rattle.ynames.specs.ReferringView.{AreReferring};
+    ghost use Rattle.ynames.specs.Ordered.{AreInOrder};
     ghost use Rattle.ylink.specs.TypedefView.{known_at, known_view, names_in, IsOf};
+
+    /// The number of the definition that each statement names.
+    pub(crate) fn meanings(&self) -> &[Option<u32>]
+        ensures { result.now ≡ self.now.meanings.items }
+    {
+        &self.meanings
+    }
 
     /// The number of the definition that the statement of a number names.
     pub(crate) fn meaning(&self, number: u32) -> Option<u32>
@@ -212,48 +204,44 @@ impl<'t> Typedefs<'t> {
         Ok(())
     }
 
-    /// The typedefs of a set in which none refers to itself, given the innermost definition around each statement and what
-    /// each means.
+    /// The typedefs of a set, given what each statement means and an order in which each typedef stands behind those that it
+    /// names.
     pub(crate) fn of(
         alloc: Global,
         sources: &Sources<'t>,
-        holders: &[Option<u32>],
         meanings: Vec<Option<u32>>,
+        order: &[usize],
     ) -> Result<Typedefs<'t>, AllocError>
-        requires held { AreReferring holders.now (view sources.now) }
         requires meant { AreMeanings meanings.items (view sources.now) }
-        requires straight { definition_circles (view sources.now) ≡ [] }
+        requires ordered { AreInOrder order.now (view sources.now) }
         ensures known { IfOk result (λ typedefs. IsOf typedefs (view sources.now)) }
         ensures meanings { IfOk result
             (λ typedefs. AreMeanings typedefs.meanings.items (view sources.now)) }
     {
-        if !names_any(&meanings) {
+        if order.is_empty() {
             let known = Vec::new(alloc);
             return Ok(Typedefs { meanings, known });
         }
-        Typedefs::learned(alloc, sources, holders, meanings)
+        Typedefs::learned(alloc, sources, meanings, order)
     }
 
-    /// The same, each learned behind those that it names.
+    /// The same, each learned in its turn.
     fn learned(
         alloc: Global,
         sources: &Sources<'t>,
-        holders: &[Option<u32>],
         meanings: Vec<Option<u32>>,
+        order: &[usize],
     ) -> Result<Typedefs<'t>, AllocError>
-        requires held { AreReferring holders.now (view sources.now) }
         requires meant { AreMeanings meanings.items (view sources.now) }
-        requires straight { definition_circles (view sources.now) ≡ [] }
+        requires ordered { AreInOrder order.now (view sources.now) }
         ensures known { IfOk result (λ typedefs. IsOf typedefs (view sources.now)) }
         ensures meanings { IfOk result
             (λ typedefs. AreMeanings typedefs.meanings.items (view sources.now)) }
     {
         let rows = typedef_rows(alloc, sources)?;
-        let edges = definition_edges_of(alloc, holders, &meanings)?;
-        let order = in_order(alloc, rows.len(), &edges)?;
         let known = none_known(alloc, rows.len())?;
         let mut typedefs = Typedefs { meanings, known };
-        for number in &order {
+        for number in order {
             typedefs.learn(alloc, sources, *number, row_of(&rows, *number))?;
         }
         Ok(typedefs)

@@ -4,12 +4,12 @@ use Rattle.std.specs.Prelude.{slice_get, option_map}
 use Rattle.std.specs.Option.{option_map_or}
 use Rattle.std.proofs.lemmas.Bool.{ltb-true, ltb-false}
 use Rattle.std.proofs.lemmas.List.{length-append, length-drop, length-take, map-append}
-use Rattle.std.proofs.lemmas.Option.{slice_get-map, slice_get_within}
+use Rattle.std.proofs.lemmas.Option.{slice_get-map}
 use Rattle.yspec.specs.Forest.{Forest, end, node, size, preorder}
 use Rattle.yspec.specs.linking.Source.{Source}
 use Rattle.yspec.specs.linking.Scopes.{Placed, placed, statements_of, statement_at}
 use Rattle.ypreorder.specs.declared.slot.Slot.{Slot}
-use Rattle.ypreorder.specs.Layout.{Place, places, laid, seen, numbered_by, forest_of, labels_by, IsLaidOut}
+use Rattle.ypreorder.specs.Layout.{places, laid, seen, numbered_by, forest_of, IsLaidOut}
 use Rattle.ypreorder.proofs.LabelLemmas.{preorder_by, label_at, size-by}
 use Rattle.ypreorder.proofs.LayoutLemmas.{parts_of, forest_seen, length-places, seen-append}
 use Rattle.ygrammar.specs.declared.source.Source as held

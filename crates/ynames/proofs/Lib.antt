@@ -6,6 +6,7 @@ pub mod FirstNamedLemmas
 pub mod ImportingLemmas
 pub mod MeaningLemmas
 pub mod NumberedLemmas
+pub mod OrderedLemmas
 pub mod PlaceLemmas
 pub mod PlacedLemmas
 pub mod PrefixLemmas

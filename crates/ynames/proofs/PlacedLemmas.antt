@@ -1,5 +1,5 @@
 -- Statements where they stand, by their numbers: the one of a number, what it names, and those that stand below it.
-use Rattle.std.proofs.Common.{◌≡◌, ℕ, zero, suc, ◌+◌, ◌<◌, Bool, true, false, cond, List, [], ◌∷◌, ◌++◌, length, map, get_or, Option, Some, None, refl, sym, ap, ap₂, ◌∙◌, arith, subst}
+use Rattle.std.proofs.Common.{◌≡◌, ℕ, zero, suc, ◌+◌, ◌<◌, Bool, true, false, cond, List, [], ◌∷◌, ◌++◌, length, get_or, Option, Some, None, refl, sym, ap, ap₂, ◌∙◌, arith, subst}
 use Rattle.std.specs.Prelude.{⊤, slice_get, option_map, option_and_then, find, ◌==◌, ◌&&◌, ◌||◌}
 use Rattle.std.specs.List.{Contains, filter_map, cons_option}
 use Rattle.std.proofs.lemmas.Bool.Decides.{Decides-eqb}

@@ -2,6 +2,7 @@ pub mod DefinitionView
 pub mod EdgeView
 pub mod FirstNamedView
 pub mod MeaningView
+pub mod Ordered
 pub mod PlaceView
 pub mod PrefixView
 pub mod ReferringView

@@ -5,19 +5,18 @@ use Rattle.yspec.specs.linking.NodeCounts.{counted}
 use Rattle.ypreorder.specs.View.{forest_in, slots_in}
 use Rattle.yexpand.specs.Counting.{count_at, count_by, many}
 use Rattle.yexpand.specs.NamedView.{modules_of}
-use Rattle.yexpand.proofs.OrderLemmas.{counted_start, counted_next, counted_all, counted_further}
+use Rattle.yexpand.proofs.OrderLemmas.{counted_next, counted_all}
 use Rattle.yexpand.proofs.WalkLemmas.{depth_of}
 use Rattle.yexpand.proofs.groupings.counts_of.Goals as goal
 
 pub loop-number-init : goal.loop-number-init
 loop-number-init c =
     let m = modules_of c.args.named.now in
-    let f = forest_in c.args.named.now.sources.now.table in
     let count = depth_of m (slots_in c.sources.result.now.table) c.slots.result.now (sym c.sources.ensures) c.slots.ensures in
     let made = c.in_ok-counts.ensures.length in
     record {
       count = omega (arith, count, made);
-      known = counted_start f c.args.order.now (count_at c.in_ok-counts.counts.items) c.in_ok-counts.ensures.zero;
+      known = λ j before inside. absurd (omega (arith, before));
     }
 
 pub loop-number-preserved : goal.loop-number-preserved
@@ -41,8 +40,9 @@ loop-number-preserved c =
     }
 
 pub returns : goal.returns
-returns c = λ e.
+returns c = λ e named.
     let f = forest_in c.args.named.now.sources.now.table in
     let nodes = c.args.order.now in
     let table = count_at c.loop-number.counts.items in
-    counted_all f nodes c.requires table (counted_further f nodes table c.loop-number.number-index (length nodes) c.loop-number-test.false c.loop-number.invariant.known) e
+    let ended = c.loop-number-test.false in
+    counted_all f nodes c.requires table (λ j before inside. c.loop-number.invariant.known j (omega (arith, before, ended)) inside) e named

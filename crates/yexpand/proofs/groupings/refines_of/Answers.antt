@@ -3,30 +3,31 @@ use Rattle.std.specs.Prelude.{◌==◌}
 use Rattle.yspec.specs.schema.Breaks.{least_from}
 use Rattle.ypreorder.specs.View.{forest_in, slots_in}
 use Rattle.ygrammar.specs.BreakView.{seen}
+use Rattle.ynames.specs.Ordered.{IsNamed}
 use Rattle.yexpand.specs.Counting.{count_at, refine_at, top_refines}
 use Rattle.yexpand.specs.NamedView.{modules_of}
 use Rattle.yexpand.proofs.OrderLemmas.{total}
-use Rattle.yexpand.proofs.ToldLemmas.{told_start, told_next, told_all, told_further}
+use Rattle.yexpand.proofs.ToldLemmas.{told_next, told_all}
 use Rattle.yexpand.proofs.WalkLemmas.{depth_of}
 use Rattle.yexpand.proofs.groupings.refines_of.Goals as goal
 
 pub loop-number-init : goal.loop-number-init
 loop-number-init c =
     let m = modules_of c.args.named.now in
-    let f = forest_in c.args.named.now.sources.now.table in
     let count = depth_of m (slots_in c.sources.result.now.table) c.slots.result.now (sym c.sources.ensures) c.slots.ensures in
     let made = c.in_ok-refines.ensures.length in
     record {
       count = omega (arith, count, made);
-      known = told_start f c.args.order.now (refine_at c.in_ok-refines.refines.items) c.in_ok-refines.ensures.none;
+      known = λ j before inside. absurd (omega (arith, before));
     }
 
 pub returns : goal.returns
-returns c = λ e owner empty.
+returns c = λ e owner named empty.
     let f = forest_in c.args.named.now.sources.now.table in
     let nodes = c.args.order.now in
     let refines = refine_at c.loop-number.refines.items in
-    told_all f nodes c.requires.order refines (told_further f nodes refines c.loop-number.number-index (length nodes) c.loop-number-test.false c.loop-number.invariant.known) e owner empty
+    let ended = c.loop-number-test.false in
+    told_all f nodes c.requires.order refines (λ j before inside. c.loop-number.invariant.known j (omega (arith, before, ended)) inside) e owner named empty
 
 pub loop-number-preserved : goal.loop-number-preserved
 loop-number-preserved c =
@@ -42,8 +43,7 @@ loop-number-preserved c =
     let long = c.loop-number.invariant.count in
     let inside : number < length old = omega (arith, below, long) in
     let held : count_at c.args.counts.now number ≡ 0 = sym c.count_at.ensures ∙ first_of (search rules, grind arith, cc) in
-    let counted_is = c.requires.counts number in
-    let empty : total f number ≡ 0 = omega (arith, held, counted_is) in
+    let empty : IsNamed m number → total f number ≡ 0 = λ named. let counted_is = c.requires.counts number named in omega (arith, held, counted_is) in
     let told = c.refine_told-refine.ensures in
     let own : seen c.refine_told-refine.result ≡ least_from None (top_refines old m told.0) =
     told.2 ∙ ap (λ rs. least_from None (top_refines rs m told.0)) c.deref.ensures.value in

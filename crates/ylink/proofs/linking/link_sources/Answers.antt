@@ -24,8 +24,8 @@ returns-in-Some-2 c =
     (in_meanings f s c.requires.made c.requires.first (sym (ap seen c.in_default.is) ∙ c.in_ok-found.ensures)
     (break_view c.in-Some-2.found) (sym (ap seen c.in-Some-2.is) ∙ meant))
 
-pub of-requires-2-clause-straight : goal.of-requires-2-clause-straight
-of-requires-2-clause-straight c =
+pub order_of-requires-clause-straight : goal.order_of-requires-clause-straight
+order_of-requires-clause-straight c =
     let meant = c.in_ok-found-2.ensures (c.deref.ensures.value ∙ c.in_ok-holders.ensures)
     (c.deref-2.ensures.value ∙ c.in_ok-meanings.ensures c.in_ok-prefixes.ensures) in
     no_circles (statements.view c.args.sources) (sym (ap seen c.in_default-2.is) ∙ meant)

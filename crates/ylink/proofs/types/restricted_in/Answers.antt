@@ -1,5 +1,5 @@
 use Rattle.std.proofs.Common.{◌≡◌, Some, None, sym, ap, ◌∙◌}
-use Rattle.std.specs.Prelude.{option_map, option_and_then}
+use Rattle.std.specs.Prelude.{option_map}
 use Rattle.yspec.specs.linking.TypeStatements as spec
 use Rattle.ypreorder.specs.View.{row_by, label_by}
 use Rattle.ypreorder.proofs.RowLemmas.{takes_by, takes_none_by}

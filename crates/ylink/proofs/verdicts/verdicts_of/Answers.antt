@@ -1,4 +1,4 @@
-use Rattle.std.proofs.Common.{◌≡◌, [], ◌++◌, false, refl, ap, ◌∙◌, map}
+use Rattle.std.proofs.Common.{[], ◌++◌, refl, ap, ◌∙◌, map}
 use mathlib.Core.Path.{fun_ext}
 use Rattle.yspec.specs.linking.DerivedTypes.{verdict_by}
 use Rattle.yspec.specs.linking.Scopes.{placed, statements_of}

@@ -1,3 +1,4 @@
+use Rattle.std.proofs.Common.{refl}
 use Rattle.yspec.specs.linking.DerivedTypes.{number_named}
 use Rattle.ypreorder.specs.View.{forest_in}
 use Rattle.yexpand.specs.Counting.{count_at, refine_at}
@@ -13,5 +14,5 @@ returns-clause-knows c =
     let nodes = c.args.order.now in (
       straight f nodes c.requires,
       (λ number owner depth none ends. known_used f nodes c.requires (count_at c.in_ok-counts.counts.items) (refine_at c.in_ok-refines.refines.items)
-          c.in_ok-counts.ensures c.in_ok-refines.ensures (number_named m number) owner depth none ends),
+          c.in_ok-counts.ensures c.in_ok-refines.ensures number (number_named m number) refl owner depth none ends),
     )

@@ -1,4 +1,3 @@
-use Rattle.std.proofs.Common.{◌∙◌, ap}
 use Rattle.ylink.proofs.OrderLemmas.{known_set}
 use Rattle.ylink.proofs.typedefs.Typedefs.learn.Goals as goal
 

@@ -10,6 +10,6 @@ use Rattle.ylink.proofs.typedefs.Typedefs.learned.Given as goal
 abbrev pub invariant-loop-number : goal.invariant-loop-number
 invariant-loop-number l = record {
   meant : AreMeanings l.typedefs.meanings.items (view l.sources);
-  count : length l.typedefs.known.items ≡ size (forest_in l.sources.table);
-  known : IsLearned (forest_in l.sources.table) l.number-items (known_at l.typedefs.known.items) l.number-index;
+  count : length l.typedefs.known.items ≡ size (view l.sources);
+  known : IsLearned (forest_in l.sources.table) l.order (known_at l.typedefs.known.items) l.number-index;
 }

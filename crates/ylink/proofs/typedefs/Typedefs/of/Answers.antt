@@ -1,13 +1,18 @@
-use Rattle.std.proofs.Common.{◌≡◌, false, rules, sym, ap, ◌∙◌}
-use Rattle.std.specs.List.{list_any}
-use Rattle.std.specs.Prelude.{is_some}
+use Rattle.std.proofs.Common.{◌≡◌, rules, length, sym, ap, ◌∙◌, arith}
+use Rattle.std.specs.Option.{option_map_or}
+use Rattle.yspec.specs.linking.DerivedTypes.{unknown}
 use Rattle.ypreorder.specs.View.{forest_in}
+use Rattle.ynames.proofs.PlacedLemmas.{number_named_at}
 use Rattle.ylink.specs.TypedefView.{known_at}
-use Rattle.ylink.proofs.OrderLemmas.{none_named}
+use Rattle.ylink.proofs.OrderLemmas.{learned_all}
 use Rattle.ylink.proofs.typedefs.Typedefs.of.Goals as goal
 
-pub returns-then-not-names_any-clause-known : goal.returns-then-not-names_any-clause-known
-returns-then-not-names_any-clause-known c number =
-    let none : c.names_any.result ≡ false = first_of (search rules, cc) in
-    none_named (forest_in c.args.sources.now.table) c.args.meanings.items (known_at c.new-known.result.items) c.requires.meant
-    (ap (list_any is_some) (sym c.deref.ensures.value) ∙ (sym c.names_any.ensures ∙ none)) number
+-- nothing is named
+pub returns-then-is_empty-clause-known : goal.returns-then-is_empty-clause-known
+returns-then-is_empty-clause-known c number =
+    let f = forest_in c.args.sources.now.table in
+    let nodes = c.args.order.now in
+    let table = known_at c.new-known.result.items in
+    let none : length nodes ≡ 0 = first_of (search rules, omega arith) in
+    ap (λ o. option_map_or table o unknown) (sym (number_named_at f c.args.meanings.items c.requires.meant number))
+    ∙ learned_all f nodes c.requires.ordered table (λ j before inside. absurd (omega (arith, inside, none))) number
