@@ -6,8 +6,8 @@ use std::alloc::{AllocError, Global};
 use test_modules::{DEFAULT_CASE, ENTRIES, FIRST, NETWORK, SECOND};
 use yschema::compile;
 
-// Whether modules are compiled to so many nodes, or refused at the one at a place. Nothing for want of memory.
-fn comes_of(alloc: Global, texts: &[&str], place: usize, told: &str) -> Option<bool> {
+/// Whether modules are compiled to so many nodes, or refused at the one at a place. Nothing for want of memory.
+pub(crate) fn comes_of(alloc: Global, texts: &[&str], place: usize, told: &str) -> Option<bool> {
     let modules = modules_of(alloc, texts)?;
     match compile(alloc, &modules) {
         Ok(schema) => match told.split_once(' ') {
@@ -18,8 +18,8 @@ fn comes_of(alloc: Global, texts: &[&str], place: usize, told: &str) -> Option<b
     }
 }
 
-// Whether this comes of a module of these statements.
-fn is_compiled(alloc: Global, statements: &str, told: &str) -> Option<bool> {
+/// Whether this comes of a module of these statements.
+pub(crate) fn is_compiled(alloc: Global, statements: &str, told: &str) -> Option<bool> {
     let text = module_text(alloc, statements).ok()?;
     comes_of(alloc, &[text.as_str()], 0, told)
 }
@@ -31,8 +31,8 @@ fn is_told(alloc: Global, row: &str) -> Option<bool> {
     is_compiled(alloc, statements.as_str(), told)
 }
 
-// The same of statements behind a version, from the fourth line on.
-fn is_told_of(alloc: Global, row: &str) -> Option<bool> {
+/// The same of statements behind a version, from the fourth line on.
+pub(crate) fn is_told_of(alloc: Global, row: &str) -> Option<bool> {
     let (told, statements) = row.split_once('/')?;
     let mut text = String::from_str(alloc, " yang-version 1.1;\n").ok()?;
     let statements = with_line_feeds(alloc, statements).ok()?;
@@ -144,7 +144,7 @@ fn typedefs(rt: HostRuntime) {
 
 #[test]
 fn refused_typedefs(rt: HostRuntime) {
-    let rows = "C1:4/container c { uses g; }
+    let rows = "C1:4/augment /p:c { leaf a { type string; } }
 C1:4/typedef t { type string; config true; }
 C2:4/typedef t;
 C7:5/typedef t { type string; }|typedef t { type uint8; }

@@ -107,7 +107,7 @@ fn are_nodes(alloc: Global, schema: &Schema, lines: &str) -> Option<bool> {
 }
 
 /// Whether a module has these nodes.
-fn has_nodes(alloc: Global, module: &str, lines: &str) -> Option<bool> {
+pub(crate) fn has_nodes(alloc: Global, module: &str, lines: &str) -> Option<bool> {
     let schema = schema_of(alloc, &[module])?;
     are_nodes(alloc, &schema, lines)
 }

@@ -10,6 +10,8 @@ mod documents;
 #[cfg(test)]
 mod edits;
 #[cfg(test)]
+mod groupings;
+#[cfg(test)]
 mod halves;
 #[cfg(test)]
 mod kinds;

@@ -2,6 +2,7 @@
 
 use crate::compiling::are_compiled;
 use crate::documents::{is_network_rewritten, is_rewritten};
+use crate::groupings::are_replaced;
 use crate::schemas::is_outlined;
 
 #[test]
@@ -12,4 +13,9 @@ fn answer_or_memory(rt: HostRuntime) {
     assert!(rt; is_rewritten(rt.alloc(), document, text) != Some(false));
     assert!(rt; are_compiled(rt.alloc()) != Some(false));
     assert!(rt; is_network_rewritten(rt.alloc()) != Some(false));
+}
+
+#[test]
+fn groupings_or_memory(rt: HostRuntime) {
+    assert!(rt; are_replaced(rt.alloc()) != Some(false));
 }

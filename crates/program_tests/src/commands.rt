@@ -24,7 +24,7 @@ const SECOND_REFUSED: &str = "module q {
 ";
 
 /// Whether a run has this status, and these bytes on both sides.
-fn is_shown(shown: &Shown, status: &str, errors: &str, output: &str) -> Option<bool> {
+pub fn is_shown(shown: &Shown, status: &str, errors: &str, output: &str) -> Option<bool> {
     let status = status.parse::<u8>().ok()?;
     let are_told = shown.errors.bytes() == errors.as_bytes();
     Some(are_told && shown.output.bytes() == output.as_bytes() && shown.status == status)
@@ -194,7 +194,7 @@ fn is_edited(alloc: Global, words: &str, module: &str, row: &str) -> Option<bool
 }
 
 /// The first row that isn't shown so.
-fn first_wrong<'a>(alloc: Global, words: &str, module: &str, rows: &'a str) -> Option<&'a str> {
+pub fn first_wrong<'a>(alloc: Global, words: &str, module: &str, rows: &'a str) -> Option<&'a str> {
     for row in rows.split("==\n") {
         if is_edited(alloc, words, module, row) != Some(true) {
             return Some(row);
@@ -203,9 +203,11 @@ fn first_wrong<'a>(alloc: Global, words: &str, module: &str, rows: &'a str) -> O
     None
 }
 
-const EDIT: &str = "yanglive edit d.json s.txt p.yang";
+/// The words that edit the document of the tests by their script, under their module.
+pub const EDIT: &str = "yanglive edit d.json s.txt p.yang";
 
-const DUMP: &str = "yanglive edit --dump d.json s.txt p.yang";
+/// The same, and print what comes of it.
+pub const DUMP: &str = "yanglive edit --dump d.json s.txt p.yang";
 
 #[test]
 fn edits(rt: HostRuntime) {

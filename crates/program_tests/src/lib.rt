@@ -6,6 +6,8 @@ mod commands;
 #[cfg(test)]
 mod failing;
 #[cfg(test)]
+mod groupings;
+#[cfg(test)]
 mod modules;
 #[cfg(test)]
 mod running;

@@ -256,7 +256,7 @@ fn refused_documents(rt: HostRuntime) {
 }
 
 /// A module of these lines, the first of which is its fifth.
-fn module_of(alloc: Global, lines: &str) -> Result<String, AllocError> {
+pub fn module_of(alloc: Global, lines: &str) -> Result<String, AllocError> {
     let text = "module p {\n  yang-version 1.1;\n  namespace \"urn:p\";\n  prefix p;\n";
     let mut text = String::from_str(alloc, text)?;
     text.push_str(lines)?;
@@ -265,7 +265,7 @@ fn module_of(alloc: Global, lines: &str) -> Result<String, AllocError> {
 }
 
 /// Whether a module is refused so: the row is its lines and what is said.
-fn is_refused_module(alloc: Global, row: &str) -> Option<bool> {
+pub fn is_refused_module(alloc: Global, row: &str) -> Option<bool> {
     let (lines, told) = row.split_once('|')?;
     let text = module_of(alloc, lines).ok()?;
     is_refused_pair(alloc, text.as_str().as_bytes(), "{}", told)
@@ -321,7 +321,7 @@ leaf a { type uint8 { range 1..5; } }";
 }
 
 /// Whether a document prints so under a module: the row is the module's lines, a line `--`, and the document's row.
-fn is_told_under(alloc: Global, row: &str) -> Option<bool> {
+pub fn is_told_under(alloc: Global, row: &str) -> Option<bool> {
     let (lines, row) = row.split_once("--\n")?;
     let text = module_of(alloc, lines).ok()?;
     is_told(alloc, text.as_str(), row)

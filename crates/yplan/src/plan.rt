@@ -43,7 +43,7 @@ impl<'a, 't> Plan<'a, 't> {
     ghost use Rattle.yindex.specs.declared.keys.Among.TheVariants as among;
     ghost use Rattle.yindex.specs.Names.{AreNamesOf};
     ghost use Rattle.yplan.specs.Finding.{is_before, is_found, name_of};
-    ghost use Rattle.yspec.specs.linking.ExpandedCompiling.{expanded_plan_of};
+    ghost use Rattle.yspec.specs.linking.Compiling.{plan_of};
     ghost use Rattle.yspec.specs.linking.Expansion.{expanded_parts};
     ghost use Rattle.yexpand.specs.TableView.{parts_in};
     ghost use Rattle.yspec.specs.linking.Planned as spec;
@@ -71,7 +71,7 @@ impl<'a, 't> Plan<'a, 't> {
         requires expanded { parts_in nodes.now
             ≡ places None 0 (expanded_parts (link.view sources.now)) }
         ensures { IfOk result (λ plan. view plan
-            ≡ expanded_plan_of (link.view sources.entry.now)) }
+            ≡ plan_of (link.view sources.entry.now)) }
     {
         let table = planned(alloc, nodes.roots())?;
         let index = index_of(alloc, &table)?;

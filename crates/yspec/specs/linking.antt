@@ -19,8 +19,3 @@ pub mod Compiling
 pub mod Expansion
 pub mod NodeCounts
 pub mod Rewriting
-pub mod LinkingSamples
-pub mod ScopeSamples
-pub mod CompilingSamples
-pub mod ExpansionSamples
-pub mod TableSamples

@@ -2,6 +2,3 @@
 pub mod Script
 pub mod Output
 pub mod Examples
-pub mod SchemaExamples
-pub mod DiagramExamples
-pub mod CornerExamples

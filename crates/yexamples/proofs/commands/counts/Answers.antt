@@ -1,0 +1,11 @@
+use Rattle.std.proofs.Common.{refl}
+use Rattle.yspec.proofs.LiteralLemmas.{yspec_on_literals}
+use Rattle.yexamples.proofs.commands.counts.Goals as goal
+
+pub returns : goal.returns
+unfolding yspec_on_literals
+returns c = record {
+  network = refl;
+  container = refl;
+  refused = refl;
+}

@@ -1,0 +1,9 @@
+pub mod RunExamples
+pub mod SchemaExamples
+pub mod LinkingSamples
+pub mod CompilingSamples
+pub mod ScopeSamples
+pub mod ExpansionSamples
+pub mod TableSamples
+pub mod DiagramExamples
+pub mod CornerExamples

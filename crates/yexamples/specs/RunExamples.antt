@@ -1,0 +1,69 @@
+-- Worked examples: runs of the commands over modules and documents whose faults and refusals are known from the standard's rules.
+use Rattle.std.specs.Prelude.{true, false, ◌++◌, [], ◌∷◌, codes, Option, Some, option_map, option_and_then}
+use Rattle.std.specs.Result.{result_ok}
+use Rattle.yspec.specs.text.Text.{Text}
+use Rattle.yspec.specs.text.Statement.{module_of}
+use Rattle.yspec.specs.schema.Schema.{Schema}
+use Rattle.yspec.specs.linking.Compiling.{schema_of}
+use Rattle.yspec.specs.document.Reading.{document_of}
+use Rattle.yspec.specs.document.Writing.{written_text}
+use Rattle.yspec.specs.program.Examples.{module_p, module_text}
+use Rattle.yspec.specs.program.Output.{Outcome, compile, draw, edit, validate, outcome, found}
+
+-- a mandatory leaf in a container in a container
+abbrev pub nested_module : Text
+nested_module = module_text (codes "q") (codes "  container a {\n    container b {\n"
+    ++ codes "      leaf c { type uint8; mandatory true; }\n    }\n    leaf d { type string; }\n  }\n")
+
+-- what `validate d.json m.yang` prints of a module's text and a document's
+abbrev pub shown : Text → Text → Outcome
+shown module_bytes document =
+    outcome (validate (codes "d.json") (codes "m.yang" ∷ [])) (Some module_bytes ∷ Some document ∷ [])
+
+-- the same of two modules' texts
+abbrev pub shown_of_two : Text → Text → Text → Outcome
+shown_of_two first second document =
+    outcome (validate (codes "d.json") (codes "m.yang" ∷ codes "n.yang" ∷ [])) (Some first ∷ Some second ∷ Some document ∷ [])
+
+-- what one prints under module p
+abbrev pub shown_by_p : Text → Outcome
+shown_by_p document = shown module_p document
+
+-- the same, of an empty document under a module with these lines from line 5 on
+abbrev pub compiled_alone : Text → Outcome
+compiled_alone lines = shown (module_text (codes "p") lines) (codes "{}")
+
+abbrev pub without_faults : Outcome
+without_faults = found 0 (codes "0 faults\n")
+
+abbrev pub read_and_written : Schema → Text → Option Text
+read_and_written schema document = option_map (written_text schema) (result_ok (document_of schema document))
+
+-- the text that is written of a document that was read under a module
+abbrev pub rewritten : Text → Text → Option Text
+rewritten module_bytes document =
+    option_and_then (λ m. read_and_written (schema_of m) document) (result_ok (module_of module_bytes))
+
+-- ---- commands
+
+-- what `compile m.yang` prints of a module's text
+abbrev pub counted : Text → Outcome
+counted module_bytes = outcome (compile (codes "m.yang" ∷ [])) (Some module_bytes ∷ [])
+
+-- what `tree NAME m.yang` prints of a module's text
+abbrev pub drawn_as : Text → Text → Outcome
+drawn_as name module_bytes = outcome (draw name (codes "m.yang" ∷ [])) (Some module_bytes ∷ [])
+
+-- what `edit d.json s.txt m.yang` prints of a module's text, a document's and a script's
+abbrev pub scripted : Text → Text → Text → Outcome
+scripted module_bytes document script = outcome (edit false (codes "d.json") (codes "s.txt") (codes "m.yang" ∷ []))
+    (Some module_bytes ∷ Some document ∷ Some script ∷ [])
+
+-- the same with `--dump`
+abbrev pub dumped : Text → Text → Text → Outcome
+dumped module_bytes document script = outcome (edit true (codes "d.json") (codes "s.txt") (codes "m.yang" ∷ []))
+    (Some module_bytes ∷ Some document ∷ Some script ∷ [])
+
+-- what is printed on both sides where there is a fault, or a refused edit
+abbrev pub faulty : Text → Text → Outcome
+faulty errors output = record { output = output; errors = errors; status = 1 }

@@ -1,0 +1,148 @@
+//! Worked examples of commands: what is printed of the nodes of modules, and of documents after scripts of edits.
+
+ghost use Rattle.std.specs.Prelude.{◌≡◌, ◌++◌, [], ◌∷◌, codes};
+ghost use Rattle.yexamples.specs.CompilingSamples.{net_module, k_module, t_module, restricted_module};
+ghost use Rattle.yspec.specs.program.Output.{failed, found};
+ghost use Rattle.yspec.specs.program.Script.{lines_of};
+ghost use Rattle.yexamples.specs.SchemaExamples.{hosts, one_host};
+ghost use Rattle.yspec.specs.program.Examples.{module_p, module_text};
+ghost use Rattle.yexamples.specs.RunExamples.{counted, drawn_as, dumped, faulty, scripted, shown, shown_of_two, without_faults};
+
+/// How many nodes modules define.
+pub fn counts()
+    ensures network { counted net_module ≡ found 0 (codes "12 nodes\n") }
+    ensures container { counted module_p ≡ found 0 (codes "3 nodes\n") }
+    ensures refused { counted (codes "module a { prefix \"x") ≡ failed 2 (codes "m.yang:1: L3") }
+{}
+
+/// The diagram of a module by its name, and names that no module has.
+pub fn drawn_modules()
+    ensures network { drawn_as (codes "ex-net") net_module ≡ found 0 (codes "module: ex-net\n  +--rw net\n     +--rw host* [name]\n        +--rw name        string\n"
+        ++ (codes "        +--rw addr?       string\n        +--rw port?       uint16\n        +--rw uplink?     -> /net/host/name\n"
+        ++ (codes "        +--rw use-port?   -> /net/host/port\n        +--rw (mode)\n           +--:(auto)\n"
+        ++ codes "           |  +--rw auto?   empty\n           +--:(fixed)\n              +--rw speed?   uint32\n"))) }
+    ensures missing { drawn_as (codes "zz") net_module ≡ failed 2 (codes "zz: no such module") }
+    ensures prefix { drawn_as (codes "ex") net_module ≡ failed 2 (codes "ex: no such module") }
+    ensures refused { drawn_as (codes "a") (codes "module a { prefix \"x")
+        ≡ failed 2 (codes "m.yang:1: L3") }
+{}
+
+/// Lines of scripts. A carriage return goes with its line feed alone.
+pub fn lines_of_scripts()
+    ensures none { lines_of [] ≡ [] ∷ [] }
+    ensures unended { lines_of (codes "a\nb") ≡ codes "a" ∷ codes "b" ∷ [] }
+    ensures ended { lines_of (codes "a\n") ≡ codes "a" ∷ [] ∷ [] }
+    ensures returns { lines_of (codes "a\r\r\n\rb\r") ≡ codes "a\r" ∷ codes "\rb\r" ∷ [] }
+{}
+
+/// Lines are passed over, refused and applied.
+pub fn lines_of_every_kind()
+    ensures shown { scripted module_p (codes "{}") (codes "# x\n\ncreate /p:c {\"id\":1}\r\n"
+        ++ (255 ∷ codes "\nreplace /p:c/id 300"))
+        ≡ faulty (codes "line 4: E1\n") (codes "V1 invalid-value - /p:c/id -\n1 faults\n") }
+    ensures dumped { dumped module_p (codes "{}") (codes "# x\n\ncreate /p:c {\"id\":1}\r\n"
+        ++ (255 ∷ codes "\nreplace /p:c/id 300"))
+        ≡ faulty (codes "line 4: E1\n") (codes "{\"p:c\":{\"id\":300}}\n") }
+    ensures other_bytes_behind_a_sign { scripted module_p (codes "{\"p:c\":{\"id\":1}}") (codes "#"
+        ++ (255 ∷ [])) ≡ without_faults }
+    ensures unread { scripted module_p (codes "{\"c\":{}}") (codes "#")
+        ≡ failed 2 (codes "d.json: J4 /") }
+{}
+
+/// Without edits it is what `validate` prints.
+pub fn scripts_without_edits()
+    ensures faulty { scripted module_p (codes "{\"p:c\":{\"id\":256}}") []
+        ≡ shown module_p (codes "{\"p:c\":{\"id\":256}}") }
+    ensures good { scripted module_p (codes "{\"p:c\":{\"id\":7}}") (codes "\n\n")
+        ≡ without_faults }
+{}
+
+/// Defaults in use go out of use and come back.
+pub fn defaults_in_use()
+    ensures stored { scripted net_module (hosts (codes
+        "{\"name\":\"a\",\"auto\":[null],\"use-port\":80}"))
+        (codes "create /ex-net:net/host[1]/port 22")
+        ≡ found 1 (codes "V11 data-missing instance-required /ex-net:net/host[1]/use-port -\n1 faults\n") }
+    ensures removed { scripted net_module
+        (hosts (codes "{\"name\":\"a\",\"auto\":[null],\"use-port\":80}"))
+        (codes "create /ex-net:net/host[1]/port 22\nremove /ex-net:net/host[1]/port") ≡ without_faults }
+    ensures of_a_case { scripted k_module (codes "{\"k:want\":3}") (codes "create /k:boost 1")
+        ≡ found 1 (codes "V11 data-missing instance-required /k:want -\n1 faults\n") }
+    ensures of_a_case_again { scripted k_module (codes "{\"k:want\":3}")
+        (codes "create /k:boost 1\nremove /k:boost\n") ≡ without_faults }
+{}
+
+/// References lose what they refer to, or keep it in another entry.
+pub fn references()
+    ensures lost { scripted net_module (hosts (codes
+        "{\"name\":\"a\",\"auto\":[null],\"uplink\":\"b\"},{\"name\":\"b\",\"auto\":[null]}"))
+        (codes "remove /ex-net:net/host[name='b']")
+        ≡ found 1 (codes "V11 data-missing instance-required /ex-net:net/host[1]/uplink -\n1 faults\n") }
+    ensures kept { scripted net_module (hosts (codes
+        "{\"name\":\"a\",\"auto\":[null],\"uplink\":\"b\"},{\"name\":\"b\",\"auto\":[null]}"))
+        (codes "replace /ex-net:net/host[2] {\"name\":\"b\",\"speed\":7}") ≡ without_faults }
+{}
+
+/// Positions move, and a key that two entries have names neither.
+pub fn entries_removed()
+    ensures moved { scripted net_module (hosts (codes
+        "{\"name\":\"a\",\"auto\":[null]},{\"name\":\"b\",\"auto\":[null]},{\"name\":\"c\"}"))
+        (codes "remove /ex-net:net/host[1]")
+        ≡ found 1 (codes "V4 data-missing missing-choice /ex-net:net/host[2] mode\n1 faults\n") }
+    ensures twice { scripted net_module
+        (hosts (codes "{\"name\":\"a\",\"auto\":[null]},{\"name\":\"a\",\"auto\":[null]}"))
+        (codes "remove /ex-net:net/host[name='a']\nremove /ex-net:net/host[2]") ≡ faulty (codes "line 1: E6\n") (codes "0 faults\n") }
+    ensures one_left { scripted net_module one_host
+        (codes "create /ex-net:net/host[1]/name \"b\"\nremove /ex-net:net/host[1]")
+        ≡ faulty (codes "line 1: E8\n") (codes "V6 operation-failed too-few-elements /ex-net:net/host -\n1 faults\n") }
+    ensures none_left { dumped net_module one_host
+        (codes "create /ex-net:net/host[1]/name \"b\"\nremove /ex-net:net/host[1]")
+        ≡ faulty (codes "line 1: E8\n") (codes "{\"ex-net:net\":{}}\n") }
+{}
+
+/// Refused edits, of which the first is told with its line.
+pub fn refused_edits()
+    ensures above { scripted net_module (codes "{}")
+        (codes "create /ex-net:net/host {\"name\":\"z\",\"auto\":[null]}")
+        ≡ faulty (codes "line 1: E4\n") (codes "V6 operation-failed too-few-elements /ex-net:net/host -\n1 faults\n") }
+    ensures others { scripted net_module one_host (codes "replace /ex-net:net/host[1]/port 9\nreplace /ex-net:net/host[1]/name {}\n"
+        ++ codes "remove /ex-net:net/host\n\nremove /ex-net:net/host[2]\n")
+        ≡ faulty (codes "line 1: E7\nline 2: E10 J5\nline 3: E3\nline 5: E5\n")
+        (codes "0 faults\n") }
+{}
+
+/// The default of a type, in use where a leaf has none of its own.
+pub fn defaults_of_types()
+    ensures in_use { shown (module_text (codes "m") (codes "  typedef t { type uint8; default 3; }\n  leaf a { type t; }\n  leaf b { type leafref { path /m:a; } }\n"))
+        (codes "{\"m:b\":3}") ≡ without_faults }
+    ensures not_its_own { shown (module_text (codes "m") (codes "  typedef t { type uint8; default 3; }\n  leaf a { type t; default 4; }\n  leaf b { type leafref { path /m:a; } }\n"))
+        (codes "{\"m:b\":3}") ≡ found 1 (codes "V11 data-missing instance-required /m:b -\n1 faults\n") }
+    ensures range_of_the_typedef { shown (module_text (codes "m") (codes "  typedef t { type uint8 { range 0..9; } }\n  leaf a { type t; }\n"))
+        (codes "{\"m:a\":10}") ≡ found 1 (codes "V1 invalid-value - /m:a -\n1 faults\n") }
+{}
+
+/// A range within that of the typedef before it, or wider; documents of the module that compiles.
+pub fn restricted_typedefs()
+    ensures within { counted t_module ≡ found 0 (codes "1 nodes\n") }
+    ensures wider { counted (restricted_module (codes "0..10")) ≡ failed 2 (codes "m.yang:6: C10") }
+    ensures greatest { shown t_module (codes "{\"t:d\":\"9.223372036854775807\"}") ≡ without_faults }
+    ensures too_great { shown t_module (codes "{\"t:d\":\"9.223372036854775808\"}")
+        ≡ found 1 (codes "V1 invalid-value - /t:d -\n1 faults\n") }
+{}
+
+/// Values by way of typedefs: in a scope, of a leafref, members of a union, of another module.
+pub fn derived_values()
+    ensures in_a_container { shown (module_text (codes "m") (codes "  container c { typedef t { type uint8 { range 1..5; } } leaf a { type t; } }\n"))
+        (codes "{\"m:c\":{\"a\":6}}") ≡ found 1 (codes "V1 invalid-value - /m:c/a -\n1 faults\n") }
+    ensures reference { shown (module_text (codes "m") (codes "  typedef r { type leafref { path /m:b; } }\n  leaf a { type r; }\n  leaf b { type string; }\n"))
+        (codes "{\"m:a\":\"x\"}")
+        ≡ found 1 (codes "V11 data-missing instance-required /m:a -\n1 faults\n") }
+    ensures members { shown (module_text (codes "m") (codes "  typedef s { type string { length 1; } }\n  typedef n { type uint8 { range 2..20; } }\n  typedef u { type union { type n; type s; } }\n  leaf-list a { type u; }\n"))
+        (codes "{\"m:a\":[2,\"2\",\"22\",1]}")
+        ≡ found 1 (codes "V1 invalid-value - /m:a[3] -\nV1 invalid-value - /m:a[4] -\n2 faults\n") }
+    ensures of_another { shown_of_two
+        (module_text (codes "u") (codes "  import s { prefix x; }\n  typedef t { type string; }\n  leaf v { type x:t; }\n  leaf w { type t; }\n"))
+        (module_text (codes "s") (codes "  typedef t { type uint8 { range 0..9; } default 4; }\n"))
+        (codes "{\"u:v\":10,\"u:w\":\"a\"}")
+        ≡ found 1 (codes "V1 invalid-value - /u:v -\n1 faults\n") }
+{}

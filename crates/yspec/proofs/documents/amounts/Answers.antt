@@ -1,7 +1,0 @@
-use Rattle.std.proofs.Common.{refl}
-use Rattle.yspec.proofs.LiteralLemmas.{yspec_on_literals}
-use Rattle.yspec.proofs.documents.amounts.Goals as goal
-
-pub returns : goal.returns
-unfolding yspec_on_literals
-returns c = record { too_few = refl; one = refl; too_many = refl }

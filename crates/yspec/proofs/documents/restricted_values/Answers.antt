@@ -1,7 +1,0 @@
-use Rattle.std.proofs.Common.{refl}
-use Rattle.yspec.proofs.LiteralLemmas.{yspec_on_literals}
-use Rattle.yspec.proofs.documents.restricted_values.Goals as goal
-
-pub returns : goal.returns
-unfolding yspec_on_literals
-returns c = record { outside = refl; last = refl; alone = refl; outside_itself = refl }

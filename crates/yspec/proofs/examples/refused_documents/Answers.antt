@@ -1,7 +1,0 @@
-use Rattle.std.proofs.Common.{refl}
-use Rattle.yspec.proofs.LiteralLemmas.{yspec_on_literals}
-use Rattle.yspec.proofs.examples.refused_documents.Goals as goal
-
-pub returns : goal.returns
-unfolding yspec_on_literals
-returns c = record { no_json = refl; no_object = refl; unknown = refl; unqualified = refl; qualified = refl; wrong_kind = refl; fraction = refl }

@@ -1,7 +1,0 @@
-use Rattle.std.proofs.Common.{refl}
-use Rattle.yspec.proofs.LiteralLemmas.{yspec_on_literals}
-use Rattle.yspec.proofs.examples.refused_modules.Goals as goal
-
-pub returns : goal.returns
-unfolding yspec_on_literals
-returns c = record { type_outside = refl; two_types = refl; no_name = refl; other_version = refl; one_name_twice = refl; least_line = refl; text = refl }

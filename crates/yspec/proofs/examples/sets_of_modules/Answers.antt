@@ -1,7 +1,0 @@
-use Rattle.std.proofs.Common.{refl}
-use Rattle.yspec.proofs.LiteralLemmas.{yspec_on_literals}
-use Rattle.yspec.proofs.examples.sets_of_modules.Goals as goal
-
-pub returns : goal.returns
-unfolding yspec_on_literals
-returns c = record { two = refl; one_name = refl; before_names_of_siblings = refl; after_statements = refl }

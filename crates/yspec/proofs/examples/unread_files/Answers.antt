@@ -1,7 +1,0 @@
-use Rattle.std.proofs.Common.{refl}
-use Rattle.yspec.proofs.LiteralLemmas.{yspec_on_literals}
-use Rattle.yspec.proofs.examples.unread_files.Goals as goal
-
-pub returns : goal.returns
-unfolding yspec_on_literals
-returns c = record { of_a_document = refl; of_a_module = refl }

@@ -1,7 +1,0 @@
-use Rattle.std.proofs.Common.{refl}
-use Rattle.yspec.proofs.LiteralLemmas.{yspec_on_literals}
-use Rattle.yspec.proofs.linking.ranges_and_lengths.Goals as goal
-
-pub returns : goal.returns
-unfolding yspec_on_literals
-returns c = record { two = refl; three = refl; point = refl; far_out = refl; no_digit = refl; zero_in_front = refl; three_bounds = refl; no_part = refl }
