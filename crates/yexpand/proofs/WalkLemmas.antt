@@ -362,10 +362,6 @@ all_pass test passes (node p below after) = by (is_uses p) (all_pass test passes
     by true inner rest = ap (λ x. x && all_uses test after) (passes p) ∙ rest
     by false inner rest = ap (λ x. x && all_uses test after) inner ∙ rest
 
-pub all_end_none : (modules : Forest Source) (depth : ℕ) (f : Forest Part) → f ≡ end → AllEnd modules depth f
-unfolding all_uses
-all_end_none modules depth f none = ap (all_uses (ends_within modules (groupings_of modules) depth)) none
-
 -- as many as there are statements, and one
 pub depth_of : (modules : Forest Source) (rows slots : List (Slot held.Source)) → modules ≡ numbered_by source_view 0 (forest_of rows) → slots ≡ rows
     → length slots + 1 ≡ suc (size modules)

@@ -1,6 +1,6 @@
-use Rattle.std.proofs.Common.{◌≡◌, ◌∷◌, [], ◌++◌, true, false, cond, List, Option, Some, None, length, map, refl, ap, sym, ◌∙◌, rules, arith}
+use Rattle.std.proofs.Common.{◌≡◌, ℕ, ◌∷◌, [], ◌++◌, true, false, cond, List, Option, Some, None, length, map, refl, ap, sym, ◌∙◌, rules, arith}
 use Rattle.std.proofs.lemmas.List.{map_push, length-map}
-use Rattle.yspec.specs.Forest.{Forest, size}
+use Rattle.yspec.specs.Forest.{Forest, node, size}
 use Rattle.yspec.specs.linking.DerivedTypes.{is_member}
 use Rattle.yspec.specs.linking.Keyword.{same_keyword, type_word}
 use Rattle.yspec.specs.linking.Scopes.{placed}
@@ -18,66 +18,79 @@ use Rattle.ylink.specs.TypedefView.{verdicts_in}
 use Rattle.ylink.specs.VerdictView.{judged, held_view, members_in, members_below, table_view}
 use Rattle.ylink.proofs.VerdictLemmas.{seam, no_member, next_member, all_members}
 use Rattle.ylink.proofs.verdicts.+add_verdicts.Goals as goal
+use Rattle.ylink.proofs.verdicts.+add_verdicts.Goals.{In_ok-inner}
+
+-- once those below the next statement are judged
+module _ (t : ℕ) (c : In_ok-inner t) where
+  abbrev next : Source
+  next = label_by source_view c.in-Some.statement
+
+  abbrev below_next : Forest Source
+  below_next = row_by source_view c.in-Some.statement.children
+
+  is_type : c.is-is_type.result ≡ same_keyword type_word next.keyword
+  is_type = c.is-is_type.ensures ∙ ap (λ l. same_keyword type_word (keyword_view l.keyword)) c.label.ensures
+
+  taken : row_by source_view c.loop-statement.statement-iterator ≡ node next below_next (row_by source_view c.next.new.self)
+  taken = takes_by source_view c.loop-statement.statement-iterator c.next.new.self c.in-Some.statement c.in-Some.ensures.steps
+
+  own_pushed : table_view c.push.new.self.items ≡ table_view c.loop-statement.table.items ++ None ∷ []
+  own_pushed = ap table_view c.in_ok-push.ensures.items ∙ map_push held_view c.loop-statement.table.items None
+
+  others_pushed : (ancestors : List (Source × Forest Source)) → table_view c.add_verdicts.new.table.items
+      ≡ table_view c.push.new.self.items ++ map (judged (view c.args.sources.now) (verdicts_in c.args.typedefs.now)) (placed ((next, below_next) ∷ ancestors) below_next)
+  others_pushed ancestors =
+      c.in_ok-inner.ensures.table ((next, below_next) ∷ ancestors) is_type
+      ∙ ap (λ n. table_view c.push.new.self.items ++ map (judged (view c.args.sources.now) (verdicts_in c.args.typedefs.now)) (placed ((next, below_next) ∷ ancestors) (row_by source_view n)))
+      c.children-below.ensures
+
+-- ---- and one after another
 
 pub loop-statement-preserved-then-not-is_type : goal.loop-statement-preserved-then-not-is_type
 loop-statement-preserved-then-not-is_type t c =
+    let made = (goal.at.loop-statement-preserved-then-not-is_type t c).In_ok-inner in
     let modules = view c.args.sources.now in
     let named = verdicts_in c.args.typedefs.now in
-    let taken = c.in-Some.ensures.steps in
     let before = c.loop-statement.statement-iterator in
     let after = row_by source_view c.next.new.self in
-    let s = label_by source_view c.in-Some.statement in
-    let below = row_by source_view c.in-Some.statement.children in
-    let sized = ap size taken.0 in
-    let first = takes_by source_view before c.next.new.self c.in-Some.statement taken in
-    let keyword : c.is-is_type.result ≡ same_keyword type_word s.keyword =
-    c.is-is_type.ensures ∙ ap (λ l. same_keyword type_word (keyword_view l.keyword)) c.label.ensures in
+    let s = next t made in
+    let below = below_next t made in
+    let sized = ap size c.in-Some.ensures.steps.0 in
+    let first = taken t made in
     let so_far = table_view c.loop-statement.table.items in
     let pushed = table_view c.push.new.self.items in
     let full = table_view c.add_verdicts.new.table.items in
-    let mid : pushed ≡ so_far ++ None ∷ [] =
-    ap table_view c.in_ok-push.ensures.items ∙ map_push held_view c.loop-statement.table.items None in
-    let inner : (ancestors : List (Source × Forest Source)) → full ≡ pushed ++ map (judged modules named) (placed ((s, below) ∷ ancestors) below) =
-    λ ancestors. c.in_ok-inner.ensures.table ((s, below) ∷ ancestors) keyword
-    ∙ ap (λ n. pushed ++ map (judged modules named) (placed ((s, below) ∷ ancestors) (row_by source_view n))) c.children-below.ensures in
-    let other : same_keyword type_word s.keyword ≡ false = sym keyword ∙ first_of (search rules, cc) in
+    let other : same_keyword type_word s.keyword ≡ false = sym (is_type t made) ∙ first_of (search rules, cc) in
     record {
       more = tt;
       ends = tt;
       smaller = omega (arith, sized, c.loop-statement.invariant.smaller);
       members = no_member modules named s below after (row_by source_view before) first c.args.in_union (map verdict_view c.loop-statement.members.items) _ other c.loop-statement.invariant.members;
       table = λ ancestors in_union.
-          next_meant (judged modules named) ancestors s below after (row_by source_view before) first so_far pushed full _ None mid
-          (sym (ap (λ b. cond b (Some (verdict_on modules named (is_member ancestors) s below)) None) other)) (inner ancestors)
+          next_meant (judged modules named) ancestors s below after (row_by source_view before) first so_far pushed full _ None (own_pushed t made)
+          (sym (ap (λ b. cond b (Some (verdict_on modules named (is_member ancestors) s below)) None) other)) (others_pushed t made ancestors)
           (c.loop-statement.invariant.table ancestors in_union);
     }
 
 pub loop-statement-preserved : goal.loop-statement-preserved
 loop-statement-preserved t c =
+    let made = (goal.at.loop-statement-preserved t c).In_ok-inner in
     let modules = view c.args.sources.now in
     let named = verdicts_in c.args.typedefs.now in
-    let taken = c.in-Some.ensures.steps in
     let before = c.loop-statement.statement-iterator in
     let after = row_by source_view c.next.new.self in
-    let s = label_by source_view c.in-Some.statement in
-    let below = row_by source_view c.in-Some.statement.children in
-    let sized = ap size taken.0 in
-    let first = takes_by source_view before c.next.new.self c.in-Some.statement taken in
-    let keyword : c.is-is_type.result ≡ same_keyword type_word s.keyword =
-    c.is-is_type.ensures ∙ ap (λ l. same_keyword type_word (keyword_view l.keyword)) c.label.ensures in
+    let s = next t made in
+    let below = below_next t made in
+    let sized = ap size c.in-Some.ensures.steps.0 in
+    let first = taken t made in
     let so_far = table_view c.loop-statement.table.items in
     let pushed = table_view c.push.new.self.items in
     let full = table_view c.add_verdicts.new.table.items in
-    let mid : pushed ≡ so_far ++ None ∷ [] =
-    ap table_view c.in_ok-push.ensures.items ∙ map_push held_view c.loop-statement.table.items None in
-    let inner : (ancestors : List (Source × Forest Source)) → full ≡ pushed ++ map (judged modules named) (placed ((s, below) ∷ ancestors) below) =
-    λ ancestors. c.in_ok-inner.ensures.table ((s, below) ∷ ancestors) keyword
-    ∙ ap (λ n. pushed ++ map (judged modules named) (placed ((s, below) ∷ ancestors) (row_by source_view n))) c.children-below.ensures in
-    let is_type : c.is-is_type.result ≡ true = first_of (search rules, cc) in
-    let stands : same_keyword type_word s.keyword ≡ true = sym keyword ∙ is_type in
+    let holds : c.is-is_type.result ≡ true = first_of (search rules, cc) in
+    let stands : same_keyword type_word s.keyword ≡ true = sym (is_type t made) ∙ holds in
     let members : map verdict_view c.in_ok-inner.inner.items ≡ verdicts modules named below =
     c.in_ok-inner.ensures.members
-    ∙ (ap (λ b. members_below modules named b (row_by source_view c.children-below.result)) is_type
+    ∙ (ap (λ b. members_below modules named b (row_by source_view c.children-below.result)) holds
     ∙ ap (λ n. verdicts modules named (row_by source_view n)) c.children-below.ensures) in
     let v : Verdict = verdict modules named c.args.in_union s below (verdicts modules named below) in
     let judged_so : verdict_view c.in_ok-verdict.verdict ≡ v =
@@ -99,7 +112,7 @@ loop-statement-preserved t c =
           ap Some (judged_so ∙ ap (λ u. verdict_on modules named u s below) in_union)
           ∙ sym (ap (λ b. cond b (Some (verdict_on modules named (is_member ancestors) s below)) None) stands) in
           next_meant (judged modules named) ancestors s below after (row_by source_view before) first so_far (so_far ++ own ∷ []) new _ own refl is
-          (seam so_far pushed full new under None own c.len-number.result mid (inner ancestors) count c.in_ok-set_verdict.ensures)
+          (seam so_far pushed full new under None own c.len-number.result (own_pushed t made) (others_pushed t made ancestors) count c.in_ok-set_verdict.ensures)
           (c.loop-statement.invariant.table ancestors in_union);
     }
 
