@@ -1,8 +1,8 @@
 -- What a node states with one keyword stands in one row.
-use Rattle.std.proofs.Common.{◌≡◌, ℕ, zero, suc, ◌+◌, ◌<◌, Bool, true, false, cond, ◌||◌, List, [], ◌∷◌, length, map, drop, get_or, Option, Some, None, refl, sym, ap, ap₂, ◌∙◌, arith, subst}
+use Rattle.std.proofs.Common.{◌≡◌, ℕ, zero, suc, ◌+◌, ◌<◌, Bool, true, false, cond, ◌||◌, List, [], ◌∷◌, length, map, drop, get_or, Option, Some, None, refl, sym, ap, ◌∙◌, arith, subst}
 use Rattle.std.specs.List.{list_any}
 use Rattle.yspec.specs.Forest.{Forest, end, node, row, join, first_of}
-use Rattle.yspec.specs.linking.Keyword.{Keyword, same_keyword}
+use Rattle.yspec.specs.linking.Keyword.{Keyword}
 use Rattle.yspec.specs.linking.Parts.{defines_node, own_of}
 use Rattle.yspec.specs.linking.Expansion.{others}
 use Rattle.yspec.specs.linking.Source.{Source, all_with, argument_in, argument_with, found_with, is_source_of}

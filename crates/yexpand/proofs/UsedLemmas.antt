@@ -1,22 +1,20 @@
 -- What a grouping uses is what it refers to.
-use Rattle.std.proofs.Common.{◌≡◌, ℕ, zero, suc, Bool, true, false, cond, ◌&&◌, List, [], ◌∷◌, ◌++◌, Option, Some, None, refl, sym, ap, ap₂, ◌∙◌, arith, subst}
-use Rattle.std.specs.Prelude.{⊤, option_map, option_and_then, find, ◌==◌, ◌||◌}
-use Rattle.std.specs.List.{Contains, filter_map, cons_option}
+use Rattle.std.proofs.Common.{◌≡◌, ℕ, suc, Bool, true, false, cond, ◌&&◌, List, [], ◌∷◌, ◌++◌, Option, Some, None, refl, sym, ap, ap₂, ◌∙◌, arith, subst}
+use Rattle.std.specs.Prelude.{⊤, option_map, option_and_then, find}
+use Rattle.std.specs.List.{Contains}
 use Rattle.std.specs.Option.{option_map_or}
-use Rattle.std.proofs.lemmas.Bool.Decides.{Decides-eqb}
 use Rattle.std.proofs.lemmas.List.Elements.{Contains-append_left, Contains-append_right}
 use Rattle.yspec.specs.Forest.{Forest, end, node, join}
 use Rattle.yspec.specs.linking.Circles.{referring, innermost, definition_edge, definition_edges}
 use Rattle.yspec.specs.linking.DerivedTypes.{number_named}
 use Rattle.yspec.specs.linking.Expansion.{is_uses, laid, row_in, groupings_of}
-use Rattle.yspec.specs.linking.Graph.{Edge}
 use Rattle.yspec.specs.linking.Keyword.{Keyword, same_keyword, uses_word, grouping_word, case_word, choice_word}
 use Rattle.yspec.specs.linking.Parts.{Part, defines_node, part_of, as_cases, case_for, within}
 use Rattle.yspec.specs.linking.Rewriting.{all_uses}
 use Rattle.yspec.specs.linking.Scopes.{Placed, placed, statements_of, statement_at, meaning, kind_named}
 use Rattle.yspec.specs.linking.Source.{Source, is_source_of}
 use Rattle.yspec.proofs.LinkingProofs.KeywordLemmas.{same_is}
-use Rattle.ygraph.specs.Reaching.{leads, has_edge, HasEdge}
+use Rattle.ygraph.specs.Reaching.{HasEdge}
 use Rattle.ypreorder.specs.Layout.{numbered_by}
 use Rattle.ygrammar.specs.declared.source.Source as held
 use Rattle.ygrammar.specs.SourceView.{source_view}

@@ -1,7 +1,6 @@
-use Rattle.std.proofs.Common.{◌≡◌, ◌∙◌, true, false, map, sym, ap, subst}
+use Rattle.std.proofs.Common.{◌∙◌, map, sym, subst}
 use Rattle.yspec.specs.Forest.{join}
 use Rattle.yspec.specs.linking.Expansion.{others}
-use Rattle.yspec.specs.linking.Parts.{own_of}
 use Rattle.ypreorder.specs.View.{row_by}
 use Rattle.yword.specs.KeywordView.{keyword_view}
 use Rattle.ygrammar.specs.SourceView.{source_view}
