@@ -35,7 +35,8 @@ pub(crate) fn planned<'a, 't>(
 
 /// What stands around the nodes below one of a number.
 fn around_below(number: u32, around: Around, planned: Planned<'_, '_>) -> Around
-    ensures { (p : Part) → planned_view number planned.entry ≡ spec.planned_node number (around_view around) p
+    ensures { (p : Part) → planned_view number planned.entry
+        ≡ spec.planned_node number (around_view around) p
         → around_view result ≡ spec.around_below number (around_view around) p }
 {
     let keyword = planned.keyword();
@@ -61,7 +62,8 @@ fn add_nodes<'a, 't>(
     row: Siblings<'a, ExpandedNode<'a, 't>>,
 ) -> Result<(), AllocError>
     ensures { OnOk result (seen_rows table.new ≡ seen_rows table.old
-        ++ listed (length (slots_in table.old)) (around_view around) (row_by numbered_part row.entry)) }
+        ++ listed (length (slots_in table.old)) (around_view around)
+        (row_by numbered_part row.entry)) }
 {
     for expanded in row {
         add_node(table, around, expanded)?;
