@@ -77,6 +77,7 @@ fn compiled(rt: HostRuntime) {
 fn refused_statements(rt: HostRuntime) {
     let rows = "C1:5/leaf l { type string;| must 'x'; }
 C1:4/rpc r;
+C1:5/container c;|augment /p:c { leaf a { type string; } }
 C1:5/container c {| key k; }
 C1:4/leaf l { type instance-identifier; }
 C1:4/leaf l { type binary; }
@@ -144,8 +145,7 @@ fn typedefs(rt: HostRuntime) {
 
 #[test]
 fn refused_typedefs(rt: HostRuntime) {
-    let rows = "C1:4/augment /p:c { leaf a { type string; } }
-C1:4/typedef t { type string; config true; }
+    let rows = "C1:4/typedef t { type string; config true; }
 C2:4/typedef t;
 C7:5/typedef t { type string; }|typedef t { type uint8; }
 C7:5/typedef t { type string; }|container c { typedef t { type uint8; } }

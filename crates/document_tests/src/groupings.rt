@@ -375,6 +375,16 @@ grouping g { list l { key s:k; leaf k { type string; } } }
 --
 uses s:g;
 ==
+3 nodes/0
+grouping g { list l { key k; unique v; leaf k { type string; } leaf v { type string; } } }
+--
+uses s:g;
+==
+C12:3/0
+grouping g { list l { key k; unique s:v; leaf k { type string; } leaf v { type string; } } }
+--
+uses s:g;
+==
 C12:3/1
 grouping g { leaf k { type string; } }
 --
