@@ -1,27 +1,34 @@
-use Rattle.std.proofs.Common.{sym, ap, subst, ◌∙◌}
-use Rattle.ytext.specs.View.{modules_view}
+use Rattle.std.proofs.Common.{◌≡◌, Some, None, nat_lt, sym, ap, subst, ◌∙◌}
 use Rattle.yspec.specs.Results.{Fails}
-use Rattle.yspec.specs.linking.Compiling.{compiled, plan_of}
+use Rattle.yspec.specs.schema.Breaks.{least_from, limit_breaks, node_limit}
+use Rattle.yspec.specs.linking.Expansion.{unfit_breaks}
+use Rattle.yspec.specs.linking.NodeCounts.{node_count}
+use Rattle.yspec.specs.linking.Compiling.{compiled}
+use Rattle.ytext.specs.View.{modules_view}
+use Rattle.yexpand.specs.NamedView.{modules_of}
 use Rattle.ylink.specs.LinkedView as statements
 use Rattle.ylink.specs.Told.{seen, told_by, break_view}
 use Rattle.ylink.proofs.LinkingLemmas.{passed}
-use Rattle.yplan.specs.PlanView as plans
-use Rattle.yschema.proofs.ToldLemmas.{in_plan}
+use Rattle.yschema.proofs.ToldLemmas.{in_expansion, many_told, refines_told}
 use Rattle.yschema.proofs.building.compile_linked.Goals as goal
 
 pub returns-in-Some : goal.returns-in-Some
 returns-in-Some c =
     let f = modules_view c.args.modules.now in
-    let known = passed f (statements.view c.args.linked.now) c.requires.links in
-    let made = c.in_ok-plan.ensures ∙ ap plan_of (c.sources.ensures ∙ known.1) in
+    let s = statements.view c.args.linked.now in
+    let known = passed f s c.requires.links in
+    let same : modules_of c.new-named.result ≡ s = c.new-named.ensures ∙ c.sources.ensures in
+    let told : Some (break_view c.in-Some.found) ≡ _ = sym (ap seen c.in-Some.is) ∙ (c.broken_count_rule.ensures ∙ ap (λ m. least_from None (limit_breaks (nat_lt node_limit (node_count m)) f)) same) in
     subst (λ fault. Fails (told_by fault) (compiled f)) (sym c.from.ensures)
-    (in_plan f (plans.view c.in_ok-plan.plan) made known.0
-    (break_view c.in-Some.found) (sym (ap seen c.in-Some.is) ∙ c.broken_plan_rule.ensures))
+    (in_expansion f s known.1 known.0 (break_view c.in-Some.found) (many_told f s (break_view c.in-Some.found) told))
 
-pub compile_rules-requires-clause-made : goal.compile_rules-requires-clause-made
-compile_rules-requires-clause-made c =
-    let known = passed (modules_view c.args.modules.now) (statements.view c.args.linked.now) c.requires.links in
-    c.in_ok-plan.ensures ∙ ap plan_of (c.sources.ensures ∙ known.1)
-
-pub compile_rules-requires-clause-first : goal.compile_rules-requires-clause-first
-compile_rules-requires-clause-first c = (passed (modules_view c.args.modules.now) (statements.view c.args.linked.now) c.requires.links).0
+pub returns-in-Some-told : goal.returns-in-Some-told
+returns-in-Some-told c =
+    let f = modules_view c.args.modules.now in
+    let s = statements.view c.args.linked.now in
+    let known = passed f s c.requires.links in
+    let same : modules_of c.new-named.result ≡ s = c.new-named.ensures ∙ c.sources.ensures in
+    let few : None ≡ _ = sym (ap seen c.in_default.is) ∙ (c.broken_count_rule.ensures ∙ ap (λ m. least_from None (limit_breaks (nat_lt node_limit (node_count m)) f)) same) in
+    let told : Some (break_view c.in-Some-told.found) ≡ _ = sym (ap seen c.in-Some-told.is) ∙ (c.in_ok-made.ensures.told ∙ ap (λ m. least_from None (unfit_breaks m)) same) in
+    subst (λ fault. Fails (told_by fault) (compiled f)) (sym c.from-in-Some-told.ensures)
+    (in_expansion f s known.1 known.0 (break_view c.in-Some-told.found) (refines_told f s (Some (break_view c.in-Some-told.found)) few told))
