@@ -12,3 +12,4 @@ pub mod ToldLemmas
 pub mod LeastLemmas
 pub mod StatingLemmas
 pub mod TaskLemmas
+pub mod TurnLemmas

@@ -7,3 +7,4 @@ pub mod Counting
 pub mod Knowing
 pub mod Stating
 pub mod Tasks
+pub mod Turns

@@ -1,5 +1,5 @@
--- What tasks do, one after another, and how much there is to do.
-use Rattle.std.specs.Prelude.{◌≡◌, ◌+◌, ◌≤◌, ℕ, zero, suc, List, [], ◌∷◌, if◌then◌else◌}
+-- What tasks do, and how many come of them.
+use Rattle.std.specs.Prelude.{◌≡◌, ◌+◌, ℕ, zero, suc, List, if◌then◌else◌}
 use Rattle.yspec.specs.Forest.{Forest, end, node, size}
 use Rattle.yspec.specs.linking.Source.{Source}
 use Rattle.yspec.specs.linking.Parts.{Part}
@@ -9,6 +9,7 @@ use Rattle.ypreorder.specs.Layout as layout
 use Rattle.ypreorder.specs.View.{row_by, row_view}
 use Rattle.ygrammar.specs.SourceView.{source_view}
 use Rattle.yexpand.specs.TableView.{slots_of}
+use Rattle.yexpand.specs.Turns.{Leaves}
 use Rattle.yexpand.specs.Walk.{chosen, AddsParts, AllEnd, Changes}
 use Rattle.yexpand.specs.declared.expanding.Made.{Made}
 use Rattle.yexpand.specs.declared.walking.Task.{Task}
@@ -23,21 +24,12 @@ Does modules (Refine owner first statements) old new = (nodes : Forest Part)
     → Changes first nodes (refined modules owner (row_by source_view statements) nodes)
     (refine_breaks modules owner (row_by source_view statements) nodes) old new
 
--- tasks are done from the last to the first
-abbrev pub Runs : Forest Source → List Task → Made → Made → Type 0
-Runs modules [] now final = now ≡ final
-Runs modules (t ∷ ts) now final = (mid : Made) × Runs modules ts now mid × Does modules t mid final
-
 -- no `uses` of a task leads over more groupings than its place has
 abbrev pub TaskEnds : Forest Source → Task → Type 0
 TaskEnds modules (Add place in_choice statements) =
     AllEnd modules place.depth (chosen in_choice (laid (row_by source_view statements)))
 TaskEnds modules (Close number) = Unit {0}
 TaskEnds modules (Refine owner first statements) = Unit {0}
-
-abbrev pub TasksEnd : Forest Source → List Task → Type 0
-TasksEnd modules [] = Unit {0}
-TasksEnd modules (t ∷ ts) = TaskEnds modules t × TasksEnd modules ts
 
 -- ---- how many tasks come of one
 
@@ -61,14 +53,6 @@ toll modules (Add place in_choice statements) =
 toll modules (Close number) = 0
 toll modules (Refine owner first statements) = 0
 
-abbrev pub work : Forest Source → List Task → ℕ
-work modules [] = 0
-work modules (t ∷ ts) = suc (toll modules t) + work modules ts
-
--- ---- what a step leaves behind
-
--- Whatever the tasks that are left come to, this and then the tasks of before come to; there is less to do.
-pub record Leads (modules : Forest Source) (this : Made → Made → Type 0) (most : ℕ) (before after : List Task) (old new : Made) : Type 0 where
-  pub runs : (final : Made) → Runs modules after new final → (mid : Made) × this old mid × Runs modules before mid final
-  pub ends : TasksEnd modules before → TasksEnd modules after
-  pub less : work modules after ≤ work modules before + most
+-- what a step leaves behind
+abbrev pub Leads : Forest Source → (Made → Made → Type 0) → ℕ → List Task → List Task → Made → Made → Type 0
+Leads modules = Leaves (Does modules) (toll modules) (TaskEnds modules)

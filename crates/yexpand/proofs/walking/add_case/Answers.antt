@@ -6,11 +6,12 @@ use Rattle.yspec.specs.linking.Expansion.{laid}
 use Rattle.ypreorder.specs.View.{row_by, row_view, label_by}
 use Rattle.ygrammar.specs.SourceView.{source_view}
 use Rattle.yexpand.specs.NamedView.{modules_of}
-use Rattle.yexpand.specs.Tasks.{toll_for, toll_of, Leads}
+use Rattle.yexpand.specs.Tasks.{toll, toll_for, toll_of, Does, TaskEnds, Leads}
 use Rattle.yexpand.specs.Walk.{AddsParts}
 use Rattle.yexpand.specs.declared.expanding.Made.{Made}
 use Rattle.yexpand.specs.declared.walking.Task.TheVariants.{Close}
-use Rattle.yexpand.proofs.TaskLemmas.{leads_behind, tolls_node}
+use Rattle.yexpand.proofs.TaskLemmas.{tolls_node}
+use Rattle.yexpand.proofs.TurnLemmas.{leaves_behind}
 use Rattle.yexpand.proofs.WalkLemmas.{adds_node}
 use Rattle.yexpand.proofs.walking.add_case.Goals as goal
 
@@ -27,7 +28,7 @@ returns c =
     let mid : Made = record { table = c.open.new.self; told = old.told } in
     let inner = laid (node s below end) in
     let whole = tolls_node (toll_for m depth) (case_for (part_of s below)) inner refl in
-    on_ok_weaker c.add_alone.result (λ leads. leads_behind m (AddsParts m (Some n) owner depth inner) (AddsParts m parent owner depth (node (case_for (part_of s below)) inner end))
+    on_ok_weaker c.add_alone.result (λ leads. leaves_behind (Does m) (toll m) (TaskEnds m) (AddsParts m (Some n) owner depth inner) (AddsParts m parent owner depth (node (case_for (part_of s below)) inner end))
     (toll_of m depth (size (row_view c.args.statement.children)) inner) (toll_of m depth (size (row_view c.args.statement.children)) (node (case_for (part_of s below)) inner end)) (Close n) c.args.tasks.now.items
     c.add_alone.new.tasks.items old mid c.add_alone.new.made
     (λ full final added closed. adds_node m owner depth parent (case_for (part_of s below)) inner c.new-label.result n old mid full final refl c.new-label.ensures

@@ -6,11 +6,12 @@ use Rattle.ypreorder.specs.View.{row_by, row_view, label_by}
 use Rattle.ypreorder.proofs.RowLemmas.{takes_by, takes_none_by}
 use Rattle.ygrammar.specs.SourceView.{source_view}
 use Rattle.yexpand.specs.NamedView.{modules_of}
-use Rattle.yexpand.specs.Tasks.{toll_for, toll_of, tolls, Leads}
+use Rattle.yexpand.specs.Tasks.{toll, toll_for, toll_of, tolls, Does, TaskEnds, Leads}
 use Rattle.yexpand.specs.Walk.{chosen, AllEnd, AddsParts}
 use Rattle.yexpand.specs.declared.walking.Task.{Task}
 use Rattle.yexpand.specs.declared.walking.Task.TheVariants.{Add}
-use Rattle.yexpand.proofs.TaskLemmas.{leads_done, leads_behind, tolls_join}
+use Rattle.yexpand.proofs.TaskLemmas.{tolls_join}
+use Rattle.yexpand.proofs.TurnLemmas.{leaves_none, leaves_behind}
 use Rattle.yexpand.proofs.WalkLemmas.{chosen-first, chosen_none, adds_nothing, adds_both, ends_join}
 use Rattle.yexpand.proofs.walking.add_first.Goals as goal
 
@@ -23,7 +24,7 @@ returns-in_default c =
     let before = c.args.statements in
     let none = (takes_none_by source_view before c.next.new.self c.in_default.ensures.steps).0 in
     let parts = chosen c.args.in_choice (laid (row_by source_view before)) in
-    leads_done m (AddsParts m parent owner depth parts) _ c.args.tasks.now.items c.args.made.now c.args.made.now
+    leaves_none (Does m) (toll m) (TaskEnds m) (AddsParts m parent owner depth parts) _ c.args.tasks.now.items c.args.made.now c.args.made.now
     (adds_nothing m owner depth parent parts c.args.made.now (chosen_none c.args.in_choice (row_by source_view before) none))
 
 pub add_statement-requires-clause-ends : goal.add_statement-requires-clause-ends
@@ -60,7 +61,7 @@ returns c =
     let sized = ap size c.in-Some.ensures.steps.0 in
     let cost = ap (tolls (toll_for m depth)) split ∙ tolls_join (toll_for m depth) one others in
     let t : Task = Add c.args.place chooses after in
-    on_ok_weaker c.add_statement.result (λ leads. leads_behind m (AddsParts m parent owner depth one) (AddsParts m parent owner depth all)
+    on_ok_weaker c.add_statement.result (λ leads. leaves_behind (Does m) (toll m) (TaskEnds m) (AddsParts m parent owner depth one) (AddsParts m parent owner depth all)
     (toll_of m depth (size (row_view c.in-Some.statement.children)) one) (toll_of m depth (size (row_view before)) all) t c.args.tasks.now.items c.add_statement.new.tasks.items c.args.made.now c.args.made.now c.add_statement.new.made
     (λ full final first then. subst (λ parts. AddsParts m parent owner depth parts c.args.made.now final) (sym split) (adds_both m owner depth parent one others c.args.made.now full final first then))
     (ends_join m owner depth one others (subst (AllEnd m depth) split c.requires.ends)).1

@@ -11,13 +11,13 @@ use Rattle.ygrammar.specs.SourceView.{source_view}
 use Rattle.yexpand.specs.Counting.{told_list}
 use Rattle.yexpand.specs.NamedView.{modules_of, row_named, row_or_none}
 use Rattle.yexpand.specs.TableView.{parts_in, slots_of}
-use Rattle.yexpand.specs.Tasks.{toll, toll_for, toll_of, tolls, Does, Leads}
+use Rattle.yexpand.specs.Tasks.{toll, toll_for, toll_of, tolls, Does, TaskEnds, Leads}
 use Rattle.yexpand.specs.Walk.{breaks_for, AllEnd, AddsParts}
 use Rattle.yexpand.specs.declared.walking.Task.{Task}
 use Rattle.yexpand.specs.declared.walking.Task.TheVariants.{Add}
 use Rattle.yexpand.proofs.GroupingLemmas.{laid_end}
 use Rattle.yexpand.proofs.LeastLemmas.{least_told}
-use Rattle.yexpand.proofs.TaskLemmas.{leads_done, leads_so, leads_task}
+use Rattle.yexpand.proofs.TurnLemmas.{leaves_none, leaves_so, leaves_task}
 use Rattle.yexpand.proofs.WalkLemmas.{adds_nothing}
 use Rattle.yexpand.proofs.walking.add_grouping.Goals as goal
 
@@ -32,7 +32,7 @@ returns-then-is_without_nodes c =
     let row = row_named m c.args.number in
     let none = (Decides-eqb _ _).0 (sym c.is_without_nodes.ensures ∙ c.if-is_without_nodes.true) in
     let known = c.requires.known.1 c.args.number owner depth none c.requires.ends in
-    leads_done m (AddsParts m parent owner depth row) _ c.args.tasks.now.items old (record { table = old.table; told = c.least_of-made.result }) (
+    leaves_none (Does m) (toll m) (TaskEnds m) (AddsParts m parent owner depth row) _ c.args.tasks.now.items old (record { table = old.table; told = c.least_of-made.result }) (
       sym (ap (λ f. parts_in old.table ++ places parent k f) known.0 ∙ append-nil (parts_in old.table)),
       c.least_of-made.ensures ∙ (ap (λ o. least_from (seen old.told) (told_list o)) (c.refine_in.ensures ∙ known.1)
           ∙ least_told (seen old.told) (breaks_for m owner depth row)),
@@ -52,9 +52,9 @@ returns-in_ok-push c =
     let t : Task = Add c.args.place false found in
     let cost = ap (tolls (toll_for m depth)) is in
     subst (λ ts. Leads m (AddsParts m parent owner depth row) (toll_of m depth (size m) row + 1) c.args.tasks.now.items ts old old) (sym c.in_ok-push.ensures.items)
-    (leads_so m (Does m t) (AddsParts m parent owner depth row) (suc (toll m t)) (toll_of m depth (size m) row + 1) c.args.tasks.now.items (c.args.tasks.now.items ++ t ∷ []) old old
+    (leaves_so (Does m) (toll m) (TaskEnds m) (Does m t) (AddsParts m parent owner depth row) (suc (toll m t)) (toll_of m depth (size m) row + 1) c.args.tasks.now.items (c.args.tasks.now.items ++ t ∷ []) old old
     (λ mid does. subst (λ f. AddsParts m parent owner depth f old mid) is does) (omega (arith, few, cost))
-    (leads_task m t c.args.tasks.now.items old (subst (AllEnd m depth) (sym is) c.requires.ends)))
+    (leaves_task (Does m) (toll m) (TaskEnds m) t c.args.tasks.now.items old (subst (AllEnd m depth) (sym is) c.requires.ends)))
 
 pub returns-in_default : goal.returns-in_default
 returns-in_default c =
@@ -63,5 +63,5 @@ returns-in_default c =
     let owner = c.args.place.owner in
     let depth = c.args.place.depth in
     let row = row_named m c.args.number in
-    leads_done m (AddsParts m parent owner depth row) _ c.args.tasks.now.items c.args.made.now c.args.made.now
+    leaves_none (Does m) (toll m) (TaskEnds m) (AddsParts m parent owner depth row) _ c.args.tasks.now.items c.args.made.now c.args.made.now
     (adds_nothing m owner depth parent row c.args.made.now (sym c.in_default.ensures.row ∙ laid_end))

@@ -7,13 +7,14 @@ use Rattle.ypreorder.specs.View.{row_by, row_view, label_by}
 use Rattle.yword.specs.KeywordView.{keyword_view}
 use Rattle.ygrammar.specs.SourceView.{source_view}
 use Rattle.yexpand.specs.NamedView.{modules_of}
-use Rattle.yexpand.specs.Tasks.{toll, toll_for, toll_of, tolls, Does, Leads}
+use Rattle.yexpand.specs.Tasks.{toll, toll_for, toll_of, tolls, Does, TaskEnds, Leads}
 use Rattle.yexpand.specs.Walk.{chosen, AllEnd, AddsParts}
 use Rattle.yexpand.specs.declared.expanding.Made.{Made}
 use Rattle.yexpand.specs.declared.expanding.Place.{Place}
 use Rattle.yexpand.specs.declared.walking.Task.{Task}
 use Rattle.yexpand.specs.declared.walking.Task.TheVariants.{Add, Close}
-use Rattle.yexpand.proofs.TaskLemmas.{leads_behind, leads_task, tolls_node}
+use Rattle.yexpand.proofs.TaskLemmas.{tolls_node}
+use Rattle.yexpand.proofs.TurnLemmas.{leaves_behind, leaves_task}
 use Rattle.yexpand.proofs.WalkLemmas.{adds_node}
 use Rattle.yexpand.proofs.walking.add_node.Goals as goal
 
@@ -41,9 +42,9 @@ returns c =
     let whole = tolls_node (toll_for m depth) (part_of s below) inner c.requires.node in
     let items = c.in_ok-push-2.ensures.items ∙ ap (λ ts. ts ++ t ∷ []) c.in_ok-push.ensures.items in
     subst (λ ts. Leads m (AddsParts m parent owner depth (node (part_of s below) inner end)) (toll_of m depth (size (row_view c.args.statement.children)) (node (part_of s below) inner end)) c.args.tasks.now.items ts old mid) (sym items)
-    (leads_behind m (Does m t) (AddsParts m parent owner depth (node (part_of s below) inner end)) (suc (toll m t)) (toll_of m depth (size (row_view c.args.statement.children)) (node (part_of s below) inner end)) (Close n) c.args.tasks.now.items
+    (leaves_behind (Does m) (toll m) (TaskEnds m) (Does m t) (AddsParts m parent owner depth (node (part_of s below) inner end)) (suc (toll m t)) (toll_of m depth (size (row_view c.args.statement.children)) (node (part_of s below) inner end)) (Close n) c.args.tasks.now.items
     ((c.args.tasks.now.items ++ Close n ∷ []) ++ t ∷ []) old mid mid
     (λ full final added closed. adds_node m owner depth parent (part_of s below) inner c.new-label.result n old mid full final c.requires.node c.new-label.ensures
     c.in_ok-number.ensures.laid c.in_ok-number.ensures.number refl (subst (λ f. AddsParts m (Some n) owner depth f mid full) inside added) closed.0 closed.1)
     tt (omega (arith, cost, count, whole))
-    (leads_task m t (c.args.tasks.now.items ++ Close n ∷ []) mid (subst (AllEnd m depth) (sym inside) c.requires.ends)))
+    (leaves_task (Does m) (toll m) (TaskEnds m) t (c.args.tasks.now.items ++ Close n ∷ []) mid (subst (AllEnd m depth) (sym inside) c.requires.ends)))

@@ -2,7 +2,8 @@ use Rattle.yspec.specs.linking.Expansion.{laid}
 use Rattle.ypreorder.specs.View.{row_by}
 use Rattle.ygrammar.specs.SourceView.{source_view}
 use Rattle.yexpand.specs.NamedView.{modules_of}
-use Rattle.yexpand.specs.Tasks.{Runs, TasksEnd, work}
+use Rattle.yexpand.specs.Tasks.{toll, Does, TaskEnds}
+use Rattle.yexpand.specs.Turns.{work, AllGood, Runs}
 use Rattle.yexpand.specs.Walk.{AddsParts}
 use Rattle.yexpand.specs.declared.expanding.Made.{Made}
 use Rattle.yexpand.proofs.walking.add_nodes.Given as goal
@@ -10,10 +11,10 @@ use Rattle.yexpand.proofs.walking.add_nodes.Given as goal
 -- whatever the tasks that are left come to, all comes to
 abbrev pub invariant-loop-task : goal.invariant-loop-task
 invariant-loop-task l = record {
-  ends : TasksEnd (modules_of l.context.named.now) l.tasks.items;
-  so_far : (final : Made) → Runs (modules_of l.context.named.now) l.tasks.items l.made final
+  ends : AllGood (TaskEnds (modules_of l.context.named.now)) l.tasks.items;
+  so_far : (final : Made) → Runs (Does (modules_of l.context.named.now)) l.tasks.items l.made final
       → AddsParts (modules_of l.context.named.now) l.fn.place.parent l.fn.place.owner l.fn.place.depth (laid (row_by source_view l.fn.statements)) l.fn.made final;
 }
 
 abbrev pub decreases-loop-task : goal.decreases-loop-task
-decreases-loop-task l = work (modules_of l.context.named.now) l.tasks.items
+decreases-loop-task l = work (toll (modules_of l.context.named.now)) l.tasks.items

@@ -8,9 +8,9 @@ use Rattle.ypreorder.specs.View.{row_by, row_view, label_by}
 use Rattle.yword.specs.KeywordView.{keyword_view}
 use Rattle.ygrammar.specs.SourceView.{source_view}
 use Rattle.yexpand.specs.NamedView.{modules_of}
-use Rattle.yexpand.specs.Tasks.{toll_of, Leads}
+use Rattle.yexpand.specs.Tasks.{toll, toll_of, Does, TaskEnds, Leads}
 use Rattle.yexpand.specs.Walk.{chosen, is_laid, AllEnd, AddsParts}
-use Rattle.yexpand.proofs.TaskLemmas.{leads_done}
+use Rattle.yexpand.proofs.TurnLemmas.{leaves_none}
 use Rattle.yexpand.proofs.WalkLemmas.{laid_none, laid_single, laid_own, adds_nothing, ends_node, chosen_empty}
 use Rattle.yexpand.proofs.walking.add_statement.Goals as goal
 
@@ -24,7 +24,7 @@ returns-then-not-is_laid c =
     let below = row_by source_view c.args.statement.children in
     let keyword : keyword_view c.label.result.now.keyword ≡ s.keyword = ap (λ l. keyword_view l.keyword) c.label.ensures in
     let other : is_laid s ≡ false = sym (c.is_laid.ensures ∙ ap (λ k. defines_node k || same_keyword uses_word k) keyword) ∙ c.if-not-is_laid.true in
-    leads_done m (AddsParts m parent owner depth (chosen c.args.in_choice (laid (node s below end)))) _ c.args.tasks.now.items c.args.made.now c.args.made.now
+    leaves_none (Does m) (toll m) (TaskEnds m) (AddsParts m parent owner depth (chosen c.args.in_choice (laid (node s below end)))) _ c.args.tasks.now.items c.args.made.now c.args.made.now
     (adds_nothing m owner depth parent (chosen c.args.in_choice (laid (node s below end))) c.args.made.now (chosen_empty c.args.in_choice (laid (node s below end)) (laid_none s below other)))
 
 pub add_case-requires-clause-ends : goal.add_case-requires-clause-ends

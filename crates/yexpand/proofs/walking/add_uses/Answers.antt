@@ -14,11 +14,12 @@ use Rattle.ygrammar.specs.SourceView.{source_view}
 use Rattle.yexpand.specs.NamedView.{modules_of, row_named}
 use Rattle.yexpand.specs.NodeView.{numbered_part}
 use Rattle.yexpand.specs.TableView.{parts_in, slots_of}
-use Rattle.yexpand.specs.Tasks.{toll_for, toll_of, Leads}
+use Rattle.yexpand.specs.Tasks.{toll, toll_for, toll_of, Does, TaskEnds, Leads}
 use Rattle.yexpand.specs.Walk.{nodes_for, breaks_for, AllEnd, AddsParts}
 use Rattle.yexpand.specs.declared.walking.Task.{Task}
 use Rattle.yexpand.specs.declared.walking.Task.TheVariants.{Refine}
-use Rattle.yexpand.proofs.TaskLemmas.{leads_behind, tolls_uses, toll_less}
+use Rattle.yexpand.proofs.TaskLemmas.{tolls_uses, toll_less}
+use Rattle.yexpand.proofs.TurnLemmas.{leaves_behind}
 use Rattle.yexpand.proofs.WalkLemmas.{ends_so, nodes_uses, breaks_uses, stands_so, unfit_so}
 use Rattle.yexpand.proofs.walking.add_uses.Goals as goal
 
@@ -57,7 +58,7 @@ returns c =
     let own = row_by source_view c.children.result in
     let same : own ≡ below = ap (row_by source_view) c.children.ensures in
     let cost = tolls_uses (toll_for m depth) u c.requires.uses ∙ toll_less m depth u some in
-    on_ok_weaker c.add_grouping.result (λ leads. leads_behind m (AddsParts m parent owner (depth - 1) row) (AddsParts m parent owner depth (node u end end))
+    on_ok_weaker c.add_grouping.result (λ leads. leaves_behind (Does m) (toll m) (TaskEnds m) (AddsParts m parent owner (depth - 1) row) (AddsParts m parent owner depth (node u end end))
     (toll_of m (depth - 1) (size m) row + 1) (toll_of m depth (size (row_view c.args.uses.children)) (node u end end)) t c.args.tasks.now.items c.add_grouping.new.tasks.items old old c.add_grouping.new.made
     (λ full final added refines.
     let done = refines inner (parts_in old.table) parent count (added.0 ∙ ap (λ k. parts_in old.table ++ places parent k inner) (sym c.len-first.ensures)) in (

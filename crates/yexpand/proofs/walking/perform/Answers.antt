@@ -1,8 +1,8 @@
 use Rattle.std.proofs.Common.{OnOk, sym, refl, subst}
 use Rattle.std.proofs.lemmas.Result.{on_ok_weaker}
 use Rattle.yexpand.specs.NamedView.{modules_of}
-use Rattle.yexpand.specs.Tasks.{toll, Does, Leads}
-use Rattle.yexpand.proofs.TaskLemmas.{leads_done, on_ok_all}
+use Rattle.yexpand.specs.Tasks.{toll, Does, TaskEnds, Leads}
+use Rattle.yexpand.proofs.TurnLemmas.{leaves_none, on_ok_all}
 use Rattle.yexpand.proofs.walking.perform.Goals as goal
 
 pub returns-in-Add : goal.returns-in-Add
@@ -14,11 +14,11 @@ pub returns-in-Close : goal.returns-in-Close
 returns-in-Close c =
     let m = modules_of c.args.context.now.named.now in
     let old = c.args.made.now in
-    leads_done m (Does m c.args.task) (toll m c.args.task) c.args.tasks.now.items old (record { table = c.close.new.self; told = old.told })
+    leaves_none (Does m) (toll m) (TaskEnds m) (Does m c.args.task) (toll m c.args.task) c.args.tasks.now.items old (record { table = c.close.new.self; told = old.told })
     (subst (λ t. Does m t old (record { table = c.close.new.self; told = old.told })) (sym c.in-Close.is) (c.close.ensures, refl))
 
 pub returns-in-Refine : goal.returns-in-Refine
 returns-in-Refine c =
     let m = modules_of c.args.context.now.named.now in
-    on_ok_weaker c.refine.result (λ does. leads_done m (Does m c.args.task) (toll m c.args.task) c.args.tasks.now.items c.args.made.now c.refine.new.made
+    on_ok_weaker c.refine.result (λ does. leaves_none (Does m) (toll m) (TaskEnds m) (Does m c.args.task) (toll m c.args.task) c.args.tasks.now.items c.args.made.now c.refine.new.made
     (subst (λ t. Does m t c.args.made.now c.refine.new.made) (sym c.in-Refine.is) does)) (on_ok_all _ c.refine.result (λ nodes. c.refine.ensures m nodes c.prefixes-prefixes.ensures))
