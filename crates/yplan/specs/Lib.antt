@@ -3,3 +3,4 @@ pub mod OwnView
 pub mod Finding
 pub mod PlanView
 pub mod NodesView
+pub mod Planning

@@ -1,19 +1,23 @@
 //! How deep nodes stand.
 
-ghost use Rattle.std.specs.Prelude.{◌≡◌};
+ghost use Rattle.std.specs.Prelude.{◌≡◌, nat_lt};
 ghost use Rattle.yspec.specs.Forest.{levels};
 ghost use Rattle.ypreorder.specs.View.{row_view};
 
 use crate::planned::Planned;
 use ypreorder::Siblings;
 
-/// How many levels of nodes a row has, its own among them.
-pub(crate) fn levels_of(nodes: Siblings<'_, Planned<'_, '_>>) -> usize
-    ensures { result ≡ levels (row_view nodes.entry) }
+/// Whether a row has more than so many levels of nodes, its own among them. No deeper ones are looked at.
+pub(crate) fn are_deeper(nodes: Siblings<'_, Planned<'_, '_>>, limit: usize) -> bool
+    ensures { result ≡ nat_lt limit (levels (row_view nodes.entry)) }
 {
-    let mut deepest = 0;
     for node in nodes {
-        deepest = deepest.max(1 + levels_of(node.children()));
+        if limit == 0 {
+            return true;
+        }
+        if are_deeper(node.children(), limit - 1) {
+            return true;
+        }
     }
-    deepest
+    false
 }

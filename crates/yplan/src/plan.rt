@@ -10,7 +10,7 @@ ghost use Rattle.ygrammar.specs.LinkView as link;
 ghost use Rattle.ynames.specs.PrefixView.{IsOf};
 
 use crate::finding::index_of;
-use crate::levels::levels_of;
+use crate::levels::are_deeper;
 use crate::nodes::{PlanNode, PlanNodes};
 use crate::planned::Planned;
 use crate::planning::planned;
@@ -39,7 +39,7 @@ pub struct Plan<'a, 't> {
 }
 
 impl<'a, 't> Plan<'a, 't> {
-    ghost use Rattle.std.specs.Prelude.{◌≡◌, IfOk, None, Some, option_map, slice_get, find, false, map};
+    ghost use Rattle.std.specs.Prelude.{◌≡◌, IfOk, None, Some, option_map, slice_get, find, false, map, nat_lt};
     ghost use Rattle.yindex.specs.declared.keys.Among.TheVariants as among;
     ghost use Rattle.yindex.specs.Names.{AreNamesOf};
     ghost use Rattle.yplan.specs.Finding.{is_before, is_found, name_of};
@@ -218,11 +218,11 @@ impl<'a, 't> Plan<'a, 't> {
         self.table.len()
     }
 
-    /// How many levels of them there are.
-    pub fn levels(&self) -> usize
-        ensures { result ≡ levels (view self.now).nodes }
+    /// Whether there are more than so many levels of them.
+    pub fn is_deeper(&self, limit: usize) -> bool
+        ensures { result ≡ nat_lt limit (levels (view self.now).nodes) }
     {
-        levels_of(self.table.roots())
+        are_deeper(self.table.roots(), limit)
     }
 
     /// The case of a choice that is its default, by its number (RFC 7950, 7.9.3).

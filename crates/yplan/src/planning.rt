@@ -1,18 +1,28 @@
-//! How nodes are planned.
+//! How nodes are planned, step by step: what is still to be done stands in a list, since groupings may nest nodes as deep as
+//! there are any.
 
-ghost use Rattle.std.specs.Prelude.{◌≡◌, ◌++◌, IfOk, OnOk, length};
-ghost use Rattle.yspec.specs.Forest.{end, node};
+ghost use Rattle.std.specs.Prelude.{◌≡◌, IfOk, OnOk};
 ghost use Rattle.yspec.specs.linking.Parts.{Part};
 ghost use Rattle.yspec.specs.linking.Planned as spec;
-ghost use Rattle.ypreorder.specs.View.{slots_in, row_by, label_by};
+ghost use Rattle.ypreorder.specs.View.{row_by};
 ghost use Rattle.yexpand.specs.NodeView.{numbered_part};
+ghost use Rattle.yplan.specs.Planning.{row_toll, toll, AddsRow, Does, Leads};
 ghost use Rattle.yplan.specs.PlannedView.{seen_rows, listed, around_view, planned_view};
 
 use crate::planned::{Around, Planned};
 use std::alloc::{AllocError, Global};
 use yexpand::ExpandedNode;
-use ypreorder::{Node, Siblings, Table};
+use ypreorder::{Siblings, Table};
 use yword::Keyword;
+
+/// What is still to be done.
+#[derive(Clone, Copy)]
+enum Task<'a, 't> {
+    /// To add the nodes of a row, with all below them.
+    Add(Around, Siblings<'a, ExpandedNode<'a, 't>>),
+    /// To close the node of a number: all behind it stand below it.
+    Close(u32),
+}
 
 /// The nodes of all modules, in order of definition, given the top ones.
 pub(crate) fn planned<'a, 't>(
@@ -29,7 +39,11 @@ pub(crate) fn planned<'a, 't>(
         config: true,
     };
     let mut table = Table::new(alloc);
-    add_nodes(&mut table, around, roots)?;
+    let mut tasks = Vec::new(alloc);
+    tasks.push(Task::Add(around, roots))?;
+    while let Some(task) = tasks.pop() {
+        perform(task, &mut tasks, &mut table)?;
+    }
     Ok(table)
 }
 
@@ -54,39 +68,41 @@ fn around_below(number: u32, around: Around, planned: Planned<'_, '_>) -> Around
     }
 }
 
-/// Adds the nodes of a row, with all below them.
-#[cycle(nodes)]
-fn add_nodes<'a, 't>(
+/// Does a task, or leaves the rest of it behind.
+fn perform<'a, 't>(
+    task: Task<'a, 't>,
+    tasks: &mut Vec<Task<'a, 't>>,
     table: &mut Table<Planned<'a, 't>>,
-    around: Around,
-    row: Siblings<'a, ExpandedNode<'a, 't>>,
 ) -> Result<(), AllocError>
-    ensures { OnOk result (seen_rows table.new ≡ seen_rows table.old
-        ++ listed (length (slots_in table.old)) (around_view around)
-        (row_by numbered_part row.entry)) }
+    ensures { OnOk result (Leads (Does task.entry) (toll task.entry) tasks.old.items tasks.new.items table.old table.new) }
 {
-    for expanded in row {
-        add_node(table, around, expanded)?;
+    match task {
+        Task::Add(around, row) => add_first(around, row, tasks, table),
+        Task::Close(number) => {
+            table.close(number);
+            Ok(())
+        }
     }
-    Ok(())
 }
 
-/// Adds a node, with all below it.
-#[cycle(nodes)]
-fn add_node<'a, 't>(
-    table: &mut Table<Planned<'a, 't>>,
+/// Adds the first node of a row, and leaves behind what stands below it and the others.
+fn add_first<'a, 't>(
     around: Around,
-    expanded: Node<'a, ExpandedNode<'a, 't>>,
+    row: Siblings<'a, ExpandedNode<'a, 't>>,
+    tasks: &mut Vec<Task<'a, 't>>,
+    table: &mut Table<Planned<'a, 't>>,
 ) -> Result<(), AllocError>
-    ensures { let p = label_by numbered_part expanded.entry in
-        let below = row_by numbered_part expanded.entry.children in
-        OnOk result (seen_rows table.new ≡ seen_rows table.old
-        ++ listed (length (slots_in table.old)) (around_view around) (node p below end)) }
+    ensures { OnOk result (Leads (AddsRow around row.entry) (row_toll row.entry) tasks.old.items tasks.new.items table.old table.new) }
 {
+    let mut others = row;
+    let Some(expanded) = others.next() else {
+        return Ok(());
+    };
+    tasks.push(Task::Add(around, others))?;
     let planned = Planned::new(expanded.label(), around);
     let number = table.open(around.parent, planned)?;
+    tasks.push(Task::Close(number))?;
     let inside = around_below(number, around, planned);
-    add_nodes(table, inside, expanded.children())?;
-    table.close(number);
+    tasks.push(Task::Add(inside, expanded.children()))?;
     Ok(())
 }

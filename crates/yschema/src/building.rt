@@ -145,7 +145,7 @@ fn broken_count_rule(
 fn is_too_deep(plan: &Plan<'_, '_>) -> bool
     ensures { result ≡ spec.is_too_deep (plans.view plan.now).nodes }
 {
-    plan.nodes() > NODE_LIMIT || plan.levels() > LEVEL_LIMIT
+    plan.nodes() > NODE_LIMIT || plan.is_deeper(LEVEL_LIMIT)
 }
 
 /// The rule that is told of what nodes state and refer to, or of levels.
