@@ -17,5 +17,6 @@ pub mod SchemaNodes
 pub mod NodeBreaks
 pub mod Compiling
 pub mod Expansion
+pub mod Augments
 pub mod NodeCounts
 pub mod Rewriting

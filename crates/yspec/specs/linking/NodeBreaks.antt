@@ -1,4 +1,4 @@
--- The rules that planned nodes break: C11 to C13, C16 and C17 (RFC 7950, 6.2.1, 7.6 to 7.9, 7.21.1 and 9.9).
+-- The rules that planned nodes break: C11 to C13 and C15 to C17 (RFC 7950, 6.2.1, 7.6 to 7.9, 7.17, 7.21.1 and 9.9).
 use Rattle.std.specs.Prelude.{ℕ, ◌++◌, ◌==◌, ◌&&◌, ◌||◌, Bool, true, false, not, List, [], ◌∷◌, map, Option, Some, None, is_some, option_and_then, unwrap_or, if◌then◌else◌, nat_lt}
 use Rattle.std.specs.List.{list_any, list_all, flat_map}
 use Rattle.std.specs.Option.{option_map_or}
@@ -10,6 +10,7 @@ use Rattle.yspec.specs.types.Values.{value_of_text}
 use Rattle.yspec.specs.linking.Keyword.{Keyword}
 use Rattle.yspec.specs.linking.Keyword as word
 use Rattle.yspec.specs.linking.Source.{argument_in}
+use Rattle.yspec.specs.linking.Scopes.{statement_at}
 use Rattle.yspec.specs.linking.TypeStatements.{Meant, own, of_target}
 use Rattle.yspec.specs.linking.Planned.{Planned, Plan, same_number, nodes_of, node_of, child_called, is_a, is_leaf_or_leaf_list, stated_in, meant_in, target_meant, type_of, is_on_circle}
 use Rattle.yspec.specs.linking.SchemaNodes.{is_mandatory, min_elements_of, key_names, key_numbers, unique_ways, own_defaults, default_texts, default_case, is_key}
@@ -138,6 +139,10 @@ has_mandatory (node p below after) = must_be p (has_mandatory below) || has_mand
 abbrev pub row_below : Plan → ℕ → Forest Planned
 row_below plan number = unwrap_or (find_below (λ p. p.number == number) plan.nodes) end
 
+-- whether the node itself must be
+abbrev pub is_needed : Plan → Planned → Bool
+is_needed plan p = must_be p (has_mandatory (row_below plan p.number))
+
 abbrev pub is_wrong_case : Plan → Planned → Option Planned → Bool
 is_wrong_case plan p None = true
 is_wrong_case plan p (Some found) = is_mandatory p || has_mandatory (row_below plan found.number)
@@ -151,11 +156,25 @@ is_default_wrong plan p = if is_a word.leaf_word p
 abbrev pub default_breaks : Plan → Planned → List Break
 default_breaks plan p = when (is_default_wrong plan p) (broken_at 11 p)
 
+-- ---- C15: configuration that must be, added to a node of another module
+
+abbrev pub is_foreign : Planned → Option Planned → Bool
+is_foreign p above = option_map_or (λ a. not (a.part.owner == p.part.owner)) above false
+
+-- told at the `augment` of a number
+abbrev pub broken_in : Plan → ℕ → List Break
+broken_in plan number =
+    option_map_or (λ a. broken 15 a.source.home a.source.statement.line) (statement_at plan.modules number) []
+
+abbrev pub addition_breaks : Plan → Planned → List Break
+addition_breaks plan p = when (is_foreign p (option_and_then (node_of plan) p.parent) && (p.config && is_needed plan p))
+    (option_map_or (broken_in plan) p.part.added_by [])
+
 -- ---- all of them
 
 abbrev pub own_breaks : Plan → Planned → List Break
 own_breaks plan p =
-    config_breaks plan p ++ (tuple_breaks plan p ++ (reference_breaks plan p ++ default_breaks plan p))
+    config_breaks plan p ++ (tuple_breaks plan p ++ (reference_breaks plan p ++ (default_breaks plan p ++ addition_breaks plan p)))
 
 abbrev pub node_breaks : Plan → List Break
 node_breaks plan = flat_map (own_breaks plan) (nodes_of plan)

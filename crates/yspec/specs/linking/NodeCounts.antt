@@ -1,11 +1,12 @@
--- How many nodes a set of modules defines, counted without expanding (RFC 7950, 7.13).
-use Rattle.std.specs.Prelude.{ℕ, zero, suc, ◌+◌, ◌==◌, List, [], map, find, if◌then◌else◌}
+-- How many nodes a set of modules defines, counted without expanding (RFC 7950, 7.13 and 7.17).
+use Rattle.std.specs.Prelude.{ℕ, zero, suc, ◌+◌, ◌==◌, List, [], ◌∷◌, map, find, if◌then◌else◌}
 use Rattle.std.specs.Option.{option_map_or}
 use Rattle.yspec.specs.Forest.{Forest, end, node, size}
 use Rattle.yspec.specs.linking.Source.{Source}
 use Rattle.yspec.specs.linking.DerivedTypes.{number_named}
 use Rattle.yspec.specs.linking.Parts.{Part}
 use Rattle.yspec.specs.linking.Expansion.{Grouping, is_uses, laid, groupings_of}
+use Rattle.yspec.specs.linking.Augments.{Augment, augments_of}
 
 -- of a row, given how many nodes each `uses` stands for
 unfoldable pub counted : (Part → ℕ) → Forest Part → ℕ
@@ -41,7 +42,14 @@ counted_from modules counts end = 0
 counted_from modules counts (node s below after) =
     counted (count_used modules counts) (laid below) + counted_from modules counts after
 
+-- those that augments add; a single node of a choice counts without the case for which it stands
+abbrev pub counted_in : Forest Source → List GroupingCount → List Augment → ℕ
+counted_in modules counts [] = 0
+counted_in modules counts (a ∷ others) =
+    counted (count_used modules counts) (laid a.given) + counted_in modules counts others
+
 -- the nodes of a set of modules
 abbrev pub node_count : Forest Source → ℕ
 node_count modules = let groupings = groupings_of modules in
-    counted_from modules (counts_within modules groupings (suc (size modules))) modules
+    let counts = counts_within modules groupings (suc (size modules)) in
+    counted_from modules counts modules + counted_in modules counts (augments_of modules)

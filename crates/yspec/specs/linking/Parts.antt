@@ -1,16 +1,18 @@
 -- Parts: the statements that define schema nodes, with what they state of them (RFC 7950, 7.5 to 7.9).
-use Rattle.std.specs.Prelude.{ℕ, Bool, true, false, if◌then◌else◌}
+use Rattle.std.specs.Prelude.{ℕ, Bool, true, false, Option, None, if◌then◌else◌}
 use Rattle.yspec.specs.Forest.{Forest, end, node}
 use Rattle.yspec.specs.linking.Keyword.{Keyword}
 use Rattle.yspec.specs.linking.Keyword as word
 use Rattle.yspec.specs.linking.Source.{Source, is_source_of}
 
 -- A statement that defines a schema node. `own` are its substatements that define none; the forest below it is made of
--- parts again. `owner` is the module to which the node belongs, by its number in the set.
+-- parts again. `owner` is the module to which the node belongs, by its number in the set; `added_by` the number of the
+-- `augment` that put it below its target.
 pub record Part : Type 0 where
   pub source : Source
   pub own : Forest Source
   pub owner : ℕ
+  pub added_by : Option ℕ
 
 abbrev pub defines_node : Keyword → Bool
 defines_node word.container_word = true
@@ -27,7 +29,7 @@ own_of end = end
 own_of (node s below after) = if defines_node s.keyword then own_of after else node s below (own_of after)
 
 abbrev pub part_of : Source → Forest Source → Part
-part_of s below = record { source = s; own = own_of below; owner = s.home }
+part_of s below = record { source = s; own = own_of below; owner = s.home; added_by = None }
 
 -- ---- a single node in a choice stands for a case of its name that holds it (RFC 7950, 7.9.2)
 

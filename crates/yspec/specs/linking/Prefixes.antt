@@ -6,7 +6,7 @@ use Rattle.yspec.specs.Forest.{Forest, preorder}
 use Rattle.yspec.specs.text.Text.{Text}
 use Rattle.yspec.specs.linking.Keyword.{Keyword}
 use Rattle.yspec.specs.linking.Keyword as word
-use Rattle.yspec.specs.linking.Arguments.{Name, name_of, key_of, unique_of, leafref_path_of, relative_path_of}
+use Rattle.yspec.specs.linking.Arguments.{Name, name_of, key_of, unique_of, leafref_path_of, relative_path_of, absolute_path_of}
 use Rattle.yspec.specs.linking.Source.{Source, argument_in}
 use Rattle.yspec.specs.linking.Imports.{prefix_declared, module_meant}
 use Rattle.yspec.specs.schema.Breaks.{Break, broken, when}
@@ -36,6 +36,7 @@ names_given word.unique_word t = flat_map (λ path. path) (unwrap_or (unique_of 
 names_given word.path_word t = unwrap_or (leafref_path_of t) []
 names_given word.uses_word t = option_map_or (λ n. n ∷ []) (name_of t) []
 names_given word.refine_word t = unwrap_or (relative_path_of t) []
+names_given word.augment_word t = unwrap_or (absolute_path_of t) []
 names_given _ t = []
 
 abbrev pub has_unknown_prefix : Forest Source → Source → Bool

@@ -1,10 +1,10 @@
 -- The tree diagram of a module (RFC 8340).
-use Rattle.std.specs.Prelude.{ℕ, ◌-◌, ◌==◌, ◌++◌, max, Bool, true, false, List, [], ◌∷◌, length, replicate, codes, Option, None, if◌then◌else◌}
-use Rattle.std.specs.List.{flat_map}
+use Rattle.std.specs.Prelude.{ℕ, ◌-◌, ◌==◌, ◌++◌, max, Bool, true, false, not, List, [], ◌∷◌, length, map, filter, take, replicate, codes, Option, None, if◌then◌else◌}
+use Rattle.std.specs.List.{flat_map, list_any}
 use Rattle.std.specs.Option.{option_map_or}
 use Rattle.yspec.specs.Forest.{Forest, end, node}
 use Rattle.yspec.specs.text.Text.{Text, is_text}
-use Rattle.yspec.specs.schema.Schema.{Schema, SchemaNode, Kind, container, leaf, leaf_list, list, choice, case, LeafType, Absence, allowed, default_used, mandatory, key, Status, current, deprecated, obsolete, is_data, has_value, type_in, keys_in, node_at, module_name, module_prefix, data_way_to}
+use Rattle.yspec.specs.schema.Schema.{Schema, SchemaNode, Kind, container, leaf, leaf_list, list, choice, case, LeafType, Absence, allowed, default_used, mandatory, key, Status, current, deprecated, obsolete, is_data, has_value, type_in, keys_in, node_at, children_of, module_name, module_prefix, Augment, augments_in, way_to, data_way_to}
 
 -- A diagram is that of one module, by its number in the set; in what follows that is `shown`.
 
@@ -150,9 +150,34 @@ module_part schema shown = record {
   nodes = owned_by shown schema.nodes;
 }
 
--- `module:` with the nodes of the module
+-- ---- augments of nodes of other modules
+
+abbrev pub is_elsewhere : Schema → ℕ → Augment → Bool
+is_elsewhere schema shown a = list_any (λ n. not (n.module_number == shown)) (take 1 (way_to schema a.target))
+
+abbrev pub augments_shown : Schema → ℕ → List Augment
+augments_shown schema shown = filter (is_elsewhere schema shown) (augments_in schema shown)
+
+-- a step to a target, choices and cases included, always with the prefix of its module
+abbrev pub step_text : Schema → SchemaNode → Text
+step_text schema n = codes "/" ++ (module_prefix schema n.module_number ++ (codes ":" ++ n.name))
+
+-- the nodes of a row that have these numbers
+abbrev pub those_of : List ℕ → Forest SchemaNode → Forest SchemaNode
+those_of numbers end = end
+those_of numbers (node n below after) = if list_any (λ m. m == n.number) numbers
+    then node n below (those_of numbers after) else those_of numbers after
+
+abbrev pub augment_part : Schema → Augment → Part
+augment_part schema a = record {
+  heading = codes "\n  augment " ++ (flat_map (step_text schema) (way_to schema a.target) ++ codes ":");
+  indentation = codes "    ";
+  nodes = those_of a.nodes (children_of schema a.target);
+}
+
+-- `module:` with the nodes of the module, and its augments of nodes of other modules
 abbrev pub parts_of : Schema → ℕ → List Part
-parts_of schema shown = module_part schema shown ∷ []
+parts_of schema shown = module_part schema shown ∷ map (augment_part schema) (augments_shown schema shown)
 
 abbrev pub diagram : Schema → ℕ → Text
 diagram schema shown = flat_map (part_text schema shown) (parts_of schema shown)

@@ -67,9 +67,17 @@ pub record SchemaNode : Type 0 where
   pub status : Status
   pub kind : Kind
 
+-- what an `augment` adds: the number of the node below which it stands, and those of the nodes right below it (RFC 7950,
+-- 7.17)
+pub record Augment : Type 0 where
+  pub target : ℕ
+  pub nodes : List ℕ
+
+-- a module with its augments, in order of its text
 pub record SchemaModule : Type 0 where
   pub name : Text
   pub prefix : Text
+  pub augments : List Augment
 
 pub record Schema : Type 0 where
   pub modules : List SchemaModule
@@ -129,6 +137,9 @@ module_name schema number = option_map_or (λ m. m.name) (slice_get schema.modul
 
 abbrev pub module_prefix : Schema → ℕ → Text
 module_prefix schema number = option_map_or (λ m. m.prefix) (slice_get schema.modules number) []
+
+abbrev pub augments_in : Schema → ℕ → List Augment
+augments_in schema number = option_map_or (λ m. m.augments) (slice_get schema.modules number) []
 
 -- the name of a child as it is written below a node of a module, or at the top: with its module's name in front
 -- where that isn't the same (RFC 7951, 4)
