@@ -1,12 +1,13 @@
 //! Laws of groupings in use.
 
-ghost use Rattle.std.specs.Prelude.{◌≡◌, ◌++◌, ℕ, suc, List, [], Some, true, if◌then◌else◌};
+ghost use Rattle.std.specs.Prelude.{◌≡◌, ◌+◌, ◌++◌, ℕ, suc, List, [], Some, true, if◌then◌else◌};
 ghost use Rattle.std.specs.List.{list_any};
 ghost use Rattle.yspec.specs.Forest.{Forest, end, first_of, join, row, size};
 ghost use Rattle.yspec.specs.linking.Source.{Source, all_with, found_with, is_source_of};
 ghost use Rattle.yspec.specs.linking.Keyword.{Keyword, grouping_word};
 ghost use Rattle.yspec.specs.linking.Parts.{Part};
 ghost use Rattle.yspec.specs.linking.Expansion.{Grouping, all_refine_breaks, expanded_parts, groupings_of, laid, others, replaced, row_in, row_used, stands_for, unfit_for, unfit_in};
+ghost use Rattle.yspec.specs.linking.Augments.{augments_of, sizes_added};
 ghost use Rattle.yspec.specs.linking.Scopes.{Placed, statement_at};
 ghost use Rattle.yspec.specs.linking.NodeCounts.{count_used, counts_within, node_count};
 ghost use Rattle.yspec.specs.linking.Rewriting.{Ends, Rewritten, is_settled, settled};
@@ -27,9 +28,10 @@ pub fn steps_end()
         × Rewritten modules owner groupings nodes last × (is_settled last ≡ true) }
 {}
 
-/// Counting without expanding gives the number of nodes that expanding makes.
+/// Counting without expanding gives the number of nodes that expanding makes, in modules and in augments.
 pub fn counted_nodes()
-    ensures { (modules : Forest Source) → node_count modules ≡ size (expanded_parts modules) }
+    ensures { (modules : Forest Source) → node_count modules
+        ≡ size (expanded_parts modules) + sizes_added modules (augments_of modules) }
 {}
 
 /// A `uses` that is counted as none stands for nothing, so nothing of it needs to be expanded.

@@ -9,8 +9,9 @@ use Rattle.yspec.specs.linking.Source.{Source, is_source_of}
 use Rattle.yspec.specs.linking.Parts.{Part}
 use Rattle.yspec.specs.linking.Prefixes.{NodeName}
 use Rattle.yspec.specs.linking.DerivedTypes.{number_named}
-use Rattle.yspec.specs.linking.Expansion.{Grouping, is_uses, row_in, row_used, is_step, changed_at, is_refine, is_fit, refine_steps, overridden, after_refine, refined, owned_by, replaced, stands_for, laid, expanded, expanded_from}
-use Rattle.yspec.specs.linking.NodeCounts.{GroupingCount, counted, count_in, count_used, counted_by, counts_within, counted_from}
+use Rattle.yspec.specs.linking.Expansion.{Grouping, is_uses, row_in, row_used, is_step, changed_at, is_refine, is_fit, refine_steps, overridden, after_refine, refined, owned_by, replaced, stands_for, laid, groupings_of, expanded, expanded_from}
+use Rattle.yspec.specs.linking.Augments.{Augment, sizes_added}
+use Rattle.yspec.specs.linking.NodeCounts.{GroupingCount, counted, count_in, count_used, counted_by, counts_within, counted_from, counted_in}
 use Rattle.yspec.specs.linking.Rewriting.{is_settled, settled, Step, replacing, inside, behind, GroupingStep, in_first, in_others, Rewritten, as_it_is, in_nodes, in_groupings, all_uses, ends_within, Ends}
 
 abbrev pub Nodes : Type 0
@@ -328,6 +329,16 @@ counted_all modules groupings (node s below after) =
     ap₂ (λ m n. m + n) (counted_is_size s.home (count_used modules counts) meant (count_is_size modules groupings s.home (suc (size modules))) (laid below))
     (counted_all modules groupings after)
     ∙ sym (size_join (expanded modules groupings s.home (laid below)) (expanded_from modules groupings after))
+
+pub counted_added : (modules : Forest Source) (augments : List Augment)
+    → counted_in modules (counts_within modules (groupings_of modules) (suc (size modules))) augments ≡ sizes_added modules augments
+counted_added modules [] = refl
+counted_added modules (a ∷ others) =
+    let groupings = groupings_of modules in
+    let meant = stands_for modules groupings a.source.home (suc (size modules)) in
+    let counts = counts_within modules groupings (suc (size modules)) in
+    ap₂ (λ m n. m + n) (counted_is_size a.source.home (count_used modules counts) meant (count_is_size modules groupings a.source.home (suc (size modules))) (laid a.given))
+    (counted_added modules others)
 
 -- a row of no nodes is empty
 pub none_in : {n : ℕ} (f : Nodes) → n ≡ size f → n ≡ 0 → f ≡ end

@@ -155,7 +155,7 @@ linked_numbered modules schema e =
 
 pub right_plan : (modules : Forest Statement) → BreaksNothing modules → AreRight (length (schema_of modules).modules) (expanded_parts (sources_of modules))
 right_plan modules none =
-    right_expanded (sources_of modules) (are_modules 0 modules none.statements 0) (are_at 0 modules none.statements 0)
+    right_expanded (plan_in modules) (sources_of modules) (are_modules 0 modules none.statements 0) (are_at 0 modules none.statements 0)
 
 pub linked_bare : (modules : Forest Statement) (schema : Schema) → compiled modules ≡ Ok schema → LeafsAreBare schema.nodes
 linked_bare modules schema e =

@@ -222,13 +222,13 @@ names_of (node s below after) = argument_text s ∷ names_of after
 abbrev text_at : List Text → ℕ → Text
 text_at names i = unwrap_or (slice_get names i) []
 
-module_names : (home number : ℕ) (modules : Forest Statement) → breaks_from home modules ≡ [] → map (λ m. m.name) (schema_modules (sources_from home number modules)) ≡ names_of modules
+module_names : (plan : Plan) (home number : ℕ) (modules : Forest Statement) → breaks_from home modules ≡ [] → map (λ m. m.name) (schema_modules plan (sources_from home number modules)) ≡ names_of modules
 unfolding sources_from breaks_from
-module_names home number end e = refl
-module_names home number (node s below after) e =
+module_names plan home number end e = refl
+module_names plan home number (node s below after) e =
     let here = is_module home s below (none_first (top_breaks home s below) (breaks_from (home + 1) after) e) in
-    ap (λ f. map (λ m. m.name) (schema_modules f)) (sources_first home number s below after here.keyword)
-    ∙ ap (λ names. argument_text s ∷ names) (module_names (home + 1) _ after (none_second (top_breaks home s below) (breaks_from (home + 1) after) e))
+    ap (λ f. map (λ m. m.name) (schema_modules plan f)) (sources_first home number s below after here.keyword)
+    ∙ ap (λ names. argument_text s ∷ names) (module_names plan (home + 1) _ after (none_second (top_breaks home s below) (breaks_from (home + 1) after) e))
 
 name_at : (modules : List SchemaModule) (i : ℕ) → option_map_or (λ m. m.name) (slice_get modules i) [] ≡ text_at (map (λ m. m.name) modules) i
 name_at [] i = refl
@@ -269,19 +269,21 @@ names_once m (suc i) (suc j) before (node s below after) here there e same =
     ap suc (names_once (m + 1) i j (argument_text s ∷ before) after (omega (arith, here)) (omega (arith, there))
     (none_second _ (module_breaks (m + 1) (argument_text s ∷ before) after) e) same)
 
-plain_at : (home i : ℕ) (f : Forest Source) → AreModules home f → i < length (schema_modules f) → IsPlain (option_map_or (λ m. m.name) (slice_get (schema_modules f) i) [])
-plain_at home i end legal few = absurd (omega (arith, few))
-plain_at home zero (node s below after) legal few = identifier_plain (argument_in s) legal.0
-plain_at home (suc i) (node s below after) legal few = plain_at (home + 1) i after legal.2 (omega (arith, few))
+plain_at : (plan : Plan) (home i : ℕ) (f : Forest Source) → AreModules home f → i < length (schema_modules plan f)
+    → IsPlain (option_map_or (λ m. m.name) (slice_get (schema_modules plan f) i) [])
+plain_at plan home i end legal few = absurd (omega (arith, few))
+plain_at plan home zero (node s below after) legal few = identifier_plain (argument_in s) legal.0
+plain_at plan home (suc i) (node s below after) legal few = plain_at plan (home + 1) i after legal.2 (omega (arith, few))
 
 modules_differ : (modules : Forest Statement) → BreaksNothing modules → ModulesDiffer (schema_of modules)
 modules_differ modules none i j here there =
     let sources = sources_of modules in
-    let names = module_names 0 0 modules none.statements in
-    let count : length (schema_modules sources) ≡ length (names_of modules) = length_named (schema_modules sources) ∙ ap length names in
-    let first = name_at (schema_modules sources) i ∙ ap (λ ns. text_at ns i) names in
-    let second = name_at (schema_modules sources) j ∙ ap (λ ns. text_at ns j) names in (
-      plain_at 0 i sources (are_modules 0 modules none.statements 0) here,
+    let plan = plan_in modules in
+    let names = module_names plan 0 0 modules none.statements in
+    let count : length (schema_modules plan sources) ≡ length (names_of modules) = length_named (schema_modules plan sources) ∙ ap length names in
+    let first = name_at (schema_modules plan sources) i ∙ ap (λ ns. text_at ns i) names in
+    let second = name_at (schema_modules plan sources) j ∙ ap (λ ns. text_at ns j) names in (
+      plain_at plan 0 i sources (are_modules 0 modules none.statements 0) here,
       λ same. names_once 0 i j [] modules (omega (arith, count, here)) (omega (arith, count, there)) none.module_names (sym first ∙ (same ∙ second)),
     )
 

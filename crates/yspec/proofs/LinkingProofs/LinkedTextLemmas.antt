@@ -72,14 +72,14 @@ nodes_texts count plan next around (node p below after) right = (
   nodes_texts count plan (next + suc (size below)) around after right.2,
 )
 
-module_text : (home i : ℕ) (f : Forest Source) → AreModules home f → IsUtf8 (option_map_or (λ m. m.name) (slice_get (schema_modules f) i) [])
-module_text home i end legal = IsUtf8-nil
-module_text home zero (node s below after) legal = identifier_text (argument_in s) legal.0
-module_text home (suc i) (node s below after) legal = module_text (home + 1) i after legal.2
+module_text : (plan : Plan) (home i : ℕ) (f : Forest Source) → AreModules home f → IsUtf8 (option_map_or (λ m. m.name) (slice_get (schema_modules plan f) i) [])
+module_text plan home i end legal = IsUtf8-nil
+module_text plan home zero (node s below after) legal = identifier_text (argument_in s) legal.0
+module_text plan home (suc i) (node s below after) legal = module_text plan (home + 1) i after legal.2
 
 names_texts : (modules : Forest Statement) → BreaksNothing modules → NamesAreTexts (schema_of modules)
 names_texts modules none = (
-  λ i. module_text 0 i (sources_of modules) (are_modules 0 modules none.statements 0),
+  λ i. module_text (plan_in modules) 0 i (sources_of modules) (are_modules 0 modules none.statements 0),
   nodes_texts (length (schema_of modules).modules) (plan_in modules) 0 at_top (expanded_parts (sources_of modules)) (right_plan modules none),
 )
 

@@ -13,6 +13,7 @@ use Rattle.yspec.specs.linking.Source.{Source, argument_in, is_source_of}
 use Rattle.yspec.specs.linking.Scopes.{Placed, placed, statements_of}
 use Rattle.yspec.specs.linking.DerivedTypes.{number_named}
 use Rattle.yspec.specs.linking.Parts.{Part, defines_node, part_of, case_for, as_cases, within}
+use Rattle.yspec.specs.linking.Planned.{Plan}
 use Rattle.yspec.specs.linking.Compiling.{schema_modules}
 use Rattle.yspec.specs.linking.Expansion.{Grouping, laid, is_uses, grouping_at, groupings_of, row_in, row_used, refined, owned_by, replaced, stands_for, expanded_from, expanded_parts}
 use Rattle.yspec.proofs.LinkingProofs.KeywordLemmas.{of_each, same_is, by_definition, named_by_identifier}
@@ -279,15 +280,15 @@ right_stands count modules groupings right owner few (suc depth) u =
     (right_replaced count (stands_for modules groupings owner depth) (right_stands count modules groupings right owner few depth) owner few
     (row_used modules groupings u) (used_laid modules groupings right u))
 
-right_from : (count home : ℕ) (modules : Forest Source) (groupings : List Grouping) → ((number : ℕ) → AreLaid (row_in groupings number)) → (f : Forest Source)
-    → home + length (schema_modules f) ≡ count → AreModules home f → AreAt home f → AreRight count (expanded_from modules groupings f)
-right_from count home modules groupings right end is legal at = tt
-right_from count home modules groupings right (node s below after) is legal at =
+right_from : (plan : Plan) (count home : ℕ) (modules : Forest Source) (groupings : List Grouping) → ((number : ℕ) → AreLaid (row_in groupings number)) → (f : Forest Source)
+    → home + length (schema_modules plan f) ≡ count → AreModules home f → AreAt home f → AreRight count (expanded_from modules groupings f)
+right_from plan count home modules groupings right end is legal at = tt
+right_from plan count home modules groupings right (node s below after) is legal at =
     let few : s.home < count = subst (λ (k : ℕ). k < count) (sym at.1) (omega (arith, is)) in
     right_joined count _ (expanded_from modules groupings after)
     (right_replaced count (stands_for modules groupings s.home (suc (size modules))) (right_stands count modules groupings right s.home few (suc (size modules))) s.home few
     (laid below) (laid_right home (rule_of module_word).substatements below legal.1))
-    (right_from count (home + 1) modules groupings right after (omega (arith, is)) legal.2 at.2)
+    (right_from plan count (home + 1) modules groupings right after (omega (arith, is)) legal.2 at.2)
 
-pub right_expanded : (f : Forest Source) → AreModules 0 f → AreAt 0 f → AreRight (length (schema_modules f)) (expanded_parts f)
-right_expanded f legal at = right_from (length (schema_modules f)) 0 f (groupings_of f) (row_laid (statements_of f) (legal_statements 0 f legal at)) f (omega arith) legal at
+pub right_expanded : (plan : Plan) (f : Forest Source) → AreModules 0 f → AreAt 0 f → AreRight (length (schema_modules plan f)) (expanded_parts f)
+right_expanded plan f legal at = right_from plan (length (schema_modules plan f)) 0 f (groupings_of f) (row_laid (statements_of f) (legal_statements 0 f legal at)) f (omega arith) legal at

@@ -1,5 +1,5 @@
 -- Augments: nodes that are added below others, those of other modules too (RFC 7950, 7.17).
-use Rattle.std.specs.Prelude.{ℕ, zero, suc, ◌&&◌, Bool, true, false, not, List, [], ◌∷◌, ◌++◌, map, length, Option, Some, None, is_some, option_map, unwrap_or, if◌then◌else◌}
+use Rattle.std.specs.Prelude.{ℕ, zero, suc, ◌+◌, ◌&&◌, Bool, true, false, not, List, [], ◌∷◌, ◌++◌, map, length, Option, Some, None, is_some, option_map, unwrap_or, if◌then◌else◌}
 use Rattle.std.specs.List.{flat_map}
 use Rattle.std.specs.Option.{option_map_or}
 use Rattle.yspec.specs.Forest.{Forest, end, node, join, size}
@@ -57,6 +57,11 @@ target_steps modules a =
 -- the nodes that it adds, which belong to its module
 abbrev pub added_nodes : Forest Source → Augment → Forest Part
 added_nodes modules a = expanded modules (groupings_of modules) a.source.home (laid a.given)
+
+-- how many nodes some of them add
+abbrev pub sizes_added : Forest Source → List Augment → ℕ
+sizes_added modules [] = 0
+sizes_added modules (a ∷ others) = size (added_nodes modules a) + sizes_added modules others
 
 -- ---- its target
 
