@@ -17,7 +17,8 @@ use Rattle.yspec.specs.program.Examples.{edits_of}
 -- ---- how schemas are written here
 
 abbrev pub one_module : Text → Text → Forest SchemaNode → Schema
-one_module name prefix nodes = record { modules = record { name = name; prefix = prefix } ∷ []; nodes = nodes }
+one_module name prefix nodes =
+    record { modules = record { name = name; prefix = prefix; augments = [] } ∷ []; nodes = nodes }
 
 abbrev pub node_of : ℕ → Text → Kind → SchemaNode
 node_of number name kind =
@@ -117,7 +118,7 @@ t_schema = one_module (codes "t") (codes "t") (node (node_of 0 (codes "d") (leaf
 -- ---- nodes of three modules, one below the other
 
 abbrev pub named_module : Text → SchemaModule
-named_module name = record { name = name; prefix = name }
+named_module name = record { name = name; prefix = name; augments = [] }
 
 abbrev pub m_schema : Schema
 m_schema = record {
