@@ -13,3 +13,4 @@ pub mod LeastLemmas
 pub mod StatingLemmas
 pub mod TaskLemmas
 pub mod TurnLemmas
+pub mod HangingLemmas

@@ -1,0 +1,2 @@
+use Rattle.yexpand.proofs.HangingLemmas.{hung_more}
+use Rattle.yexpand.proofs.augments.augments_of.Goals as goal
