@@ -14,3 +14,4 @@ pub mod StatingLemmas
 pub mod TaskLemmas
 pub mod TurnLemmas
 pub mod HangingLemmas
+pub mod PathLemmas

@@ -1,6 +1,9 @@
 -- Rows that are hung below nodes of a forest, one after another.
-use Rattle.std.specs.Prelude.{ℕ, ◌+◌, ◌==◌, List, [], ◌∷◌, if◌then◌else◌}
-use Rattle.yspec.specs.Forest.{Forest, end, node, join}
+use Rattle.std.specs.Prelude.{ℕ, ◌+◌, ◌==◌, Bool, List, [], ◌∷◌, Option, Some, None, find, option_and_then, if◌then◌else◌}
+use Rattle.yspec.specs.Forest.{Forest, end, node, row, join, relabelled, below_nth}
+use Rattle.yspec.specs.linking.Parts.{Part}
+use Rattle.yspec.specs.linking.Prefixes.{NodeName}
+use Rattle.yspec.specs.linking.Expansion.{is_step}
 
 -- a label with the number of its node
 pub record Numbered (L : Type 0) : Type 0 where
@@ -37,3 +40,17 @@ module _ {L : Type 0} where
   abbrev pub times : ℕ → Forest (Numbered L) → ℕ
   times n end = 0
   times n (node l below after) = (if l.number == n then 1 else 0) + (times n below + times n after)
+
+-- ---- parts with numbers
+
+abbrev pub plain : Forest (Numbered Part) → Forest Part
+plain f = relabelled (λ l. l.label) f
+
+abbrev pub is_step_of : NodeName → Numbered Part → Bool
+is_step_of name l = is_step name l.label
+
+-- the node at a path: the first child of each name
+abbrev pub label_at : List NodeName → Forest (Numbered Part) → Option (Numbered Part)
+label_at [] f = None
+label_at (step ∷ []) f = find (is_step_of step) (row f)
+label_at (step ∷ next ∷ steps) f = option_and_then (label_at (next ∷ steps)) (below_nth (is_step_of step) 0 f)
