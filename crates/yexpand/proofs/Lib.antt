@@ -14,4 +14,5 @@ pub mod StatingLemmas
 pub mod TaskLemmas
 pub mod TurnLemmas
 pub mod HangingLemmas
+pub mod BodyLemmas
 pub mod PathLemmas

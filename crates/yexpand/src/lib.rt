@@ -2,6 +2,7 @@
 #![tactic(auto)]
 
 mod augments;
+mod bodies;
 mod counting;
 mod expanding;
 mod groupings;
