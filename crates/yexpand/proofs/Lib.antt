@@ -16,3 +16,4 @@ pub mod TurnLemmas
 pub mod HangingLemmas
 pub mod BodyLemmas
 pub mod PathLemmas
+pub mod SearchLemmas

@@ -2,6 +2,7 @@ pub mod NamedView
 pub mod AugmentView
 pub mod Bodies
 pub mod Hanging
+pub mod Searching
 pub mod NodeView
 pub mod TableView
 pub mod Targets
