@@ -17,3 +17,4 @@ pub mod HangingLemmas
 pub mod BodyLemmas
 pub mod PathLemmas
 pub mod SearchLemmas
+pub mod PutLemmas

@@ -73,14 +73,14 @@ label_known look source (step ∷ next ∷ steps) (node k below after) l agrees 
 
 -- ---- once a row has come behind the children of a node
 
-row_put : (h : Hung Part) (f : Parts) → row (put h f) ≡ row f
+pub row_put : (h : Hung Part) (f : Parts) → row (put h f) ≡ row f
 row_put h end = refl
 row_put h (node l below after) = ap (λ ls. l ∷ ls) (row_put h after)
 
-first_put : (h : Hung Part) (name : NodeName) (f : Parts) → first_in name (put h f) ≡ first_in name f
+pub first_put : (h : Hung Part) (name : NodeName) (f : Parts) → first_in name (put h f) ≡ first_in name f
 first_put h name f = ap (λ ls. option_map (λ l. l.number) (find (is_step_of name) ls)) (row_put h f)
 
-first_join : (name : NodeName) (f g : Parts) → first_in name (join f g) ≡ first_of (first_in name f) (first_in name g)
+pub first_join : (name : NodeName) (f g : Parts) → first_in name (join f g) ≡ first_of (first_in name f) (first_in name g)
 first_join name end g = refl
 first_join name (node l below after) g = by (is_step_of name l) (first_join name after g)
   where
@@ -99,10 +99,10 @@ pub behind_other : (look : Lookup) (target n : ℕ) (added : Parts) (name : Node
 behind_other look target n added name other =
     ap (λ b. first_of (look (Some n) name) (cond b (first_in name added) None)) (ne_eqb n target other) ∙ of_none (look (Some n) name)
 
-behind_top : (look : Lookup) (target : ℕ) (added : Parts) (name : NodeName) → looked_behind look target added None name ≡ look None name
+pub behind_top : (look : Lookup) (target : ℕ) (added : Parts) (name : NodeName) → looked_behind look target added None name ≡ look None name
 behind_top look target added name = of_none (look None name)
 
-behind_target : (look : Lookup) (target : ℕ) (added : Parts) (name : NodeName) → looked_behind look target added (Some target) name ≡ first_of (look (Some target) name) (first_in name added)
+pub behind_target : (look : Lookup) (target : ℕ) (added : Parts) (name : NodeName) → looked_behind look target added (Some target) name ≡ first_of (look (Some target) name) (first_in name added)
 behind_target look target added name = ap (λ b. first_of (look (Some target) name) (cond b (first_in name added) None)) (eq-eqb target target refl)
 
 -- a row in which the node doesn't stand agrees as before
