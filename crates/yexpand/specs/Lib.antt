@@ -3,6 +3,7 @@ pub mod AugmentView
 pub mod Bodies
 pub mod Hanging
 pub mod Searching
+pub mod Arranging
 pub mod NodeView
 pub mod TableView
 pub mod Targets
