@@ -19,3 +19,4 @@ pub mod PathLemmas
 pub mod SearchLemmas
 pub mod PutLemmas
 pub mod TakenLemmas
+pub mod ReadyLemmas

@@ -19,7 +19,7 @@ abbrev pub Lacks : Keyword → Forest Part → Type 0
 Lacks k end = Unit {0}
 Lacks k (node p below after) = (is_source_of k p.source ≡ false) × Lacks k after
 
-laid_lacks : (k : Keyword) (given : Forest Source) → first_with k given ≡ None → Lacks k (laid given)
+pub laid_lacks : (k : Keyword) (given : Forest Source) → first_with k given ≡ None → Lacks k (laid given)
 unfolding laid
 laid_lacks k end none = tt
 laid_lacks k (node s below after) none = by (is_source_of k s) refl none (laid_lacks k after)
@@ -75,10 +75,10 @@ module _ (meant : Part → Forest Part) (owner : ℕ) where
 
 -- ---- with numbers
 
-plain_marked : (augment : ℕ) (f : Nodes Part) → plain (marked_by augment f) ≡ marked augment (plain f)
+pub plain_marked : (augment : ℕ) (f : Nodes Part) → plain (marked_by augment f) ≡ marked augment (plain f)
 plain_marked augment end = refl
 plain_marked augment (node l below after) = ap (node (record l.label { added_by = Some augment }) (plain below)) (plain_marked augment after)
 
-plain_inner : (f : Nodes Part) → plain (inner f) ≡ inner (plain f)
+pub plain_inner : (f : Nodes Part) → plain (inner f) ≡ inner (plain f)
 plain_inner end = refl
 plain_inner (node l below after) = plain_join below (inner after) ∙ ap (join (plain below)) (plain_inner after)

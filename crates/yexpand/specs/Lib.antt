@@ -4,6 +4,7 @@ pub mod Bodies
 pub mod Hanging
 pub mod Searching
 pub mod Arranging
+pub mod Resolving
 pub mod NodeView
 pub mod TableView
 pub mod Targets
