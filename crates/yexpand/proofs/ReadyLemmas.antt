@@ -1,5 +1,5 @@
 -- An augment that finds its target by numbers is ready, and what it adds is hung there.
-use Rattle.std.proofs.Common.{◌≡◌, ℕ, suc, ◌+◌, ◌==◌, ◌≤◌, Bool, true, false, cond, ◌&&◌, not, List, [], ◌∷◌, Option, Some, None, refl, sym, ap, ap₂, subst, ◌∙◌, arith}
+use Rattle.std.proofs.Common.{◌≡◌, ℕ, zero, suc, ◌+◌, ◌==◌, ◌≤◌, Bool, true, false, cond, ◌&&◌, not, List, [], ◌∷◌, Option, Some, None, refl, sym, ap, ap₂, subst, ◌∙◌, arith}
 use Rattle.std.specs.Prelude.{is_some, option_map}
 use Rattle.std.specs.Option.{option_map_or}
 use Rattle.std.proofs.lemmas.Bool.{and_parts, cases_eq, eq-eqb}
@@ -10,7 +10,7 @@ use Rattle.yspec.specs.linking.Source.{Source, is_source_of, first_with}
 use Rattle.yspec.specs.linking.Prefixes.{NodeName}
 use Rattle.yspec.specs.linking.Parts.{Part, as_cases, within}
 use Rattle.yspec.specs.linking.Expansion.{laid, groupings_of, stands_for, part_at}
-use Rattle.yspec.specs.linking.Augments.{Augment, target_steps, added_nodes, may_take, is_ready, marked, added_below, applied}
+use Rattle.yspec.specs.linking.Augments.{Augment, target_steps, added_nodes, may_take, is_ready, marked, added_below, applied, first_that, done_first, in_turn}
 use Rattle.yexpand.specs.Hanging.{Numbered, Hung, put, times, plain, inner, marked_by, label_at}
 use Rattle.yexpand.specs.Searching.{Lookup, target_in, Agrees, AgreesAll, looked_behind}
 use Rattle.yexpand.specs.Arranging.{taken_for}
@@ -87,3 +87,60 @@ applied_there look source modules a rows target f agrees few is found holds =
     changed_plain (target_steps modules a) (hung_by a rows target) (added_below a.source.number (added_nodes modules a)) l
     (λ below after. ap (λ g. node l.label (join below g) after) (taken_is modules a l.label.source rows is (ap (λ s. may_hold s a.given) there.3 ∙ holds)))
     f there.1 there.2 few
+
+-- ---- once it is hung there
+
+times_row : (n : ℕ) (a : Augment) (rows : Parts) (s : Source) → times n (row_for a rows s) ≤ times n rows
+times_row n a rows s = by (is_source_of word.choice_word s)
+  where
+    by : (b : Bool) → times n (marked_by a.source.number (cond b rows (inner rows))) ≤ times n rows
+    by true = omega (arith, times_marked n a.source.number rows)
+    by false = omega (arith, times_marked n a.source.number (inner rows), times_inner n rows)
+
+agrees_row : (look : Lookup) (source : ℕ → Source) (a : Augment) (rows : Parts) (s : Source) → Agrees look source rows → Agrees look source (row_for a rows s)
+agrees_row look source a rows s agrees = by (is_source_of word.choice_word s)
+  where
+    by : (b : Bool) → Agrees look source (marked_by a.source.number (cond b rows (inner rows)))
+    by true = agrees_marked look source a.source.number rows agrees
+    by false = agrees_marked look source a.source.number (inner rows) (agrees_inner look source rows agrees)
+
+pub stands_put : (source : ℕ → Source) (rows : ℕ → Parts) (left now : ℕ → Bool) (look : Lookup) (f : Parts) → AreApart rows → Stands source rows left look f
+    → (a : Augment) (j target : ℕ) → left j ≡ true → times target f ≡ 1 → ((i : ℕ) → now i ≡ true → (left i ≡ true) × (i ≡ j → ⊥))
+    → Stands source rows now (looked_behind look target (row_for a (rows j) (source target))) (put (hung_by a (rows j) target) f)
+stands_put source rows left now look f alone stands a j target is_left once later =
+    let added = row_for a (rows j) (source target) in
+    let h = hung_by a (rows j) target in
+    let none : times target added ≡ 0 = omega (arith, times_row target a (rows j) (source target), stands.apart j target is_left (omega (arith, once))) in
+    let row_is = λ (l : Numbered Part) (e : l.label.source ≡ source target). ap (row_for a (rows j)) e in
+    let within = λ (n : ℕ). times_row n a (rows j) (source target) in
+    let count = λ (n : ℕ). times_put look source h added row_is n f stands.agrees.1 once in
+    record {
+      few = λ n. few_by n (times n f) refl (within n) (count n);
+      apart = λ i n left_i there. apart_by i n (later i left_i) (times n f) refl (within n) (count n) there;
+      agrees = agrees_all_put look source h added row_is none (agrees_row look source a (rows j) (source target) (stands.bodies j is_left)) f stands.agrees;
+      bodies = λ i left_i. agrees_other look source target added (rows i) (stands.apart i target (later i left_i).0 (omega (arith, once))) (stands.bodies i (later i left_i).0);
+    }
+  where
+    few_by : (n k : ℕ) → times n f ≡ k → times n (row_for a (rows j) (source target)) ≤ times n (rows j)
+        → times n (put (hung_by a (rows j) target) f) ≡ times n f + times n (row_for a (rows j) (source target)) → times n (put (hung_by a (rows j) target) f) ≤ 1
+    few_by n zero is within count = omega (arith, is, within, count, alone.few j n)
+    few_by n (suc k) is within count = omega (arith, is, within, count, stands.few n, stands.apart j n is_left (omega (arith, is)))
+    apart_by : (i n : ℕ) → (left i ≡ true) × (i ≡ j → ⊥) → (k : ℕ) → times n f ≡ k → times n (row_for a (rows j) (source target)) ≤ times n (rows j)
+        → times n (put (hung_by a (rows j) target) f) ≡ times n f + times n (row_for a (rows j) (source target)) → 1 ≤ times n (put (hung_by a (rows j) target) f)
+        → times n (rows i) ≡ 0
+    apart_by i n both zero is within count there = alone.apart j i n (λ e. both.1 (sym e)) (omega (arith, is, within, count, there))
+    apart_by i n both (suc k) is within count there = stands.apart i n both.0 (omega (arith, is))
+
+-- ---- the first that finds its target
+
+pub turn_taken : (ready : Forest Part → Augment → Bool) (apply : Augment → Forest Part → Forest Part) (times_left : ℕ) (state : Forest Part) (waiting : List Augment)
+    (found : Augment × List Augment) → first_that (ready state) waiting ≡ Some found
+    → in_turn ready apply (suc times_left) state waiting ≡ in_turn ready apply times_left (apply found.0 state) found.1
+unfolding in_turn
+turn_taken ready apply times_left state waiting found e = ap (done_first apply (in_turn ready apply times_left) state waiting) e
+
+pub turns_over : (ready : Forest Part → Augment → Bool) (apply : Augment → Forest Part → Forest Part) (times_left : ℕ) (state : Forest Part) (waiting : List Augment)
+    → first_that (ready state) waiting ≡ None → in_turn ready apply times_left state waiting ≡ (state, waiting)
+unfolding in_turn
+turns_over ready apply zero state waiting e = refl
+turns_over ready apply (suc times_left) state waiting e = ap (done_first apply (in_turn ready apply times_left) state waiting) e
