@@ -5,6 +5,7 @@ pub mod Hanging
 pub mod Searching
 pub mod Arranging
 pub mod Resolving
+pub mod WaitingView
 pub mod NodeView
 pub mod TableView
 pub mod Targets

@@ -14,6 +14,7 @@ mod refining;
 mod stating;
 mod table;
 mod target;
+mod waiting;
 mod walking;
 
 pub use augments::augments_of;
