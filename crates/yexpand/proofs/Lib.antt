@@ -20,3 +20,4 @@ pub mod SearchLemmas
 pub mod PutLemmas
 pub mod TakenLemmas
 pub mod ReadyLemmas
+pub mod ReachedLemmas
