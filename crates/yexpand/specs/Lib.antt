@@ -6,6 +6,7 @@ pub mod Searching
 pub mod Arranging
 pub mod Resolving
 pub mod WaitingView
+pub mod SearchView
 pub mod NodeView
 pub mod TableView
 pub mod Targets

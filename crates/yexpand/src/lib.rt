@@ -11,6 +11,7 @@ mod laying;
 mod named;
 mod nodes;
 mod refining;
+mod search;
 mod stating;
 mod table;
 mod target;
