@@ -2,7 +2,7 @@
 use Rattle.std.specs.Prelude.{◌≡◌, Option, Some, None}
 use Rattle.yspec.specs.Forest.{Forest, end, node}
 use Rattle.yspec.specs.schema.Schema as spec
-pub use Rattle.ymodel.specs.Layout.{kind_view, status_view, node_view, forest_of, module_view, schema_view}
+pub use Rattle.ymodel.specs.Layout.{kind_view, status_view, node_view, forest_of, augment_view, module_view, schema_view}
 unfoldable pub use Rattle.ymodel.specs.Layout.{forest_within}
 use Rattle.ymodel.specs.declared.children.Children.{Children}
 use Rattle.ymodel.specs.declared.children.Child.{Child}

@@ -15,11 +15,19 @@ use crate::written::{first_written, module_named, other_name, written_name};
 use std::alloc::{AllocError, Global};
 use yindex::Names;
 
-/// A module of a schema.
+/// What an `augment` adds: the node below which it stands, and the nodes right below that one (RFC 7950, 7.17).
+#[derive(Debug, Drop)]
+pub struct Augment {
+    pub target: SchemaId,
+    pub nodes: Vec<SchemaId>,
+}
+
+/// A module of a schema, with its augments in order of its text.
 #[derive(Debug, Drop)]
 pub struct SchemaModule {
     pub name: String,
     pub prefix: String,
+    pub augments: Vec<Augment>,
 }
 
 /// The schema tree of a set of modules (RFC 7950, 4.2.2).
@@ -38,12 +46,12 @@ pub struct Schema {
 }
 
 impl Schema {
-    ghost use Rattle.std.specs.Prelude.{◌≡◌, ◌<◌, ◌++◌, option_map, slice_get, IfOk, IfSome, None};
+    ghost use Rattle.std.specs.Prelude.{◌≡◌, ◌<◌, ◌++◌, map, option_map, slice_get, IfOk, IfSome, None};
     ghost use Rattle.yspec.specs.Forest.{size};
     ghost use Rattle.yspec.specs.schema.Schema as spec;
     ghost use Rattle.yspec.specs.schema.Schema.{node_at, children_of, child_named, child_written, way_to};
     ghost use Rattle.yspec.specs.schema.References.{references_to};
-    ghost use Rattle.ymodel.specs.Layout.{node_view, number_of, numbers_of};
+    ghost use Rattle.ymodel.specs.Layout.{augment_view, node_view, number_of, numbers_of};
     ghost use Rattle.ymodel.specs.Lookup.{alone, module_passed, names_in, way_above};
     ghost use Rattle.yindex.specs.Names.{AreNamesOf};
     ghost use Rattle.ymodel.specs.View.{view, row_view, forest_of};
@@ -220,5 +228,15 @@ impl Schema {
             ≡ option_map (λ m. m.prefix) (slice_get (view self.now).modules «module») }
     {
         Some(self.modules.get(module)?.prefix.as_str())
+    }
+
+    /// What the module of a number augments, in order of its text (RFC 7950, 7.17); nothing where the set has fewer.
+    pub fn augments(&self, module: usize) -> &[Augment]
+        ensures { map augment_view result.now ≡ spec.augments_in (view self.now) «module» }
+    {
+        match self.modules.get(module) {
+            Some(found) => found.augments.as_slice(),
+            None => &[],
+        }
     }
 }
