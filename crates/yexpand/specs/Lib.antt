@@ -1,4 +1,5 @@
 pub mod NamedView
+pub mod AugmentView
 pub mod NodeView
 pub mod TableView
 pub mod Targets

@@ -1,5 +1,5 @@
 -- Nodes of groupings in use as the specification's parts.
-use Rattle.std.specs.Prelude.{ℕ, Bool, true, false, List, [], ◌∷◌, map}
+use Rattle.std.specs.Prelude.{ℕ, Bool, true, false, List, [], ◌∷◌, map, Option}
 use Rattle.yspec.specs.Forest.{Forest, join}
 use Rattle.yspec.specs.linking.Source.{Source}
 use Rattle.yspec.specs.linking.Parts.{Part, part_of, case_for}
@@ -22,8 +22,13 @@ stated_after own (given ∷ more) = stated_after (join (others given own) given)
 abbrev pub part_for : ℕ → Bool → Source → Forest Source → Part
 part_for owner is_implied s below = owned_by owner (implied_or is_implied (part_of s below))
 
+-- a part with the number of the `augment` that added it
+abbrev pub added_with : Option ℕ → Part → Part
+added_with number p = record p { added_by = number }
+
 abbrev pub plain_part : ExpandedNode → Part
-plain_part n = part_for n.owner n.is_implied (label_by source_view n.source) (row_by source_view n.source.children)
+plain_part n = added_with n.added_by
+    (part_for n.owner n.is_implied (label_by source_view n.source) (row_by source_view n.source.children))
 
 abbrev pub with_rows : List (Forest Source) → Part → Part
 with_rows given p = record p { own = stated_after p.own given }

@@ -1,6 +1,7 @@
 //! The nodes that a set of modules defines, with each `uses` replaced by the nodes of its grouping (RFC 7950, 7.12 and 7.13).
 #![tactic(auto)]
 
+mod augments;
 mod counting;
 mod expanding;
 mod groupings;
@@ -13,6 +14,7 @@ mod table;
 mod target;
 mod walking;
 
+pub use augments::augments_of;
 pub use expanding::{Made, expanded};
 pub use groupings::Groupings;
 pub use named::Named;

@@ -15,6 +15,8 @@ pub struct ExpandedNode<'a, 't> {
     is_implied: bool,
     // The number of the module to which it belongs.
     owner: usize,
+    // The number of the augment that put it below its target.
+    added_by: Option<u32>,
     // What refines give it, one after another.
     pub(crate) refines: Vec<Siblings<'a, Source<'t>>>,
 }
@@ -46,6 +48,7 @@ impl<'a, 't> ExpandedNode<'a, 't> {
             source,
             is_implied,
             owner,
+            added_by: None,
             refines: Vec::new(alloc),
         }
     }
@@ -86,6 +89,13 @@ impl<'a, 't> ExpandedNode<'a, 't> {
         ensures { result ≡ (part_view self.now).owner }
     {
         self.owner
+    }
+
+    /// The number of the `augment` that put it below its target, where one did.
+    pub fn added_by(&self) -> Option<u32>
+        ensures { result ≡ (part_view self.now).added_by }
+    {
+        self.added_by
     }
 
     /// Its name.

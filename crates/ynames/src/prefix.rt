@@ -23,8 +23,8 @@ use crate::first_named::FirstNamed;
 use crate::repeated::repeated_prefix;
 use std::alloc::{AllocError, Global};
 use ygrammar::{
-    BrokenRule, CompileCode, Name, Source, Sources, argument_of, argument_with, broken, key_names,
-    leafref_path, least, name_of, relative_path, unique_paths,
+    BrokenRule, CompileCode, Name, Source, Sources, absolute_path, argument_of, argument_with,
+    broken, key_names, leafref_path, least, name_of, relative_path, unique_paths,
 };
 use ypreorder::{Node, Siblings};
 use yword::Keyword;
@@ -239,6 +239,9 @@ fn has_unknown_prefix(
         Keyword::Uses => is_unknown_name(prefixes, source),
         Keyword::Refine => {
             has_unknown_among(prefixes, home, relative_path(alloc, source.argument())?)
+        }
+        Keyword::Augment => {
+            has_unknown_among(prefixes, home, absolute_path(alloc, source.argument())?)
         }
         Keyword::Key => has_unknown_among(prefixes, home, key_names(alloc, source.argument())?),
         Keyword::Path => {
