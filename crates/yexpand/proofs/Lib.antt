@@ -13,3 +13,5 @@ pub mod LeastLemmas
 pub mod StatingLemmas
 pub mod TaskLemmas
 pub mod TurnLemmas
+pub mod HangingLemmas
+pub mod PathLemmas

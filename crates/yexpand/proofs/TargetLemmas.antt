@@ -45,11 +45,22 @@ part_found (step ∷ next ∷ steps) k f =
     by None rest = refl
     by (Some x) rest = rest (x.number + 1) x.below
 
--- more steps lead on from the first of a name
-pub found_next : (step : NodeName) (steps : List NodeName) (k : ℕ) (f : Forest Part) (x : Found) → (length steps ≡ 0 → ⊥)
-    → Some x ≡ found_in (is_step step) k f → found_at steps (x.number + 1) x.below ≡ found_at (step ∷ steps) k f
-found_next step [] k f x more found = absurd (more refl)
-found_next step (next ∷ steps) k f x more found = ap (option_and_then (λ (y : Found). found_at (next ∷ steps) (y.number + 1) y.below)) found
+-- where more steps lead on to from a node
+abbrev pub found_from : List NodeName → Found → Option Found
+found_from [] x = Some x
+found_from (step ∷ steps) x = found_at (step ∷ steps) (x.number + 1) x.below
+
+-- they lead on from the first of a name
+pub found_step : (step : NodeName) (steps : List NodeName) (k : ℕ) (f : Forest Part) (x : Found) → Some x ≡ found_in (is_step step) k f
+    → found_from steps x ≡ found_at (step ∷ steps) k f
+found_step step [] k f x found = found
+found_step step (next ∷ steps) k f x found = ap (option_and_then (λ (y : Found). found_at (next ∷ steps) (y.number + 1) y.below)) found
+
+-- and nowhere, where there is none
+pub found_nowhere : (step : NodeName) (steps : List NodeName) (k : ℕ) (f : Forest Part) → None ≡ found_in (is_step step) k f
+    → None ≡ found_at (step ∷ steps) k f
+found_nowhere step [] k f found = found
+found_nowhere step (next ∷ steps) k f found = ap (option_and_then (λ (y : Found). found_at (next ∷ steps) (y.number + 1) y.below)) found
 
 -- ---- where it lies
 

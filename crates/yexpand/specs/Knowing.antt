@@ -5,7 +5,7 @@ use Rattle.yspec.specs.Forest.{Forest, end, size}
 use Rattle.yspec.specs.linking.Source.{Source}
 use Rattle.yspec.specs.linking.DerivedTypes.{number_named}
 use Rattle.yspec.specs.linking.Expansion.{groupings_of, row_in}
-use Rattle.yspec.specs.linking.NodeCounts.{counted, count_used, counts_within}
+use Rattle.yspec.specs.linking.NodeCounts.{GroupingCount, counted, count_used, counts_within}
 use Rattle.yspec.specs.linking.Rewriting.{Ends}
 use Rattle.yspec.specs.schema.Breaks.{Break, least_from}
 use Rattle.ynames.specs.Ordered.{IsNamed}
@@ -22,6 +22,10 @@ count_named g modules number = option_map_or (count_at g.counts.items) (number_n
 -- the refine that is told in it
 abbrev pub refine_named : Groupings → Forest Source → ℕ → Option Break
 refine_named g modules number = option_and_then (refine_at g.refines.items) (number_named modules number)
+
+-- how many nodes each grouping has, as far as those lead that it uses
+abbrev pub all_counts : Forest Source → List GroupingCount
+all_counts modules = counts_within modules (groupings_of modules) (suc (size modules))
 
 -- a table holds how many nodes each grouping has that a statement names, up to the bound
 abbrev pub AreCounts : List ℕ → Forest Source → Type 0

@@ -1,5 +1,6 @@
 pub mod NamedView
 pub mod AugmentView
+pub mod Hanging
 pub mod NodeView
 pub mod TableView
 pub mod Targets

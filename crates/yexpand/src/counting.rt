@@ -11,7 +11,7 @@ ghost use Rattle.yexpand.specs.Counting.{count_at, count_by, many};
 ghost use Rattle.yexpand.specs.NamedView.{modules_of};
 ghost use Rattle.yexpand.specs.Walk.{chosen, is_laid};
 
-use crate::laying::{is_laid, is_single};
+use crate::laying::{has_keyword, is_laid, is_single};
 use crate::named::Named;
 use ygrammar::Source;
 use ypreorder::{Node, Siblings};
@@ -79,12 +79,11 @@ fn count_statement(
         result ≡ min (counted (count_by counts.now (modules_of named.now))
         (chosen in_choice (laid (node s below end)))) many }
 {
-    let keyword = statement.label().keyword;
-    if !is_laid(keyword) {
+    if !is_laid(statement) {
         return 0;
     }
     let nodes = count_alone(named, counts, statement);
-    if is_single(in_choice, keyword) {
+    if is_single(in_choice, statement) {
         capped(1 + nodes)
     } else {
         nodes
@@ -100,10 +99,9 @@ fn count_alone(named: &Named<'_, '_>, counts: &[u32], statement: Node<'_, Source
         result ≡ min (counted (count_by counts.now (modules_of named.now))
         (laid (node s below end))) many }
 {
-    let keyword = statement.label().keyword;
-    if Keyword::Uses.is(keyword) {
+    if has_keyword(statement, Keyword::Uses) {
         return count_used(named, counts, statement);
     }
-    let in_choice = Keyword::Choice.is(keyword);
+    let in_choice = has_keyword(statement, Keyword::Choice);
     capped(1 + count_nodes(named, counts, in_choice, statement.children()))
 }

@@ -19,7 +19,7 @@ use crate::counting::{capped, count_at, count_nodes};
 use crate::named::Named;
 use std::alloc::{AllocError, Global};
 use ygrammar::{BrokenRule, CompileCode, Source, broken, least};
-use ypreorder::Siblings;
+use ypreorder::{Node, Siblings};
 use yword::Keyword;
 
 /// What is known of the groupings of a set, by the numbers of their statements.
@@ -218,11 +218,13 @@ impl Groupings {
     ghost use Rattle.std.specs.Prelude.{◌≡◌, ◌==◌, ◌<◌, ℕ, IfOk, None, min, length, if◌then◌else◌};
     ghost use Rattle.yspec.specs.schema.Breaks.{least_from};
     ghost use Rattle.yspec.specs.linking.Expansion.{groupings_of, row_in};
-    ghost use Rattle.yspec.specs.linking.NodeCounts.{counted, node_count};
+    ghost use Rattle.yspec.specs.linking.Augments.{augments_of};
+    ghost use Rattle.yspec.specs.linking.NodeCounts.{counted, counted_from, counted_in, node_count};
     ghost use Rattle.ygrammar.specs.BreakView.{seen};
     ghost use Rattle.yexpand.specs.NamedView.{modules_of};
     ghost use Rattle.yexpand.specs.Counting.{count_at, count_by, many, refine_at};
-    ghost use Rattle.yexpand.specs.Knowing.{count_named, refine_named, AreCounts, Knows};
+    ghost use Rattle.yexpand.specs.AugmentView.{augments_seen};
+    ghost use Rattle.yexpand.specs.Knowing.{all_counts, count_named, refine_named, AreCounts, Knows};
     ghost use Rattle.ynames.specs.Ordered.{AreInOrder};
 
     /// What is known of the groupings of a set, given an order in which each stands behind those that it uses.
@@ -240,14 +242,42 @@ impl Groupings {
         Ok(Groupings { counts, refines })
     }
 
-    /// How many nodes the set defines, without expanding; 65,536 stands for more.
-    pub fn node_count(&self, named: &Named<'_, '_>) -> u32
-        requires { AreCounts self.now.counts.items (modules_of named.now) }
+    /// How many nodes the set defines, without expanding, given its augments; 65,536 stands for more.
+    pub fn node_count(
+        &self,
+        named: &Named<'_, '_>,
+        augments: &[Node<'_, Source<'_>>],
+    ) -> u32
+        requires counts { AreCounts self.now.counts.items (modules_of named.now) }
+        requires augments { augments_seen augments.now ≡ augments_of (modules_of named.now) }
         ensures { result ≡ min (node_count (modules_of named.now)) many }
+    {
+        capped(self.count_modules(named) + self.count_added(named, augments))
+    }
+
+    /// How many nodes the modules themselves define.
+    fn count_modules(&self, named: &Named<'_, '_>) -> u32
+        requires { AreCounts self.now.counts.items (modules_of named.now) }
+        ensures { let m = modules_of named.now in
+            result ≡ min (counted_from m (all_counts m) m) many }
     {
         let mut count = 0;
         for top in named.sources().modules() {
             count = capped(count + count_nodes(named, &self.counts, false, top.children()));
+        }
+        count
+    }
+
+    /// How many nodes augments add; a single node of a choice counts without the case for which it stands.
+    fn count_added(&self, named: &Named<'_, '_>, augments: &[Node<'_, Source<'_>>]) -> u32
+        requires { AreCounts self.now.counts.items (modules_of named.now) }
+        ensures { let m = modules_of named.now in
+            result ≡ min (counted_in m (all_counts m) (augments_seen augments.now)) many }
+    {
+        let mut count = 0;
+        for augment in augments {
+            let added = count_nodes(named, &self.counts, false, augment.children());
+            count = capped(count + added);
         }
         count
     }

@@ -1,23 +1,35 @@
 //! Which statements come to stand among nodes (RFC 7950, 7.9.2 and 7.13).
 
-ghost use Rattle.std.specs.Prelude.{◌≡◌, ◌&&◌, ◌||◌, not};
-ghost use Rattle.yspec.specs.linking.Keyword.{case_word, same_keyword, uses_word};
-ghost use Rattle.yspec.specs.linking.Parts.{defines_node};
+ghost use Rattle.std.specs.Prelude.{◌≡◌, ◌&&◌, not};
+ghost use Rattle.yspec.specs.linking.Keyword.{case_word};
+ghost use Rattle.yspec.specs.linking.Source.{is_source_of};
+ghost use Rattle.ypreorder.specs.View.{label_by};
 ghost use Rattle.yword.specs.KeywordView.{keyword_view};
+ghost use Rattle.ygrammar.specs.SourceView.{source_view};
+ghost use Rattle.yexpand.specs.Walk.{is_laid};
 
+use ygrammar::Source;
+use ypreorder::Node;
 use yword::Keyword;
 
-/// Whether a statement of a keyword defines nodes or uses some.
-pub(crate) fn is_laid(keyword: Keyword) -> bool
-    ensures { let k = keyword_view keyword in
-        result ≡ (defines_node k || same_keyword uses_word k) }
+/// Whether a statement has a keyword.
+pub(crate) fn has_keyword(statement: Node<'_, Source<'_>>, keyword: Keyword) -> bool
+    ensures { result ≡ is_source_of (keyword_view keyword) (label_by source_view statement.entry) }
 {
-    keyword.defines_node() || Keyword::Uses.is(keyword)
+    keyword.is(statement.label().keyword)
 }
 
-/// Whether a statement of a keyword stands for a case, given whether it stands in a choice.
-pub(crate) fn is_single(in_choice: bool, keyword: Keyword) -> bool
-    ensures { result ≡ (in_choice && not (same_keyword case_word (keyword_view keyword))) }
+/// Whether a statement defines nodes or uses some.
+pub(crate) fn is_laid(statement: Node<'_, Source<'_>>) -> bool
+    ensures { result ≡ is_laid (label_by source_view statement.entry) }
 {
-    in_choice && !Keyword::Case.is(keyword)
+    statement.label().keyword.defines_node() || has_keyword(statement, Keyword::Uses)
+}
+
+/// Whether a statement stands for a case, given whether it stands in a choice.
+pub(crate) fn is_single(in_choice: bool, statement: Node<'_, Source<'_>>) -> bool
+    ensures { result ≡ (in_choice
+        && not (is_source_of case_word (label_by source_view statement.entry))) }
+{
+    in_choice && !has_keyword(statement, Keyword::Case)
 }

@@ -57,10 +57,11 @@ pub(crate) fn node_at<'p, 'a, 't>(
         ≡ found_at (map (spec.node_name modules home owner) (names_view path.now))
         nodes.entry.number (row_by numbered_part nodes.entry) }
 {
-    let (name, steps) = path.split_first()?;
-    let found = child_called(&prefixes.node_name(home, owner, *name), nodes)?;
-    if steps.is_empty() {
-        return Some(found);
+    let (first, mut left) = path.split_first()?;
+    let mut found = child_called(&prefixes.node_name(home, owner, *first), nodes)?;
+    while let Some((name, steps)) = left.split_first() {
+        found = child_called(&prefixes.node_name(home, owner, *name), found.children())?;
+        left = steps;
     }
-    node_at(prefixes, home, owner, steps, found.children())
+    Some(found)
 }

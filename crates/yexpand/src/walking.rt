@@ -15,7 +15,7 @@ ghost use Rattle.yexpand.specs.Tasks.{toll, toll_of, Does, Leads, TaskEnds};
 
 use crate::expanding::{Context, Made, Place};
 use crate::groupings::least_of;
-use crate::laying::{is_laid, is_single};
+use crate::laying::{has_keyword, is_laid, is_single};
 use crate::nodes::ExpandedNode;
 use crate::refining::refine;
 use std::alloc::{AllocError, Global};
@@ -131,11 +131,10 @@ fn add_statement<'a, 't>(
         (toll_of m place.depth (size (row_view statement.entry.children)) parts)
         tasks.old.items tasks.new.items made.old made.new) }
 {
-    let keyword = statement.label().keyword;
-    if !is_laid(keyword) {
+    if !is_laid(statement) {
         return Ok(());
     }
-    if is_single(in_choice, keyword) {
+    if is_single(in_choice, statement) {
         return add_case(alloc, context, place, statement, tasks, made);
     }
     add_alone(alloc, context, place, statement, tasks, made)
@@ -192,7 +191,7 @@ fn add_alone<'a, 't>(
         (toll_of m place.depth (size (row_view statement.entry.children)) parts)
         tasks.old.items tasks.new.items made.old made.new) }
 {
-    if Keyword::Uses.is(statement.label().keyword) {
+    if has_keyword(statement, Keyword::Uses) {
         return add_uses(context, place, statement, tasks, made);
     }
     add_node(alloc, context, place, statement, tasks, made)
@@ -220,7 +219,7 @@ fn add_node<'a, 't>(
         (toll_of m place.depth (size (row_view statement.entry.children)) parts)
         tasks.old.items tasks.new.items made.old made.new) }
 {
-    let in_choice = Keyword::Choice.is(statement.label().keyword);
+    let in_choice = has_keyword(statement, Keyword::Choice);
     let label = ExpandedNode::new(alloc, statement, false, place.owner);
     let number = made.table.open(place.parent, label)?;
     tasks.push(Task::Close(number))?;

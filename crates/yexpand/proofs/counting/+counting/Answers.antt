@@ -1,13 +1,12 @@
-use Rattle.std.proofs.Common.{◌≡◌, ◌+◌, ◌||◌, ◌&&◌, not, min, true, false, cond, arith, sym, ap, ap₂, ◌∙◌, refl}
+use Rattle.std.proofs.Common.{◌≡◌, ◌+◌, ◌&&◌, not, min, true, false, cond, arith, sym, ap, ap₂, ◌∙◌, refl}
 use Rattle.yspec.specs.Forest.{end, node, size}
 use Rattle.yspec.specs.linking.Expansion.{laid}
 use Rattle.yspec.specs.linking.Keyword.{same_keyword, choice_word, case_word, uses_word}
 use Rattle.yspec.specs.linking.NodeCounts.{counted}
-use Rattle.yspec.specs.linking.Parts.{defines_node, part_of, case_for, within, as_cases}
+use Rattle.yspec.specs.linking.Parts.{part_of, case_for, within, as_cases}
 use Rattle.yspec.specs.linking.Source.{is_source_of}
 use Rattle.ypreorder.specs.View.{row_by, label_by}
 use Rattle.ypreorder.proofs.RowLemmas.{takes_by, takes_none_by}
-use Rattle.yword.specs.KeywordView.{keyword_view}
 use Rattle.ygrammar.specs.SourceView.{source_view}
 use Rattle.yexpand.specs.Counting.{count_by, many}
 use Rattle.yexpand.specs.NamedView.{modules_of}
@@ -16,13 +15,12 @@ use Rattle.yexpand.proofs.CountLemmas.{counted_join, counted_none, counted_node,
 use Rattle.yexpand.proofs.WalkLemmas.{chosen-first, chosen_none, chosen_empty, laid_none, laid_uses, laid_node, laid_single, laid_own}
 use Rattle.yexpand.proofs.counting.+counting.Goals as goal
 
-pub count_alone-returns-then-is : goal.count_alone-returns-then-is
-count_alone-returns-then-is t c =
+pub count_alone-returns-then-has_keyword : goal.count_alone-returns-then-has_keyword
+count_alone-returns-then-has_keyword t c =
     let meant = count_by c.args.counts.now (modules_of c.args.named.now) in
     let s = label_by source_view c.args.statement in
     let below = row_by source_view c.args.statement.children in
-    let keyword : keyword_view c.label.result.now.keyword ≡ s.keyword = ap (λ l. keyword_view l.keyword) c.label.ensures in
-    let used : is_source_of uses_word s ≡ true = sym (c.is.ensures ∙ ap (same_keyword uses_word) keyword) ∙ c.if-is.true in
+    let used : is_source_of uses_word s ≡ true = sym c.has_keyword.ensures ∙ c.if-has_keyword.true in
     c.count_used.ensures below ∙ ap (λ n. min n many) (sym (counted_uses meant (part_of s below) used) ∙ ap (counted meant) (sym (laid_uses s below used)))
 
 pub count_alone-returns : goal.count_alone-returns
@@ -30,10 +28,9 @@ count_alone-returns t c =
     let meant = count_by c.args.counts.now (modules_of c.args.named.now) in
     let s = label_by source_view c.args.statement in
     let below = row_by source_view c.args.statement.children in
-    let keyword : keyword_view c.label.result.now.keyword ≡ s.keyword = ap (λ l. keyword_view l.keyword) c.label.ensures in
-    let unused : is_source_of uses_word s ≡ false = sym (c.is.ensures ∙ ap (same_keyword uses_word) keyword) ∙ c.if-is.false in
-    let choice : c.is-in_choice.result ≡ same_keyword choice_word s.keyword = c.is-in_choice.ensures ∙ ap (same_keyword choice_word) keyword in
-    let inside : chosen c.is-in_choice.result (laid (row_by source_view c.children.result)) ≡ within s (laid below) =
+    let unused : is_source_of uses_word s ≡ false = sym c.has_keyword.ensures ∙ c.if-has_keyword.false in
+    let choice : c.has_keyword-in_choice.result ≡ same_keyword choice_word s.keyword = c.has_keyword-in_choice.ensures in
+    let inside : chosen c.has_keyword-in_choice.result (laid (row_by source_view c.children.result)) ≡ within s (laid below) =
     ap₂ (λ b r. cond b (as_cases (laid r)) (laid r)) choice (ap (row_by source_view) c.children.ensures) in
     capped_more c.capped.result (counted meant (within s (laid below))) c.count_nodes.result (c.count_nodes.ensures ∙ ap (λ f. min (counted meant f) many) inside) c.capped.ensures
     ∙ ap (λ n. min n many) (sym (counted_node meant (part_of s below) (within s (laid below)) unused) ∙ ap (counted meant) (sym (laid_node s below c.requires unused)))
@@ -75,8 +72,7 @@ count_statement-returns-then-not-is_laid t c =
     let meant = count_by c.args.counts.now (modules_of c.args.named.now) in
     let s = label_by source_view c.args.statement in
     let below = row_by source_view c.args.statement.children in
-    let keyword : keyword_view c.label.result.now.keyword ≡ s.keyword = ap (λ l. keyword_view l.keyword) c.label.ensures in
-    let other : is_laid s ≡ false = sym (c.is_laid.ensures ∙ ap (λ k. defines_node k || same_keyword uses_word k) keyword) ∙ c.if-not-is_laid.true in
+    let other : is_laid s ≡ false = sym c.is_laid.ensures ∙ c.if-not-is_laid.true in
     let nothing : counted meant (chosen c.args.in_choice (laid (node s below end))) ≡ 0 =
     ap (counted meant) (chosen_empty c.args.in_choice (laid (node s below end)) (laid_none s below other)) ∙ counted_none meant in
     omega (arith, nothing)
@@ -86,10 +82,8 @@ count_statement-returns-then-is_single t c =
     let meant = count_by c.args.counts.now (modules_of c.args.named.now) in
     let s = label_by source_view c.args.statement in
     let below = row_by source_view c.args.statement.children in
-    let keyword : keyword_view c.label.result.now.keyword ≡ s.keyword = ap (λ l. keyword_view l.keyword) c.label.ensures in
-    let is : is_laid s ≡ true = sym (c.is_laid.ensures ∙ ap (λ k. defines_node k || same_keyword uses_word k) keyword) ∙ c.if-not-is_laid.false in
-    let single : (c.args.in_choice && not (same_keyword case_word s.keyword)) ≡ true =
-    sym (c.is_single.ensures ∙ ap (λ k. c.args.in_choice && not (same_keyword case_word k)) keyword) ∙ c.if-is_single.true in
+    let is : is_laid s ≡ true = sym c.is_laid.ensures ∙ c.if-not-is_laid.false in
+    let single : (c.args.in_choice && not (same_keyword case_word s.keyword)) ≡ true = sym c.is_single.ensures ∙ c.if-is_single.true in
     capped_more c.capped.result (counted meant (laid (node s below end))) c.count_alone-nodes.result c.count_alone-nodes.ensures c.capped.ensures
     ∙ ap (λ n. min n many) (sym (counted_node meant (case_for (part_of s below)) (laid (node s below end)) refl) ∙ ap (counted meant) (sym (laid_single c.args.in_choice s below is single)))
 
@@ -98,8 +92,6 @@ count_statement-returns-else-is_single t c =
     let meant = count_by c.args.counts.now (modules_of c.args.named.now) in
     let s = label_by source_view c.args.statement in
     let below = row_by source_view c.args.statement.children in
-    let keyword : keyword_view c.label.result.now.keyword ≡ s.keyword = ap (λ l. keyword_view l.keyword) c.label.ensures in
-    let is : is_laid s ≡ true = sym (c.is_laid.ensures ∙ ap (λ k. defines_node k || same_keyword uses_word k) keyword) ∙ c.if-not-is_laid.false in
-    let single : (c.args.in_choice && not (same_keyword case_word s.keyword)) ≡ false =
-    sym (c.is_single.ensures ∙ ap (λ k. c.args.in_choice && not (same_keyword case_word k)) keyword) ∙ c.if-is_single.false in
+    let is : is_laid s ≡ true = sym c.is_laid.ensures ∙ c.if-not-is_laid.false in
+    let single : (c.args.in_choice && not (same_keyword case_word s.keyword)) ≡ false = sym c.is_single.ensures ∙ c.if-is_single.false in
     c.count_alone-nodes.ensures ∙ ap (λ f. min (counted meant f) many) (sym (laid_own c.args.in_choice s below is single))

@@ -1,12 +1,11 @@
-use Rattle.std.proofs.Common.{◌≡◌, true, false, sym, ap, ◌∙◌, subst}
+use Rattle.std.proofs.Common.{◌≡◌, true, false, sym, ◌∙◌, subst}
 use Rattle.std.proofs.lemmas.Result.{on_ok_weaker}
 use Rattle.yspec.specs.Forest.{size}
-use Rattle.yspec.specs.linking.Keyword.{same_keyword, uses_word}
+use Rattle.yspec.specs.linking.Keyword.{uses_word}
 use Rattle.yspec.specs.linking.Source.{is_source_of}
 use Rattle.yspec.specs.linking.Parts.{part_of, within}
 use Rattle.yspec.specs.linking.Expansion.{laid}
 use Rattle.ypreorder.specs.View.{row_by, row_view, label_by}
-use Rattle.yword.specs.KeywordView.{keyword_view}
 use Rattle.ygrammar.specs.SourceView.{source_view}
 use Rattle.yexpand.specs.NamedView.{modules_of}
 use Rattle.yexpand.specs.Tasks.{toll_of, Leads}
@@ -19,20 +18,18 @@ add_uses-requires-clause-ends c =
     let m = modules_of c.args.context.now.named.now in
     let s = label_by source_view c.args.statement in
     let below = row_by source_view c.args.statement.children in
-    let keyword : keyword_view c.label.result.now.keyword ≡ s.keyword = ap (λ l. keyword_view l.keyword) c.label.ensures in
-    let used : is_source_of uses_word s ≡ true = sym (c.is.ensures ∙ ap (same_keyword uses_word) keyword) ∙ c.if-is.true in
+    let used : is_source_of uses_word s ≡ true = sym c.has_keyword.ensures ∙ c.if-has_keyword.true in
     ends_uses m c.args.place.owner c.args.place.depth (part_of s below) used (subst (AllEnd m c.args.place.depth) (laid_uses s below used) c.requires.ends)
 
-pub returns-then-is : goal.returns-then-is
-returns-then-is c =
+pub returns-then-has_keyword : goal.returns-then-has_keyword
+returns-then-has_keyword c =
     let m = modules_of c.args.context.now.named.now in
     let parent = c.args.place.parent in
     let owner = c.args.place.owner in
     let depth = c.args.place.depth in
     let s = label_by source_view c.args.statement in
     let below = row_by source_view c.args.statement.children in
-    let keyword : keyword_view c.label.result.now.keyword ≡ s.keyword = ap (λ l. keyword_view l.keyword) c.label.ensures in
-    let used : is_source_of uses_word s ≡ true = sym (c.is.ensures ∙ ap (same_keyword uses_word) keyword) ∙ c.if-is.true in
+    let used : is_source_of uses_word s ≡ true = sym c.has_keyword.ensures ∙ c.if-has_keyword.true in
     on_ok_weaker c.add_uses.result (subst (λ parts. Leads m (AddsParts m parent owner depth parts) (toll_of m depth (size (row_view c.args.statement.children)) parts)
     c.args.tasks.now.items c.add_uses.new.tasks.items c.args.made.now c.add_uses.new.made) (sym (laid_uses s below used))) c.add_uses.ensures
 
@@ -41,8 +38,7 @@ add_node-requires-clause-ends c =
     let m = modules_of c.args.context.now.named.now in
     let s = label_by source_view c.args.statement in
     let below = row_by source_view c.args.statement.children in
-    let keyword : keyword_view c.label.result.now.keyword ≡ s.keyword = ap (λ l. keyword_view l.keyword) c.label.ensures in
-    let unused : is_source_of uses_word s ≡ false = sym (c.is.ensures ∙ ap (same_keyword uses_word) keyword) ∙ c.if-is.false in
+    let unused : is_source_of uses_word s ≡ false = sym c.has_keyword.ensures ∙ c.if-has_keyword.false in
     ends_node m c.args.place.owner c.args.place.depth (part_of s below) (within s (laid below)) unused
     (subst (AllEnd m c.args.place.depth) (laid_node s below c.requires.laid unused) c.requires.ends)
 
@@ -54,7 +50,6 @@ returns c =
     let depth = c.args.place.depth in
     let s = label_by source_view c.args.statement in
     let below = row_by source_view c.args.statement.children in
-    let keyword : keyword_view c.label.result.now.keyword ≡ s.keyword = ap (λ l. keyword_view l.keyword) c.label.ensures in
-    let unused : is_source_of uses_word s ≡ false = sym (c.is.ensures ∙ ap (same_keyword uses_word) keyword) ∙ c.if-is.false in
+    let unused : is_source_of uses_word s ≡ false = sym c.has_keyword.ensures ∙ c.if-has_keyword.false in
     on_ok_weaker c.add_node.result (subst (λ parts. Leads m (AddsParts m parent owner depth parts) (toll_of m depth (size (row_view c.args.statement.children)) parts)
     c.args.tasks.now.items c.add_node.new.tasks.items c.args.made.now c.add_node.new.made) (sym (laid_node s below c.requires.laid unused))) c.add_node.ensures

@@ -4,7 +4,6 @@ use Rattle.yspec.specs.linking.Keyword.{same_keyword, choice_word}
 use Rattle.yspec.specs.linking.Parts.{part_of, within, as_cases}
 use Rattle.yspec.specs.linking.Expansion.{laid}
 use Rattle.ypreorder.specs.View.{row_by, row_view, label_by}
-use Rattle.yword.specs.KeywordView.{keyword_view}
 use Rattle.ygrammar.specs.SourceView.{source_view}
 use Rattle.yexpand.specs.NamedView.{modules_of}
 use Rattle.yexpand.specs.Tasks.{toll, toll_for, toll_of, tolls, Does, TaskEnds, Leads}
@@ -29,11 +28,10 @@ returns c =
     let n = c.in_ok-number.number in
     let old = c.args.made.now in
     let mid : Made = record { table = c.open.new.self; told = old.told } in
-    let chooses = c.is-in_choice.result in
+    let chooses = c.has_keyword-in_choice.result in
     let place : Place = record { parent = Some n; owner = owner; depth = depth } in
     let t : Task = Add place chooses c.children.result in
-    let keyword : keyword_view c.label.result.now.keyword ≡ s.keyword = ap (λ l. keyword_view l.keyword) c.label.ensures in
-    let choice : chooses ≡ same_keyword choice_word s.keyword = c.is-in_choice.ensures ∙ ap (same_keyword choice_word) keyword in
+    let choice : chooses ≡ same_keyword choice_word s.keyword = c.has_keyword-in_choice.ensures in
     let inside : chosen chooses (laid (row_by source_view c.children.result)) ≡ within s (laid below) =
     ap₂ (λ b r. cond b (as_cases (laid r)) (laid r)) choice (ap (row_by source_view) c.children.ensures) in
     let inner = within s (laid below) in

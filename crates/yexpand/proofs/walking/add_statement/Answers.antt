@@ -1,11 +1,10 @@
-use Rattle.std.proofs.Common.{◌≡◌, ◌&&◌, ◌||◌, not, true, false, sym, ap, ◌∙◌, refl, subst}
+use Rattle.std.proofs.Common.{◌≡◌, ◌&&◌, not, true, false, sym, ◌∙◌, refl, subst}
 use Rattle.std.proofs.lemmas.Result.{on_ok_weaker}
 use Rattle.yspec.specs.Forest.{end, node, size}
-use Rattle.yspec.specs.linking.Keyword.{same_keyword, case_word, uses_word}
-use Rattle.yspec.specs.linking.Parts.{defines_node, part_of, case_for}
+use Rattle.yspec.specs.linking.Keyword.{same_keyword, case_word}
+use Rattle.yspec.specs.linking.Parts.{part_of, case_for}
 use Rattle.yspec.specs.linking.Expansion.{laid}
 use Rattle.ypreorder.specs.View.{row_by, row_view, label_by}
-use Rattle.yword.specs.KeywordView.{keyword_view}
 use Rattle.ygrammar.specs.SourceView.{source_view}
 use Rattle.yexpand.specs.NamedView.{modules_of}
 use Rattle.yexpand.specs.Tasks.{toll, toll_of, Does, TaskEnds, Leads}
@@ -22,8 +21,7 @@ returns-then-not-is_laid c =
     let depth = c.args.place.depth in
     let s = label_by source_view c.args.statement in
     let below = row_by source_view c.args.statement.children in
-    let keyword : keyword_view c.label.result.now.keyword ≡ s.keyword = ap (λ l. keyword_view l.keyword) c.label.ensures in
-    let other : is_laid s ≡ false = sym (c.is_laid.ensures ∙ ap (λ k. defines_node k || same_keyword uses_word k) keyword) ∙ c.if-not-is_laid.true in
+    let other : is_laid s ≡ false = sym c.is_laid.ensures ∙ c.if-not-is_laid.true in
     leaves_none (Does m) (toll m) (TaskEnds m) (AddsParts m parent owner depth (chosen c.args.in_choice (laid (node s below end)))) _ c.args.tasks.now.items c.args.made.now c.args.made.now
     (adds_nothing m owner depth parent (chosen c.args.in_choice (laid (node s below end))) c.args.made.now (chosen_empty c.args.in_choice (laid (node s below end)) (laid_none s below other)))
 
@@ -32,10 +30,8 @@ add_case-requires-clause-ends c =
     let m = modules_of c.args.context.now.named.now in
     let s = label_by source_view c.args.statement in
     let below = row_by source_view c.args.statement.children in
-    let keyword : keyword_view c.label.result.now.keyword ≡ s.keyword = ap (λ l. keyword_view l.keyword) c.label.ensures in
-    let is : is_laid s ≡ true = sym (c.is_laid.ensures ∙ ap (λ k. defines_node k || same_keyword uses_word k) keyword) ∙ c.if-not-is_laid.false in
-    let single : (c.args.in_choice && not (same_keyword case_word s.keyword)) ≡ true =
-    sym (c.is_single.ensures ∙ ap (λ k. c.args.in_choice && not (same_keyword case_word k)) keyword) ∙ c.if-is_single.true in
+    let is : is_laid s ≡ true = sym c.is_laid.ensures ∙ c.if-not-is_laid.false in
+    let single : (c.args.in_choice && not (same_keyword case_word s.keyword)) ≡ true = sym c.is_single.ensures ∙ c.if-is_single.true in
     ends_node m c.args.place.owner c.args.place.depth (case_for (part_of s below)) (laid (node s below end)) refl
     (subst (AllEnd m c.args.place.depth) (laid_single c.args.in_choice s below is single) c.requires.ends)
 
@@ -47,10 +43,8 @@ returns-then-is_single c =
     let depth = c.args.place.depth in
     let s = label_by source_view c.args.statement in
     let below = row_by source_view c.args.statement.children in
-    let keyword : keyword_view c.label.result.now.keyword ≡ s.keyword = ap (λ l. keyword_view l.keyword) c.label.ensures in
-    let is : is_laid s ≡ true = sym (c.is_laid.ensures ∙ ap (λ k. defines_node k || same_keyword uses_word k) keyword) ∙ c.if-not-is_laid.false in
-    let single : (c.args.in_choice && not (same_keyword case_word s.keyword)) ≡ true =
-    sym (c.is_single.ensures ∙ ap (λ k. c.args.in_choice && not (same_keyword case_word k)) keyword) ∙ c.if-is_single.true in
+    let is : is_laid s ≡ true = sym c.is_laid.ensures ∙ c.if-not-is_laid.false in
+    let single : (c.args.in_choice && not (same_keyword case_word s.keyword)) ≡ true = sym c.is_single.ensures ∙ c.if-is_single.true in
     on_ok_weaker c.add_case.result (subst (λ parts. Leads m (AddsParts m parent owner depth parts) (toll_of m depth (size (row_view c.args.statement.children)) parts)
     c.args.tasks.now.items c.add_case.new.tasks.items c.args.made.now c.add_case.new.made) (sym (laid_single c.args.in_choice s below is single))) c.add_case.ensures
 
@@ -59,10 +53,8 @@ add_alone-requires-clause-ends c =
     let m = modules_of c.args.context.now.named.now in
     let s = label_by source_view c.args.statement in
     let below = row_by source_view c.args.statement.children in
-    let keyword : keyword_view c.label.result.now.keyword ≡ s.keyword = ap (λ l. keyword_view l.keyword) c.label.ensures in
-    let is : is_laid s ≡ true = sym (c.is_laid.ensures ∙ ap (λ k. defines_node k || same_keyword uses_word k) keyword) ∙ c.if-not-is_laid.false in
-    let single : (c.args.in_choice && not (same_keyword case_word s.keyword)) ≡ false =
-    sym (c.is_single.ensures ∙ ap (λ k. c.args.in_choice && not (same_keyword case_word k)) keyword) ∙ c.if-is_single.false in
+    let is : is_laid s ≡ true = sym c.is_laid.ensures ∙ c.if-not-is_laid.false in
+    let single : (c.args.in_choice && not (same_keyword case_word s.keyword)) ≡ false = sym c.is_single.ensures ∙ c.if-is_single.false in
     subst (AllEnd m c.args.place.depth) (laid_own c.args.in_choice s below is single) c.requires.ends
 
 pub returns : goal.returns
@@ -73,9 +65,7 @@ returns c =
     let depth = c.args.place.depth in
     let s = label_by source_view c.args.statement in
     let below = row_by source_view c.args.statement.children in
-    let keyword : keyword_view c.label.result.now.keyword ≡ s.keyword = ap (λ l. keyword_view l.keyword) c.label.ensures in
-    let is : is_laid s ≡ true = sym (c.is_laid.ensures ∙ ap (λ k. defines_node k || same_keyword uses_word k) keyword) ∙ c.if-not-is_laid.false in
-    let single : (c.args.in_choice && not (same_keyword case_word s.keyword)) ≡ false =
-    sym (c.is_single.ensures ∙ ap (λ k. c.args.in_choice && not (same_keyword case_word k)) keyword) ∙ c.if-is_single.false in
+    let is : is_laid s ≡ true = sym c.is_laid.ensures ∙ c.if-not-is_laid.false in
+    let single : (c.args.in_choice && not (same_keyword case_word s.keyword)) ≡ false = sym c.is_single.ensures ∙ c.if-is_single.false in
     on_ok_weaker c.add_alone.result (subst (λ parts. Leads m (AddsParts m parent owner depth parts) (toll_of m depth (size (row_view c.args.statement.children)) parts)
     c.args.tasks.now.items c.add_alone.new.tasks.items c.args.made.now c.add_alone.new.made) (sym (laid_own c.args.in_choice s below is single))) c.add_alone.ensures

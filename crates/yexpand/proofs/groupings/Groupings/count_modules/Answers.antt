@@ -9,7 +9,7 @@ use Rattle.yexpand.specs.Counting.{count_at, count_by, many}
 use Rattle.yexpand.specs.NamedView.{modules_of}
 use Rattle.yexpand.proofs.CountLemmas.{capped_next, capped_few}
 use Rattle.yexpand.proofs.OrderLemmas.{row_capped}
-use Rattle.yexpand.proofs.groupings.Groupings.node_count.Goals as goal
+use Rattle.yexpand.proofs.groupings.Groupings.count_modules.Goals as goal
 
 pub loop-top-init : goal.loop-top-init
 loop-top-init c =

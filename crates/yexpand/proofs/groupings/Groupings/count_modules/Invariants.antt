@@ -6,7 +6,7 @@ use Rattle.ypreorder.specs.View.{row_by}
 use Rattle.ygrammar.specs.SourceView.{source_view}
 use Rattle.yexpand.specs.Counting.{many}
 use Rattle.yexpand.specs.NamedView.{modules_of}
-use Rattle.yexpand.proofs.groupings.Groupings.node_count.Given as goal
+use Rattle.yexpand.proofs.groupings.Groupings.count_modules.Given as goal
 
 -- those so far, with those of the modules that are left
 abbrev pub invariant-loop-top : goal.invariant-loop-top
