@@ -19,6 +19,9 @@ label_of c = node_view c.id.0 c.node.now
 abbrev pub below_of : Child → Forest spec.SchemaNode
 below_of c = row_view c.children
 
+abbrev pub child_view : Child → spec.SchemaNode × Forest spec.SchemaNode
+child_view c = (label_of c, below_of c)
+
 abbrev pub view : Schema → spec.Schema
 view s = schema_view s.modules.items s.slots.items
 

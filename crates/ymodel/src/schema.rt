@@ -7,7 +7,7 @@ ghost use Rattle.ymodel.specs.Layout.{data_places, laid, forest_of, schema_view,
 ghost use Rattle.ymodel.specs.Lookup.{FindsNamed, FindsWritten};
 ghost use Rattle.ymodel.specs.References.{FindsReferences};
 
-use crate::children::{Children, Slot};
+use crate::children::{Child, Children, Slot};
 use crate::index::{Index, id_of, index_of, parent_number};
 use crate::node::{SchemaId, SchemaNode};
 use crate::references::References;
@@ -49,12 +49,12 @@ impl Schema {
     ghost use Rattle.std.specs.Prelude.{◌≡◌, ◌<◌, ◌++◌, map, option_map, slice_get, IfOk, IfSome, None};
     ghost use Rattle.yspec.specs.Forest.{size};
     ghost use Rattle.yspec.specs.schema.Schema as spec;
-    ghost use Rattle.yspec.specs.schema.Schema.{node_at, children_of, child_named, child_written, way_to};
+    ghost use Rattle.yspec.specs.schema.Schema.{node_at, children_of, child_in, child_named, child_written, way_to};
     ghost use Rattle.yspec.specs.schema.References.{references_to};
     ghost use Rattle.ymodel.specs.Layout.{augment_view, node_view, number_of, numbers_of};
     ghost use Rattle.ymodel.specs.Lookup.{alone, module_passed, names_in, way_above};
     ghost use Rattle.yindex.specs.Names.{AreNamesOf};
-    ghost use Rattle.ymodel.specs.View.{view, row_view, forest_of};
+    ghost use Rattle.ymodel.specs.View.{view, child_view, row_view, forest_of};
 
     /// The schema of some modules whose nodes lie in slots, each before those below it, once a compiler has found no broken
     /// rule, and the names of these nodes.
@@ -129,6 +129,19 @@ impl Schema {
             }
             None => Children::new(&[], 0),
         }
+    }
+
+    /// The child of a node of that number, in its row; nothing where it has none.
+    pub fn child_at(&self, parent: SchemaId, id: SchemaId) -> Option<Child<'_>>
+        ensures { option_map child_view result
+            ≡ child_in (children_of (view self.now) parent.0) id.0 }
+    {
+        let slot = self.slots.get(id.number())?;
+        let above = slot.parent?;
+        if above.0 != parent.0 {
+            return None;
+        }
+        Some(Child::new(id, &slot.node, self.children(id)))
     }
 
     /// The child of a node, or the top node, of a module and a name.
