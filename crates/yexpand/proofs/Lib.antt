@@ -14,4 +14,9 @@ pub mod StatingLemmas
 pub mod TaskLemmas
 pub mod TurnLemmas
 pub mod HangingLemmas
+pub mod BodyLemmas
 pub mod PathLemmas
+pub mod SearchLemmas
+pub mod PutLemmas
+pub mod TakenLemmas
+pub mod ReadyLemmas

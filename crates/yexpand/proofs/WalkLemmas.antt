@@ -184,15 +184,21 @@ chosen_none false f none = ap laid none
 
 -- ---- what is added, one thing after another
 
+-- as many slots come as there are nodes
+pub adds_length : (parent : Option ℕ) (f : Forest Part) (bs : List Break) (a b : Made) → Adds parent f bs a b
+    → length (slots_of b.table) ≡ length (slots_of a.table) + size f
+adds_length parent f bs a b added =
+    let k = length (slots_of a.table) in
+    sym (length-laid (slots_of b.table)) ∙ (sym (length-seen numbered_part 0 (layout.laid (slots_of b.table))) ∙ (ap length added.0
+    ∙ (length-append (parts_in a.table) (places parent k f)
+    ∙ ap₂ (λ m n. m + n) (length-seen numbered_part 0 (layout.laid (slots_of a.table)) ∙ length-laid (slots_of a.table)) (length-places parent k f))))
+
 pub adds_join : (parent : Option ℕ) (f g : Forest Part) (bs cs : List Break) (a b c : Made) → Adds parent f bs a b → Adds parent g cs b c → Adds parent (join f g) (bs ++ cs) a c
 adds_join parent f g bs cs a b c first second =
     let k = length (slots_of a.table) in
     let here = places parent k f in
-    let count : length (slots_of b.table) ≡ k + size f =
-    sym (length-laid (slots_of b.table)) ∙ (sym (length-seen numbered_part 0 (layout.laid (slots_of b.table))) ∙ (ap length first.0
-    ∙ (length-append (parts_in a.table) here
-    ∙ ap₂ (λ m n. m + n) (length-seen numbered_part 0 (layout.laid (slots_of a.table)) ∙ length-laid (slots_of a.table)) (length-places parent k f)))) in (
-      second.0 ∙ (ap₂ (λ ps n. ps ++ places parent n g) first.0 count
+    (
+      second.0 ∙ (ap₂ (λ ps n. ps ++ places parent n g) first.0 (adds_length parent f bs a b first)
           ∙ (append_assoc (parts_in a.table) here (places parent (k + size f) g) ∙ ap (λ rest. parts_in a.table ++ rest) (sym (places-join parent k f g)))),
       second.1 ∙ (ap (λ o. least_from o cs) first.1 ∙ sym (least_of_both (seen a.told) bs cs)),
     )

@@ -1,6 +1,6 @@
 -- Rows that are hung below nodes of a forest, one after another.
-use Rattle.std.specs.Prelude.{ℕ, ◌+◌, ◌==◌, Bool, List, [], ◌∷◌, Option, Some, None, find, option_and_then, if◌then◌else◌}
-use Rattle.yspec.specs.Forest.{Forest, end, node, row, join, relabelled, below_nth}
+use Rattle.std.specs.Prelude.{ℕ, suc, ◌+◌, ◌==◌, Bool, List, [], ◌∷◌, Option, Some, None, find, option_and_then, if◌then◌else◌}
+use Rattle.yspec.specs.Forest.{Forest, end, node, size, row, join, relabelled, below_nth}
 use Rattle.yspec.specs.linking.Parts.{Part}
 use Rattle.yspec.specs.linking.Prefixes.{NodeName}
 use Rattle.yspec.specs.linking.Expansion.{is_step}
@@ -54,3 +54,20 @@ abbrev pub label_at : List NodeName → Forest (Numbered Part) → Option (Numbe
 label_at [] f = None
 label_at (step ∷ []) f = find (is_step_of step) (row f)
 label_at (step ∷ next ∷ steps) f = option_and_then (label_at (next ∷ steps)) (below_nth (is_step_of step) 0 f)
+
+-- parts numbered in preorder from a number on
+abbrev pub numbered : ℕ → Forest Part → Forest (Numbered Part)
+numbered next end = end
+numbered next (node p below after) = node (record { number = next; label = p }) (numbered (next + 1) below)
+    (numbered (next + suc (size below)) after)
+
+-- what stands in the nodes of a row
+abbrev pub inner : {L : Type 0} → Forest L → Forest L
+inner end = end
+inner (node l below after) = join below (inner after)
+
+-- the nodes of a row, told by which augment they came
+abbrev pub marked_by : ℕ → Forest (Numbered Part) → Forest (Numbered Part)
+marked_by augment end = end
+marked_by augment (node l below after) =
+    node (record l { label = record l.label { added_by = Some augment } }) below (marked_by augment after)

@@ -1,6 +1,10 @@
 pub mod NamedView
 pub mod AugmentView
+pub mod Bodies
 pub mod Hanging
+pub mod Searching
+pub mod Arranging
+pub mod Resolving
 pub mod NodeView
 pub mod TableView
 pub mod Targets

@@ -66,7 +66,7 @@ pub fn expanded<'a, 't>(
             owner: top.label().home,
             depth,
         };
-        add_nodes(alloc, &context, place, top.children(), &mut made)?;
+        add_nodes(alloc, &context, place, false, top.children(), &mut made)?;
     }
     Ok(made)
 }

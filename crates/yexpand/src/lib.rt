@@ -1,7 +1,9 @@
 //! The nodes that a set of modules defines, with each `uses` replaced by the nodes of its grouping (RFC 7950, 7.12 and 7.13).
 #![tactic(auto)]
 
+mod applied;
 mod augments;
+mod bodies;
 mod counting;
 mod expanding;
 mod groupings;

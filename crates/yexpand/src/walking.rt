@@ -34,22 +34,23 @@ pub(crate) enum Task<'a, 't> {
     Refine(usize, u32, Siblings<'a, Source<'t>>),
 }
 
-/// Adds the nodes that some statements define or use, with all below them.
+/// Adds the nodes that some statements define or use, with all below them; in a choice single ones stand for cases.
 pub(crate) fn add_nodes<'a, 't>(
     alloc: Global,
     context: &Context<'a, 't>,
     place: Place,
+    in_choice: bool,
     statements: Siblings<'a, Source<'t>>,
     made: &mut Made<'a, 't>,
 ) -> Result<(), AllocError>
     requires known { Knows context.now.groupings.now (modules_of context.now.named.now) }
     requires ends { AllEnd (modules_of context.now.named.now) place.depth
-        (laid (row_by source_view statements)) }
+        (chosen in_choice (laid (row_by source_view statements))) }
     ensures { OnOk result (AddsParts (modules_of context.now.named.now) place.parent place.owner place.depth
-        (laid (row_by source_view statements.entry)) made.old made.new) }
+        (chosen in_choice (laid (row_by source_view statements.entry))) made.old made.new) }
 {
     let mut tasks = Vec::new(alloc);
-    tasks.push(Task::Add(place, false, statements))?;
+    tasks.push(Task::Add(place, in_choice, statements))?;
     while let Some(task) = tasks.pop() {
         perform(alloc, context, task, &mut tasks, made)?;
     }

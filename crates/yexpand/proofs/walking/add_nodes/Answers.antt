@@ -11,7 +11,7 @@ use Rattle.yexpand.proofs.walking.add_nodes.Goals as goal
 pub loop-task-init : goal.loop-task-init
 loop-task-init c =
     let m = modules_of c.args.context.now.named.now in
-    let t : Task = Add c.args.place false c.args.statements in
+    let t : Task = Add c.args.place c.args.in_choice c.args.statements in
     let only : c.push.new.self.items ≡ t ∷ [] = c.in_ok-push.ensures.items ∙ ap (λ ts. ts ++ t ∷ []) c.new-tasks.ensures.items in
     record {
       ends = subst (AllGood (TaskEnds m)) (sym only) (c.requires.ends, tt);

@@ -4,7 +4,7 @@ use Rattle.ygrammar.specs.SourceView.{source_view}
 use Rattle.yexpand.specs.NamedView.{modules_of}
 use Rattle.yexpand.specs.Tasks.{toll, Does, TaskEnds}
 use Rattle.yexpand.specs.Turns.{work, AllGood, Runs}
-use Rattle.yexpand.specs.Walk.{AddsParts}
+use Rattle.yexpand.specs.Walk.{chosen, AddsParts}
 use Rattle.yexpand.specs.declared.expanding.Made.{Made}
 use Rattle.yexpand.proofs.walking.add_nodes.Given as goal
 
@@ -13,7 +13,7 @@ abbrev pub invariant-loop-task : goal.invariant-loop-task
 invariant-loop-task l = record {
   ends : AllGood (TaskEnds (modules_of l.context.named.now)) l.tasks.items;
   so_far : (final : Made) → Runs (Does (modules_of l.context.named.now)) l.tasks.items l.made final
-      → AddsParts (modules_of l.context.named.now) l.fn.place.parent l.fn.place.owner l.fn.place.depth (laid (row_by source_view l.fn.statements)) l.fn.made final;
+      → AddsParts (modules_of l.context.named.now) l.fn.place.parent l.fn.place.owner l.fn.place.depth (chosen l.fn.in_choice (laid (row_by source_view l.fn.statements))) l.fn.made final;
 }
 
 abbrev pub decreases-loop-task : goal.decreases-loop-task
