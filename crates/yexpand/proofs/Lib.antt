@@ -21,3 +21,4 @@ pub mod PutLemmas
 pub mod TakenLemmas
 pub mod ReadyLemmas
 pub mod ReachedLemmas
+pub mod AddingLemmas

@@ -90,7 +90,7 @@ first_join name (node l below after) g = by (is_step_of name l) (first_join name
     by true later = refl
     by false later = later
 
-of_none : (o : Option ℕ) → first_of o None ≡ o
+pub of_none : (o : Option ℕ) → first_of o None ≡ o
 of_none None = refl
 of_none (Some n) = refl
 

@@ -1,17 +1,22 @@
 -- What is found so far, as a lookup by names; and what comes of following a path.
-use Rattle.std.specs.Prelude.{◌≡◌, ◌++◌, ℕ, Bool, true, false, List, [], ◌∷◌, map, take, slice_get, Option, Some, None, option_map, option_and_then, ◌⊎◌, if◌then◌else◌}
+use Rattle.std.specs.Prelude.{◌≡◌, ◌<◌, ◌++◌, length, ℕ, Bool, true, false, List, [], ◌∷◌, map, take, slice_get, Option, Some, None, option_map, option_and_then, ◌⊎◌, if◌then◌else◌}
 use Rattle.std.specs.Option.{option_map_or}
 use Rattle.std.specs.Prelude.{Vec}
 use Rattle.std.specs.Global.{Global}
 use Rattle.std.specs.BTreeSet.{Updates}
 use Rattle.std.specs.Ordering.{nat_cmp}
+use Rattle.yspec.specs.Forest.{Forest, end, node}
+use Rattle.yspec.specs.text.Text.{Text}
+use Rattle.yspec.specs.linking.Source.{argument_in}
+use Rattle.yspec.specs.linking.Parts.{Part}
 use Rattle.yspec.specs.linking.Prefixes.{NodeName}
 use Rattle.yindex.specs.declared.keys.Among.TheVariants.{Children}
 use Rattle.yindex.specs.declared.keys.Key.{Key}
 use Rattle.yindex.specs.Index.{found, texts_of}
 use Rattle.yindex.specs.Keys.{same_key}
 use Rattle.yindex.specs.Names.{text_in}
-use Rattle.yexpand.specs.Searching.{Lookup, reached}
+use Rattle.yexpand.specs.Hanging.{Numbered}
+use Rattle.yexpand.specs.Searching.{Lookup, reached, looked_behind}
 use Rattle.yexpand.specs.WaitingView.{waiters_at}
 use Rattle.yexpand.specs.declared.waiting.Waiter.{Waiter}
 use Rattle.yexpand.specs.declared.search.Search.{Search}
@@ -57,3 +62,17 @@ Follows path augment old new = (above : Option ℕ) × (count : ℕ)
     × (((slice_get path count ≡ None) × Arrives augment old new)
     ⊎ ((step : Step) × (slice_get path count ≡ Some step) × (look_in old above (name_in old step) ≡ None)
     × Waits above step (record { augment = augment; found = count }) old new))
+
+-- the texts of the nodes' numbers are their names
+abbrev pub AreTexts : List Text → Forest (Numbered Part) → Type 0
+AreTexts texts end = Unit {0}
+AreTexts texts (node l below after) =
+    ((l.number < length texts) × (text_in texts l.number ≡ argument_in l.label.source)) × AreTexts texts below × AreTexts texts after
+
+-- a row comes behind the children of a node; nothing else changes
+pub record Adds (target : ℕ) (added : Forest (Numbered Part)) (old new : Search) : Type 0 where
+  pub texts : texts_of new.index ≡ texts_of old.index
+  pub names : new.names ≡ old.names
+  pub waiting : new.waiting ≡ old.waiting
+  pub arrived : new.arrived ≡ old.arrived
+  pub look : (above : Option ℕ) (name : NodeName) → look_in new above name ≡ looked_behind (look_in old) target added above name

@@ -4,10 +4,12 @@ ghost use Rattle.std.specs.Prelude.{◌≡◌};
 ghost use Rattle.yindex.specs.Names.{AreNamesOf};
 ghost use Rattle.yindex.specs.Index.{texts_of};
 
+use crate::nodes::ExpandedNode;
 use crate::waiting::{Waiter, Waiting};
 use std::alloc::{AllocError, Global};
 use std::collections::BTreeSet;
-use yindex::{Among, Key, Names, NodeIndex};
+use yindex::{Among, IndexedNode, Key, Names, NodeIndex};
+use ypreorder::Siblings;
 
 /// A step of a path: a module, where its prefix names one, and the place of its name among texts.
 #[derive(Clone, Copy, Debug)]
@@ -31,8 +33,11 @@ pub(crate) struct Search<'t> {
 
 impl<'t> Search<'t> {
     ghost use Rattle.std.specs.Prelude.{◌≡◌, ◌<◌, None, Some, OnOk, IfOk, take, length};
+    ghost use Rattle.yindex.specs.Index.{texts_of};
+    ghost use Rattle.ypreorder.specs.View.{row_by};
+    ghost use Rattle.yexpand.specs.Arranging.{taken, with_number};
     ghost use Rattle.yexpand.specs.Searching.{reached, target_in};
-    ghost use Rattle.yexpand.specs.SearchView.{look_in, name_in, names_in, path_at, Waits, Follows};
+    ghost use Rattle.yexpand.specs.SearchView.{look_in, name_in, names_in, path_at, Adds, AreTexts, Follows, Waits};
 
     /// The child of a node, or the top node, that a step names.
     fn child(&self, above: Option<u32>, step: Step) -> Option<u32>
@@ -100,6 +105,46 @@ impl<'t> Search<'t> {
             found += 1;
         }
         self.arrived.insert(waiter.augment)?;
+        Ok(())
+    }
+
+    /// Adds the nodes of a row behind the children of a node.
+    fn add_row(
+        &mut self,
+        target: u32,
+        row: Siblings<'_, ExpandedNode<'_, 't>>,
+    ) -> Result<(), AllocError>
+        requires { AreTexts (texts_of self.old.index) (row_by with_number row) }
+        ensures { OnOk result (Adds target (row_by with_number row.entry) self.old self.new) }
+    {
+        for node in row {
+            self.index.add(IndexedNode {
+                number: node.number(),
+                parent: Some(target),
+                scope: None,
+                module: node.label().owner(),
+                is_data: false,
+            })?;
+        }
+        Ok(())
+    }
+
+    /// Adds what an augment adds behind the children of its target, without the cases unless that is a choice.
+    pub fn add_body(
+        &mut self,
+        target: u32,
+        is_choice: bool,
+        body: Siblings<'_, ExpandedNode<'_, 't>>,
+    ) -> Result<(), AllocError>
+        requires { AreTexts (texts_of self.old.index) (row_by with_number body) }
+        ensures { OnOk result (Adds target (taken is_choice (row_by with_number body.entry)) self.old self.new) }
+    {
+        if is_choice {
+            return self.add_row(target, body);
+        }
+        for case in body {
+            self.add_row(target, case.children())?;
+        }
         Ok(())
     }
 }
