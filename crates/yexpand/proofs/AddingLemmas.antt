@@ -1,7 +1,8 @@
 -- What is found once nodes come behind the children of a node.
-use Rattle.std.proofs.Common.{◌≡◌, ℕ, Bool, true, false, cond, ◌&&◌, ◌==◌, Option, Some, None, refl, sym, ap, ap₂, subst, ◌∙◌}
-use Rattle.std.specs.Prelude.{option_map, option_and_then}
-use Rattle.yspec.specs.Forest.{Forest, end, node, join, first_of}
+use Rattle.std.proofs.Common.{◌≡◌, ℕ, Bool, true, false, cond, ◌&&◌, ◌==◌, List, [], ◌∷◌, ◌++◌, Option, Some, None, refl, sym, ap, ap₂, subst, ◌∙◌}
+use Rattle.std.specs.Prelude.{option_map, option_and_then, slice_get}
+use Rattle.std.specs.Option.{option_map_or}
+use Rattle.yspec.specs.Forest.{Forest, end, node, row, join, first_of}
 use Rattle.yspec.specs.text.Text.{Text, is_text}
 use Rattle.yspec.specs.linking.Source.{argument_in}
 use Rattle.yspec.specs.linking.Parts.{Part}
@@ -14,7 +15,9 @@ use Rattle.yindex.specs.Index.{found, texts_of}
 use Rattle.yindex.specs.Names.{is_at, text_in}
 use Rattle.yexpand.specs.Hanging.{Numbered, is_step_of}
 use Rattle.yexpand.specs.Searching.{Lookup, first_in, looked_behind}
-use Rattle.yexpand.specs.SearchView.{Adds, AreTexts, look_in}
+use Rattle.yexpand.specs.SearchView.{Adds, AreTexts, look_in, woken_by}
+use Rattle.yexpand.specs.WaitingView.{waiters_at}
+use Rattle.yexpand.specs.declared.waiting.Waiter.{Waiter}
 use Rattle.yexpand.specs.declared.search.Search.{Search}
 use Rattle.yexpand.proofs.HangingLemmas.{Nodes}
 use Rattle.yexpand.proofs.SearchLemmas.{first_join, of_none}
@@ -91,3 +94,17 @@ found_alone old new target number owner l below number_is owner_is text_is is ab
         ∙ (ap (λ k. cond (m == l.label.owner && is_text name.name (argument_in l.label.source)) (Some k) None) number_is
         ∙ (ap (λ w. cond (m == w && is_text name.name (argument_in l.label.source)) (Some number) None) owner_is
         ∙ ap (λ t. cond (m == owner && is_text name.name t) (Some number) None) (sym text_is))))))
+
+pub row_join : (f g : Parts) → row (join f g) ≡ row f ++ row g
+row_join end g = refl
+row_join (node l below after) g = ap (λ ls. l ∷ ls) (row_join after g)
+
+-- a node without a number of its name lets none go on
+pub woken_none : (s : Search) (target : ℕ) (l : Numbered Part) → slice_get s.names.of_nodes.items l.number ≡ None → woken_by s target l ≡ []
+woken_none s target l e = by (same_number (found s.index Children (Some target) l.label.owner (text_in (texts_of s.index) l.number)) (Some l.number))
+  where
+    waiters : Option ℕ → List Waiter
+    waiters o = option_map_or (λ n. waiters_at s.waiting (record { above = Some target; «module» = l.label.owner; name = n })) o []
+    by : (b : Bool) → cond b (waiters (slice_get s.names.of_nodes.items l.number)) [] ≡ []
+    by true = ap waiters e
+    by false = refl

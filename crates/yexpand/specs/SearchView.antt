@@ -10,6 +10,7 @@ use Rattle.yspec.specs.text.Text.{Text}
 use Rattle.yspec.specs.linking.Source.{argument_in}
 use Rattle.yspec.specs.linking.Parts.{Part}
 use Rattle.yspec.specs.linking.Prefixes.{NodeName}
+use Rattle.yspec.specs.linking.Planned.{same_number}
 use Rattle.yindex.specs.declared.keys.Among.TheVariants.{Children}
 use Rattle.yindex.specs.declared.keys.Key.{Key}
 use Rattle.yindex.specs.Index.{found, texts_of}
@@ -76,3 +77,9 @@ pub record Adds (target : ℕ) (added : Forest (Numbered Part)) (old new : Searc
   pub waiting : new.waiting ≡ old.waiting
   pub arrived : new.arrived ≡ old.arrived
   pub look : (above : Option ℕ) (name : NodeName) → look_in new above name ≡ looked_behind (look_in old) target added above name
+
+-- the augments that a node lets go on below its parent, where it is the first of its name there
+abbrev pub woken_by : Search → ℕ → Numbered Part → List Waiter
+woken_by s target l = if same_number (found s.index Children (Some target) l.label.owner (text_in (texts_of s.index) l.number)) (Some l.number)
+    then option_map_or (λ n. waiters_at s.waiting (record { above = Some target; «module» = l.label.owner; name = n }))
+    (slice_get s.names.of_nodes.items l.number) [] else []

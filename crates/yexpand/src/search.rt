@@ -9,7 +9,7 @@ use crate::waiting::{Waiter, Waiting};
 use std::alloc::{AllocError, Global};
 use std::collections::BTreeSet;
 use yindex::{Among, IndexedNode, Key, Names, NodeIndex};
-use ypreorder::Siblings;
+use ypreorder::{Node, Siblings};
 
 /// A step of a path: a module, where its prefix names one, and the place of its name among texts.
 #[derive(Clone, Copy, Debug)]
@@ -32,12 +32,14 @@ pub(crate) struct Search<'t> {
 }
 
 impl<'t> Search<'t> {
-    ghost use Rattle.std.specs.Prelude.{◌≡◌, ◌<◌, None, Some, OnOk, IfOk, take, length};
+    ghost use Rattle.std.specs.Prelude.{◌≡◌, ◌<◌, ◌++◌, None, Some, OnOk, IfOk, take, length};
     ghost use Rattle.yindex.specs.Index.{texts_of};
-    ghost use Rattle.ypreorder.specs.View.{row_by};
+    ghost use Rattle.std.specs.List.{flat_map};
+    ghost use Rattle.yspec.specs.Forest.{row as list_row};
+    ghost use Rattle.ypreorder.specs.View.{row_by, label_by};
     ghost use Rattle.yexpand.specs.Arranging.{taken, with_number};
     ghost use Rattle.yexpand.specs.Searching.{reached, target_in};
-    ghost use Rattle.yexpand.specs.SearchView.{look_in, name_in, names_in, path_at, Adds, AreTexts, Follows, Waits};
+    ghost use Rattle.yexpand.specs.SearchView.{look_in, name_in, names_in, path_at, woken_by, Adds, AreTexts, Follows, Waits};
 
     /// The child of a node, or the top node, that a step names.
     fn child(&self, above: Option<u32>, step: Step) -> Option<u32>
@@ -146,5 +148,71 @@ impl<'t> Search<'t> {
             self.add_row(target, case.children())?;
         }
         Ok(())
+    }
+
+    /// Adds the augments that a node lets go on below its parent, where it is the first of its name there.
+    fn wake(
+        &self,
+        target: u32,
+        node: Node<'_, ExpandedNode<'_, 't>>,
+        woken: &mut Vec<Waiter>,
+    ) -> Result<(), AllocError>
+        ensures { OnOk result (woken.new.items ≡ woken.old.items
+            ++ woken_by self.now target (label_by with_number node.entry)) }
+    {
+        let (number, module) = (node.number(), node.label().owner());
+        let first = self
+            .index
+            .first_like(Among::Children, Some(target), module, number);
+        if first != Some(number) {
+            return Ok(());
+        }
+        if let Some(name) = self.names.of_nodes.get(number as usize) {
+            let key = Key {
+                above: Some(target),
+                module,
+                name: *name,
+            };
+            woken.extend_from_slice(self.waiting.of(key))?;
+        }
+        Ok(())
+    }
+
+    /// Those that the nodes of a row let go on.
+    fn wake_row(
+        &self,
+        target: u32,
+        row: Siblings<'_, ExpandedNode<'_, 't>>,
+        woken: &mut Vec<Waiter>,
+    ) -> Result<(), AllocError>
+        ensures { OnOk result (woken.new.items ≡ woken.old.items
+            ++ flat_map (woken_by self.now target) (list_row (row_by with_number row.entry))) }
+    {
+        for node in row {
+            self.wake(target, node, woken)?;
+        }
+        Ok(())
+    }
+
+    /// Those that what an augment adds lets go on, without the cases unless its target is a choice.
+    pub fn wake_body(
+        &self,
+        alloc: Global,
+        target: u32,
+        is_choice: bool,
+        body: Siblings<'_, ExpandedNode<'_, 't>>,
+    ) -> Result<Vec<Waiter>, AllocError>
+        ensures { IfOk result (λ woken. woken.items ≡ flat_map (woken_by self.now target)
+            (list_row (taken is_choice (row_by with_number body.entry)))) }
+    {
+        let mut woken = Vec::new(alloc);
+        if is_choice {
+            self.wake_row(target, body, &mut woken)?;
+            return Ok(woken);
+        }
+        for case in body {
+            self.wake_row(target, case.children(), &mut woken)?;
+        }
+        Ok(woken)
     }
 }
