@@ -18,3 +18,4 @@ pub mod BodyLemmas
 pub mod PathLemmas
 pub mod SearchLemmas
 pub mod PutLemmas
+pub mod PlacingLemmas
