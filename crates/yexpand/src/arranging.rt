@@ -6,8 +6,8 @@ ghost use Rattle.yspec.specs.linking.Keyword.{choice_word};
 ghost use Rattle.yspec.specs.linking.Source.{is_source_of};
 ghost use Rattle.ypreorder.specs.Layout.{places};
 ghost use Rattle.ypreorder.specs.View.{row_by, label_by};
-ghost use Rattle.yexpand.specs.Hanging.{given_by, hung, inner, marked_by, plain};
-ghost use Rattle.yexpand.specs.Arranging.{hung_view, own_rows, rows_of, taken_by, with_number};
+ghost use Rattle.yexpand.specs.Hanging.{given_by, hung, inner, plain};
+ghost use Rattle.yexpand.specs.Arranging.{hung_view, own_rows, rows_of, with_number};
 ghost use Rattle.yexpand.specs.TableView.{parts_in, slots_of};
 ghost use Rattle.yexpand.specs.Placing.{given, steps, steps_from, toll, Adds, Copies, Does, Finds, Leads};
 
