@@ -1,10 +1,10 @@
 -- What comes of nodes that are put in their places.
-use Rattle.std.proofs.Common.{◌≡◌, ◌⊎◌, inl, inr, get_or, slice_set, ℕ, zero, suc, ◌+◌, ◌≤◌, ◌==◌, Bool, true, false, cond, List, [], ◌∷◌, ◌++◌, length, drop, map, Option, Some, None, refl, sym, ap, ap₂, subst, ◌∙◌, append_assoc, arith, length-append}
+use Rattle.std.proofs.Common.{◌≡◌, ◌⊎◌, inl, inr, get_or, slice_set, ℕ, zero, suc, ◌+◌, ◌≤◌, ◌==◌, false, cond, List, [], ◌∷◌, ◌++◌, length, drop, map, Option, Some, None, refl, sym, ap, ap₂, subst, ◌∙◌, append_assoc, arith, length-append}
 use Rattle.std.specs.Prelude.{slice_get}
 use Rattle.std.proofs.lemmas.Bool.{cases_eq, ne_eqb, eq-eqb}
 use Rattle.std.proofs.lemmas.List.{append-nil}
 use Rattle.std.proofs.lemmas.Option.{slice_get_within}
-use Rattle.yspec.specs.Forest.{Forest, end, node, join, size}
+use Rattle.yspec.specs.Forest.{end, node, join, size}
 use Rattle.yspec.specs.linking.Parts.{Part}
 use Rattle.ypreorder.specs.Layout.{places, opened, closed, laid}
 use Rattle.ypreorder.specs.declared.slot.Slot.{Slot}
@@ -163,6 +163,7 @@ found_from first next order place a is known = record {
           | inl e ↦ (let same : a ≡ b = some_same (sym is ∙ (ap (slice_get order) (sym e) ∙ q_is)) in other (sym q_same ∙ ap (λ (c : Applied). c.target) (sym same)))
           | inr e ↦ known.first_is target q b (omega (arith, low, e)) high q_is q_same
         ])
+
     by_place : (at : ℕ) (b : Applied) → place ≤ at → slice_get order at ≡ Some b → ((at ≡ place) ⊎ (at ≡ place → ⊥))
         → Others order b.target (at + 1) (get_or (slice_set next place (get_or first a.target 0)) at 0)
     by_place at b low at_is (inl same) =

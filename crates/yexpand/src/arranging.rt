@@ -111,7 +111,9 @@ fn add_node<'b, 'a, 't>(
     let label = original.label().copied(alloc, spot.added_by)?;
     let number = made.open(spot.parent, label)?;
     tasks.push(Task::Close(number))?;
-    let place = all.places.first_from(all.order, original.number(), spot.from);
+    let place = all
+        .places
+        .first_from(all.order, original.number(), spot.from);
     tasks.push(Task::Hang(Some(number), original, place))?;
     let inside = Spot {
         parent: Some(number),

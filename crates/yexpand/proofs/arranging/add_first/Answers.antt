@@ -1,15 +1,15 @@
-use Rattle.std.proofs.Common.{◌≡◌, ◌+◌, ◌++◌, suc, [], ◌∷◌, Some, refl, sym, ap, ◌∙◌, subst, arith}
+use Rattle.std.proofs.Common.{◌≡◌, ◌+◌, sym, ap, ◌∙◌, subst, arith}
 use Rattle.std.proofs.lemmas.Result.{on_ok_weaker}
-use Rattle.yspec.specs.Forest.{Forest, end, node, join}
+use Rattle.yspec.specs.Forest.{end, node, join}
 use Rattle.ypreorder.specs.View.{row_by, label_by}
 use Rattle.ypreorder.proofs.RowLemmas.{takes_by, takes_none_by}
 use Rattle.yexpand.specs.Arranging.{with_number}
-use Rattle.yexpand.specs.Hanging.{given_by, inner}
+use Rattle.yexpand.specs.Hanging.{given_by}
 use Rattle.yexpand.specs.Placing.{given, marked, steps, steps_from, toll, Adds, Always, Copies, Does, Leads}
 use Rattle.yexpand.specs.declared.arranging.Task.{Task}
-use Rattle.yexpand.specs.declared.arranging.Task.TheVariants.{Row, Inner, Hang, Close}
+use Rattle.yexpand.specs.declared.arranging.Task.TheVariants.{Row}
 use Rattle.yexpand.proofs.PlacingLemmas.{adds_none, adds_both, one_first, marked_none}
-use Rattle.yexpand.proofs.TurnLemmas.{leaves_none, leaves_behind, leaves_task}
+use Rattle.yexpand.proofs.TurnLemmas.{leaves_none, leaves_behind}
 use Rattle.yexpand.proofs.arranging.add_first.Goals as goal
 
 pub returns-in_default : goal.returns-in_default

@@ -1,14 +1,12 @@
-use Rattle.std.proofs.Common.{◌≡◌, ◌++◌, suc, [], ◌∷◌, Some, refl, sym, ap, ◌∙◌, subst, arith}
-use Rattle.std.proofs.lemmas.Result.{on_ok_weaker}
-use Rattle.yspec.specs.Forest.{Forest, end, node}
+use Rattle.std.proofs.Common.{◌++◌, suc, [], ◌∷◌, sym, ap, ◌∙◌, subst, arith}
 use Rattle.ypreorder.specs.View.{row_by, label_by}
 use Rattle.ypreorder.proofs.RowLemmas.{takes_by, takes_none_by}
 use Rattle.yexpand.specs.Arranging.{with_number}
 use Rattle.yexpand.specs.Hanging.{given_by, inner}
 use Rattle.yexpand.specs.Placing.{given, marked, steps, steps_from, toll, Adds, Always, Copies, Does, Leads}
 use Rattle.yexpand.specs.declared.arranging.Task.{Task}
-use Rattle.yexpand.specs.declared.arranging.Task.TheVariants.{Row, Inner, Hang, Close}
-use Rattle.yexpand.proofs.PlacingLemmas.{adds_none, adds_both, row_first, inner_first, marked_none}
+use Rattle.yexpand.specs.declared.arranging.Task.TheVariants.{Row, Inner}
+use Rattle.yexpand.proofs.PlacingLemmas.{adds_none, adds_both, inner_first, marked_none}
 use Rattle.yexpand.proofs.TurnLemmas.{leaves_none, leaves_behind, leaves_task}
 use Rattle.yexpand.proofs.arranging.add_inner.Goals as goal
 

@@ -1,23 +1,15 @@
-use Rattle.std.proofs.Common.{◌≡◌, ◌+◌, ◌++◌, suc, [], ◌∷◌, Some, None, OnOk, true, false, cond, drop, get_or, length, refl, sym, ap, ap₂, ◌∙◌, subst, arith}
-use Rattle.std.specs.Prelude.{slice_get}
-use Rattle.std.proofs.lemmas.Result.{on_ok_weaker}
-use Rattle.yspec.specs.Forest.{Forest, end, node, join}
-use Rattle.yspec.specs.linking.Keyword.{choice_word}
-use Rattle.yspec.specs.linking.Source.{is_source_of}
-use Rattle.ypreorder.specs.Layout.{places}
+use Rattle.std.proofs.Common.{◌≡◌, ◌+◌, ◌++◌, suc, [], ◌∷◌, Some, None, drop, refl, sym, ap, ◌∙◌, subst, arith}
+use Rattle.yspec.specs.Forest.{end, node, join}
 use Rattle.ypreorder.specs.View.{row_by, label_by}
-use Rattle.yexpand.specs.Arranging.{hung_view, rows_of, with_number}
-use Rattle.yexpand.specs.Hanging.{given_by, inner, marked_by, plain}
+use Rattle.yexpand.specs.Arranging.{rows_of, with_number}
+use Rattle.yexpand.specs.Hanging.{given_by}
 use Rattle.yexpand.specs.NodeView.{marked_with, part_view}
-use Rattle.yexpand.specs.Placing.{given, marked, steps, steps_from, toll, Adds, Always, Copies, Does, Leads, Others}
-use Rattle.yexpand.specs.TableView.{slots_of, parts_in}
-use Rattle.yexpand.specs.declared.applied.Applied.{Applied}
-use Rattle.yexpand.specs.declared.arranging.Arrangement.{Arrangement}
-use Rattle.yexpand.specs.declared.arranging.Spot.{Spot}
+use Rattle.yexpand.specs.Placing.{given, steps, steps_from, toll, Adds, Always, Copies, Does, Leads, Others}
+use Rattle.yexpand.specs.TableView.{slots_of}
 use Rattle.yexpand.specs.declared.arranging.Task.{Task}
-use Rattle.yexpand.specs.declared.arranging.Task.TheVariants.{Row, Inner, Hang, Close}
-use Rattle.yexpand.proofs.PlacingLemmas.{adds_none, adds_both, adds_node, row_first, marked_none, mark, mark_is, given_on, given_mark, given_here, given_later, given_none, fewer, steps_here}
-use Rattle.yexpand.proofs.TurnLemmas.{leaves_none, leaves_so, leaves_behind, leaves_task}
+use Rattle.yexpand.specs.declared.arranging.Task.TheVariants.{Row, Hang, Close}
+use Rattle.yexpand.proofs.PlacingLemmas.{adds_both, adds_node, row_first, marked_none, mark, mark_is, given_on, given_mark, fewer}
+use Rattle.yexpand.proofs.TurnLemmas.{leaves_behind, leaves_task}
 use Rattle.yexpand.proofs.arranging.add_node.Goals as goal
 
 pub returns : goal.returns
@@ -44,7 +36,7 @@ returns c =
     let number : c.number.result ≡ l.number = c.number.ensures in
     let others = subst (λ k. Others order k spot.from place) number c.first_from-place.ensures.others in
     let kept = sym (given_on x.starts.now slots x.numbers.now order l spot.from place c.first_from-place.ensures.behind others)
-        ∙ sym (given_mark x.starts.now slots x.numbers.now (drop spot.from order) m l) in
+    ∙ sym (given_mark x.starts.now slots x.numbers.now (drop spot.from order) m l) in
     let inside = join (given_by g below) (g (mark m l)) in
     let whole = row_first g m l below end ∙ ap (node (mark m l) inside) (marked_none g m end refl) in
     let label_is = c.in_ok-label.ensures ∙ (ap (λ e. marked_with m (part_view e)) c.label.ensures ∙ mark_is m l) in

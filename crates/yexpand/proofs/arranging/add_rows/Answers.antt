@@ -1,23 +1,15 @@
-use Rattle.std.proofs.Common.{◌≡◌, ◌+◌, ◌++◌, suc, [], ◌∷◌, Some, None, OnOk, true, false, cond, drop, get_or, length, refl, sym, ap, ap₂, ◌∙◌, subst, arith}
-use Rattle.std.specs.Prelude.{slice_get}
-use Rattle.std.proofs.lemmas.Result.{on_ok_weaker}
-use Rattle.yspec.specs.Forest.{Forest, end, node, join}
+use Rattle.std.proofs.Common.{◌≡◌, ◌+◌, ◌++◌, suc, [], ◌∷◌, Some, true, false, cond, get_or, sym, ap, ap₂, ◌∙◌, subst, arith}
 use Rattle.yspec.specs.linking.Keyword.{choice_word}
 use Rattle.yspec.specs.linking.Source.{is_source_of}
-use Rattle.ypreorder.specs.Layout.{places}
-use Rattle.ypreorder.specs.View.{row_by, label_by}
+use Rattle.ypreorder.specs.View.{label_by}
 use Rattle.yexpand.specs.Arranging.{hung_view, rows_of, with_number}
-use Rattle.yexpand.specs.Hanging.{given_by, inner, marked_by, plain}
-use Rattle.yexpand.specs.NodeView.{marked_with, part_view}
-use Rattle.yexpand.specs.Placing.{given, marked, steps, steps_from, toll, Adds, Always, Copies, Does, Leads}
-use Rattle.yexpand.specs.TableView.{slots_of, parts_in}
-use Rattle.yexpand.specs.declared.applied.Applied.{Applied}
-use Rattle.yexpand.specs.declared.arranging.Arrangement.{Arrangement}
+use Rattle.yexpand.specs.Hanging.{given_by, inner, marked_by}
+use Rattle.yexpand.specs.Placing.{given, steps, steps_from, toll, Adds, Always, Does, Leads}
+use Rattle.yexpand.specs.TableView.{slots_of}
 use Rattle.yexpand.specs.declared.arranging.Spot.{Spot}
 use Rattle.yexpand.specs.declared.arranging.Task.{Task}
-use Rattle.yexpand.specs.declared.arranging.Task.TheVariants.{Row, Inner, Hang, Close}
-use Rattle.yexpand.proofs.PlacingLemmas.{adds_none, adds_both, adds_node, row_first, marked_none, mark, mark_is, given_on, given_mark, given_here, given_later, given_none, fewer, steps_here}
-use Rattle.yexpand.proofs.TurnLemmas.{leaves_none, leaves_so, leaves_behind, leaves_task}
+use Rattle.yexpand.specs.declared.arranging.Task.TheVariants.{Row, Inner}
+use Rattle.yexpand.proofs.TurnLemmas.{leaves_so, leaves_task}
 use Rattle.yexpand.proofs.arranging.add_rows.Goals as goal
 
 pub returns-in_ok-push : goal.returns-in_ok-push
@@ -34,8 +26,8 @@ returns-in_ok-push c = λ made.
     let t : Task = Row spot c.rows_of-rows.result in
     let before = c.args.tasks.now.items in
     let choice : is_source_of choice_word l.label.source ≡ true = sym c.is_choice.ensures ∙ c.if-is_choice.true in
-    let is = ap₂ (λ n f. given_by g (marked_by n ( f))) c.number_at.ensures c.rows_of-rows.ensures
-        ∙ sym (ap (λ b. given_by g (marked_by number (cond b rows (inner rows)))) choice) in
+    let is = ap₂ (λ n f. given_by g (marked_by n (f))) c.number_at.ensures c.rows_of-rows.ensures
+    ∙ sym (ap (λ b. given_by g (marked_by number (cond b rows (inner rows)))) choice) in
     let costs = ap (steps (steps_from x later)) c.rows_of-rows.ensures in
     subst (λ ts. Leads x (Adds c.args.parent (given_by g (h.row l))) (1 + steps (steps_from x later) rows) before ts made made) (sym c.in_ok-push.ensures.items)
     (leaves_so (Does x) (toll x) Always (Does x t) (Adds c.args.parent (given_by g (h.row l))) (suc (toll x t)) (1 + steps (steps_from x later) rows) before (before ++ t ∷ []) made made
@@ -57,7 +49,7 @@ returns-in_ok-push-2 c = λ made.
     let before = c.args.tasks.now.items in
     let choice : is_source_of choice_word l.label.source ≡ false = sym c.is_choice.ensures ∙ c.if-is_choice.false in
     let is = ap₂ (λ n f. given_by g (marked_by n (inner f))) c.number_at.ensures c.rows_of-rows.ensures
-        ∙ sym (ap (λ b. given_by g (marked_by number (cond b rows (inner rows)))) choice) in
+    ∙ sym (ap (λ b. given_by g (marked_by number (cond b rows (inner rows)))) choice) in
     let costs = ap (steps (steps_from x later)) c.rows_of-rows.ensures in
     subst (λ ts. Leads x (Adds c.args.parent (given_by g (h.row l))) (1 + steps (steps_from x later) rows) before ts made made) (sym c.in_ok-push-2.ensures.items)
     (leaves_so (Does x) (toll x) Always (Does x t) (Adds c.args.parent (given_by g (h.row l))) (suc (toll x t)) (1 + steps (steps_from x later) rows) before (before ++ t ∷ []) made made

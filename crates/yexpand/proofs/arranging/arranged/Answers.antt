@@ -1,4 +1,4 @@
-use Rattle.std.proofs.Common.{◌≡◌, ◌++◌, None, get_or, length, map, ap, ap₂, ◌∙◌}
+use Rattle.std.proofs.Common.{◌++◌, None, get_or, length, map, ap, ap₂, ◌∙◌}
 use Rattle.ypreorder.specs.Layout.{laid, places, seen}
 use Rattle.yexpand.specs.Arranging.{hung_view, rows_between}
 use Rattle.yexpand.specs.Hanging.{hung, plain}

@@ -1,23 +1,16 @@
-use Rattle.std.proofs.Common.{◌≡◌, ◌+◌, ◌++◌, suc, [], ◌∷◌, Some, None, OnOk, true, false, cond, drop, get_or, length, refl, sym, ap, ap₂, ◌∙◌, subst, arith}
+use Rattle.std.proofs.Common.{◌≡◌, ◌+◌, ◌++◌, suc, [], ◌∷◌, Some, None, length, refl, sym, ap, ◌∙◌, subst, arith}
 use Rattle.std.specs.Prelude.{slice_get}
 use Rattle.std.proofs.lemmas.Option.{slice_get_read, slice_get_past}
 use Rattle.std.proofs.lemmas.Result.{on_ok_weaker}
-use Rattle.yspec.specs.Forest.{Forest, end, node, join}
-use Rattle.yspec.specs.linking.Keyword.{choice_word}
-use Rattle.yspec.specs.linking.Source.{is_source_of}
-use Rattle.ypreorder.specs.Layout.{places}
-use Rattle.ypreorder.specs.View.{row_by, label_by}
+use Rattle.yspec.specs.Forest.{join}
+use Rattle.ypreorder.specs.View.{label_by}
 use Rattle.yexpand.specs.Arranging.{hung_view, rows_of, with_number}
-use Rattle.yexpand.specs.Hanging.{given_by, inner, marked_by, plain}
-use Rattle.yexpand.specs.NodeView.{marked_with, part_view}
-use Rattle.yexpand.specs.Placing.{given, marked, steps, steps_from, toll, Adds, Always, Copies, Does, Leads, Others}
-use Rattle.yexpand.specs.TableView.{slots_of, parts_in}
-use Rattle.yexpand.specs.declared.applied.Applied.{Applied}
-use Rattle.yexpand.specs.declared.arranging.Arrangement.{Arrangement}
-use Rattle.yexpand.specs.declared.arranging.Spot.{Spot}
+use Rattle.yexpand.specs.Hanging.{given_by}
+use Rattle.yexpand.specs.Placing.{given, steps, steps_from, toll, Adds, Always, Does, Leads, Others}
+use Rattle.yexpand.specs.TableView.{slots_of}
 use Rattle.yexpand.specs.declared.arranging.Task.{Task}
-use Rattle.yexpand.specs.declared.arranging.Task.TheVariants.{Row, Inner, Hang, Close}
-use Rattle.yexpand.proofs.PlacingLemmas.{adds_none, adds_both, adds_node, row_first, marked_none, mark, mark_is, given_on, given_mark, given_here, given_later, given_none, fewer, steps_here}
+use Rattle.yexpand.specs.declared.arranging.Task.TheVariants.{Hang}
+use Rattle.yexpand.proofs.PlacingLemmas.{adds_none, adds_both, given_on, given_here, given_later, given_none, fewer, steps_here}
 use Rattle.yexpand.proofs.TurnLemmas.{leaves_none, leaves_so, leaves_behind, leaves_task}
 use Rattle.yexpand.proofs.arranging.hang.Goals as goal
 
@@ -68,7 +61,7 @@ returns c = λ made.
     let others = subst (λ k. Others order k later next) same (c.behind-next.ensures.others a is) in
     let first = given_by (given x later) (h.row l) in
     let whole = given_here x.starts.now slots x.numbers.now order l place a is same
-        ∙ ap (join first) (given_on x.starts.now slots x.numbers.now order l later next c.behind-next.ensures.behind others) in
+    ∙ ap (join first) (given_on x.starts.now slots x.numbers.now order l later next c.behind-next.ensures.behind others) in
     let some = 1 + steps (steps_from x later) rows in
     on_ok_weaker c.add_rows.result (λ leads. leaves_behind (Does x) (toll x) Always (Adds c.args.parent first) (Adds c.args.parent (given x place l))
     some (steps_from x place) t before c.add_rows.new.tasks.items made made made

@@ -1,5 +1,4 @@
-use Rattle.std.proofs.Common.{◌≡◌, ◌∙◌, get_or, slice_set, sym, ap, subst}
-use Rattle.std.specs.Prelude.{slice_get}
+use Rattle.std.proofs.Common.{◌∙◌, get_or, slice_set, sym, ap, subst}
 use Rattle.std.proofs.lemmas.Option.{slice_get-get_or}
 use Rattle.yexpand.specs.Placing.{FindsFrom}
 use Rattle.yexpand.specs.declared.applied.Applied.{Applied}

@@ -1,4 +1,4 @@
-use Rattle.std.proofs.Common.{◌≡◌, get_or, ap, ◌∙◌, arith}
+use Rattle.std.proofs.Common.{get_or, ap, ◌∙◌, arith}
 use Rattle.yexpand.proofs.places.Places.behind.Goals as goal
 
 pub returns-clause-others : goal.returns-clause-others

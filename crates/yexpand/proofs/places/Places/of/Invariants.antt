@@ -1,4 +1,4 @@
-use Rattle.std.proofs.Common.{◌≡◌, ◌≤◌, length}
+use Rattle.std.proofs.Common.{◌≤◌, length}
 use Rattle.yexpand.specs.Placing.{FindsFrom}
 use Rattle.yexpand.proofs.places.Places.of.Given as goal
 
