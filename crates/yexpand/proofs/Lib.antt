@@ -19,3 +19,6 @@ pub mod PathLemmas
 pub mod SearchLemmas
 pub mod PutLemmas
 pub mod PlacingLemmas
+pub mod TakenLemmas
+pub mod ReadyLemmas
+pub mod ReachedLemmas

@@ -95,11 +95,10 @@ put_absent h (node l below after) none = by (h.target == l.number) refl
 -- ---- changing the node at a path
 
 -- what a change makes of a node is that a row comes last below it
-abbrev pub Appends : Hung Part → (Part → Forest Part → Forest Part → Forest Part) → Type 0
-Appends h change = (l : Numbered Part) (below after : Forest Part) → l.number ≡ h.target
-    → change l.label below after ≡ node l.label (join below (plain (h.row l))) after
+abbrev pub Appends : Hung Part → (Part → Forest Part → Forest Part → Forest Part) → Numbered Part → Type 0
+Appends h change l = (below after : Forest Part) → change l.label below after ≡ node l.label (join below (plain (h.row l))) after
 
-plain_join : (f g : Parts) → plain (join f g) ≡ join (plain f) (plain g)
+pub plain_join : (f g : Parts) → plain (join f g) ≡ join (plain f) (plain g)
 plain_join end g = refl
 plain_join (node l below after) g = ap (node l.label (plain below)) (plain_join after g)
 
@@ -109,10 +108,10 @@ passed : (h : Hung Part) (l : Numbered Part) (below after : Parts) → (l.number
 passed h l below after other = ap (λ b. node l (cond b (join (put h below) (h.row l)) (put h below)) (put h after))
     (ne_eqb h.target l.number (λ e. other (sym e)))
 
-changed_here : (step : NodeName) (h : Hung Part) (change : Part → Forest Part → Forest Part → Forest Part) → Appends h change → (f : Parts) (l : Numbered Part)
+changed_here : (step : NodeName) (h : Hung Part) (change : Part → Forest Part → Forest Part → Forest Part) (l : Numbered Part) → Appends h change l → (f : Parts)
     → find (is_step_of step) (row f) ≡ Some l → l.number ≡ h.target → times h.target f ≤ 1 → change_nth (is_step step) 0 change (plain f) ≡ plain (put h f)
-changed_here step h change appends end l e is few = absurd (none-some l e)
-changed_here step h change appends (node k below after) l e is few = by (is_step step k.label) e (changed_here step h change appends after l)
+changed_here step h change l appends end e is few = absurd (none-some l e)
+changed_here step h change l appends (node k below after) e is few = by (is_step step k.label) e (changed_here step h change l appends after)
   where
     by : (b : Bool) → cond b (Some k) (find (is_step_of step) (row after)) ≡ Some l
         → (find (is_step_of step) (row after) ≡ Some l → l.number ≡ h.target → times h.target after ≤ 1 → change_nth (is_step step) 0 change (plain after) ≡ plain (put h after))
@@ -121,7 +120,7 @@ changed_here step h change appends (node k below after) l e is few = by (is_step
     by true e later =
         let same : k.number ≡ h.target = ap (λ o. (unwrap_or o k).number) e ∙ is in
         let count = once k.number h.target same in
-        appends k (plain below) (plain after) same
+        subst (Appends h change) (sym (ap (λ o. unwrap_or o k) e)) appends (plain below) (plain after)
         ∙ (ap₂ (node k.label) (ap (λ f. join f (plain (h.row k))) (ap plain (sym (put_absent h below (omega (arith, few, count))))) ∙ sym (plain_join (put h below) (h.row k)))
         (ap plain (sym (put_absent h after (omega (arith, few, count)))))
         ∙ ap (λ b. plain (node k (cond b (join (put h below) (h.row k)) (put h below)) (put h after))) (sym (eq-eqb h.target k.number (sym same))))
@@ -132,13 +131,13 @@ changed_here step h change appends (node k below after) l e is few = by (is_step
         (later e is (omega (arith, few)))
         ∙ ap plain (sym (passed h k below after other))
 
-pub changed_plain : (steps : List NodeName) (h : Hung Part) (change : Part → Forest Part → Forest Part → Forest Part) → Appends h change → (f : Parts) (l : Numbered Part)
+pub changed_plain : (steps : List NodeName) (h : Hung Part) (change : Part → Forest Part → Forest Part → Forest Part) (l : Numbered Part) → Appends h change l → (f : Parts)
     → label_at steps f ≡ Some l → l.number ≡ h.target → times h.target f ≤ 1 → changed_at steps change (plain f) ≡ plain (put h f)
-changed_plain [] h change appends f l e is few = absurd (none-some l e)
-changed_plain (step ∷ []) h change appends f l e is few = changed_here step h change appends f l e is few
-changed_plain (step ∷ next ∷ steps) h change appends end l e is few = absurd (none-some l e)
-changed_plain (step ∷ next ∷ steps) h change appends (node k below after) l e is few =
-    by (is_step step k.label) e (changed_plain (next ∷ steps) h change appends below l) (changed_plain (step ∷ next ∷ steps) h change appends after l)
+changed_plain [] h change l appends f e is few = absurd (none-some l e)
+changed_plain (step ∷ []) h change l appends f e is few = changed_here step h change l appends f e is few
+changed_plain (step ∷ next ∷ steps) h change l appends end e is few = absurd (none-some l e)
+changed_plain (step ∷ next ∷ steps) h change l appends (node k below after) e is few =
+    by (is_step step k.label) e (changed_plain (next ∷ steps) h change l appends below) (changed_plain (step ∷ next ∷ steps) h change l appends after)
   where
     more : Forest Part → Forest Part
     more = changed_at (next ∷ steps) change

@@ -2,7 +2,7 @@
 use Rattle.std.specs.Prelude.{ℕ, ◌+◌, ◌-◌, List, length, take, drop, get_or, if◌then◌else◌}
 use Rattle.yspec.specs.Forest.{Forest}
 use Rattle.yspec.specs.linking.Keyword.{choice_word}
-use Rattle.yspec.specs.linking.Source.{is_source_of}
+use Rattle.yspec.specs.linking.Source.{Source, is_source_of}
 use Rattle.yspec.specs.linking.Parts.{Part}
 use Rattle.ypreorder.specs.Layout.{forest_of, numbered_by}
 use Rattle.ypreorder.specs.declared.slot.Slot.{Slot}
@@ -28,8 +28,11 @@ rows_of starts slots augment =
     rows_between (get_or starts augment (length slots)) (get_or starts (augment + 1) (length slots)) slots
 
 -- A choice takes them with the cases for which they stand, another node without.
+abbrev pub taken_for : Source → Forest (Numbered Part) → Forest (Numbered Part)
+taken_for s f = if is_source_of choice_word s then f else inner f
+
 abbrev pub taken_by : Numbered Part → Forest (Numbered Part) → Forest (Numbered Part)
-taken_by l f = if is_source_of choice_word l.label.source then f else inner f
+taken_by l f = taken_for l.label.source f
 
 -- what an augment hangs below its target, given the numbers of the augments' statements
 abbrev pub hung_view : List ℕ → List (Slot ExpandedNode) → List ℕ → Applied → Hung Part

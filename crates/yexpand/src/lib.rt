@@ -13,9 +13,11 @@ mod named;
 mod nodes;
 mod places;
 mod refining;
+mod search;
 mod stating;
 mod table;
 mod target;
+mod waiting;
 mod walking;
 
 pub use augments::augments_of;

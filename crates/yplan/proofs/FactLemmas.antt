@@ -1,5 +1,5 @@
 -- What planned nodes state.
-use Rattle.std.proofs.Common.{◌≡◌, ℕ, Bool, true, not, cond, ◌&&◌, ◌||◌, Option, Some, None, is_some, refl, ap}
+use Rattle.std.proofs.Common.{◌≡◌, ℕ, Bool, true, false, not, cond, ◌&&◌, ◌||◌, Option, Some, None, is_some, refl, ap}
 use Rattle.std.specs.Prelude.{option_map, unwrap_or, nat_lt}
 use Rattle.yspec.specs.linking.Keyword.{Keyword, same_keyword, leaf_word, leaf_list_word, list_word, choice_word, container_word, presence_word}
 use Rattle.yspec.specs.linking.Planned.{Planned, Plan, stated_in}
@@ -22,6 +22,11 @@ must_by p inside w = cond (same_keyword leaf_word w || same_keyword choice_word 
 
 pub must_as : (p : Planned) (inside : Bool) (w : Keyword) → w ≡ p.part.source.keyword → must_by p inside w ≡ must_be p inside
 must_as p inside w e = ap (must_by p inside) e
+
+pub both_turned : (inside absent : Bool) → inside ≡ true → absent ≡ absent && inside
+both_turned true true e = refl
+both_turned true false e = refl
+both_turned false absent e = absurd cc
 
 -- by the number of the case that is found
 abbrev pub wrong_by : Plan → Planned → Option ℕ → Bool

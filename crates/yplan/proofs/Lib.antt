@@ -1,7 +1,7 @@
 pub mod PartLemmas
 pub mod OwnLemmas
 pub mod PlanLemmas
-pub mod BelowLemmas
+pub mod NeedLemmas
 pub mod FactLemmas
 pub mod NodeLemmas
 pub mod FindLemmas

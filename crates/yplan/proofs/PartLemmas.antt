@@ -5,7 +5,7 @@ use Rattle.yspec.specs.Forest.{Forest, node, end, size, join}
 use Rattle.yspec.specs.linking.Parts.{Part}
 use Rattle.yspec.specs.linking.Planned as plan
 use Rattle.yspec.specs.linking.Planned.{Around, around_below, at_top, planned_node, planned}
-use Rattle.ypreorder.specs.Layout.{IsLaidOut, Place, places, laid, opened, closed, forest_of, numbered_by}
+use Rattle.ypreorder.specs.Layout.{IsLaidOut, Place, places, laid, opened, closed, forest_of, numbered_by, Shows}
 use Rattle.ypreorder.specs.View.{slots_in}
 use Rattle.ypreorder.specs.declared.table.Table.{Table}
 use Rattle.ypreorder.proofs.LayoutLemmas.{length-places, places-join, length-laid, length-seen, grown, shown}
@@ -108,6 +108,8 @@ next_node old new a p below after row whole is added so =
 pub all_planned : (rows : Table Planned) (nodes : NodeTable) (roots parts : Forest Part) → seen_rows rows ≡ listed 0 at_top roots
     → roots ≡ nodes_in nodes → parts_in nodes ≡ places None 0 parts
     → (numbered_by planned_view 0 (forest_of (slots_in rows)) ≡ planned 0 at_top parts) × IsLaidOut (slots_in rows)
+    × Shows planned_view (slots_in rows) (planned 0 at_top parts)
 all_planned rows nodes roots parts listed_are roots_are parts_are =
-    shown planned_view (planned 0 at_top parts) (slots_in rows)
-    (listed_are ∙ ap (listed 0 at_top) (roots_are ∙ (shown numbered_part parts (slots_of nodes) parts_are).0))
+    let shows = listed_are ∙ ap (listed 0 at_top) (roots_are ∙ (shown numbered_part parts (slots_of nodes) parts_are).0) in
+    let both = shown planned_view (planned 0 at_top parts) (slots_in rows) shows in
+    (both.0, both.1, shows)

@@ -4,3 +4,4 @@ pub mod Finding
 pub mod PlanView
 pub mod NodesView
 pub mod Planning
+pub mod Needs

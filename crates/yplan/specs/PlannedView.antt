@@ -6,6 +6,7 @@ use Rattle.yspec.specs.linking.Planned as spec
 use Rattle.yspec.specs.linking.Planned.{planned}
 use Rattle.ypreorder.specs.Layout.{Place, places, laid, seen}
 use Rattle.ypreorder.specs.View.{slots_in}
+use Rattle.ypreorder.specs.declared.slot.Slot.{Slot}
 use Rattle.ypreorder.specs.declared.table.Table.{Table}
 use Rattle.yexpand.specs.NodeView.{part_view}
 use Rattle.yplan.specs.declared.planned.Planned.{Planned}
@@ -18,6 +19,10 @@ part_at p = part_view p.node.now
 abbrev pub planned_view : ℕ → Planned → spec.Planned
 planned_view number p =
     record { number = number; parent = p.parent; scope = p.scope; config = p.config; part = part_at p }
+
+-- a slot with the planned node of a number
+abbrev pub planned_place : ℕ → Slot Planned → Place spec.Planned
+planned_place number r = record { parent = r.parent; label = planned_view number r.label; below = r.below }
 
 abbrev pub around_view : Around → spec.Around
 around_view a = record { parent = a.parent; data_parent = a.data_parent; scope = a.scope; config = a.config }

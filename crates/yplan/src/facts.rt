@@ -4,7 +4,6 @@ ghost use Rattle.std.specs.Prelude.{◌≡◌, map, IfOk};
 ghost use Rattle.yspec.specs.linking.SchemaNodes as spec;
 ghost use Rattle.yspec.specs.linking.NodeBreaks as breaks;
 ghost use Rattle.yplan.specs.PlanView.{view};
-ghost use Rattle.ypreorder.specs.View.{row_by, label_by};
 ghost use Rattle.yplan.specs.PlannedView.{planned_view};
 
 use crate::plan::Plan;
@@ -12,13 +11,13 @@ use crate::planned::Planned;
 use std::alloc::{AllocError, Global};
 use ygrammar::{argument_of, count, max_elements};
 use ymodel::Amount;
-use ypreorder::{Node, Siblings};
 use yword::{Keyword, Status, status_of};
 
 impl<'a, 't> Planned<'a, 't> {
     ghost use Rattle.std.specs.Prelude.{◌≡◌, is_some};
     ghost use Rattle.yspec.specs.linking.Keyword.{presence_word};
     ghost use Rattle.yspec.specs.linking.Planned.{stated_in};
+    ghost use Rattle.yspec.specs.linking.NodeBreaks.{must_be};
     ghost use Rattle.yword.specs.WordView.{status_view};
     ghost use Rattle.ymodel.specs.Layout.{amount_view};
     ghost use Rattle.yplan.specs.PlannedView.{planned_view};
@@ -84,6 +83,21 @@ impl<'a, 't> Planned<'a, 't> {
         self.own_argument(Keyword::Presence).is_some()
     }
 
+    /// Whether it must be stored where the one above it is, given whether one right below it must; a case needn't (RFC 7950,
+    /// 3).
+    pub(crate) fn must_be(&self, inside: bool) -> bool
+        ensures { (number : _) → result ≡ must_be (planned_view number self.now) inside }
+    {
+        match self.keyword() {
+            Keyword::Leaf => self.is_mandatory(),
+            Keyword::LeafList => self.min_elements() > 0,
+            Keyword::List => self.min_elements() > 0,
+            Keyword::Choice => self.is_mandatory(),
+            Keyword::Container => inside && !self.has_presence(),
+            _ => false,
+        }
+    }
+
     /// The name of its type as its `type` statement has it, with its prefix; that of texts where it has none.
     pub fn type_name(&self) -> &'t str
         ensures { (number : _) → result.now ≡ spec.type_name (planned_view number self.now) }
@@ -92,36 +106,6 @@ impl<'a, 't> Planned<'a, 't> {
             Some(text) => text,
             None => "string",
         }
-    }
-}
-
-/// Whether a row has a node that must be stored.
-#[cycle(mandatory)]
-pub(crate) fn has_mandatory(nodes: Siblings<'_, Planned<'_, '_>>) -> bool
-    ensures { result ≡ breaks.has_mandatory (row_by planned_view nodes.entry) }
-{
-    for node in nodes {
-        if must_be(node) {
-            return true;
-        }
-    }
-    false
-}
-
-/// Whether a node must be stored where the one above it is; a case needn't (RFC 7950, 3).
-#[cycle(mandatory)]
-fn must_be(node: Node<'_, Planned<'_, '_>>) -> bool
-    ensures { result ≡ breaks.must_be (label_by planned_view node.entry)
-        (breaks.has_mandatory (row_by planned_view node.entry.children)) }
-{
-    let planned = node.label();
-    match planned.keyword() {
-        Keyword::Leaf => planned.is_mandatory(),
-        Keyword::LeafList => planned.min_elements() > 0,
-        Keyword::List => planned.min_elements() > 0,
-        Keyword::Choice => planned.is_mandatory(),
-        Keyword::Container => !planned.has_presence() && has_mandatory(node.children()),
-        _ => false,
     }
 }
 
@@ -146,7 +130,7 @@ pub fn is_wrong_case<'a, 't>(plan: &Plan<'a, 't>, number: u32, planned: &Planned
         result ≡ breaks.is_wrong_case (view plan.now) p (spec.default_case (view plan.now) p) }
 {
     match plan.default_case(number, planned) {
-        Some(case) => planned.is_mandatory() || has_mandatory(plan.row_below(case)),
+        Some(case) => planned.is_mandatory() || plan.has_mandatory_below(case),
         None => true,
     }
 }

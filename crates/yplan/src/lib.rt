@@ -6,6 +6,7 @@ mod facts;
 mod finding;
 mod levels;
 mod names;
+mod needs;
 mod nodes;
 mod own;
 mod plan;

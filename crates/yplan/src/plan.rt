@@ -3,14 +3,17 @@
 ghost use Rattle.std.specs.Prelude.{◌≡◌, ℕ, find, map, option_map};
 ghost use Rattle.yspec.specs.linking.SchemaNodes.{number_in};
 ghost use Rattle.yindex.specs.Index.{found, texts_of};
-ghost use Rattle.ypreorder.specs.Layout.{IsLaidOut};
-ghost use Rattle.ypreorder.specs.View.{slots_in};
+ghost use Rattle.ypreorder.specs.Layout.{IsLaidOut, numbered_by};
+ghost use Rattle.ypreorder.specs.View.{forest_in, slots_in};
 ghost use Rattle.yplan.specs.Finding.{is_found, list_of, name_of};
+ghost use Rattle.yplan.specs.Needs.{needs_below};
+ghost use Rattle.yplan.specs.PlannedView.{planned_view};
 ghost use Rattle.ygrammar.specs.LinkView as link;
 ghost use Rattle.ynames.specs.PrefixView.{IsOf};
 
 use crate::finding::index_of;
 use crate::levels::are_deeper;
+use crate::needs::{is_told, needs_below};
 use crate::nodes::{PlanNode, PlanNodes};
 use crate::planned::Planned;
 use crate::planning::planned;
@@ -19,7 +22,7 @@ use yexpand::NodeTable;
 use ygrammar::{Name, Sources};
 use yindex::{Among, Names, NodeIndex};
 use ynames::{NodeName, Prefixes};
-use ypreorder::{Siblings, Slot, Table};
+use ypreorder::{Slot, Table};
 use yword::Keyword;
 
 /// The schema nodes that a set of modules defines, in order of definition, and how they are found by name.
@@ -30,12 +33,15 @@ pub struct Plan<'a, 't> {
     table: Table<Planned<'a, 't>>,
     // Its nodes by their names, below those right above them and below those where they share them.
     index: NodeIndex<'t>,
+    // Of each, by number, whether one right below it must be stored where it is itself.
+    needs: Vec<bool>,
     ghost prefixed: { IsOf prefixes.now (link.view sources.now) },
     ghost laid_out: { IsLaidOut (slots_in table) },
     ghost named: { texts_of index ≡ map name_of (list_of table) },
     ghost indexed: { (among : _) → (above : _) → (m : ℕ) → (name : _)
         → found index among above m name ≡ option_map number_in
         (find (is_found among above m name) (list_of table)) },
+    ghost told: { needs.items ≡ needs_below (numbered_by planned_view 0 (forest_in table)) },
 }
 
 impl<'a, 't> Plan<'a, 't> {
@@ -49,10 +55,9 @@ impl<'a, 't> Plan<'a, 't> {
     ghost use Rattle.yspec.specs.linking.Planned as spec;
     ghost use Rattle.ygrammar.specs.LinkView as link;
     ghost use Rattle.yspec.specs.Forest.{size, levels};
-    ghost use Rattle.yspec.specs.linking.NodeBreaks.{is_config_above, row_below};
+    ghost use Rattle.yspec.specs.linking.NodeBreaks.{has_mandatory, is_config_above, is_needed, row_below};
     ghost use Rattle.yspec.specs.linking.SchemaNodes.{number_in, default_case};
     ghost use Rattle.ypreorder.specs.Layout.{labels_by, places};
-    ghost use Rattle.ypreorder.specs.View.{row_by};
     ghost use Rattle.yplan.specs.PlannedView.{planned_view};
     ghost use Rattle.yplan.specs.PlanView.{view};
     ghost use Rattle.yplan.specs.NodesView.{left, node_view};
@@ -75,11 +80,13 @@ impl<'a, 't> Plan<'a, 't> {
     {
         let table = planned(alloc, nodes.roots())?;
         let index = index_of(alloc, &table)?;
+        let needs = needs_below(alloc, &table)?;
         Ok(Plan {
             sources,
             prefixes,
             table,
             index,
+            needs,
         })
     }
 
@@ -236,11 +243,18 @@ impl<'a, 't> Plan<'a, 't> {
         }
     }
 
-    /// The nodes right below one; none below a number that no node has.
-    pub(crate) fn row_below(&self, number: u32) -> Siblings<'_, Planned<'a, 't>>
-        ensures { row_by planned_view result ≡ row_below (view self.now) number }
+    /// Whether a node right below that of a number must be stored where the latter is.
+    pub(crate) fn has_mandatory_below(&self, number: u32) -> bool
+        ensures { result ≡ has_mandatory (row_below (view self.now) number) }
     {
-        self.table.children(number)
+        is_told(&self.needs, number as usize)
+    }
+
+    /// Whether a node must be stored where the one above it is (RFC 7950, 3).
+    pub fn is_needed(&self, node: PlanNode<'a, 't>) -> bool
+        ensures { result ≡ is_needed (view self.now) (node_view node.entry) }
+    {
+        node.planned.must_be(self.has_mandatory_below(node.number))
     }
 
     /// Whether the node above one is configuration; so is what stands above the top nodes.

@@ -81,6 +81,13 @@ impl<'a, 't> Planned<'a, 't> {
         self.node.owner()
     }
 
+    /// The number of the `augment` that put it below its target, where one did.
+    pub fn added_by(&self) -> Option<u32>
+        ensures { result ≡ (part_at self.now).added_by }
+    {
+        self.node.added_by()
+    }
+
     /// Its name.
     pub fn name(&self) -> &'t str
         ensures { result.now ≡ sources.argument_in (part_at self.now).source }

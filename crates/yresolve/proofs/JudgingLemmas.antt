@@ -10,13 +10,18 @@ use Rattle.yplan.specs.PlanView.{view}
 use Rattle.yplan.specs.declared.plan.Plan.{Plan}
 use Rattle.yresolve.proofs.TypeLemmas.{number_is}
 
-pub four_told : (start first second third last : Option Break) (a b c d : List Break) → first ≡ least_from start a → second ≡ least_from first b
-    → third ≡ least_from second c → last ≡ least_from third d → last ≡ least_from start (a ++ (b ++ (c ++ d)))
-four_told start first second third last a b c d first_is second_is third_is last_is =
-    last_is ∙ (ap (λ t. least_from t d) third_is
-    ∙ (sym (least_of_both second c d) ∙ (ap (λ t. least_from t (c ++ d)) second_is
-    ∙ (sym (least_of_both first b (c ++ d)) ∙ (ap (λ t. least_from t (b ++ (c ++ d))) first_is
-    ∙ sym (least_of_both start a (b ++ (c ++ d))))))))
+pub five_told : (start first second third fourth last : Option Break) (a b c d e : List Break)
+    → first ≡ least_from start a → second ≡ least_from first b → third ≡ least_from second c → fourth ≡ least_from third d
+    → last ≡ least_from fourth e → last ≡ least_from start (a ++ (b ++ (c ++ (d ++ e))))
+five_told start first second third fourth last a b c d e first_is second_is third_is fourth_is last_is =
+    joined third fourth last d e fourth_is last_is ∙ joined_after second third c (d ++ e) third_is
+    ∙ (joined_after first second b (c ++ (d ++ e)) second_is ∙ joined_after start first a (b ++ (c ++ (d ++ e))) first_is)
+  where
+    joined_after : (before now : Option Break) (xs ys : List Break) → now ≡ least_from before xs → least_from now ys ≡ least_from before (xs ++ ys)
+    joined_after before now xs ys is = ap (λ t. least_from t ys) is ∙ sym (least_of_both before xs ys)
+
+    joined : (before now next : Option Break) (xs ys : List Break) → now ≡ least_from before xs → next ≡ least_from now ys → next ≡ least_from before (xs ++ ys)
+    joined before now next xs ys is next_is = next_is ∙ joined_after before now xs ys is
 
 -- one node more
 pub next_judged : (breaks : Planned → List Break) (told next : Option Break) (p : Planned) (before rest : List Planned) (whole : Option Break)

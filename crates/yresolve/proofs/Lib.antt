@@ -8,3 +8,4 @@ pub mod ConfigLemmas
 mod TupleLemmas
 mod MarkLemmas
 pub mod JudgingLemmas
+pub mod AdditionLemmas

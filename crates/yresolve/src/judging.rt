@@ -9,6 +9,7 @@ ghost use Rattle.yplan.specs.NodesView.{node_view};
 ghost use Rattle.yplan.specs.PlanView.{view};
 ghost use Rattle.yresolve.specs.ResolvedView.{IsOf};
 
+use crate::additions::least_addition;
 use crate::config::is_wrong_config;
 use crate::defaults::has_wrong_default;
 use crate::references::is_wrong_reference;
@@ -46,10 +47,11 @@ fn broken_own_rule<'a, 't>(
     let linked = resolved.linked;
     let number = node.number;
     let default = has_wrong_default(alloc, plan, linked, number, planned, is_key, value_type)?;
-    Ok(least_when(default, told, planned.broken(CompileCode::C11)))
+    let told = least_when(default, told, planned.broken(CompileCode::C11));
+    Ok(least_addition(plan, node, told))
 }
 
-/// The least of the rules of defaults, keys, config and references that nodes break, by module, line and number.
+/// The least of the rules of defaults, keys, config, references and additions that nodes break, by module, line and number.
 pub fn broken_node_rule<'t>(
     alloc: Global,
     plan: &Plan<'_, 't>,

@@ -1,6 +1,7 @@
 //! What the names, types and defaults of planned nodes refer to, and which rules planned nodes break.
 #![tactic(auto)]
 
+mod additions;
 mod config;
 mod defaults;
 mod judging;

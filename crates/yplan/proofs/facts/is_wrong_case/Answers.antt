@@ -20,8 +20,7 @@ returns-else-is_mandatory c =
     let plan = view c.args.plan.now in
     let p = planned_view c.args.number c.args.planned.now in
     let other = sym c.if-is_mandatory.false ∙ c.is_mandatory.ensures c.args.number in
-    let inside : c.has_mandatory.result ≡ has_mandatory (row_below plan c.in-Some.case) = c.has_mandatory.ensures ∙ ap has_mandatory c.row_below.ensures in
-    inside ∙ (ap (λ b. b || has_mandatory (row_below plan c.in-Some.case)) other ∙ (ap (wrong_by plan p) (sym c.in-Some.is ∙ c.default_case.ensures) ∙ wrong_case plan p (default_case plan p)))
+    c.has_mandatory_below.ensures ∙ (ap (λ b. b || has_mandatory (row_below plan c.in-Some.case)) other ∙ (ap (wrong_by plan p) (sym c.in-Some.is ∙ c.default_case.ensures) ∙ wrong_case plan p (default_case plan p)))
 
 pub returns-in-None : goal.returns-in-None
 returns-in-None c =

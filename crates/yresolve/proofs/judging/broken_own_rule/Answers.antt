@@ -4,7 +4,7 @@ use Rattle.yspec.specs.linking.NodeBreaks as breaks
 use Rattle.ygrammar.specs.BreakView.{seen}
 use Rattle.yplan.specs.NodesView.{node_view}
 use Rattle.yplan.specs.PlanView.{view}
-use Rattle.yresolve.proofs.JudgingLemmas.{four_told}
+use Rattle.yresolve.proofs.JudgingLemmas.{five_told}
 use Rattle.yresolve.proofs.judging.broken_own_rule.Goals as goal
 
 pub returns : goal.returns
@@ -14,9 +14,10 @@ returns c =
     let n = c.args.node.number in
     let key = c.is_key-is_key.ensures plan p c.requires.of_plan c.requires.stands in
     let type_is = c.value_type-value_type.ensures plan p c.requires.of_plan c.requires.stands in
-    four_told (seen c.args.so_far) (seen c.least_when-told.result) (seen c.least_when-told-2.result) (seen c.least_when-told-3.result) (seen c.least_when.result)
-    (breaks.config_breaks plan p) (breaks.tuple_breaks plan p) (breaks.reference_breaks plan p) (breaks.default_breaks plan p)
+    five_told (seen c.args.so_far) (seen c.least_when-told.result) (seen c.least_when-told-2.result) (seen c.least_when-told-3.result) (seen c.least_when-told-4.result) (seen c.least_addition.result)
+    (breaks.config_breaks plan p) (breaks.tuple_breaks plan p) (breaks.reference_breaks plan p) (breaks.default_breaks plan p) (breaks.addition_breaks plan p)
     (c.least_when-told.ensures ∙ ap₂ (λ b bs. least_from (seen c.args.so_far) (when b bs)) (c.is_wrong_config-config.ensures n) (c.broken.ensures n))
     (c.least_when-told-2.ensures ∙ ap₂ (λ b bs. least_from (seen c.least_when-told.result) (when b bs)) c.in_ok-tuples.ensures (c.broken-2.ensures n))
     (c.least_when-told-3.ensures ∙ ap₂ (λ b bs. least_from (seen c.least_when-told-2.result) (when b bs)) c.is_wrong_reference-reference.ensures (c.broken-3.ensures n))
-    (c.least_when.ensures ∙ ap₂ (λ b bs. least_from (seen c.least_when-told-3.result) (when b bs)) (c.in_ok-default.ensures key type_is) (c.broken-4.ensures n))
+    (c.least_when-told-4.ensures ∙ ap₂ (λ b bs. least_from (seen c.least_when-told-3.result) (when b bs)) (c.in_ok-default.ensures key type_is) (c.broken-4.ensures n))
+    c.least_addition.ensures

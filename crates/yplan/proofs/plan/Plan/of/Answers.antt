@@ -1,20 +1,26 @@
-use Rattle.std.proofs.Common.{ap}
+use Rattle.std.proofs.Common.{ap, sym, ◌∙◌}
 use Rattle.yspec.specs.linking.Expansion.{expanded_parts}
 use Rattle.yspec.specs.linking.Planned as spec
 use Rattle.yspec.specs.linking.Planned.{at_top, planned}
 use Rattle.ypreorder.specs.View.{row_by}
 use Rattle.ygrammar.specs.LinkView as link
 use Rattle.yexpand.specs.NodeView.{numbered_part}
+use Rattle.yplan.specs.Needs.{needs_below}
 use Rattle.yplan.proofs.PartLemmas.{all_planned}
 use Rattle.yplan.proofs.plan.Plan.of.Goals as goal
 
 pub invariant_of-result : goal.invariant_of-result
-invariant_of-result c = record {
-  prefixed = c.requires.prefixed;
-  laid_out = (all_planned c.in_ok-table.table c.args.nodes.now (row_by numbered_part c.roots.result) (expanded_parts (link.view c.args.sources.now)) c.in_ok-table.ensures c.roots.ensures c.requires.expanded).1;
-  named = c.in_ok-index.ensures.texts;
-  indexed = c.in_ok-index.ensures.nodes;
-}
+invariant_of-result c =
+    let parts = expanded_parts (link.view c.args.sources.now) in
+    let all = all_planned c.in_ok-table.table c.args.nodes.now (row_by numbered_part c.roots.result) parts
+    c.in_ok-table.ensures c.roots.ensures c.requires.expanded in
+    record {
+      prefixed = c.requires.prefixed;
+      laid_out = all.1;
+      named = c.in_ok-index.ensures.texts;
+      indexed = c.in_ok-index.ensures.nodes;
+      told = c.in_ok-needs.ensures (planned 0 at_top parts) all.2 ∙ ap needs_below (sym all.0);
+    }
 
 pub returns : goal.returns
 returns c =
