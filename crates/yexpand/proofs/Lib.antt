@@ -18,6 +18,7 @@ pub mod BodyLemmas
 pub mod PathLemmas
 pub mod SearchLemmas
 pub mod PutLemmas
+pub mod PlacingLemmas
 pub mod TakenLemmas
 pub mod ReadyLemmas
 pub mod ReachedLemmas

@@ -4,6 +4,7 @@ pub mod Bodies
 pub mod Hanging
 pub mod Searching
 pub mod Arranging
+pub mod Placing
 pub mod Resolving
 pub mod WaitingView
 pub mod SearchView

@@ -2,6 +2,7 @@
 #![tactic(auto)]
 
 mod applied;
+mod arranging;
 mod augments;
 mod bodies;
 mod counting;
@@ -10,6 +11,7 @@ mod groupings;
 mod laying;
 mod named;
 mod nodes;
+mod places;
 mod refining;
 mod search;
 mod stating;
