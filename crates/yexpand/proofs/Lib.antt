@@ -23,3 +23,4 @@ pub mod TakenLemmas
 pub mod ReadyLemmas
 pub mod ReachedLemmas
 pub mod AddingLemmas
+pub mod SettlingLemmas

@@ -13,6 +13,8 @@ use Rattle.yspec.specs.linking.Prefixes.{NodeName}
 use Rattle.yspec.specs.linking.Planned.{same_number}
 use Rattle.yindex.specs.declared.keys.Among.TheVariants.{Children}
 use Rattle.yindex.specs.declared.keys.Key.{Key}
+use Rattle.yindex.specs.declared.index.NodeIndex.{NodeIndex}
+use Rattle.yindex.specs.declared.names.Names.{Names}
 use Rattle.yindex.specs.Index.{found, texts_of}
 use Rattle.yindex.specs.Keys.{same_key}
 use Rattle.yindex.specs.Names.{text_in}
@@ -23,23 +25,36 @@ use Rattle.yexpand.specs.declared.waiting.Waiter.{Waiter}
 use Rattle.yexpand.specs.declared.search.Search.{Search}
 use Rattle.yexpand.specs.declared.search.Step.{Step}
 
+abbrev pub look_by : NodeIndex → Lookup
+look_by index above name = option_and_then (λ m. found index Children above m name.name) name.module_number
+
 abbrev pub look_in : Search → Lookup
-look_in s above name = option_and_then (λ m. found s.index Children above m name.name) name.module_number
+look_in s = look_by s.index
+
+-- the names of steps, by the texts to which they refer
+abbrev pub name_by : List Text → Step → NodeName
+name_by texts step = record { module_number = step.«module»; name = text_in texts step.text }
+
+abbrev pub names_by : List Text → List Step → List NodeName
+names_by texts path = map (name_by texts) path
 
 abbrev pub name_in : Search → Step → NodeName
-name_in s step = record { module_number = step.«module»; name = text_in (texts_of s.index) step.text }
+name_in s step = name_by (texts_of s.index) step
 
 abbrev pub names_in : Search → List Step → List NodeName
-names_in s path = map (name_in s) path
+names_in s path = names_by (texts_of s.index) path
 
 -- the path of an augment by its place
 abbrev pub path_at : List (Vec Step Global) → ℕ → List Step
 path_at paths augment = option_map_or (λ p. p.items) (slice_get paths augment) []
 
 -- what a child is waited for by, where a node may have such a name at all
+abbrev pub key_by : Names → Option ℕ → Step → Option Key
+key_by names above step = option_and_then (λ m. option_map (λ n. record { above = above; «module» = m; name = n })
+    (slice_get names.of_nodes.items step.text)) step.«module»
+
 abbrev pub key_for : Search → Option ℕ → Step → Option Key
-key_for s above step = option_and_then (λ m. option_map (λ n. record { above = above; «module» = m; name = n })
-    (slice_get s.names.of_nodes.items step.text)) step.«module»
+key_for s = key_by s.names
 
 -- an augment waits for a child; nothing else changes
 pub record Waits (above : Option ℕ) (step : Step) (waiter : Waiter) (old new : Search) : Type 0 where
