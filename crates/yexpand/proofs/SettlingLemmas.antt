@@ -1,5 +1,5 @@
 -- What comes of augments that go on along their paths.
-use Rattle.std.proofs.Common.{◌≡◌, ◌⊎◌, inl, inr, ℕ, suc, ◌<◌, ◌==◌, ◌&&◌, Bool, true, false, cond, List, [], ◌∷◌, ◌++◌, length, take, Option, Some, None, refl, sym, ap, ap₂, subst, ◌∙◌, nat_cmp, nat_lt}
+use Rattle.std.proofs.Common.{◌≡◌, ◌⊎◌, inl, inr, ℕ, suc, ◌<◌, ◌==◌, ◌&&◌, Bool, true, false, cond, List, [], ◌∷◌, ◌++◌, length, take, get_or, zero, arith, Option, Some, None, refl, sym, ap, ap₂, subst, ◌∙◌, nat_cmp, nat_lt}
 use Rattle.std.specs.Prelude.{slice_get, option_map, option_and_then}
 use Rattle.std.specs.Option.{option_map_or}
 use Rattle.std.specs.Ordering.{is_eq}
@@ -219,3 +219,9 @@ module _ (paths : Paths) (w : Waiter) (old new : Search) where
   pub moves_one : w.augment < length paths → Follows path w.augment old new → Moves paths (w ∷ []) old new
   moves_one within (above, count, e, inl (at, a)) = arrives_one above count e at a
   moves_one within (above, count, e, inr (step, at, missing, a)) = waits_one within above count step e at missing a
+
+-- one at a place of a list
+pub among_at : {A : Type 0} (xs : List A) (i : ℕ) (x d : A) → i < length xs → x ≡ get_or xs i d → Among x xs
+among_at [] i x d less e = absurd (omega (arith, less))
+among_at (y ∷ xs) zero x d less e = inl (sym e)
+among_at (y ∷ xs) (suc i) x d less e = inr (among_at xs i x d (omega (arith, less)) e)

@@ -39,6 +39,7 @@ impl<'t> Search<'t> {
     ghost use Rattle.ypreorder.specs.View.{row_by, label_by};
     ghost use Rattle.yexpand.specs.Arranging.{taken, with_number};
     ghost use Rattle.yexpand.specs.Searching.{reached, target_in};
+    ghost use Rattle.yexpand.specs.Settling.{Among as Within, Moves, StandsAt};
     ghost use Rattle.yexpand.specs.SearchView.{look_in, name_in, names_in, path_at, woken_by, Adds, AreTexts, Follows, Waits};
 
     /// The child of a node, or the top node, that a step names.
@@ -107,6 +108,23 @@ impl<'t> Search<'t> {
             found += 1;
         }
         self.arrived.insert(waiter.augment)?;
+        Ok(())
+    }
+
+    /// Lets augments go on from a node, or from the top, where so many of their steps lead.
+    pub fn settle(
+        &mut self,
+        alloc: Global,
+        paths: &[Vec<Step>],
+        woken: &[Waiter],
+        above: Option<u32>,
+    ) -> Result<(), AllocError>
+        requires { (w : Waiter) → Within w woken.now → StandsAt self.old paths.now above w }
+        ensures { OnOk result (Moves paths.now woken.now self.old self.new) }
+    {
+        for waiter in woken {
+            self.follow(alloc, paths, *waiter, above)?;
+        }
         Ok(())
     }
 
