@@ -139,8 +139,9 @@ module _ (paths : Paths) (w : Waiter) (old new : Search) where
       still refused j p (inr unfit) = inr unfit
       keep : (refused : ℕ → Option ℕ → Bool) (j : ℕ) → Settled refused paths old j → Settled refused paths new j
       keep refused j (inl (p, leads_there, here)) = inl (p, over a.index (λ i. all i (path_at paths j) ≡ Some p) leads_there, still refused j p here)
-      keep refused j (inr (none, (place, n, step, there, is, waits))) = inr (over a.index (λ i. all i (path_at paths j) ≡ None) none, (
+      keep refused j (inr (none, (place, n, step, there, is, missing, waits))) = inr (over a.index (λ i. all i (path_at paths j) ≡ None) none, (
           place, n, step, over a.index (λ i. reaches i (path_at paths j) n ≡ Some place) there, is,
+          over a.index (λ i. look_by i place (name_by (texts_of i) step) ≡ None) missing,
           λ key k. subst (λ v. Among (record { augment = j; found = n }) (waiters_at v key)) (sym a.waiting) (waits key (subst (λ m. key_by m place step ≡ Some key) a.names k))))
       settle : (refused : ℕ → Option ℕ → Bool) (x : Waiter) → Among x (w ∷ []) → Settled refused paths new x.augment
       settle refused x (inl same) = subst (λ (y : Waiter). Settled refused paths new y.augment) same
@@ -201,8 +202,9 @@ module _ (paths : Paths) (w : Waiter) (old new : Search) where
       still refused j p (inr unfit) = inr unfit
       keep : (refused : ℕ → Option ℕ → Bool) (j : ℕ) → Settled refused paths old j → Settled refused paths new j
       keep refused j (inl (p, leads_there, there)) = inl (p, over a.index (λ i. all i (path_at paths j) ≡ Some p) leads_there, still refused j p there)
-      keep refused j (inr (none, (place, n, s, there, is, waits))) = inr (over a.index (λ i. all i (path_at paths j) ≡ None) none, (
+      keep refused j (inr (none, (place, n, s, there, is, lacking, waits))) = inr (over a.index (λ i. all i (path_at paths j) ≡ None) none, (
           place, n, s, over a.index (λ i. reaches i (path_at paths j) n ≡ Some place) there, is,
+          over a.index (λ i. look_by i place (name_by (texts_of i) s) ≡ None) lacking,
           λ key k. subst (Among (record { augment = j; found = n })) (sym (a.waiting key))
           (grown key (record { augment = j; found = n }) (is_key above step key) (waits key (subst (λ m. key_by m place s ≡ Some key) a.names k)))))
       settle : (refused : ℕ → Option ℕ → Bool) (x : Waiter) → Among x (w ∷ []) → Settled refused paths new x.augment
@@ -210,6 +212,7 @@ module _ (paths : Paths) (w : Waiter) (old new : Search) where
           (inr (over a.index (λ i. all i path ≡ None) (stopped (look_in old) None above (names_by (texts_of old.index) path) count (name_in old step) e
           (slice_get-map (name_by (texts_of old.index)) path count ∙ ap (option_map (name_by (texts_of old.index))) at) missing), (
           above, count, step, over a.index (λ i. reaches i path count ≡ Some above) e, at,
+          over a.index (λ i. look_by i above (name_by (texts_of i) step) ≡ None) missing,
           λ key k. subst (Among here) (sym (a.waiting key))
           (subst (λ b. Among here (cond b (waiters_at old.waiting key ++ here ∷ []) (waiters_at old.waiting key)))
           (sym (ap (λ o. option_map_or (λ q. same_key q key) o false) (subst (λ m. key_by m above step ≡ Some key) a.names k) ∙ key_itself key))

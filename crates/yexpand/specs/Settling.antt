@@ -8,7 +8,7 @@ use Rattle.yspec.specs.linking.Prefixes.{NodeName}
 use Rattle.yindex.specs.declared.keys.Key.{Key}
 use Rattle.yindex.specs.Index.{texts_of}
 use Rattle.yexpand.specs.Searching.{Lookup, reached}
-use Rattle.yexpand.specs.SearchView.{look_in, names_in, path_at, key_for}
+use Rattle.yexpand.specs.SearchView.{look_in, name_in, names_in, path_at, key_for}
 use Rattle.yexpand.specs.WaitingView.{waiters_at}
 use Rattle.yexpand.specs.declared.waiting.Waiter.{Waiter}
 use Rattle.yexpand.specs.declared.search.Search.{Search}
@@ -41,7 +41,7 @@ Sound paths s = (key : Key) (w : Waiter) → Among w (waiters_at s.waiting key) 
 -- an augment waits for the child that it lacks
 abbrev pub Lacks : Paths → Search → ℕ → Type 0
 Lacks paths s j = (above : Option ℕ) × (count : ℕ) × (step : Step) × (reached (look_in s) None (take count (steps_of s paths j)) ≡ Some above)
-    × (slice_get (path_at paths j) count ≡ Some step)
+    × (slice_get (path_at paths j) count ≡ Some step) × (look_in s above (name_in s step) ≡ None)
     × ((key : Key) → key_for s above step ≡ Some key → Among (record { augment = j; found = count }) (waiters_at s.waiting key))
 
 abbrev pub has_arrived : Search → ℕ → Bool
