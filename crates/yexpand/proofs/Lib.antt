@@ -24,3 +24,4 @@ pub mod ReadyLemmas
 pub mod ReachedLemmas
 pub mod AddingLemmas
 pub mod SettlingLemmas
+pub mod WakingLemmas

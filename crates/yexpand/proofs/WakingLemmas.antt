@@ -1,0 +1,160 @@
+-- What was settled before a row came below a node is settled after it, or goes on.
+use Rattle.std.proofs.Common.{◌≡◌, ◌⊎◌, inl, inr, ℕ, suc, zero, ◌<◌, ◌==◌, ◌&&◌, Bool, true, false, cond, List, [], ◌∷◌, ◌++◌, length, take, get_or, arith, Option, Some, None, refl, sym, ap, ap₂, subst, ◌∙◌, nat_cmp}
+use Rattle.std.specs.Prelude.{find, slice_get, option_map, option_and_then, unwrap_or}
+use Rattle.std.specs.Option.{option_map_or}
+use Rattle.std.specs.List.{flat_map}
+use Rattle.std.specs.BTreeSet.{contains}
+use Rattle.std.proofs.lemmas.Bool.{eq-eqb, eqb-true, and_parts, false≢true}
+use Rattle.std.proofs.lemmas.Option.{none-some, slice_get-map, slice_get-get_or}
+use Rattle.yspec.specs.Forest.{Forest, end, node, row, first_of}
+use Rattle.yspec.specs.text.Text.{Text, is_text}
+use Rattle.yspec.specs.linking.Source.{argument_in}
+use Rattle.yspec.specs.linking.Parts.{Part}
+use Rattle.yspec.specs.linking.Prefixes.{NodeName}
+use Rattle.yspec.specs.linking.Planned.{same_number}
+use Rattle.yindex.specs.declared.keys.Among.TheVariants.{Children}
+use Rattle.yindex.specs.declared.keys.Key.{Key}
+use Rattle.yindex.specs.Index.{found, texts_of}
+use Rattle.yindex.specs.Names.{text_in, number_among}
+use Rattle.yindex.proofs.KeyLemmas.{same_number-is}
+use Rattle.yexpand.specs.Hanging.{Numbered, is_step_of}
+use Rattle.yexpand.specs.Searching.{Lookup, first_in, reached, looked_behind}
+use Rattle.yexpand.specs.SearchView.{look_by, look_in, name_by, names_by, name_in, names_in, path_at, key_by, key_for, woken_by, Adds, AreTexts}
+use Rattle.yexpand.specs.Settling.{Among, Paths, steps_of, leads, StandsAt, Sound, Lacks, has_arrived, Settled}
+use Rattle.yexpand.specs.WaitingView.{waiters_at}
+use Rattle.yexpand.specs.declared.waiting.Waiter.{Waiter}
+use Rattle.yexpand.specs.declared.search.Search.{Search}
+use Rattle.yexpand.specs.declared.search.Step.{Step}
+use Rattle.yexpand.proofs.HangingLemmas.{Nodes}
+use Rattle.yexpand.proofs.ReachedLemmas.{Grows, behind_grows, reached_grows, stopped}
+use Rattle.yexpand.proofs.SettlingLemmas.{among_left, among_right}
+
+abbrev Parts : Type 0
+Parts = Nodes Part
+
+-- ---- the first of a name stands in the row
+
+first_there : (name : NodeName) (f : Parts) (r : ℕ) → first_in name f ≡ Some r
+    → (l : Numbered Part) × Among l (row f) × (is_step_of name l ≡ true) × (l.number ≡ r)
+first_there name end r e = absurd (none-some r e)
+first_there name (node l below after) r e = by (is_step_of name l) refl e (first_there name after r)
+  where
+    Found : List (Numbered Part) → Type 0
+    Found ls = (k : Numbered Part) × Among k ls × (is_step_of name k ≡ true) × (k.number ≡ r)
+    by : (b : Bool) → is_step_of name l ≡ b → option_map (λ (k : Numbered Part). k.number) (cond b (Some l) (find (is_step_of name) (row after))) ≡ Some r
+        → (first_in name after ≡ Some r → Found (row after)) → Found (l ∷ row after)
+    by true is e later = (l, inl refl, is, ap (λ o. unwrap_or o r) e)
+    by false is e later = let found = later e in (found.0, inr found.1, found.2, found.3)
+
+texts_row : (texts : List Text) (f : Parts) (l : Numbered Part) → AreTexts texts f → Among l (row f)
+    → (l.number < length texts) × (text_in texts l.number ≡ argument_in l.label.source)
+texts_row texts end l are there = elim there [ ]
+texts_row texts (node k below after) l are (inl same) = subst (λ (x : Numbered Part). (x.number < length texts) × (text_in texts x.number ≡ argument_in x.label.source)) same are.0
+texts_row texts (node k below after) l are (inr there) = texts_row texts after l are.2 there
+
+among_flat : {A B : Type 0} (give : A → List B) (xs : List A) (x : A) (y : B) → Among x xs → Among y (give x) → Among y (flat_map give xs)
+among_flat give [] x y there inside = elim there [ ]
+among_flat give (z ∷ zs) x y (inl same) inside = among_left y (give z) (flat_map give zs) (subst (λ w. Among y (give w)) (sym same) inside)
+among_flat give (z ∷ zs) x y (inr there) inside = among_right y (give z) (flat_map give zs) (among_flat give zs x y there inside)
+
+-- equal texts are the same
+text_is : (a b : Text) → is_text a b ≡ true → a ≡ b
+text_is [] [] e = refl
+text_is [] (y ∷ ys) e = absurd (false≢true e)
+text_is (x ∷ xs) [] e = absurd (false≢true e)
+text_is (x ∷ xs) (y ∷ ys) e = let both = and_parts (x == y) (is_text xs ys) e in ap₂ (λ z zs. z ∷ zs) (eqb-true x y both.0) (text_is xs ys both.1)
+
+-- ---- what a row adds
+
+module _ (paths : Paths) (target : ℕ) (added : Parts) (old now : Search) (adds : Adds target added old now) where
+  abbrev texts : List Text
+  texts = texts_of old.index
+
+  grows : Grows (look_in old) (look_in now)
+  grows above name n e = adds.look above name ∙ behind_grows (look_in old) target added above name n e
+
+  still_reached : (p : Option ℕ) (path : List Step) (count : ℕ) → reached (look_in old) None (take count (names_by texts path)) ≡ Some p
+      → reached (look_in now) None (take count (names_by (texts_of now.index) path)) ≡ Some p
+  still_reached p path count e = ap (λ ts. reached (look_in now) None (take count (names_by ts path))) adds.texts
+      ∙ reached_grows (look_in old) (look_in now) grows None p (take count (names_by texts path)) e
+
+  still_leads : (p : Option ℕ) (path : List Step) → reached (look_in old) None (names_by texts path) ≡ Some p → reached (look_in now) None (names_by (texts_of now.index) path) ≡ Some p
+  still_leads p path e = ap (λ ts. reached (look_in now) None (names_by ts path)) adds.texts
+      ∙ reached_grows (look_in old) (look_in now) grows None p (names_by texts path) e
+
+  pub sound_added : Sound paths old → Sound paths now
+  sound_added sound key w there =
+      let stands = sound key w (subst (λ v. Among w (waiters_at v key)) adds.waiting there) in
+      (stands.0, still_reached key.above (path_at paths w.augment) w.found stands.1)
+
+  -- the steps' texts are known
+  abbrev Ranged : Type 0
+  Ranged = (j n : ℕ) (step : Step) → slice_get (path_at paths j) n ≡ Some step → step.text < length texts
+
+  abbrev Woken : ℕ → Type 0
+  Woken j = (w : Waiter) × Among w (flat_map (woken_by now target) (row added)) × (w.augment ≡ j)
+
+  -- the child that comes is the first of its name, and lets those go on that lack it
+  comes : AreTexts texts added → (place : Option ℕ) (step : Step) (r : ℕ) → step.text < length texts → look_in old place (name_in old step) ≡ None
+      → look_in now place (name_in old step) ≡ Some r → (w : Waiter)
+      → ((key : Key) → key_for old place step ≡ Some key → Among w (waiters_at old.waiting key)) → Among w (flat_map (woken_by now target) (row added))
+  comes are place step r within missing is w waits =
+      let name = name_in old step in
+      let came = sym (ap (λ o. first_of o (cond (same_number place (Some target)) (first_in name added) None)) missing) ∙ (sym (adds.look place name) ∙ is) in
+      let below = below_it (same_number place (Some target)) refl came in
+      let there = first_there name added r below.1 in
+      among_flat (woken_by now target) (row added) there.0 w there.1
+      (lets there.0 (texts_row texts added there.0 are there.1) (and_parts (same_number step.«module» (Some there.0.label.owner)) _ there.2) there.3 (same_number-is place (Some target) below.0))
+    where
+      below_it : (b : Bool) → same_number place (Some target) ≡ b → cond b (first_in (name_in old step) added) None ≡ Some r
+          → (same_number place (Some target) ≡ true) × (first_in (name_in old step) added ≡ Some r)
+      below_it true e came = (e, came)
+      below_it false e came = absurd (none-some r came)
+      lets : (l : Numbered Part) → (l.number < length texts) × (text_in texts l.number ≡ argument_in l.label.source)
+          → (same_number step.«module» (Some l.label.owner) ≡ true) × (is_text (text_in texts step.text) (argument_in l.label.source) ≡ true)
+          → l.number ≡ r → place ≡ Some target → Among w (woken_by now target l)
+      lets l text named number at =
+          let owner = l.label.owner in
+          let ts = texts_of now.index in
+          let module_is : step.«module» ≡ Some owner = same_number-is step.«module» (Some owner) named.0 in
+          let word : text_in texts step.text ≡ text_in texts l.number = text_is (text_in texts step.text) (argument_in l.label.source) named.1 ∙ sym text.1 in
+          let look = look_in now in
+          let first : found now.index Children (Some target) owner (text_in ts l.number) ≡ Some l.number = ap (λ us. found now.index Children (Some target) owner (text_in us l.number)) adds.texts
+          ∙ (ap (found now.index Children (Some target) owner) (sym word)
+          ∙ (ap₂ (λ p o. look p (record { module_number = o; name = text_in texts step.text })) (sym at) (sym module_is) ∙ (is ∙ ap Some (sym number)))) in
+          let held = now.names.of_nodes.items in
+          let own = get_or held l.number 0 in
+          let other = get_or held step.text 0 in
+          let count : length held ≡ length texts = now.named.0 ∙ ap (λ us. length us) adds.texts in
+          let own_is : slice_get held l.number ≡ Some own = slice_get-get_or held l.number 0 (omega (arith, text.0, count)) in
+          let other_is : slice_get held step.text ≡ Some other = slice_get-get_or held step.text 0 (omega (arith, within, count)) in
+          let spelled : text_in ts step.text ≡ text_in ts l.number = subst (λ us. text_in us step.text ≡ text_in us l.number) (sym adds.texts) word in
+          let same : Some other ≡ Some own = sym (now.named.2 step.text other other_is) ∙ (ap (number_among (text_in ts) now.names.ordered.items) spelled ∙ now.named.2 l.number own own_is) in
+          let key : Key = record { above = Some target; «module» = owner; name = own } in
+          let keyed : key_for old place step ≡ Some key = ap (λ ns. key_by ns place step) (sym adds.names)
+          ∙ (ap (λ o. option_and_then (λ m. option_map (λ n. record { above = place; «module» = m; name = n }) (slice_get held step.text)) o) module_is
+          ∙ ap₂ (λ p o. option_map (λ n. record { above = p; «module» = owner; name = n }) o) at (other_is ∙ same)) in
+          let inside : Among w (waiters_at now.waiting key) = subst (λ v. Among w (waiters_at v key)) (sym adds.waiting) (waits key keyed) in
+          subst (λ b. Among w (cond b (option_map_or (λ n. waiters_at now.waiting (record { above = Some target; «module» = owner; name = n })) (slice_get held l.number) []) []))
+          (sym (ap (λ o. same_number o (Some l.number)) first ∙ eq-eqb l.number l.number refl))
+          (subst (λ o. Among w (option_map_or (λ n. waiters_at now.waiting (record { above = Some target; «module» = owner; name = n })) o [])) (sym own_is) inside)
+
+  pub settled_added : AreTexts texts added → Ranged → (refused : ℕ → Option ℕ → Bool) (j : ℕ) → Settled refused paths old j → Settled refused paths now j ⊎ Woken j
+  settled_added are ranged refused j (inl (p, there, here)) = inl (inl (p, still_leads p (path_at paths j) there, still here))
+    where
+      still : (has_arrived old j ≡ true) ⊎ (refused j p ≡ true) → (has_arrived now j ≡ true) ⊎ (refused j p ≡ true)
+      still (inl e) = inl (subst (λ k. contains nat_cmp k j ≡ true) (sym adds.arrived) e)
+      still (inr unfit) = inr unfit
+  settled_added are ranged refused j (inr (none, (place, n, step, there, is, missing, waits))) = by (look_in now place (name_in old step)) refl
+    where
+      lacking : Waiter
+      lacking = record { augment = j; found = n }
+      by : (o : Option ℕ) → look_in now place (name_in old step) ≡ o → Settled refused paths now j ⊎ Woken j
+      by None e = inl (inr (
+          ap (λ ts. reached (look_in now) None (names_by ts (path_at paths j))) adds.texts ∙ stopped (look_in now) None place (names_by texts (path_at paths j)) n (name_by texts step)
+          (reached_grows (look_in old) (look_in now) grows None place (take n (names_by texts (path_at paths j))) there)
+          (slice_get-map (name_by texts) (path_at paths j) n ∙ ap (option_map (name_by texts)) is) e,
+          (place, n, step, still_reached place (path_at paths j) n there, is,
+          ap (λ ts. look_in now place (name_by ts step)) adds.texts ∙ e,
+          λ key k. subst (λ v. Among lacking (waiters_at v key)) (sym adds.waiting) (waits key (subst (λ ns. key_by ns place step ≡ Some key) adds.names k)))))
+      by (Some r) e = inr (lacking, comes are place step r (ranged j n step is) missing e lacking waits, refl)
