@@ -9,6 +9,7 @@ pub mod Resolving
 pub mod WaitingView
 pub mod SearchView
 pub mod Settling
+pub mod Picking
 pub mod NodeView
 pub mod TableView
 pub mod Targets

@@ -1,9 +1,9 @@
 -- What is found so far, as a lookup by names; and what comes of following a path.
-use Rattle.std.specs.Prelude.{◌≡◌, ◌<◌, ◌++◌, length, ℕ, Bool, true, false, List, [], ◌∷◌, map, take, slice_get, Option, Some, None, option_map, option_and_then, ◌⊎◌, if◌then◌else◌}
+use Rattle.std.specs.Prelude.{◌≡◌, ◌<◌, ◌≤◌, ◌++◌, length, ℕ, suc, Bool, true, false, List, [], ◌∷◌, map, take, slice_get, Option, Some, None, option_map, option_and_then, ◌⊎◌, if◌then◌else◌}
 use Rattle.std.specs.Option.{option_map_or}
 use Rattle.std.specs.Prelude.{Vec}
 use Rattle.std.specs.Global.{Global}
-use Rattle.std.specs.BTreeSet.{Updates}
+use Rattle.std.specs.BTreeSet.{contains, Updates}
 use Rattle.std.specs.Ordering.{nat_cmp}
 use Rattle.yspec.specs.Forest.{Forest, end, node}
 use Rattle.yspec.specs.text.Text.{Text}
@@ -98,3 +98,17 @@ abbrev pub woken_by : Search → ℕ → Numbered Part → List Waiter
 woken_by s target l = if same_number (found s.index Children (Some target) l.label.owner (text_in (texts_of s.index) l.number)) (Some l.number)
     then option_map_or (λ n. waiters_at s.waiting (record { above = Some target; «module» = l.label.owner; name = n }))
     (slice_get s.names.of_nodes.items l.number) [] else []
+
+-- the first that has arrived is taken; nothing else changes
+pub record Takes (taken : ℕ) (old new : Search) : Type 0 where
+  pub index : new.index ≡ old.index
+  pub names : new.names ≡ old.names
+  pub waiting : new.waiting ≡ old.waiting
+  pub least : (j : ℕ) → contains nat_cmp old.arrived j ≡ true → taken ≤ j
+  pub others : (j : ℕ) → (j ≡ taken → ⊥) → contains nat_cmp new.arrived j ≡ contains nat_cmp old.arrived j
+  pub fewer : suc (length new.arrived.keys) ≡ length old.arrived.keys
+
+-- none is left where none is taken
+abbrev pub Pops : Option ℕ → Search → Search → Type 0
+Pops None old new = (new ≡ old) × (old.arrived.keys ≡ [])
+Pops (Some j) old new = Takes j old new

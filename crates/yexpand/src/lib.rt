@@ -17,6 +17,7 @@ mod search;
 mod stating;
 mod table;
 mod target;
+mod targets;
 mod waiting;
 mod walking;
 

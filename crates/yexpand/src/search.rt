@@ -40,7 +40,7 @@ impl<'t> Search<'t> {
     ghost use Rattle.yexpand.specs.Arranging.{taken, with_number};
     ghost use Rattle.yexpand.specs.Searching.{reached, target_in};
     ghost use Rattle.yexpand.specs.Settling.{Among as Within, Moves, StandsAt};
-    ghost use Rattle.yexpand.specs.SearchView.{look_in, name_in, names_in, path_at, woken_by, Adds, AreTexts, Follows, Waits};
+    ghost use Rattle.yexpand.specs.SearchView.{look_in, name_in, names_in, path_at, woken_by, Adds, AreTexts, Follows, Pops, Waits};
 
     /// The child of a node, or the top node, that a step names.
     fn child(&self, above: Option<u32>, step: Step) -> Option<u32>
@@ -109,6 +109,13 @@ impl<'t> Search<'t> {
         }
         self.arrived.insert(waiter.augment)?;
         Ok(())
+    }
+
+    /// The first augment that has arrived and isn't taken yet, which is taken.
+    pub fn pop(&mut self) -> Option<usize>
+        ensures { Pops result self.old self.new }
+    {
+        self.arrived.pop_first()
     }
 
     /// Lets augments go on from a node, or from the top, where so many of their steps lead.

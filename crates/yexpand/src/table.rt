@@ -15,7 +15,7 @@ pub struct NodeTable<'a, 't> {
 }
 
 impl<'a, 't> NodeTable<'a, 't> {
-    ghost use Rattle.std.specs.Prelude.{◌≡◌, ◌++◌, ◌∷◌, [], ◌<◌, ◌^◌, vec_len, IfOk, OnOk, length, drop};
+    ghost use Rattle.std.specs.Prelude.{◌≡◌, ◌++◌, ◌∷◌, [], ◌<◌, ◌^◌, vec_len, IfOk, OnOk, length, drop, option_map, slice_get};
     ghost use Rattle.ypreorder.specs.Layout.{laid, opened, closed, forest_of, numbered_by};
     ghost use Rattle.ypreorder.specs.View.{row_by};
     ghost use Rattle.ygrammar.specs.SourceView.{source_view};
@@ -59,6 +59,17 @@ impl<'a, 't> NodeTable<'a, 't> {
         let count = past.saturating_sub(first) as usize;
         let (rows, _) = from.split_at(count.min(from.len()));
         Siblings::new(rows, first)
+    }
+
+    /// The node of a number.
+    pub(crate) fn node(&self, number: u32) -> Option<&ExpandedNode<'a, 't>>
+        ensures { option_map (λ n. n.now) result
+            ≡ option_map (λ r. r.label) (slice_get (slots_of self.now) number) }
+    {
+        match self.slots.get(number as usize) {
+            Some(slot) => Some(&slot.label),
+            None => None,
+        }
     }
 
     /// How many nodes there are.
