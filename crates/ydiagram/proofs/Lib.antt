@@ -1,2 +1,3 @@
 pub mod LabelLemmas
 pub mod RowLemmas
+pub mod AugmentLemmas

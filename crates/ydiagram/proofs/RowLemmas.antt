@@ -1,13 +1,13 @@
 -- What is written of a row, node by node.
-use Rattle.std.proofs.Common.{◌≡◌, ℕ, suc, ◌+◌, ◌≤◌, Bool, true, false, cond, [], ◌++◌, codes, Option, Some, None, refl, sym, ap, ap₂, ◌∙◌, arith, append_assoc}
+use Rattle.std.proofs.Common.{◌≡◌, ℕ, suc, ◌+◌, ◌≤◌, Bool, true, false, cond, ◌++◌, Option, Some, None, refl, sym, ap, ap₂, ◌∙◌, arith, append_assoc}
 use Rattle.std.specs.Prelude.{◌==◌}
 use Rattle.std.specs.List.{flat_map}
 use Rattle.std.proofs.lemmas.List.{append-nil}
 use Rattle.std.proofs.lemmas.List.Concat.{flat_map-append}
 use Rattle.yspec.specs.Forest.{Forest, end, node, size}
 use Rattle.yspec.specs.text.Text.{Text}
-use Rattle.yspec.specs.schema.Schema.{Schema, SchemaNode, module_name}
-use Rattle.yspec.specs.schema.Diagram.{indented, line_text, row_lines, row_width, owned_by, diagram, part_text, module_part}
+use Rattle.yspec.specs.schema.Schema.{Schema, SchemaNode}
+use Rattle.yspec.specs.schema.Diagram.{indented, line_text, row_lines, row_width, owned_by}
 use Rattle.ymodel.specs.View.{label_of, below_of}
 use Rattle.ymodel.specs.declared.children.Child.{Child}
 use Rattle.ydiagram.specs.View.{column, shows, shown_in, line_written, rest_written, row_written, node_written, held_written}
@@ -98,14 +98,3 @@ held_and_none s shown indentation width (Some c) =
 pub held_more : (o : Option Child) (f : Forest SchemaNode) → size f ≤ size (with_held o f)
 held_more None f = omega arith
 held_more (Some c) f = omega arith
-
--- ---- a whole diagram
-
-pub diagram_parts : (s : Schema) (shown : ℕ) (name : Text) (f : Forest SchemaNode) → name ≡ module_name s shown → f ≡ s.nodes
-    → diagram s shown ≡ (codes "module: " ++ (name ++ (codes "\n" ++ []))) ++ row_written s shown (codes "  ") (shown_in (Some shown) f)
-diagram_parts s shown name f name_is f_is =
-    let lines = row_written s shown (codes "  ") (owned_by shown s.nodes) in
-    append-nil (part_text s shown (module_part s shown))
-    ∙ (ap (λ t. codes "module: " ++ t) (sym (append_assoc (module_name s shown) (codes "\n") lines))
-    ∙ sym (ap₂ (λ n g. (codes "module: " ++ (n ++ (codes "\n" ++ []))) ++ row_written s shown (codes "  ") g) name_is
-    (own_shown shown f ∙ ap (owned_by shown) f_is)))

@@ -1,20 +1,23 @@
 -- What is written of rows and nodes, with the indentation as code holds it.
-use Rattle.std.specs.Prelude.{ℕ, ◌==◌, ◌++◌, Bool, true, [], codes, Option, Some, None, if◌then◌else◌}
-use Rattle.std.specs.List.{flat_map}
+use Rattle.std.specs.Prelude.{ℕ, ◌==◌, ◌++◌, Bool, true, not, List, [], ◌∷◌, codes, filter, map, take, Option, Some, None, if◌then◌else◌}
+use Rattle.std.specs.List.{flat_map, list_any}
 use Rattle.std.specs.Option.{option_map_or}
 use Rattle.yspec.specs.Forest.{Forest, end, node}
 use Rattle.yspec.specs.text.Text.{Text}
-use Rattle.yspec.specs.schema.Schema.{Schema, SchemaNode, is_data, node_at}
+use Rattle.yspec.specs.schema.Schema.{Schema, SchemaNode, Augment, is_data, node_at, children_of, child_in, way_to}
+use Rattle.yspec.specs.schema.Diagram as spec
 use Rattle.yspec.specs.schema.Diagram.{prefixed_name, line_text, row_width, row_lines}
-use Rattle.ymodel.specs.View.{label_of, below_of}
+use Rattle.ymodel.specs.View.{label_of, below_of, augment_view}
 use Rattle.ymodel.specs.declared.children.Child.{Child}
-use Rattle.ydiagram.specs.declared.indentation.Indentation.{Indentation, Top, Below'}
+use Rattle.ymodel.specs.declared.schema.Augment as held
+use Rattle.ydiagram.specs.declared.indentation.Indentation.{Indentation, Top, Added, Below'}
 
 abbrev pub column : Bool → Text
 column is_followed = if is_followed then codes "|  " else codes "   "
 
 abbrev pub indentation_text : Indentation → Text
 indentation_text Top = codes "  "
+indentation_text Added = codes "    "
 indentation_text (Below' p above is_followed) = indentation_text above ++ column is_followed
 
 -- the step of a path to a node; none to a choice or case
@@ -58,3 +61,34 @@ abbrev pub held_written : Schema → ℕ → Text → ℕ → Option Child → B
 held_written schema shown indentation width None is_followed = []
 held_written schema shown indentation width (Some c) is_followed =
     node_written schema shown indentation width (label_of c) (below_of c) is_followed
+
+-- ---- augments
+
+-- whether the way to a node begins with one of another module than the one that is shown
+abbrev pub starts_elsewhere : Schema → ℕ → ℕ → Bool
+starts_elsewhere schema shown number = list_any (λ n. not (n.module_number == shown)) (take 1 (way_to schema number))
+
+-- the step to a node of a number
+abbrev pub target_step : Schema → ℕ → Text
+target_step schema number = option_map_or (spec.step_text schema) (node_at schema number) []
+
+-- a node that is found, in front of a row
+abbrev pub in_front : Option (SchemaNode × Forest SchemaNode) → Forest SchemaNode → Forest SchemaNode
+in_front None others = others
+in_front (Some found) others = node found.0 found.1 others
+
+-- the nodes of a row by their numbers, one after another
+abbrev pub row_of : Forest SchemaNode → List ℕ → Forest SchemaNode
+row_of nodes [] = end
+row_of nodes (n ∷ ns) = in_front (child_in nodes n) (row_of nodes ns)
+
+abbrev pub added_row : Schema → Augment → Forest SchemaNode
+added_row schema a = row_of (children_of schema a.target) a.nodes
+
+abbrev pub augments_seen : List held.Augment → List Augment
+augments_seen augments = map augment_view augments
+
+-- what is written of augments: of those whose ways begin elsewhere
+abbrev pub augments_written : Schema → ℕ → List Augment → Text
+augments_written schema shown augments =
+    flat_map (spec.part_text schema shown) (map (spec.augment_part schema) (filter (spec.is_elsewhere schema shown) augments))

@@ -12,6 +12,8 @@ use youtput::Sink;
 pub(crate) enum Indentation<'a> {
     /// That of top nodes.
     Top,
+    /// That of the nodes that an augment adds.
+    Added,
     /// Below a node, with a bar where others follow the node in its row.
     Below {
         above: &'a Indentation<'a>,
@@ -35,6 +37,7 @@ pub(crate) fn write_indentation<W: Sink>(
 {
     match indentation {
         Indentation::Top => put(sink, &["  "]),
+        Indentation::Added => put(sink, &["    "]),
         Indentation::Below { above, is_followed } => {
             write_indentation(above, sink)?;
             put(sink, &[column(*is_followed)])

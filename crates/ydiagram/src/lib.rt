@@ -1,6 +1,7 @@
 //! The tree diagrams of the modules of a schema (RFC 8340).
 #![tactic(auto)]
 
+mod augments;
 mod column;
 mod fault;
 mod indentation;

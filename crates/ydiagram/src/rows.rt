@@ -7,6 +7,7 @@ ghost use Rattle.youtput.specs.Writing.{Writes, side};
 ghost use Rattle.ymodel.specs.View.{label_of, below_of, node_view, row_view, view};
 ghost use Rattle.ydiagram.specs.View.{held_written, indentation_text, line_written, node_written, row_written, shows, shown_in};
 
+use crate::augments::write_augments;
 use crate::column::write_type_column;
 use crate::fault::{DiagramFault, put};
 use crate::indentation::{Indentation, write_indentation};
@@ -88,7 +89,7 @@ fn write_row<W: Sink>(
 
 /// Writes the lines of a node that was held back until it was known whether others follow, where there is one.
 #[cycle(rows)]
-fn write_held<W: Sink>(
+pub(crate) fn write_held<W: Sink>(
     schema: &Schema,
     shown: usize,
     indentation: &Indentation<'_>,
@@ -137,10 +138,11 @@ fn module_name(schema: &Schema, shown: usize) -> &str
     schema.module_name(shown).unwrap_or("")
 }
 
-/// Writes the diagram of the module of a number in the set (RFC 8340). It takes no memory.
-pub fn write<W: Sink>(schema: &Schema, module: usize, sink: &mut W) -> Result<(), DiagramFault>
-    ensures { Writes (side W.taken W.failures sink.old) (side W.taken W.failures sink.new)
-        (spec.diagram (view schema.now) «module») result }
+/// Writes the heading of a module, and its own nodes.
+fn write_module<W: Sink>(schema: &Schema, module: usize, sink: &mut W) -> Result<(), DiagramFault>
+    ensures { let s = view schema.now in
+        Writes (side W.taken W.failures sink.old) (side W.taken W.failures sink.new)
+        (spec.part_text s «module» (spec.module_part s «module»)) result }
 {
     put(sink, &["module: ", module_name(schema, module), "\n"])?;
     write_row(
@@ -151,4 +153,14 @@ pub fn write<W: Sink>(schema: &Schema, module: usize, sink: &mut W) -> Result<()
         schema.roots(),
         sink,
     )
+}
+
+/// Writes the diagram of the module of a number in the set, with its augments of other modules (RFC 8340). It takes no
+/// memory.
+pub fn write<W: Sink>(schema: &Schema, module: usize, sink: &mut W) -> Result<(), DiagramFault>
+    ensures { Writes (side W.taken W.failures sink.old) (side W.taken W.failures sink.new)
+        (spec.diagram (view schema.now) «module») result }
+{
+    write_module(schema, module, sink)?;
+    write_augments(schema, module, schema.augments(module), sink)
 }

@@ -4,7 +4,7 @@ use Rattle.yspec.specs.Forest.{Forest, end, node}
 use Rattle.yspec.specs.text.Text.{Text}
 use Rattle.yspec.specs.types.Ranges.{Part}
 use Rattle.yspec.specs.types.Types.{Base, integer_base, decimal_base, string_base, boolean_base, empty_base, uint8, uint16, uint32, uint64, Shape, single, union, YangType, plain, Val, value, number_value}
-use Rattle.yspec.specs.schema.Schema.{Schema, SchemaModule, SchemaNode, Kind, container, leaf, leaf_list, list, choice, case, LeafType, own_type, allowed, default_used, mandatory, key, Amount, current}
+use Rattle.yspec.specs.schema.Schema.{Schema, SchemaModule, Augment, SchemaNode, Kind, container, leaf, leaf_list, list, choice, case, LeafType, own_type, allowed, default_used, mandatory, key, Amount, current}
 use Rattle.yspec.specs.document.Document.{Tree}
 use Rattle.yspec.specs.document.Reading.{Refusal, json_of, visits, first_refusal, document_of}
 use Rattle.yspec.specs.document.Writing.{written_text}
@@ -115,14 +115,22 @@ w_schema = one_module (codes "w") (codes "w")
 abbrev pub t_schema : Schema
 t_schema = one_module (codes "t") (codes "t") (node (node_of 0 (codes "d") (leaf (of_base (codes "decimal64") (decimal_base 18)) allowed)) end end)
 
--- ---- nodes of three modules, one below the other
+-- ---- nodes of three modules, one below the other, as augments put them there
+
+-- a module whose prefix is its name, with its augments
+abbrev pub augmenting : Text → List Augment → SchemaModule
+augmenting name augments = record { name = name; prefix = name; augments = augments }
 
 abbrev pub named_module : Text → SchemaModule
-named_module name = record { name = name; prefix = name; augments = [] }
+named_module name = augmenting name []
+
+abbrev pub adding : ℕ → List ℕ → Augment
+adding target nodes = record { target = target; nodes = nodes }
 
 abbrev pub m_schema : Schema
 m_schema = record {
-  modules = named_module (codes "a") ∷ named_module (codes "b") ∷ named_module (codes "m") ∷ [];
+  modules = augmenting (codes "a") (adding 1 (2 ∷ []) ∷ []) ∷ augmenting (codes "b") (adding 0 (1 ∷ []) ∷ [])
+      ∷ named_module (codes "m") ∷ [];
   nodes = node (record (node_of 0 (codes "c") (container false)) { module_number = 2 })
       (node (record (node_of 1 (codes "x") (container false)) { module_number = 1 })
       (node (node_of 2 (codes "y") (leaf (of_base (codes "string") string_base) allowed)) end end) end) end;

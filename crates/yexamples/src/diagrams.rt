@@ -2,7 +2,9 @@
 
 ghost use Rattle.std.specs.Prelude.{◌≡◌, ◌++◌, [], ◌∷◌, codes};
 ghost use Rattle.yexamples.specs.CompilingSamples.{net_module, k_module, v_module, w_module};
-ghost use Rattle.yexamples.specs.DiagramExamples.{diagram_of, diagram_lines, diagram_among, diagram_of_two};
+ghost use Rattle.yexamples.specs.DiagramExamples.{diagram_of, diagram_lines, diagram_among, diagram_of_two, own_augment, empty_augment, choice_augments, many_augments};
+ghost use Rattle.yexamples.specs.SchemaExamples.{m_schema};
+ghost use Rattle.yspec.specs.schema.Diagram.{diagram};
 ghost use Rattle.yspec.specs.program.Examples.{module_text};
 
 /// Every kind of node, with keys, options, references and types in columns of their rows.
@@ -55,4 +57,25 @@ pub fn derived_types()
         ≡ codes "module: u\n  +--rw v?   x:t\n  +--rw w?   t\n" }
     ensures own { diagram_lines (codes "typedef t { type uint8; } typedef r { type leafref { path /m:a; } } leaf a { type t; } leaf b { type m:t; } leaf c { type r; }")
         ≡ codes "module: m\n  +--rw a?   t\n  +--rw b?   m:t\n  +--rw c?   r\n" }
+{}
+
+/// A module's augments of nodes of other modules, each behind the way to its target; below that, what others add too.
+pub fn augments()
+    ensures target { diagram m_schema 2 ≡ codes "module: m\n  +--rw c\n     +--rw b:x\n        +--rw a:y?   string\n" }
+    ensures outer { diagram m_schema 1 ≡ codes "module: b\n\n  augment /m:c:\n    +--rw x\n       +--rw a:y?   string\n" }
+    ensures inner { diagram m_schema 0 ≡ codes "module: a\n\n  augment /m:c/b:x:\n    +--rw y?   string\n" }
+    ensures own { diagram own_augment 0 ≡ codes "module: p\n  +--rw c\n     +--rw x?   string\n     +--rw y?   string\n" }
+    ensures nothing { diagram empty_augment 1 ≡ codes "module: q\n\n  augment /p:c:\n" }
+{}
+
+/// Cases that are added, ways through choices and cases, and columns of what one augment adds alone, in order of the text.
+pub fn several_augments()
+    ensures choices { diagram choice_augments 1
+        ≡ codes "module: q\n\n  augment /p:h:\n    +--:(t)\n       +--rw t?   string\n\n  augment /p:h/p:s:\n    +--rw u?   string\n" }
+    ensures cases { diagram choice_augments 0 ≡ codes "module: p\n  +--rw (h)?\n     +--:(s)\n     |  +--rw s?     string\n"
+        ++ codes "     |  +--rw q:u?   string\n     +--:(q:t)\n        +--rw q:t?   string\n" }
+    ensures order { diagram many_augments 1 ≡ codes "module: q\n\n  augment /p:c:\n    +--rw four?   string\n"
+        ++ codes "\n  augment /p:c:\n    +--rw one?     string\n    +--rw three?   string\n" }
+    ensures column { diagram many_augments 0 ≡ codes "module: p\n  +--rw c\n     +--rw x?             string\n     +--rw q:one?         string\n"
+        ++ codes "     +--rw q:three?       string\n     +--rw r:long-name?   string\n     +--rw q:four?        string\n" }
 {}

@@ -1,5 +1,5 @@
 -- What augments add as it lies before it is known below which nodes.
-use Rattle.std.proofs.Common.{◌≡◌, ◌++◌, Bool, true, false, cond, List, [], refl, sym, ap, ap₂, ◌∙◌}
+use Rattle.std.proofs.Common.{◌≡◌, ◌++◌, Bool, true, false, cond, List, refl, ap, ap₂}
 use Rattle.std.proofs.lemmas.List.{append-nil}
 use Rattle.yspec.specs.Forest.{Forest, end, node}
 use Rattle.yspec.specs.schema.Breaks.{Break}
@@ -16,6 +16,7 @@ unfit_cases told (node p below after) = by (is_source_of word.case_word p.source
   where
     own : List Break
     own = cond (is_uses p) (told p) (unfit_in told below)
+
     by : (b : Bool) → unfit_in told (as_cases after) ≡ unfit_in told after
         → unfit_in told (cond b (node p below (as_cases after)) (node (case_for p) (node p below end) (as_cases after))) ≡ own ++ unfit_in told after
     by true later = ap (λ bs. own ++ bs) later

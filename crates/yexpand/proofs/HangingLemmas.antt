@@ -1,8 +1,8 @@
 -- Hanging one row more is putting it behind all that stands there.
-use Rattle.std.proofs.Common.{◌≡◌, ℕ, ◌+◌, ◌++◌, ◌==◌, Bool, true, false, cond, List, [], ◌∷◌, refl, sym, ap, ap₂, ◌∙◌, arith}
+use Rattle.std.proofs.Common.{◌≡◌, ◌++◌, ◌==◌, Bool, true, false, cond, List, [], ◌∷◌, refl, sym, ap, ap₂, ◌∙◌}
 use Rattle.yspec.specs.Forest.{Forest, end, node, join}
 use Rattle.yspec.proofs.ForestLemmas.{join_end, join_assoc}
-use Rattle.yexpand.specs.Hanging.{Numbered, Hung, given_by, hung_at, hung, put, times}
+use Rattle.yexpand.specs.Hanging.{Numbered, Hung, given_by, hung_at, hung, put}
 
 abbrev pub Nodes : Type 0 → Type 0
 Nodes L = Forest (Numbered L)
@@ -44,8 +44,10 @@ module _ {L : Type 0} where
     where
       inner : Nodes L
       inner = given_by (hung_at later) (k.row l)
+
       given : Bool → Nodes L
       given b = cond b (join inner (hung_at later l)) (hung_at later l)
+
       by : (b : Bool) → given_by (hung_at (later ++ h ∷ [])) (k.row l) ≡ put h inner
           → hung_at (later ++ h ∷ []) l ≡ cond (h.target == l.number) (join (put h (hung_at later l)) (h.row l)) (put h (hung_at later l))
           → cond b (join (given_by (hung_at (later ++ h ∷ [])) (k.row l)) (hung_at (later ++ h ∷ []) l)) (hung_at (later ++ h ∷ []) l)

@@ -18,5 +18,8 @@ pub mod BodyLemmas
 pub mod PathLemmas
 pub mod SearchLemmas
 pub mod PutLemmas
+pub mod PlacingLemmas
 pub mod TakenLemmas
 pub mod ReadyLemmas
+pub mod ReachedLemmas
+pub mod AddingLemmas

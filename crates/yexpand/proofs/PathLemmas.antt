@@ -1,9 +1,9 @@
 -- A path through numbered parts, and a row put below the node to which it leads.
-use Rattle.std.proofs.Common.{◌≡◌, ℕ, zero, suc, ◌+◌, ◌==◌, ◌≤◌, Bool, true, false, cond, List, [], ◌∷◌, Option, Some, None, refl, sym, ap, ap₂, subst, ◌∙◌, arith}
+use Rattle.std.proofs.Common.{◌≡◌, ℕ, ◌+◌, ◌==◌, ◌≤◌, Bool, true, false, cond, List, [], ◌∷◌, Option, Some, None, refl, sym, ap, ap₂, subst, ◌∙◌, arith}
 use Rattle.std.specs.Prelude.{find, option_map, option_and_then, unwrap_or}
 use Rattle.std.proofs.lemmas.Bool.{eq-eqb, eqb-true, ne_eqb}
 use Rattle.std.proofs.lemmas.Option.{none-some}
-use Rattle.yspec.specs.Forest.{Forest, end, node, row, join, relabelled, below_nth, change_nth, change_below}
+use Rattle.yspec.specs.Forest.{Forest, end, node, row, join, below_nth, change_nth, change_below}
 use Rattle.yspec.specs.linking.Parts.{Part}
 use Rattle.yspec.specs.linking.Prefixes.{NodeName}
 use Rattle.yspec.specs.linking.Expansion.{is_step, part_at, changed_at}
@@ -141,6 +141,7 @@ changed_plain (step ∷ next ∷ steps) h change l appends (node k below after) 
   where
     more : Forest Part → Forest Part
     more = changed_at (next ∷ steps) change
+
     by : (b : Bool) → option_and_then (label_at (next ∷ steps)) (cond b (Some below) (below_nth (is_step_of step) 0 after)) ≡ Some l
         → (label_at (next ∷ steps) below ≡ Some l → l.number ≡ h.target → times h.target below ≤ 1 → more (plain below) ≡ plain (put h below))
         → (option_and_then (label_at (next ∷ steps)) (below_nth (is_step_of step) 0 after) ≡ Some l → l.number ≡ h.target → times h.target after ≤ 1

@@ -1,12 +1,10 @@
 -- What holds of a forest once a row is put below one of its nodes.
-use Rattle.std.proofs.Common.{◌≡◌, ◌⊎◌, inl, inr, ℕ, zero, suc, ◌+◌, ◌==◌, ◌≤◌, ◌<◌, Bool, true, false, cond, List, [], ◌∷◌, ◌++◌, Option, Some, None, refl, sym, ap, ap₂, subst, ◌∙◌, arith}
-use Rattle.std.specs.Prelude.{find, option_map, option_and_then}
+use Rattle.std.proofs.Common.{◌≡◌, ◌⊎◌, inl, inr, ℕ, zero, suc, ◌+◌, ◌==◌, ◌≤◌, ◌<◌, Bool, true, false, cond, Some, refl, sym, ap, ap₂, subst, ◌∙◌, arith}
 use Rattle.std.proofs.lemmas.Bool.{cases_eq, cases_lt, eq-eqb, eqb-true, ne_eqb}
-use Rattle.yspec.specs.Forest.{Forest, end, node, row, join, size, first_of}
+use Rattle.yspec.specs.Forest.{Forest, end, node, join, size, first_of}
 use Rattle.yspec.specs.linking.Source.{Source}
 use Rattle.yspec.specs.linking.Parts.{Part}
-use Rattle.yspec.specs.linking.Prefixes.{NodeName}
-use Rattle.yexpand.specs.Hanging.{Numbered, Hung, put, times, plain, numbered, inner, marked_by, is_step_of}
+use Rattle.yexpand.specs.Hanging.{Numbered, Hung, put, times, plain, numbered, inner, marked_by}
 use Rattle.yexpand.specs.Searching.{Lookup, first_in, Agrees, AgreesAll, looked_behind}
 use Rattle.yexpand.proofs.HangingLemmas.{Nodes}
 use Rattle.yexpand.proofs.PathLemmas.{put_absent}
@@ -40,19 +38,26 @@ agrees_put look source h added is none inside (node l below after) agrees =
   where
     now : Lookup
     now = looked_behind look h.target added
+
     by : (b : Bool) → (h.target == l.number) ≡ b → Agrees now source (put h below) → Agrees now source (put h after)
         → Agrees now source (node l (cond b (join (put h below) (h.row l)) (put h below)) (put h after))
     by true e under later =
         let same : h.target ≡ l.number = eqb-true h.target l.number e in
         let row_is : h.row l ≡ added = is l (agrees.0.0 ∙ ap source (sym same)) in (
-          (agrees.0.0, λ name. subst (λ n. now (Some n) name ≡ first_of (look (Some n) name) (first_in name added)) same (behind_target look h.target added name)
-              ∙ (ap₂ first_of (agrees.0.1 name ∙ sym (first_put h name below)) (ap (first_in name) (sym row_is)) ∙ sym (first_join name (put h below) (h.row l)))),
+          (
+            agrees.0.0,
+            λ name. subst (λ n. now (Some n) name ≡ first_of (look (Some n) name) (first_in name added)) same (behind_target look h.target added name)
+                ∙ (ap₂ first_of (agrees.0.1 name ∙ sym (first_put h name below)) (ap (first_in name) (sym row_is)) ∙ sym (first_join name (put h below) (h.row l))),
+          ),
           agrees_join now source (put h below) (h.row l) under (subst (Agrees now source) (sym row_is) (agrees_other look source h.target added added none inside)),
           later,
         )
     by false e under later = (
-      (agrees.0.0, λ name. behind_other look h.target l.number added name (λ same. absurd (false_true (sym e ∙ eq-eqb h.target l.number (sym same))))
-          ∙ (agrees.0.1 name ∙ sym (first_put h name below))),
+      (
+        agrees.0.0,
+        λ name. behind_other look h.target l.number added name (λ same. absurd (false_true (sym e ∙ eq-eqb h.target l.number (sym same))))
+            ∙ (agrees.0.1 name ∙ sym (first_put h name below)),
+      ),
       under,
       later,
     )
@@ -77,6 +82,7 @@ times_put look source h added is n (node l below after) agrees once =
   where
     here : (b : Bool) → (h.target == l.number) ≡ b → ℕ
     here b e = one_if (l.number == h.target)
+
     by : (b : Bool) → (h.target == l.number) ≡ b → (k : ℕ) → times h.target below ≡ k
         → (times h.target below ≡ 1 → times n (put h below) ≡ times n below + times n added)
         → (times h.target after ≡ 1 → times n (put h after) ≡ times n after + times n added)
@@ -122,8 +128,12 @@ times_numbered n next (node p below after) = by (cases_lt n (next + suc (size be
     by : ((n < next + suc (size below)) ⊎ (next + suc (size below) ≤ n)) → ((next ≡ n) ⊎ (next ≡ n → ⊥))
         → times n (numbered (next + 1) below) ≤ 1 → times n (numbered (next + suc (size below)) after) ≤ 1
         → one_if (next == n) + (times n (numbered (next + 1) below) + times n (numbered (next + suc (size below)) after)) ≤ 1
-    by (inl less) (inl same) under later = omega (arith, ap one_if (eq-eqb next n same), times_before n (next + 1) below (omega (arith, same)),
-        times_before n (next + suc (size below)) after less)
+    by (inl less) (inl same) under later = omega (
+      arith,
+      ap one_if (eq-eqb next n same),
+      times_before n (next + 1) below (omega (arith, same)),
+      times_before n (next + suc (size below)) after less,
+    )
     by (inl less) (inr other) under later = omega (arith, ap one_if (ne_eqb next n other), under, times_before n (next + suc (size below)) after less)
     by (inr more) (inl same) under later = absurd (omega (arith, more, same))
     by (inr more) (inr other) under later = omega (arith, ap one_if (ne_eqb next n other), later, times_behind n (next + 1) below (omega (arith, more)))

@@ -1,13 +1,12 @@
 -- What is found by the numbers of nodes is what stands in the forest.
-use Rattle.std.proofs.Common.{◌≡◌, ℕ, zero, suc, ◌+◌, ◌==◌, ◌≤◌, Bool, true, false, cond, List, [], ◌∷◌, ◌++◌, Option, Some, None, refl, sym, ap, ap₂, subst, ◌∙◌, arith}
+use Rattle.std.proofs.Common.{◌≡◌, ℕ, Bool, true, false, cond, List, [], ◌∷◌, Option, Some, None, refl, sym, ap, subst, ◌∙◌, arith}
 use Rattle.std.specs.Prelude.{find, option_map, option_and_then, unwrap_or}
-use Rattle.std.proofs.lemmas.Bool.{eq-eqb, eqb-true, ne_eqb}
+use Rattle.std.proofs.lemmas.Bool.{eq-eqb, ne_eqb}
 use Rattle.std.proofs.lemmas.Option.{none-some}
-use Rattle.yspec.specs.Forest.{Forest, end, node, row, join, first_of, below_nth}
+use Rattle.yspec.specs.Forest.{end, node, row, join, first_of, below_nth}
 use Rattle.yspec.specs.linking.Source.{Source}
 use Rattle.yspec.specs.linking.Parts.{Part}
 use Rattle.yspec.specs.linking.Prefixes.{NodeName}
-use Rattle.yspec.specs.linking.Planned.{same_number}
 use Rattle.yexpand.specs.Hanging.{Numbered, Hung, put, times, is_step_of, label_at}
 use Rattle.yexpand.specs.Searching.{Lookup, first_in, reached, target_in, Agrees, AgreesAll, looked_behind}
 use Rattle.yexpand.proofs.HangingLemmas.{Nodes}
@@ -35,6 +34,7 @@ number_found look source step (next ∷ steps) (node l below after) agrees =
   where
     on : Option ℕ → Option ℕ
     on o = option_and_then (λ p. p) (option_and_then (λ n. reached look (Some n) (next ∷ steps)) o)
+
     by : (b : Bool) → option_map (λ k. k.number) (label_at (next ∷ steps) below) ≡ from_row look next steps below
         → option_map (λ k. k.number) (option_and_then (label_at (next ∷ steps)) (below_nth (is_step_of step) 0 after)) ≡ on (option_map (λ k. k.number) (find (is_step_of step) (row after)))
         → option_map (λ k. k.number) (option_and_then (label_at (next ∷ steps)) (cond b (Some below) (below_nth (is_step_of step) 0 after)))
@@ -90,7 +90,7 @@ first_join name (node l below after) g = by (is_step_of name l) (first_join name
     by true later = refl
     by false later = later
 
-of_none : (o : Option ℕ) → first_of o None ≡ o
+pub of_none : (o : Option ℕ) → first_of o None ≡ o
 of_none None = refl
 of_none (Some n) = refl
 
@@ -109,8 +109,11 @@ behind_target look target added name = ap (λ b. first_of (look (Some target) na
 pub agrees_other : (look : Lookup) (source : ℕ → Source) (target : ℕ) (added f : Parts) → times target f ≡ 0 → Agrees look source f → Agrees (looked_behind look target added) source f
 agrees_other look source target added end none agrees = tt
 agrees_other look source target added (node l below after) none agrees = (
-  (agrees.0.0, λ name. behind_other look target l.number added name
-      (λ e. absurd (omega (arith, none, ap (λ b. cond {A = ℕ} b 1 0) (eq-eqb l.number target e)))) ∙ agrees.0.1 name),
+  (
+    agrees.0.0,
+    λ name. behind_other look target l.number added name
+        (λ e. absurd (omega (arith, none, ap (λ b. cond {A = ℕ} b 1 0) (eq-eqb l.number target e)))) ∙ agrees.0.1 name,
+  ),
   agrees_other look source target added below (omega (arith, none)) agrees.1,
   agrees_other look source target added after (omega (arith, none)) agrees.2,
 )

@@ -196,8 +196,7 @@ adds_length parent f bs a b added =
 pub adds_join : (parent : Option ℕ) (f g : Forest Part) (bs cs : List Break) (a b c : Made) → Adds parent f bs a b → Adds parent g cs b c → Adds parent (join f g) (bs ++ cs) a c
 adds_join parent f g bs cs a b c first second =
     let k = length (slots_of a.table) in
-    let here = places parent k f in
-    (
+    let here = places parent k f in (
       second.0 ∙ (ap₂ (λ ps n. ps ++ places parent n g) first.0 (adds_length parent f bs a b first)
           ∙ (append_assoc (parts_in a.table) here (places parent (k + size f) g) ∙ ap (λ rest. parts_in a.table ++ rest) (sym (places-join parent k f g)))),
       second.1 ∙ (ap (λ o. least_from o cs) first.1 ∙ sym (least_of_both (seen a.told) bs cs)),

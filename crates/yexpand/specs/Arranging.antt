@@ -1,5 +1,5 @@
 -- Augments that are applied, over the table in which all nodes lie.
-use Rattle.std.specs.Prelude.{ℕ, ◌+◌, ◌-◌, List, length, take, drop, get_or, if◌then◌else◌}
+use Rattle.std.specs.Prelude.{Bool, ℕ, ◌+◌, ◌-◌, List, length, take, drop, get_or, if◌then◌else◌}
 use Rattle.yspec.specs.Forest.{Forest}
 use Rattle.yspec.specs.linking.Keyword.{choice_word}
 use Rattle.yspec.specs.linking.Source.{Source, is_source_of}
@@ -28,8 +28,11 @@ rows_of starts slots augment =
     rows_between (get_or starts augment (length slots)) (get_or starts (augment + 1) (length slots)) slots
 
 -- A choice takes them with the cases for which they stand, another node without.
+abbrev pub taken : Bool → Forest (Numbered Part) → Forest (Numbered Part)
+taken is_choice f = if is_choice then f else inner f
+
 abbrev pub taken_for : Source → Forest (Numbered Part) → Forest (Numbered Part)
-taken_for s f = if is_source_of choice_word s then f else inner f
+taken_for s f = taken (is_source_of choice_word s) f
 
 abbrev pub taken_by : Numbered Part → Forest (Numbered Part) → Forest (Numbered Part)
 taken_by l f = taken_for l.label.source f

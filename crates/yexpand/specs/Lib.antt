@@ -4,7 +4,10 @@ pub mod Bodies
 pub mod Hanging
 pub mod Searching
 pub mod Arranging
+pub mod Placing
 pub mod Resolving
+pub mod WaitingView
+pub mod SearchView
 pub mod NodeView
 pub mod TableView
 pub mod Targets

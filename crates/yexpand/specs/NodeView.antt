@@ -1,5 +1,5 @@
 -- Nodes of groupings in use as the specification's parts.
-use Rattle.std.specs.Prelude.{ℕ, Bool, true, false, List, [], ◌∷◌, map, Option}
+use Rattle.std.specs.Prelude.{ℕ, Bool, true, false, List, [], ◌∷◌, map, Option, Some, None}
 use Rattle.yspec.specs.Forest.{Forest, join}
 use Rattle.yspec.specs.linking.Source.{Source}
 use Rattle.yspec.specs.linking.Parts.{Part, part_of, case_for}
@@ -25,6 +25,11 @@ part_for owner is_implied s below = owned_by owner (implied_or is_implied (part_
 -- a part with the number of the `augment` that added it
 abbrev pub added_with : Option ℕ → Part → Part
 added_with number p = record p { added_by = number }
+
+-- the same, where there is a number
+abbrev pub marked_with : Option ℕ → Part → Part
+marked_with None p = p
+marked_with (Some number) p = added_with (Some number) p
 
 abbrev pub plain_part : ExpandedNode → Part
 plain_part n = added_with n.added_by

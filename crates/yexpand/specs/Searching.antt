@@ -1,13 +1,11 @@
 -- How targets are found: children by the numbers of nodes.
-use Rattle.std.specs.Prelude.{◌≡◌, ℕ, ◌==◌, ◌&&◌, Bool, List, [], ◌∷◌, Option, Some, None, find, option_map, option_and_then, if◌then◌else◌}
-use Rattle.std.specs.Option.{option_map_or}
+use Rattle.std.specs.Prelude.{◌≡◌, ℕ, List, [], ◌∷◌, Option, Some, None, find, option_map, option_and_then, if◌then◌else◌}
 use Rattle.yspec.specs.Forest.{Forest, end, node, row, first_of}
 use Rattle.yspec.specs.linking.Source.{Source}
 use Rattle.yspec.specs.linking.Parts.{Part}
 use Rattle.yspec.specs.linking.Prefixes.{NodeName}
 use Rattle.yspec.specs.linking.Planned.{same_number}
-use Rattle.yspec.specs.linking.Augments.{may_take}
-use Rattle.yexpand.specs.Hanging.{Numbered, Hung, is_step_of}
+use Rattle.yexpand.specs.Hanging.{Numbered, is_step_of}
 
 -- which child of a name a node has, or the top, by their numbers
 abbrev pub Lookup : Type 0

@@ -243,11 +243,7 @@ impl Groupings {
     }
 
     /// How many nodes the set defines, without expanding, given its augments; 65,536 stands for more.
-    pub fn node_count(
-        &self,
-        named: &Named<'_, '_>,
-        augments: &[Node<'_, Source<'_>>],
-    ) -> u32
+    pub fn node_count(&self, named: &Named<'_, '_>, augments: &[Node<'_, Source<'_>>]) -> u32
         requires counts { AreCounts self.now.counts.items (modules_of named.now) }
         requires augments { augments_seen augments.now ≡ augments_of (modules_of named.now) }
         ensures { result ≡ min (node_count (modules_of named.now)) many }

@@ -2,6 +2,7 @@
 #![tactic(auto)]
 
 mod applied;
+mod arranging;
 mod augments;
 mod bodies;
 mod counting;
@@ -10,10 +11,13 @@ mod groupings;
 mod laying;
 mod named;
 mod nodes;
+mod places;
 mod refining;
+mod search;
 mod stating;
 mod table;
 mod target;
+mod waiting;
 mod walking;
 
 pub use augments::augments_of;

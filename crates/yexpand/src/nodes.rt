@@ -22,7 +22,7 @@ pub struct ExpandedNode<'a, 't> {
 }
 
 impl<'a, 't> ExpandedNode<'a, 't> {
-    ghost use Rattle.std.specs.Prelude.{◌≡◌, ◌++◌, ◌∷◌, [], OnOk};
+    ghost use Rattle.std.specs.Prelude.{◌≡◌, ◌++◌, ◌∷◌, [], IfOk, OnOk};
     ghost use Rattle.yspec.specs.linking.Source as sources;
     ghost use Rattle.yspec.specs.schema.Breaks as breaks;
     ghost use Rattle.ygrammar.specs.BreakView.{break_view, code_number};
@@ -31,7 +31,7 @@ impl<'a, 't> ExpandedNode<'a, 't> {
     ghost use Rattle.ygrammar.specs.SourceView.{source_view};
     ghost use Rattle.yspec.specs.linking.Parts.{own_of};
     ghost use Rattle.yexpand.specs.NamedView.{row_or_none};
-    ghost use Rattle.yexpand.specs.NodeView.{part_for, part_view, plain_part};
+    ghost use Rattle.yexpand.specs.NodeView.{marked_with, part_for, part_view, plain_part};
     ghost use Rattle.yexpand.specs.TableView.{refined_part};
 
     /// The node that a statement defines, or the case that it stands for, in a module, before refines.
@@ -51,6 +51,27 @@ impl<'a, 't> ExpandedNode<'a, 't> {
             added_by: None,
             refines: Vec::new(alloc),
         }
+    }
+
+    /// A copy of it, with the number of the augment that adds the copy, where one does.
+    pub(crate) fn copied(
+        &self,
+        alloc: Global,
+        added_by: Option<u32>,
+    ) -> Result<ExpandedNode<'a, 't>, AllocError>
+        ensures { IfOk result (λ made. part_view made ≡ marked_with added_by (part_view self.now)) }
+    {
+        let mut refines = Vec::new(alloc);
+        for given in &self.refines {
+            refines.push(*given)?;
+        }
+        Ok(ExpandedNode {
+            source: self.source,
+            is_implied: self.is_implied,
+            owner: self.owner,
+            added_by: added_by.or(self.added_by),
+            refines,
+        })
     }
 
     /// Gives it a row of statements, which take the place of its own of the same kinds.

@@ -20,6 +20,7 @@ impl<'a, 't> NodeTable<'a, 't> {
     ghost use Rattle.ypreorder.specs.View.{row_by};
     ghost use Rattle.ygrammar.specs.SourceView.{source_view};
     ghost use Rattle.yexpand.specs.NodeView.{numbered_part};
+    ghost use Rattle.yexpand.specs.Arranging.{rows_between, with_number};
     ghost use Rattle.yexpand.specs.TableView.{slots_of, parts_in, nodes_in, refined_part, changed_place};
 
     /// A table without nodes.
@@ -47,6 +48,17 @@ impl<'a, 't> NodeTable<'a, 't> {
         let slots = self.slots.as_slice();
         let (_, from) = slots.split_at((number as usize).min(slots.len()));
         Siblings::new(from, number)
+    }
+
+    /// The nodes from that of a number up to that of another one.
+    pub(crate) fn between(&self, first: u32, past: u32) -> Siblings<'_, ExpandedNode<'a, 't>>
+        ensures { row_by with_number result ≡ rows_between first past (slots_of self.now) }
+    {
+        let slots = self.slots.as_slice();
+        let (_, from) = slots.split_at((first as usize).min(slots.len()));
+        let count = past.saturating_sub(first) as usize;
+        let (rows, _) = from.split_at(count.min(from.len()));
+        Siblings::new(rows, first)
     }
 
     /// How many nodes there are.

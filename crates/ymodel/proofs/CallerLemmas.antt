@@ -1,12 +1,15 @@
 -- What every schema has, for those who use one.
-use Rattle.std.proofs.Common.{◌≤◌, None}
+use Rattle.std.proofs.Common.{◌≡◌, ◌≤◌, ℕ, true, None}
 use Rattle.yspec.specs.Forest.{levels, size}
 use Rattle.yspec.specs.schema.Breaks.{level_limit, node_limit}
 use Rattle.yspec.specs.document.Fitting.{IsNumbered, LeafsAreBare}
 use Rattle.yspec.specs.document.Writing.{NamesDiffer}
 use Rattle.yspec.proofs.LinkingProofs.LinkedSchemaLemmas.{names_differ_of, leafs_bare_of, levels_of, size_of}
+use Rattle.yspec.specs.schema.Schema.{augments_in}
 use Rattle.ymodel.specs.declared.schema.Schema.{Schema}
+use Rattle.ymodel.specs.Ascending.{all_ascend}
 use Rattle.ymodel.specs.View.{view, forest_of}
+use Rattle.ymodel.proofs.AscendingLemmas.{ascend_of}
 use Rattle.ymodel.proofs.ChildLemmas.{numbered_laid}
 
 -- its nodes are numbered in preorder
@@ -25,3 +28,7 @@ not_deep s = levels_of (view s) s.compiled
 
 pub not_large : (s : Schema) → size (view s).nodes ≤ node_limit
 not_large s = size_of (view s) s.compiled
+
+-- the nodes that an augment adds ascend by their numbers
+pub augments_ascend : (s : Schema) (m : ℕ) → all_ascend (augments_in (view s) m) ≡ true
+augments_ascend s m = ascend_of (view s) m s.compiled

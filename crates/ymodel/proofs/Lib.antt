@@ -11,3 +11,5 @@ pub mod PassedLemmas
 pub mod NearestLemmas
 pub mod DataChildLemmas
 pub mod QualifiedLemmas
+pub mod RowChildLemmas
+pub mod AscendingLemmas

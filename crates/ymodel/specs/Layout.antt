@@ -18,6 +18,7 @@ use Rattle.ymodel.specs.declared.node.Absence.TheVariants as absences
 use Rattle.ymodel.specs.declared.node.Amount.{Amount}
 use Rattle.ymodel.specs.declared.node.Tuples.{Tuples}
 use Rattle.ymodel.specs.declared.children.Slot.{Slot}
+use Rattle.ymodel.specs.declared.schema.Augment.{Augment}
 use Rattle.ymodel.specs.declared.schema.SchemaModule.{SchemaModule}
 
 abbrev pub number_of : Option SchemaId → Option ℕ
@@ -133,8 +134,15 @@ forest_within (suc n) number (r ∷ slots) = node (node_view number r.node)
 abbrev pub forest_of : ℕ → List Slot → Forest spec.SchemaNode
 forest_of number slots = forest_within (length slots) number slots
 
+abbrev pub augment_view : Augment → spec.Augment
+augment_view a = record { target = a.target.0; nodes = numbers_of a.nodes.items }
+
 abbrev pub module_view : SchemaModule → spec.SchemaModule
-module_view m = record { name = string_bytes m.name; prefix = string_bytes m.prefix }
+module_view m = record {
+  name = string_bytes m.name;
+  prefix = string_bytes m.prefix;
+  augments = map augment_view m.augments.items;
+}
 
 -- the schema of some modules whose nodes lie in slots
 abbrev pub schema_view : List SchemaModule → List Slot → spec.Schema

@@ -1,3 +1,4 @@
+pub mod Ascending
 pub mod Layout
 pub mod Lookup
 pub mod References

@@ -2,7 +2,7 @@
 use Rattle.std.specs.Prelude.{◌≡◌, Option, Some, None}
 use Rattle.yspec.specs.Forest.{Forest, end, node}
 use Rattle.yspec.specs.schema.Schema as spec
-pub use Rattle.ymodel.specs.Layout.{kind_view, status_view, node_view, forest_of, module_view, schema_view}
+pub use Rattle.ymodel.specs.Layout.{kind_view, status_view, node_view, forest_of, augment_view, module_view, schema_view}
 unfoldable pub use Rattle.ymodel.specs.Layout.{forest_within}
 use Rattle.ymodel.specs.declared.children.Children.{Children}
 use Rattle.ymodel.specs.declared.children.Child.{Child}
@@ -18,6 +18,9 @@ label_of c = node_view c.id.0 c.node.now
 
 abbrev pub below_of : Child → Forest spec.SchemaNode
 below_of c = row_view c.children
+
+abbrev pub child_view : Child → spec.SchemaNode × Forest spec.SchemaNode
+child_view c = (label_of c, below_of c)
 
 abbrev pub view : Schema → spec.Schema
 view s = schema_view s.modules.items s.slots.items

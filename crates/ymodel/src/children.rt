@@ -48,6 +48,14 @@ impl<'a> Child<'a> {
     ghost use Rattle.std.specs.Prelude.{◌≡◌};
     ghost use Rattle.ymodel.specs.View.{label_of, below_of, node_view, row_view};
 
+    /// The node of a number, with its children.
+    pub(crate) fn new(id: SchemaId, node: &'a SchemaNode, children: Children<'a>) -> Child<'a>
+        ensures label { label_of result ≡ node_view id.0 node.entry.now }
+        ensures below { below_of result ≡ row_view children.entry }
+    {
+        Child { id, node, children }
+    }
+
     /// Its name in the schema.
     pub fn id(&self) -> SchemaId
         ensures { result.0 ≡ (label_of self.now).number }

@@ -11,5 +11,5 @@ mod written;
 pub use children::{Child, Children, Slot};
 pub use index::id_of;
 pub use node::{Absence, Amount, Kind, LeafType, SchemaId, SchemaNode, Tuples, TypeName};
-pub use schema::{Schema, SchemaModule};
+pub use schema::{Augment, Schema, SchemaModule};
 pub use yword::{BuiltIn, Status};

@@ -7,7 +7,7 @@ ghost use Rattle.ymodel.specs.Layout.{data_places, laid, forest_of, schema_view,
 ghost use Rattle.ymodel.specs.Lookup.{FindsNamed, FindsWritten};
 ghost use Rattle.ymodel.specs.References.{FindsReferences};
 
-use crate::children::{Children, Slot};
+use crate::children::{Child, Children, Slot};
 use crate::index::{Index, id_of, index_of, parent_number};
 use crate::node::{SchemaId, SchemaNode};
 use crate::references::References;
@@ -15,11 +15,19 @@ use crate::written::{first_written, module_named, other_name, written_name};
 use std::alloc::{AllocError, Global};
 use yindex::Names;
 
-/// A module of a schema.
+/// What an `augment` adds: the node below which it stands, and the nodes right below that one (RFC 7950, 7.17).
+#[derive(Debug, Drop)]
+pub struct Augment {
+    pub target: SchemaId,
+    pub nodes: Vec<SchemaId>,
+}
+
+/// A module of a schema, with its augments in order of its text.
 #[derive(Debug, Drop)]
 pub struct SchemaModule {
     pub name: String,
     pub prefix: String,
+    pub augments: Vec<Augment>,
 }
 
 /// The schema tree of a set of modules (RFC 7950, 4.2.2).
@@ -38,15 +46,15 @@ pub struct Schema {
 }
 
 impl Schema {
-    ghost use Rattle.std.specs.Prelude.{◌≡◌, ◌<◌, ◌++◌, option_map, slice_get, IfOk, IfSome, None};
+    ghost use Rattle.std.specs.Prelude.{◌≡◌, ◌<◌, ◌++◌, map, option_map, slice_get, IfOk, IfSome, None};
     ghost use Rattle.yspec.specs.Forest.{size};
     ghost use Rattle.yspec.specs.schema.Schema as spec;
-    ghost use Rattle.yspec.specs.schema.Schema.{node_at, children_of, child_named, child_written, way_to};
+    ghost use Rattle.yspec.specs.schema.Schema.{node_at, children_of, child_in, child_named, child_written, way_to};
     ghost use Rattle.yspec.specs.schema.References.{references_to};
-    ghost use Rattle.ymodel.specs.Layout.{node_view, number_of, numbers_of};
+    ghost use Rattle.ymodel.specs.Layout.{augment_view, node_view, number_of, numbers_of};
     ghost use Rattle.ymodel.specs.Lookup.{alone, module_passed, names_in, way_above};
     ghost use Rattle.yindex.specs.Names.{AreNamesOf};
-    ghost use Rattle.ymodel.specs.View.{view, row_view, forest_of};
+    ghost use Rattle.ymodel.specs.View.{view, child_view, row_view, forest_of};
 
     /// The schema of some modules whose nodes lie in slots, each before those below it, once a compiler has found no broken
     /// rule, and the names of these nodes.
@@ -121,6 +129,19 @@ impl Schema {
             }
             None => Children::new(&[], 0),
         }
+    }
+
+    /// The child of a node of that number, in its row; nothing where it has none.
+    pub fn child_at(&self, parent: SchemaId, id: SchemaId) -> Option<Child<'_>>
+        ensures { option_map child_view result
+            ≡ child_in (children_of (view self.now) parent.0) id.0 }
+    {
+        let slot = self.slots.get(id.number())?;
+        let above = slot.parent?;
+        if above.0 != parent.0 {
+            return None;
+        }
+        Some(Child::new(id, &slot.node, self.children(id)))
     }
 
     /// The child of a node, or the top node, of a module and a name.
@@ -220,5 +241,15 @@ impl Schema {
             ≡ option_map (λ m. m.prefix) (slice_get (view self.now).modules «module») }
     {
         Some(self.modules.get(module)?.prefix.as_str())
+    }
+
+    /// What the module of a number augments, in order of its text (RFC 7950, 7.17); nothing where the set has fewer.
+    pub fn augments(&self, module: usize) -> &[Augment]
+        ensures { map augment_view result.now ≡ spec.augments_in (view self.now) «module» }
+    {
+        match self.modules.get(module) {
+            Some(found) => found.augments.as_slice(),
+            None => &[],
+        }
     }
 }

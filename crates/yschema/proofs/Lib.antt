@@ -1,2 +1,3 @@
 pub mod ToldLemmas
 pub mod MakingLemmas
+pub mod AddedLemmas

@@ -1,6 +1,6 @@
 //! From modules to their schema.
 
-ghost use Rattle.std.specs.Prelude.{◌≡◌, ◌≤◌, [], Ok, Some, None, IfOk, nat_lt, unwrap_or, map};
+ghost use Rattle.std.specs.Prelude.{◌≡◌, ◌≤◌, [], Ok, Some, None, IfOk, nat_lt, map};
 ghost use Rattle.yspec.specs.Forest.{levels};
 ghost use Rattle.yspec.specs.Results.{Gives};
 ghost use Rattle.yspec.specs.document.Fitting.{LeafsAreBare};
@@ -10,10 +10,10 @@ ghost use Rattle.yspec.specs.linking.Expansion.{expanded_parts};
 ghost use Rattle.yspec.specs.linking.NodeCounts.{node_count};
 ghost use Rattle.yspec.specs.linking.Compiling as spec;
 ghost use Rattle.yspec.specs.linking.Compiling.{compiled, linking_phases, IsCompiled};
+ghost use Rattle.yschema.specs.Added.{HoldsThose};
 ghost use Rattle.yschema.specs.Phases.{expansion_part, plan_part, rule_part};
 ghost use Rattle.yspec.specs.linking.Source.{sources_of};
 ghost use Rattle.ytext.specs.View.{modules_view};
-ghost use Rattle.ygrammar.specs.LinkView as link;
 ghost use Rattle.ypreorder.specs.Layout.{places};
 ghost use Rattle.yexpand.specs.Knowing.{AreCounts};
 ghost use Rattle.yexpand.specs.NamedView.{modules_of};
@@ -23,16 +23,16 @@ ghost use Rattle.ylink.specs.LinkedView as statements;
 ghost use Rattle.yresolve.specs.ResolvedView.{IsOf};
 ghost use Rattle.ygrammar.specs.SourceView.{source_view};
 ghost use Rattle.ypreorder.specs.View.{row_by, label_by};
-ghost use Rattle.yspec.specs.linking.Source as sources;
-ghost use Rattle.yspec.specs.linking.Keyword.{prefix_word};
+ghost use Rattle.yspec.specs.linking.Planned.{nodes_of};
 ghost use Rattle.ylink.specs.Told.{seen, told_by};
 ghost use Rattle.ymodel.specs.View.{view, module_view};
 
+use crate::augmenting::{Added, augments_in};
 use crate::limits::{LEVEL_LIMIT, NODE_LIMIT};
 use crate::making::slots_of;
 use std::alloc::{AllocError, Global};
-use yexpand::{Groupings, Named, NodeTable, expanded};
-use ygrammar::{BrokenRule, CompileCode, Source, Sources, argument_of, argument_with, broken};
+use yexpand::{Groupings, Named, NodeTable, augments_of, expanded};
+use ygrammar::{BrokenRule, CompileCode, Source, argument_of, argument_with, broken};
 use ylink::{CompileFault, Linked, link};
 use ymodel::{Schema, SchemaModule};
 use yplan::{Plan, broken_name_rule};
@@ -67,7 +67,7 @@ fn compile_linked<'t>(
 {
     let named = Named::new(linked.sources(), linked.prefixes(), linked.meanings());
     let groupings = Groupings::of(alloc, &named, linked.order())?;
-    if let Some(found) = broken_count_rule(modules, &named, &groupings) {
+    if let Some(found) = broken_count_rule(alloc, modules, &named, &groupings)? {
         return Err(CompileFault::from(found));
     }
     let made = expanded(alloc, &named, &groupings)?;
@@ -130,15 +130,18 @@ fn at_last(modules: &[Module], is_passed: bool) -> Option<BrokenRule>
 
 /// The rule that is told of the number of nodes, which are counted before any grouping is expanded.
 fn broken_count_rule(
+    alloc: Global,
     modules: &[Module],
     named: &Named<'_, '_>,
     groupings: &Groupings,
-) -> Option<BrokenRule>
+) -> Result<Option<BrokenRule>, AllocError>
     requires { AreCounts groupings.now.counts.items (modules_of named.now) }
-    ensures { seen result ≡ least_from None (limit_breaks
-        (nat_lt node_limit (node_count (modules_of named.now))) (modules_view modules.now)) }
+    ensures { IfOk result (λ told. seen told ≡ least_from None (limit_breaks
+        (nat_lt node_limit (node_count (modules_of named.now))) (modules_view modules.now))) }
 {
-    at_last(modules, groupings.node_count(named) as usize > NODE_LIMIT)
+    let augments = augments_of(alloc, named)?;
+    let count = groupings.node_count(named, augments.as_slice());
+    Ok(at_last(modules, count as usize > NODE_LIMIT))
 }
 
 /// Whether a plan has too many nodes or levels.
@@ -165,26 +168,33 @@ fn broken_rule<'t>(
     Ok(at_last(modules, is_too_deep(plan)))
 }
 
-fn module_of(alloc: Global, top: Node<'_, Source<'_>>) -> Result<SchemaModule, AllocError>
-    ensures { IfOk result (λ made. module_view made ≡ record {
-      name = sources.argument_in (label_by source_view top.entry);
-      prefix = unwrap_or (sources.argument_with prefix_word (row_by source_view top.entry.children)) [];
-    }) }
+/// The module that a statement defines, with its augments.
+fn module_of(
+    alloc: Global,
+    plan: &Plan<'_, '_>,
+    added: &Added,
+    top: Node<'_, Source<'_>>,
+) -> Result<SchemaModule, AllocError>
+    requires { HoldsThose added.now (nodes_of (plans.view plan.now)) }
+    ensures { IfOk result (λ made. module_view made ≡ spec.schema_module (plans.view plan.now)
+        (label_by source_view top.entry) (row_by source_view top.entry.children)) }
 {
     let prefix = argument_with(Keyword::Prefix, top.children()).unwrap_or("");
     Ok(SchemaModule {
         name: String::from_str(alloc, argument_of(top))?,
         prefix: String::from_str(alloc, prefix)?,
+        augments: augments_in(alloc, plan, added, top.children())?,
     })
 }
 
-fn modules_of(alloc: Global, sources: &Sources<'_>) -> Result<Vec<SchemaModule>, AllocError>
-    ensures { IfOk result (λ modules. map module_view modules.items
-        ≡ spec.schema_modules (link.view sources.now)) }
+fn modules_of(alloc: Global, plan: &Plan<'_, '_>) -> Result<Vec<SchemaModule>, AllocError>
+    ensures { let p = plans.view plan.now in IfOk result (λ modules.
+        map module_view modules.items ≡ spec.schema_modules p p.modules) }
 {
+    let added = Added::of(alloc, plan)?;
     let mut modules = Vec::new(alloc);
-    for module in sources.modules() {
-        modules.push(module_of(alloc, module)?)?;
+    for module in plan.sources().modules() {
+        modules.push(module_of(alloc, plan, &added, module)?)?;
     }
     Ok(modules)
 }
@@ -199,7 +209,7 @@ fn build<'t>(
     requires legal { IsCompiled (spec.schema_of_plan (plans.view plan.now)) }
     ensures { IfOk result (λ schema. view schema ≡ spec.schema_of_plan (plans.view plan.now)) }
 {
-    let modules = modules_of(alloc, plan.sources())?;
+    let modules = modules_of(alloc, plan)?;
     let rows = slots_of(alloc, plan, resolved)?;
     let names = plan.names(alloc)?;
     Schema::of(alloc, modules, rows, names)

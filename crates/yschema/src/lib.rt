@@ -1,6 +1,7 @@
 //! The schema of a set of modules: which rules the modules break, and the schema tree where they break none.
 #![tactic(auto)]
 
+mod augmenting;
 mod building;
 mod limits;
 mod making;
@@ -9,6 +10,6 @@ pub use building::compile;
 pub use limits::{LEVEL_LIMIT, NODE_LIMIT};
 pub use ylink::{CompileCode, CompileFault};
 pub use ymodel::{
-    Absence, Amount, BuiltIn, Child, Children, Kind, LeafType, Schema, SchemaId, SchemaModule,
+    Absence, Amount, Augment, BuiltIn, Child, Children, Kind, LeafType, Schema, SchemaId, SchemaModule,
     SchemaNode, Status, Tuples, TypeName,
 };

@@ -1,20 +1,25 @@
-use Rattle.std.proofs.Common.{refl}
-use Rattle.ymodel.specs.View.{view, row_view}
+use Rattle.std.proofs.Common.{refl, ap, ◌∙◌}
+use Rattle.ymodel.specs.Ascending.{all_ascend}
+use Rattle.ymodel.specs.View.{view}
+use Rattle.ymodel.proofs.CallerLemmas.{augments_ascend}
 use Rattle.youtput.proofs.WritingLemmas.{left_all, left_same, left_failed, left_after, left_last}
-use Rattle.ydiagram.proofs.RowLemmas.{diagram_parts}
+use Rattle.yspec.specs.schema.Schema.{augments_in}
+use Rattle.ydiagram.proofs.AugmentLemmas.{diagram_whole}
 use Rattle.ydiagram.proofs.rows.write.Goals as goal
 
-pub returns-in_err-put : goal.returns-in_err-put
-returns-in_err-put g c =
+pub returns-in_err-write_module : goal.returns-in_err-write_module
+returns-in_err-write_module g c =
     let s = view c.args.schema.now in
     left_failed _ _ _ _ _ _ c.from_residual.result c.from_residual.ensures.0
-    (left_same _ _ _ _ _ (diagram_parts s c.args.«module» c.module_name.result.now s.nodes c.module_name.ensures refl) (left_all _ _))
-    c.in_err-put.ensures
+    (left_same _ _ _ _ _ (diagram_whole s c.args.«module» (augments_in s c.args.«module») refl) (left_all _ _))
+    c.in_err-write_module.ensures
+
+pub write_augments-requires : goal.write_augments-requires
+write_augments-requires g c = ap all_ascend c.augments.ensures ∙ augments_ascend c.args.schema.now c.args.«module»
 
 pub returns : goal.returns
 returns g c =
-    let s = view c.args.schema.now in
-    left_last _ _ _ _ _ c.write_row.result
+    left_last _ _ _ _ _ c.write_augments.result
     (left_after _ _ _ _ _ _
-    (left_same _ _ _ _ _ (diagram_parts s c.args.«module» c.module_name.result.now (row_view c.roots.result) c.module_name.ensures c.roots.ensures) (left_all _ _))
-    c.in_ok-put.ensures) c.write_row.ensures
+    (left_same _ _ _ _ _ (diagram_whole (view c.args.schema.now) c.args.«module» _ c.augments.ensures) (left_all _ _))
+    c.in_ok-write_module.ensures) c.write_augments.ensures

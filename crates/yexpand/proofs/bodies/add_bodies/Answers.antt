@@ -1,13 +1,12 @@
 use Rattle.std.proofs.Common.{◌≡◌, ◌∙◌, ◌+◌, ◌++◌, suc, None, List, [], ◌∷◌, ap₂, drop, get_or, length, sym, ap, subst}
 use Rattle.std.proofs.lemmas.List.{append_assoc, drop_more}
 use Rattle.std.specs.List.{flat_map}
-use Rattle.yspec.specs.Forest.{Forest, size}
-use Rattle.yspec.specs.schema.Breaks.{Break}
+use Rattle.yspec.specs.Forest.{size}
 use Rattle.yspec.specs.linking.Parts.{as_cases}
 use Rattle.yspec.specs.linking.Augments.{body_breaks}
 use Rattle.yspec.specs.linking.Expansion.{laid, groupings_of, unfit_for}
 use Rattle.yspec.specs.linking.Rewriting.{ends_within}
-use Rattle.ypreorder.specs.View.{row_by, label_by, slots_in}
+use Rattle.ypreorder.specs.View.{row_by, slots_in}
 use Rattle.ypreorder.specs.declared.siblings.Node.{Node}
 use Rattle.ygrammar.specs.SourceView.{source_view}
 use Rattle.ygrammar.specs.declared.source.Source.{Source}
@@ -15,7 +14,7 @@ use Rattle.yexpand.specs.AugmentView.{augment_view, augments_seen}
 use Rattle.yexpand.specs.Bodies.{body_of, bodies_of, starts_from}
 use Rattle.yexpand.specs.NamedView.{modules_of}
 use Rattle.yexpand.specs.TableView.{slots_of}
-use Rattle.yexpand.specs.Walk.{Adds, AddsParts, breaks_for}
+use Rattle.yexpand.specs.Walk.{Adds, AddsParts}
 use Rattle.yexpand.proofs.BodyLemmas.{unfit_cases}
 use Rattle.yexpand.proofs.WalkLemmas.{adds_join, adds_length, all_pass, depth_of}
 use Rattle.yexpand.proofs.bodies.add_bodies.Goals as goal

@@ -1,5 +1,4 @@
 use Rattle.std.proofs.Common.{◌≡◌, IfOk, None, Ok, sym, subst, ap, ap₂, ◌∙◌}
-use Rattle.yspec.specs.linking.Compiling.{schema_modules}
 use Rattle.yspec.specs.linking.SchemaNodes.{schema_nodes}
 use Rattle.yplan.specs.PlanView as plans
 use Rattle.yindex.specs.Names.{AreNamesOf}
@@ -18,7 +17,7 @@ of-requires-clause-compiled c =
     let p = plans.view c.args.plan.now in (
       c.requires.legal.0,
       c.requires.legal.1 ∙ ap Ok (sym (ap₂ (λ set nodes. record { modules = set; nodes = nodes })
-          (c.in_ok-modules.ensures ∙ ap schema_modules c.sources.ensures) (forest_of-laid (schema_nodes p) None 0 c.in_ok-rows.rows.items c.in_ok-rows.ensures.laid))),
+          c.in_ok-modules.ensures (forest_of-laid (schema_nodes p) None 0 c.in_ok-rows.rows.items c.in_ok-rows.ensures.laid))),
     )
 
 pub returns : goal.returns
@@ -26,5 +25,5 @@ returns c =
     let p = plans.view c.args.plan.now in
     subst (λ whole. IfOk c.of.result (λ schema. view schema ≡ whole))
     (ap₂ (λ set nodes. record { modules = set; nodes = nodes })
-    (c.in_ok-modules.ensures ∙ ap schema_modules c.sources.ensures) (forest_of-laid (schema_nodes p) None 0 c.in_ok-rows.rows.items c.in_ok-rows.ensures.laid))
+    c.in_ok-modules.ensures (forest_of-laid (schema_nodes p) None 0 c.in_ok-rows.rows.items c.in_ok-rows.ensures.laid))
     c.of.ensures

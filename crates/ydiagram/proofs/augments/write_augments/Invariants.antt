@@ -1,0 +1,15 @@
+use Rattle.std.proofs.Common.{◌≡◌, drop, true}
+use Rattle.youtput.specs.Writing.{side}
+use Rattle.youtput.proofs.WritingLemmas.{Left}
+use Rattle.ymodel.specs.Ascending.{all_ascend}
+use Rattle.ymodel.specs.View.{view}
+use Rattle.ydiagram.specs.View.{augments_seen, augments_written}
+use Rattle.ydiagram.proofs.augments.write_augments.Given as goal
+
+abbrev pub invariant-loop-augment : goal.invariant-loop-augment
+invariant-loop-augment g l = record {
+  ascend : all_ascend (augments_seen (drop l.augment-index l.augments)) ≡ true;
+  left : Left (side g.W.Sink.taken g.W.Sink.failures l.fn.sink) (side g.W.Sink.taken g.W.Sink.failures l.sink)
+      (augments_written (view l.schema) l.shown (augments_seen l.augments))
+      (augments_written (view l.schema) l.shown (augments_seen (drop l.augment-index l.augments)));
+}

@@ -1,0 +1,12 @@
+use Rattle.std.proofs.Common.{refl}
+use Rattle.yspec.proofs.LiteralLemmas.{yspec_on_literals}
+use Rattle.yexamples.proofs.diagrams.several_augments.Goals as goal
+
+pub returns : goal.returns
+unfolding yspec_on_literals
+returns c = record {
+  choices = refl;
+  cases = refl;
+  order = refl;
+  column = refl;
+}
