@@ -108,7 +108,14 @@ pub record Takes (taken : ℕ) (old new : Search) : Type 0 where
   pub others : (j : ℕ) → (j ≡ taken → ⊥) → contains nat_cmp new.arrived j ≡ contains nat_cmp old.arrived j
   pub fewer : suc (length new.arrived.keys) ≡ length old.arrived.keys
 
--- none is left where none is taken
+-- none is left
+pub record Ends (old new : Search) : Type 0 where
+  pub index : new.index ≡ old.index
+  pub names : new.names ≡ old.names
+  pub waiting : new.waiting ≡ old.waiting
+  pub none : old.arrived.keys ≡ []
+  pub none_now : new.arrived.keys ≡ []
+
 abbrev pub Pops : Option ℕ → Search → Search → Type 0
-Pops None old new = (new ≡ old) × (old.arrived.keys ≡ [])
+Pops None old new = Ends old new
 Pops (Some j) old new = Takes j old new

@@ -115,7 +115,10 @@ impl<'t> Search<'t> {
     pub fn pop(&mut self) -> Option<usize>
         ensures { Pops result self.old self.new }
     {
-        self.arrived.pop_first()
+        match self.arrived.pop_first() {
+            Some(augment) => Some(augment),
+            None => None,
+        }
     }
 
     /// Lets augments go on from a node, or from the top, where so many of their steps lead.
