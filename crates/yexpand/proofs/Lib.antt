@@ -25,3 +25,4 @@ pub mod ReachedLemmas
 pub mod AddingLemmas
 pub mod SettlingLemmas
 pub mod WakingLemmas
+pub mod PickingLemmas

@@ -59,3 +59,9 @@ pub record Passes (old new : Search) : Type 0 where
   pub index : new.index ≡ old.index
   pub names : new.names ≡ old.names
   pub waiting : new.waiting ≡ old.waiting
+
+-- what comes of picking the next
+abbrev pub Picks : List (Slot ExpandedNode) → List Augment → Paths → List Bool → Option Applied → Search → Search → Type 0
+Picks slots augments paths waits None old new = Passes old new × NoneIs slots augments paths waits new
+Picks slots augments paths waits (Some a) old new = Passes old new × IsNext slots augments paths waits new a
+    × ((j : ℕ) → is_waiting waits j ≡ true → (j ≡ a.augment → ⊥) → Settled (refused_by slots augments) paths new j)

@@ -18,9 +18,12 @@ pub(crate) struct Targets<'b, 'a, 't> {
 }
 
 impl<'b, 'a, 't> Targets<'b, 'a, 't> {
-    ghost use Rattle.std.specs.Prelude.{◌≡◌, ◌<◌, length, MatchOption};
+    ghost use Rattle.std.specs.Prelude.{◌≡◌, ◌<◌, length, true, false, Some, MatchOption};
+    ghost use Rattle.yexpand.specs.Searching.{target_in};
+    ghost use Rattle.yexpand.specs.SearchView.{look_in};
+    ghost use Rattle.yexpand.specs.Settling.{steps_of};
     ghost use Rattle.yexpand.specs.AugmentView.{augments_seen};
-    ghost use Rattle.yexpand.specs.Picking.{holds_at, AllSettled, IsNext, NoneIs, Passes};
+    ghost use Rattle.yexpand.specs.Picking.{found_at, holds_at, is_waiting, AllSettled, Picks};
     ghost use Rattle.yexpand.specs.TableView.{slots_of};
 
     /// Whether the node of a number may take what an augment states.
@@ -39,5 +42,42 @@ impl<'b, 'a, 't> Targets<'b, 'a, 't> {
             }
             _ => false,
         }
+    }
+
+    /// The node below which an augment that waits may be applied now.
+    fn fitting(&self, waits: &[bool], search: &Search<'t>, augment: usize) -> Option<u32>
+        requires { length waits.now ≡ length self.now.paths.now }
+        ensures { MatchOption result
+            (is_waiting waits.now augment ≡ true
+            → found_at (slots_of self.now.nodes.now) (augments_seen self.now.augments.now) self.now.paths.now search.now augment ≡ false)
+            (λ target. (is_waiting waits.now augment ≡ true)
+            × (target_in (look_in search.now) (steps_of search.now self.now.paths.now augment) ≡ Some target)
+            × (holds_at (slots_of self.now.nodes.now) (augments_seen self.now.augments.now) target augment ≡ true)) }
+    {
+        if waits.get(augment) != Some(&true) {
+            return None;
+        }
+        let target = search.target(self.paths[augment].as_slice())?;
+        if self.may_hold(target, augment) {
+            Some(target)
+        } else {
+            None
+        }
+    }
+
+    /// The first augment that waits and may be applied now; those before it that have arrived are passed over.
+    fn next(&self, waits: &[bool], search: &mut Search<'t>) -> Option<Applied>
+        requires lengths { length waits.now ≡ length self.now.paths.now }
+        requires settled { AllSettled (slots_of self.now.nodes.now) (augments_seen self.now.augments.now)
+            self.now.paths.now waits.now search.old }
+        ensures { Picks (slots_of self.now.nodes.now) (augments_seen self.now.augments.now)
+            self.now.paths.now waits.now result search.old search.new }
+    {
+        while let Some(augment) = search.pop() {
+            if let Some(target) = self.fitting(waits, search, augment) {
+                return Some(Applied { target, augment });
+            }
+        }
+        None
     }
 }
