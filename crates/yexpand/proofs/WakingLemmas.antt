@@ -6,7 +6,7 @@ use Rattle.std.specs.List.{flat_map}
 use Rattle.std.specs.BTreeSet.{contains}
 use Rattle.std.proofs.lemmas.Bool.{eq-eqb, eqb-true, and_parts, false≢true}
 use Rattle.std.proofs.lemmas.Option.{none-some, slice_get-map, slice_get-get_or}
-use Rattle.yspec.specs.Forest.{Forest, end, node, row, first_of}
+use Rattle.yspec.specs.Forest.{Forest, end, node, row, join, first_of}
 use Rattle.yspec.specs.text.Text.{Text, is_text}
 use Rattle.yspec.specs.linking.Source.{argument_in}
 use Rattle.yspec.specs.linking.Parts.{Part}
@@ -17,17 +17,18 @@ use Rattle.yindex.specs.declared.keys.Key.{Key}
 use Rattle.yindex.specs.Index.{found, texts_of}
 use Rattle.yindex.specs.Names.{text_in, number_among}
 use Rattle.yindex.proofs.KeyLemmas.{same_number-is}
-use Rattle.yexpand.specs.Hanging.{Numbered, is_step_of}
+use Rattle.yexpand.specs.Hanging.{Numbered, inner, is_step_of}
+use Rattle.yexpand.specs.Arranging.{taken}
 use Rattle.yexpand.specs.Searching.{Lookup, first_in, reached, looked_behind}
 use Rattle.yexpand.specs.SearchView.{look_by, look_in, name_by, names_by, name_in, names_in, path_at, key_by, key_for, woken_by, Adds, AreTexts}
-use Rattle.yexpand.specs.Settling.{Among, Paths, steps_of, leads, StandsAt, Sound, Lacks, has_arrived, Settled}
+use Rattle.yexpand.specs.Settling.{Among, Paths, steps_of, leads, StandsAt, Sound, Lacks, has_arrived, Settled, Moves, Ranged, Hangs}
 use Rattle.yexpand.specs.WaitingView.{waiters_at}
 use Rattle.yexpand.specs.declared.waiting.Waiter.{Waiter}
 use Rattle.yexpand.specs.declared.search.Search.{Search}
 use Rattle.yexpand.specs.declared.search.Step.{Step}
 use Rattle.yexpand.proofs.HangingLemmas.{Nodes}
 use Rattle.yexpand.proofs.ReachedLemmas.{Grows, behind_grows, reached_grows, stopped}
-use Rattle.yexpand.proofs.SettlingLemmas.{among_left, among_right}
+use Rattle.yexpand.proofs.SettlingLemmas.{among_left, among_right, among_either}
 
 abbrev Parts : Type 0
 Parts = Nodes Part
@@ -88,8 +89,8 @@ module _ (paths : Paths) (target : ℕ) (added : Parts) (old now : Search) (adds
       (stands.0, still_reached key.above (path_at paths w.augment) w.found stands.1)
 
   -- the steps' texts are known
-  abbrev Ranged : Type 0
-  Ranged = (j n : ℕ) (step : Step) → slice_get (path_at paths j) n ≡ Some step → step.text < length texts
+  abbrev StepsRanged : Type 0
+  StepsRanged = (j n : ℕ) (step : Step) → slice_get (path_at paths j) n ≡ Some step → step.text < length texts
 
   abbrev Woken : ℕ → Type 0
   Woken j = (w : Waiter) × Among w (flat_map (woken_by now target) (row added)) × (w.augment ≡ j)
@@ -139,7 +140,7 @@ module _ (paths : Paths) (target : ℕ) (added : Parts) (old now : Search) (adds
           (sym (ap (λ o. same_number o (Some l.number)) first ∙ eq-eqb l.number l.number refl))
           (subst (λ o. Among w (option_map_or (λ n. waiters_at now.waiting (record { above = Some target; «module» = owner; name = n })) o [])) (sym own_is) inside)
 
-  pub settled_added : AreTexts texts added → Ranged → (refused : ℕ → Option ℕ → Bool) (j : ℕ) → Settled refused paths old j → Settled refused paths now j ⊎ Woken j
+  pub settled_added : AreTexts texts added → StepsRanged → (refused : ℕ → Option ℕ → Bool) (j : ℕ) → Settled refused paths old j → Settled refused paths now j ⊎ Woken j
   settled_added are ranged refused j (inl (p, there, here)) = inl (inl (p, still_leads p (path_at paths j) there, still here))
     where
       still : (has_arrived old j ≡ true) ⊎ (refused j p ≡ true) → (has_arrived now j ≡ true) ⊎ (refused j p ≡ true)
@@ -158,3 +159,52 @@ module _ (paths : Paths) (target : ℕ) (added : Parts) (old now : Search) (adds
           ap (λ ts. look_in now place (name_by ts step)) adds.texts ∙ e,
           λ key k. subst (λ v. Among lacking (waiters_at v key)) (sym adds.waiting) (waits key (subst (λ ns. key_by ns place step ≡ Some key) adds.names k)))))
       by (Some r) e = inr (lacking, comes are place step r (ranged j n step is) missing e lacking waits, refl)
+
+-- ---- those that go on stand at the target
+
+stands_by_key : (paths : Paths) (s : Search) (target owner : ℕ) (w : Waiter) (b : Bool) (o : Option ℕ) → Sound paths s
+    → Among w (cond b (option_map_or (λ n. waiters_at s.waiting (record { above = Some target; «module» = owner; name = n })) o []) []) → StandsAt s paths (Some target) w
+stands_by_key paths s target owner w true (Some n) sound there = sound (record { above = Some target; «module» = owner; name = n }) w there
+stands_by_key paths s target owner w true None sound there = elim there [ ]
+stands_by_key paths s target owner w false o sound there = elim there [ ]
+
+pub woken_stand : (paths : Paths) (s : Search) (target : ℕ) (ls : List (Numbered Part)) (w : Waiter) → Sound paths s
+    → Among w (flat_map (woken_by s target) ls) → StandsAt s paths (Some target) w
+woken_stand paths s target [] w sound there = elim there [ ]
+woken_stand paths s target (l ∷ ls) w sound there = by (among_either w (woken_by s target l) (flat_map (woken_by s target) ls) there) (woken_stand paths s target ls w sound)
+  where
+    by : Among w (woken_by s target l) ⊎ Among w (flat_map (woken_by s target) ls)
+        → (Among w (flat_map (woken_by s target) ls) → StandsAt s paths (Some target) w) → StandsAt s paths (Some target) w
+    by (inl here) later = stands_by_key paths s target l.label.owner w
+        (same_number (found s.index Children (Some target) l.label.owner (text_in (texts_of s.index) l.number)) (Some l.number)) (slice_get s.names.of_nodes.items l.number) sound here
+    by (inr there) later = later there
+
+-- ---- all of it
+
+pub hangs_there : (paths : Paths) (target : ℕ) (added : Parts) (old mid new : Search) (woken : List Waiter) → Adds target added old mid
+    → woken ≡ flat_map (woken_by mid target) (row added) → Moves paths woken mid new → AreTexts (texts_of old.index) added → Ranged paths old → Sound paths old
+    → Hangs paths target added old new
+hangs_there paths target added old mid new woken adds is moves are ranged sound = record {
+  texts = ap texts_of moves.index ∙ adds.texts;
+  look = λ above name. ap (λ i. look_by i above name) moves.index ∙ adds.look above name;
+  sound = moves.sound (sound_added paths target added old mid adds sound);
+  kept = λ refused j settled. by refused j (settled_added paths target added old mid adds are ranged refused j settled);
+}
+  where
+    by : (refused : ℕ → Option ℕ → Bool) (j : ℕ) → Settled refused paths mid j ⊎ ((w : Waiter) × Among w (flat_map (woken_by mid target) (row added)) × (w.augment ≡ j))
+        → Settled refused paths new j
+    by refused j (inl settled) = moves.kept refused j settled
+    by refused j (inr on) = subst (λ i. Settled refused paths new i) on.2 (moves.settled refused on.0 (subst (Among on.0) (sym is) on.1))
+
+-- what stands in a row of texts
+pub texts_inner : (texts : List Text) (f : Parts) → AreTexts texts f → AreTexts texts (inner f)
+texts_inner texts end are = tt
+texts_inner texts (node l below after) are = texts_join texts below (inner after) are.1 (texts_inner texts after are.2)
+  where
+    texts_join : (texts : List Text) (f g : Parts) → AreTexts texts f → AreTexts texts g → AreTexts texts (join f g)
+    texts_join texts end g first second = second
+    texts_join texts (node l below after) g first second = (first.0, first.1, texts_join texts after g first.2 second)
+
+pub texts_taken : (texts : List Text) (b : Bool) (f : Parts) → AreTexts texts f → AreTexts texts (taken b f)
+texts_taken texts true f are = are
+texts_taken texts false f are = texts_inner texts f are

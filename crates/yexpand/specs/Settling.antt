@@ -7,7 +7,10 @@ use Rattle.std.specs.Prelude.{Vec}
 use Rattle.yspec.specs.linking.Prefixes.{NodeName}
 use Rattle.yindex.specs.declared.keys.Key.{Key}
 use Rattle.yindex.specs.Index.{texts_of}
-use Rattle.yexpand.specs.Searching.{Lookup, reached}
+use Rattle.yspec.specs.Forest.{Forest}
+use Rattle.yspec.specs.linking.Parts.{Part}
+use Rattle.yexpand.specs.Hanging.{Numbered}
+use Rattle.yexpand.specs.Searching.{Lookup, reached, looked_behind}
 use Rattle.yexpand.specs.SearchView.{look_in, name_in, names_in, path_at, key_for}
 use Rattle.yexpand.specs.WaitingView.{waiters_at}
 use Rattle.yexpand.specs.declared.waiting.Waiter.{Waiter}
@@ -60,3 +63,14 @@ pub record Moves (paths : Paths) (woken : List Waiter) (old new : Search) : Type
   pub kept : (refused : ℕ → Option ℕ → Bool) (j : ℕ) → Settled refused paths old j → Settled refused paths new j
   pub settled : (refused : ℕ → Option ℕ → Bool) (w : Waiter) → Among w woken → Settled refused paths new w.augment
   pub arrived : (j : ℕ) → has_arrived new j ≡ true → (has_arrived old j ≡ true) ⊎ ((w : Waiter) × Among w woken × (w.augment ≡ j))
+
+-- the texts of the steps are known
+abbrev pub Ranged : Paths → Search → Type 0
+Ranged paths s = (j n : ℕ) (step : Step) → slice_get (path_at paths j) n ≡ Some step → step.text < length (texts_of s.index)
+
+-- a row comes below a node, and those go on that lacked some of it
+pub record Hangs (paths : Paths) (target : ℕ) (added : Forest (Numbered Part)) (old new : Search) : Type 0 where
+  pub texts : texts_of new.index ≡ texts_of old.index
+  pub look : (above : Option ℕ) (name : NodeName) → look_in new above name ≡ looked_behind (look_in old) target added above name
+  pub sound : Sound paths new
+  pub kept : (refused : ℕ → Option ℕ → Bool) (j : ℕ) → Settled refused paths old j → Settled refused paths new j

@@ -66,11 +66,22 @@ impl<'b, 'a, 't> Arrangement<'b, 'a, 't> {
         ensures { row_by with_number result
             ≡ rows_of self.now.starts.now (slots_of self.now.nodes.now) augment }
     {
-        let past = self.nodes.len();
-        let first = number_at(self.starts, augment, past);
-        let next = number_behind(self.starts, augment, past);
-        self.nodes.between(first, next)
+        body_of(self.nodes, self.starts, augment)
     }
+}
+
+/// The nodes that an augment adds, as they lie behind those of modules, given where those of each begin.
+pub(crate) fn body_of<'b, 'a, 't>(
+    nodes: &'b NodeTable<'a, 't>,
+    starts: &[u32],
+    augment: usize,
+) -> Siblings<'b, ExpandedNode<'a, 't>>
+    ensures { row_by with_number result ≡ rows_of starts.now (slots_of nodes.now) augment }
+{
+    let past = nodes.len();
+    let first = number_at(starts, augment, past);
+    let next = number_behind(starts, augment, past);
+    nodes.between(first, next)
 }
 
 /// A number that stands in a list, or another one where none does.
