@@ -26,3 +26,4 @@ pub mod AddingLemmas
 pub mod SettlingLemmas
 pub mod WakingLemmas
 pub mod PickingLemmas
+pub mod LeftLemmas

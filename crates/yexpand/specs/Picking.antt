@@ -1,5 +1,5 @@
 -- Which augment is applied next: the first that waits and whose target may take it.
-use Rattle.std.specs.Prelude.{◌≡◌, ◌<◌, ℕ, Bool, true, false, not, List, [], ◌∷◌, Option, Some, None, length, get_or, slice_get, option_and_then}
+use Rattle.std.specs.Prelude.{◌≡◌, ◌<◌, ◌+◌, if◌then◌else◌, ℕ, Bool, true, false, not, List, [], ◌∷◌, Option, Some, None, length, get_or, slice_get, option_and_then}
 use Rattle.std.specs.Option.{option_map_or}
 use Rattle.yspec.specs.Forest.{Forest, end}
 use Rattle.yspec.specs.linking.Keyword.{leaf_word}
@@ -65,3 +65,15 @@ abbrev pub Picks : List (Slot ExpandedNode) → List Augment → Paths → List 
 Picks slots augments paths waits None old new = Passes old new × NoneIs slots augments paths waits new
 Picks slots augments paths waits (Some a) old new = Passes old new × IsNext slots augments paths waits new a
     × ((j : ℕ) → is_waiting waits j ≡ true → (j ≡ a.augment → ⊥) → Settled (refused_by slots augments) paths new j)
+
+-- ---- those that wait
+
+-- the augments that wait, in order, and how many they are
+abbrev pub left_of : List Bool → List Augment → List Augment
+left_of [] augments = []
+left_of (waits ∷ others) [] = []
+left_of (waits ∷ others) (a ∷ augments) = if waits then a ∷ left_of others augments else left_of others augments
+
+abbrev pub count_left : List Bool → ℕ
+count_left [] = 0
+count_left (waits ∷ others) = (if waits then 1 else 0) + count_left others
