@@ -1,10 +1,10 @@
 -- Worked examples: the diagrams of modules whose texts are given.
-use Rattle.std.specs.Prelude.{ℕ, true, false, List, [], ◌∷◌, codes, None, Result, Ok, Err}
+use Rattle.std.specs.Prelude.{ℕ, false, List, [], ◌∷◌, codes, None, Result, Ok, Err}
 use Rattle.yspec.specs.text.Text.{Text}
-use Rattle.yspec.specs.Forest.{Forest, end, node}
+use Rattle.yspec.specs.Forest.{end, node}
 use Rattle.yspec.specs.schema.Breaks.{Break}
 use Rattle.yspec.specs.types.Types.{string_base}
-use Rattle.yspec.specs.schema.Schema.{Schema, SchemaNode, Kind, container, leaf, choice, case, allowed, current}
+use Rattle.yspec.specs.schema.Schema.{Schema, SchemaNode, Kind, container, leaf, choice, case, allowed}
 use Rattle.yspec.specs.schema.Diagram.{diagram}
 use Rattle.yexamples.specs.CompilingSamples.{compiled_texts}
 use Rattle.yexamples.specs.SchemaExamples.{node_of, of_base, augmenting, adding}
