@@ -72,3 +72,11 @@ many_augments = record {
       (node (text_leaf 1 2 (codes "one")) end (node (text_leaf 1 3 (codes "three")) end
       (node (text_leaf 2 4 (codes "long-name")) end (node (text_leaf 1 5 (codes "four")) end end))))) end;
 }
+
+-- augments of a node of q, which stands in one of p, by both of them
+abbrev pub mixed_augments : Schema
+mixed_augments = record {
+  modules = augmenting (codes "p") (adding 1 (2 ∷ []) ∷ []) ∷ augmenting (codes "q") (adding 0 (1 ∷ []) ∷ adding 1 (3 ∷ []) ∷ []) ∷ [];
+  nodes = node (owned_node 0 0 (codes "c") (container false)) (node (owned_node 1 1 (codes "x") (container false))
+      (node (text_leaf 0 2 (codes "y")) end (node (text_leaf 1 3 (codes "z")) end end)) end) end;
+}

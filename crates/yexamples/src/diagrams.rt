@@ -2,7 +2,7 @@
 
 ghost use Rattle.std.specs.Prelude.{◌≡◌, ◌++◌, [], ◌∷◌, codes};
 ghost use Rattle.yexamples.specs.CompilingSamples.{net_module, k_module, v_module, w_module};
-ghost use Rattle.yexamples.specs.DiagramExamples.{diagram_of, diagram_lines, diagram_among, diagram_of_two, own_augment, empty_augment, choice_augments, many_augments};
+ghost use Rattle.yexamples.specs.DiagramExamples.{diagram_of, diagram_lines, diagram_among, diagram_of_two, own_augment, empty_augment, choice_augments, many_augments, mixed_augments};
 ghost use Rattle.yexamples.specs.SchemaExamples.{m_schema};
 ghost use Rattle.yspec.specs.schema.Diagram.{diagram};
 ghost use Rattle.yspec.specs.program.Examples.{module_text};
@@ -78,4 +78,12 @@ pub fn several_augments()
         ++ codes "\n  augment /p:c:\n    +--rw one?     string\n    +--rw three?   string\n" }
     ensures column { diagram many_augments 0 ≡ codes "module: p\n  +--rw c\n     +--rw x?             string\n     +--rw q:one?         string\n"
         ++ codes "     +--rw q:three?       string\n     +--rw r:long-name?   string\n     +--rw q:four?        string\n" }
+{}
+
+/// Whose augment it is depends on the first node of the way alone.
+pub fn mixed_ways()
+    ensures own { diagram mixed_augments 0 ≡ codes "module: p\n  +--rw c\n     +--rw q:x\n        +--rw y?     string\n        +--rw q:z?   string\n" }
+    ensures other { diagram mixed_augments 1
+        ≡ codes "module: q\n\n  augment /p:c:\n    +--rw x\n       +--rw p:y?   string\n       +--rw z?     string\n"
+        ++ codes "\n  augment /p:c/q:x:\n    +--rw z?   string\n" }
 {}

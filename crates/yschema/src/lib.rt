@@ -10,6 +10,6 @@ pub use building::compile;
 pub use limits::{LEVEL_LIMIT, NODE_LIMIT};
 pub use ylink::{CompileCode, CompileFault};
 pub use ymodel::{
-    Absence, Amount, Augment, BuiltIn, Child, Children, Kind, LeafType, Schema, SchemaId, SchemaModule,
-    SchemaNode, Status, Tuples, TypeName,
+    Absence, Amount, Augment, BuiltIn, Child, Children, Kind, LeafType, Schema, SchemaId,
+    SchemaModule, SchemaNode, Status, Tuples, TypeName,
 };
