@@ -55,4 +55,4 @@ all_left (a ∷ xs) = ap (λ others. a ∷ others) (all_left xs)
 
 pub all_count : (n : ℕ) → count_left (replicate n true) ≡ n
 all_count zero = refl
-all_count (suc n) = ap suc (all_count n)
+all_count (suc n) = omega (arith, all_count n)

@@ -27,3 +27,4 @@ pub mod SettlingLemmas
 pub mod WakingLemmas
 pub mod PickingLemmas
 pub mod LeftLemmas
+pub mod ResolvingLemmas
