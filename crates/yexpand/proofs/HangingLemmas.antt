@@ -58,3 +58,6 @@ module _ {L : Type 0} where
   -- Hanging one row more, behind all others, is putting it there.
   pub hung_more : (h : Hung L) (all : List (Hung L)) (f : Nodes L) → hung (all ++ h ∷ []) f ≡ put h (hung all f)
   hung_more h all f = put_given h (hung_at all) (hung_at (all ++ h ∷ [])) (puts_last h all) f
+
+  pub hung_none : (f : Nodes L) → hung [] f ≡ f
+  hung_none f = given_none f

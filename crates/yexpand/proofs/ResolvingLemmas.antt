@@ -1,11 +1,11 @@
 -- One augment after another is applied, the first that finds its target.
-use Rattle.std.proofs.Common.{◌≡◌, ◌⊎◌, inl, inr, ℕ, zero, suc, ◌+◌, ◌<◌, ◌≤◌, Bool, true, false, cond, List, [], ◌∷◌, ◌++◌, length, map, get_or, set, drop, arith, Option, Some, None, refl, sym, ap, ap₂, subst, ◌∙◌}
+use Rattle.std.proofs.Common.{◌≡◌, ◌⊎◌, inl, inr, ℕ, zero, suc, ◌+◌, ◌<◌, ◌≤◌, Bool, true, false, cond, List, [], ◌∷◌, ◌++◌, length, map, get_or, set, drop, replicate, arith, Option, Some, None, refl, sym, ap, ap₂, subst, ◌∙◌}
 use Rattle.std.specs.Prelude.{find, slice_get, option_map, option_and_then}
 use Rattle.std.specs.Option.{option_map_or}
 use Rattle.std.proofs.lemmas.Bool.{cases_eq, false≢true}
-use Rattle.std.proofs.lemmas.List.{get_or-set_same, get_or-set_other, length-set}
+use Rattle.std.proofs.lemmas.List.{get_or-set_same, get_or-set_other, length-set, length-replicate, map-append}
 use Rattle.std.proofs.lemmas.Option.{slice_get-get_or, slice_get-map}
-use Rattle.yspec.specs.Forest.{Forest, row}
+use Rattle.yspec.specs.Forest.{Forest, row, first_of}
 use Rattle.yspec.specs.Forest as Forest
 use Rattle.yspec.specs.linking.Source.{Source}
 use Rattle.yspec.specs.linking.Parts.{Part}
@@ -17,14 +17,18 @@ use Rattle.yexpand.specs.Searching.{Lookup, first_in, target_in, Agrees, AgreesA
 use Rattle.yexpand.specs.Arranging.{rows_of, own_rows, taken_for, hung_view}
 use Rattle.yexpand.specs.Bodies.{body_of}
 use Rattle.yexpand.specs.Resolving.{may_hold, is_found, hung_by, row_for, Stands, AreApart}
-use Rattle.yexpand.specs.Picking.{nothing, source_at, given_at, holds_at, is_waiting, found_at, left_of, count_left}
-use Rattle.yexpand.specs.SearchView.{look_in}
-use Rattle.yexpand.specs.Settling.{Paths, steps_of}
+use Rattle.yexpand.specs.Picking.{source_at, given_at, holds_at, refused_by, is_waiting, found_at, left_of, count_left, IsNext, NoneIs, Passes}
+use Rattle.yindex.specs.Index.{texts_of}
+use Rattle.yspec.specs.linking.Planned.{same_number}
+use Rattle.yexpand.specs.SearchView.{look_by, look_in, names_by, path_at}
+use Rattle.yexpand.specs.Settling.{Paths, steps_of, Settled, Moves, Hangs}
+use Rattle.yexpand.specs.declared.waiting.Waiter.{Waiter}
+use Rattle.yexpand.specs.Turning.{no_augment, augment_at, numbers_of, placed, Prepared, Goes}
 use Rattle.yexpand.specs.declared.applied.Applied.{Applied}
 use Rattle.yexpand.specs.declared.nodes.ExpandedNode.{ExpandedNode}
 use Rattle.yexpand.specs.declared.search.Search.{Search}
-use Rattle.yexpand.proofs.HangingLemmas.{Nodes, hung_more}
-use Rattle.yexpand.proofs.LeftLemmas.{within, first_left, none_first, fewer_left}
+use Rattle.yexpand.proofs.HangingLemmas.{Nodes, hung_more, hung_none}
+use Rattle.yexpand.proofs.LeftLemmas.{within, first_left, none_first, fewer_left, all_left, all_count}
 use Rattle.yexpand.proofs.ReadyLemmas.{ready_found, applied_there, stands_put, turn_taken, turns_over, label_of_target}
 use Rattle.yexpand.proofs.PathLemmas.{label_there}
 
@@ -63,12 +67,6 @@ first_marked augment name (Forest.node l below after) = by (is_step_of name l) (
     by false later = later
 
 -- ---- what is known of the augments of a set
-
-abbrev pub no_augment : Augment
-no_augment = record { source = nothing; given = Forest.end }
-
-abbrev pub augment_at : List Augment → ℕ → Augment
-augment_at augments j = get_or augments j no_augment
 
 pub given_is : (augments : List Augment) (j : ℕ) → j < length augments → given_at augments j ≡ (augment_at augments j).given
 given_is augments j less = ap (λ o. option_map_or (λ a. a.given) o Forest.end) (slice_get-get_or augments j no_augment less)
@@ -135,3 +133,82 @@ waits_still waits j i waiting e = by (cases_eq i j)
     by : ((i ≡ j) ⊎ (i ≡ j → ⊥)) → (is_waiting waits i ≡ true) × (i ≡ j → ⊥)
     by (inl same) = absurd (false≢true (sym (get_or-set_same waits j false false (within waits j waiting)) ∙ subst (λ k. is_waiting (set waits j false) k ≡ true) same e))
     by (inr other) = (sym (get_or-set_other waits j i false false other) ∙ e, other)
+
+-- ---- one more is applied
+
+module _ (modules : Forest Source) (augments : List Augment) (slots : List (Slot ExpandedNode)) (starts : List ℕ) (paths : Paths) where
+  -- what an augment hangs is what its statement says
+  hung_is : (a : Applied) → a.augment < length augments
+      → hung_view starts slots (numbers_of augments) a ≡ hung_by (augment_at augments a.augment) (rows_of starts slots a.augment) a.target
+  hung_is a less = ap (λ n. record { target = a.target; row = λ l. marked_by n (taken_for l.label.source (rows_of starts slots a.augment)) }) (number_is augments a.augment less)
+    where
+      number_is : (xs : List Augment) (j : ℕ) → j < length xs → get_or (numbers_of xs) j 0 ≡ (augment_at xs j).source.number
+      number_is [] j few = absurd (omega (arith, few))
+      number_is (x ∷ xs) zero few = refl
+      number_is (x ∷ xs) (suc j) few = number_is xs j (omega (arith, few))
+
+  placed_more : (order : List Applied) (a : Applied) → a.augment < length augments → placed starts slots augments (order ++ a ∷ [])
+      ≡ put (hung_by (augment_at augments a.augment) (rows_of starts slots a.augment) a.target) (placed starts slots augments order)
+  placed_more order a less =
+      ap (λ hs. hung hs (own_rows starts slots)) (map-append (hung_view starts slots (numbers_of augments)) order (a ∷ []))
+      ∙ (hung_more (hung_view starts slots (numbers_of augments) a) (map (hung_view starts slots (numbers_of augments)) order) (own_rows starts slots)
+      ∙ ap (λ h. put h (placed starts slots augments order)) (hung_is a less))
+
+  pub goes_on : (first s next now : Search) (waits : List Bool) (order : List Applied) (a : Applied) → Prepared modules augments slots starts paths first
+      → Goes modules augments slots starts paths first waits order s → Passes s next → IsNext slots augments paths waits next a
+      → ((j : ℕ) → is_waiting waits j ≡ true → (j ≡ a.augment → ⊥) → Settled (refused_by slots augments) paths next j)
+      → Hangs paths a.target (taken_for (source_at slots a.target) (rows_of starts slots a.augment)) next now
+      → Goes modules augments slots starts paths first (set waits a.augment false) (order ++ a ∷ []) now
+  goes_on first s next now waits order a prepared goes passes is_next others hangs =
+      let j = a.augment in
+      let f = placed starts slots augments order in
+      let rows = rows_of starts slots in
+      let here = augment_at augments j in
+      let waiting = is_next.0 in
+      let less : j < length augments = omega (arith, goes.lengths, within waits j waiting) in
+      let texts : texts_of next.index ≡ texts_of first.index = ap texts_of passes.index ∙ goes.texts in
+      let steps = λ (i : ℕ) (few : i < length augments). ap (λ ts. names_by ts (path_at paths i)) texts ∙ prepared.steps i few in
+      let stands : Stands (source_at slots) rows (is_waiting waits) (look_in next) f = subst (λ i. Stands (source_at slots) rows (is_waiting waits) (look_by i) f) (sym passes.index) goes.stands in
+      let target : target_in (look_in next) (target_steps modules here) ≡ Some a.target = ap (target_in (look_in next)) (sym (steps j less)) ∙ is_next.1 in
+      let once = stands_once modules augments slots paths rows next f j a.target stands.agrees stands.few target in
+      let put_there = stands_put (source_at slots) rows (is_waiting waits) (is_waiting (set waits j false)) (look_in next) f prepared.alone stands here j a.target waiting once
+      (λ i e. waits_still waits j i waiting e) in
+      let more = placed_more order a less in
+      record {
+        lengths = length-set waits j false ∙ goes.lengths;
+        texts = hangs.texts ∙ texts;
+        stands = subst (Stands (source_at slots) rows (is_waiting (set waits j false)) (look_in now)) (sym more)
+            (stands_same (source_at slots) rows (is_waiting (set waits j false)) (looked_behind (look_in next) a.target (row_for here (rows j) (source_at slots a.target))) (look_in now) _
+            (λ above name. hangs.look above name ∙ ap (λ o. first_of (look_in next above name) (cond (same_number above (Some a.target)) o None))
+            (sym (first_marked here.source.number name (taken_for (source_at slots a.target) (rows j))))) put_there);
+        sound = hangs.sound;
+        settled = λ i e. let still = waits_still waits j i waiting e in hangs.kept (refused_by slots augments) i (others i still.0 still.1);
+        so_far = ap (λ g. in_turn (is_ready modules) (applied modules) (count_left (set waits j false)) (plain g) (left_of (set waits j false) augments)) more
+            ∙ (sym (turn modules augments slots paths rows next f waits j a.target goes.lengths steps (prepared.bodies j less) stands.agrees stands.few waiting is_next.1 is_next.2 is_next.3)
+            ∙ goes.so_far);
+      }
+
+  pub goes_first : (s now : Search) (woken : List Waiter) → Prepared modules augments slots starts paths s → Moves paths woken s now
+      → ((j : ℕ) → j < length augments → Settled (refused_by slots augments) paths now j) → Goes modules augments slots starts paths s (replicate (length augments) true) [] now
+  goes_first s now woken prepared moves settled =
+      record {
+        lengths = length-replicate (length augments) true;
+        texts = ap texts_of moves.index;
+        stands = subst (λ f. Stands (source_at slots) (rows_of starts slots) (is_waiting (replicate (length augments) true)) (look_in now) f) (sym (hung_none (own_rows starts slots)))
+            (subst (λ i. Stands (source_at slots) (rows_of starts slots) (is_waiting (replicate (length augments) true)) (look_by i) (own_rows starts slots)) (sym moves.index) prepared.stands);
+        sound = moves.sound prepared.sound;
+        settled = λ i e. settled i (omega (arith, within (replicate (length augments) true) i e, length-replicate (length augments) true));
+        so_far = ap₂ (λ n f. in_turn (is_ready modules) (applied modules) n (plain f) (left_of (replicate (length augments) true) augments)) (all_count (length augments)) (hung_none (own_rows starts slots))
+            ∙ ap (in_turn (is_ready modules) (applied modules) (length augments) (plain (own_rows starts slots))) (all_left augments);
+      }
+
+  pub goes_end : (first s next : Search) (waits : List Bool) (order : List Applied) → Prepared modules augments slots starts paths first
+      → Goes modules augments slots starts paths first waits order s → Passes s next → NoneIs slots augments paths waits next
+      → (plain (placed starts slots augments order), left_of waits augments)
+      ≡ in_turn (is_ready modules) (applied modules) (length augments) (plain (own_rows starts slots)) augments
+  goes_end first s next waits order prepared goes passes none =
+      let f = placed starts slots augments order in
+      let texts : texts_of next.index ≡ texts_of first.index = ap texts_of passes.index ∙ goes.texts in
+      let steps = λ (i : ℕ) (few : i < length augments). ap (λ ts. names_by ts (path_at paths i)) texts ∙ prepared.steps i few in
+      let agrees : AgreesAll (look_in next) (source_at slots) f = subst (λ i. AgreesAll (look_by i) (source_at slots) f) (sym passes.index) goes.stands.agrees in
+      sym (turns_end modules augments slots paths (rows_of starts slots) next f waits goes.lengths steps agrees none) ∙ goes.so_far

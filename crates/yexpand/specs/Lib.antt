@@ -10,6 +10,7 @@ pub mod WaitingView
 pub mod SearchView
 pub mod Settling
 pub mod Picking
+pub mod Turning
 pub mod NodeView
 pub mod TableView
 pub mod Targets
