@@ -13,8 +13,8 @@ use Rattle.yindex.specs.Index.{texts_of}
 use Rattle.ypreorder.specs.declared.slot.Slot.{Slot}
 use Rattle.yexpand.specs.Searching.{reached, target_in}
 use Rattle.yexpand.specs.SearchView.{look_by, look_in, name_by, names_by, path_at, key_by, key_for, Takes, Ends}
-use Rattle.yexpand.specs.Settling.{Among, Paths, steps_of, leads, Lacks, has_arrived, Settled}
-use Rattle.yexpand.specs.Picking.{holds_at, refused_by, is_waiting, found_at, AllSettled, IsNext, NoneIs}
+use Rattle.yexpand.specs.Settling.{Among, Paths, steps_of, leads, Lacks, has_arrived, Settled, Sound}
+use Rattle.yexpand.specs.Picking.{holds_at, refused_by, is_waiting, found_at, AllSettled, IsNext, NoneIs, Passes}
 use Rattle.yexpand.specs.WaitingView.{waiters_at}
 use Rattle.yexpand.specs.declared.nodes.ExpandedNode.{ExpandedNode}
 use Rattle.yexpand.specs.declared.waiting.Waiter.{Waiter}
@@ -87,3 +87,9 @@ module _ (slots : List (Slot ExpandedNode)) (augments : List Augment) (paths : P
     where
       list_any_of : ℕ → List ℕ → Bool
       list_any_of j ks = list_any (is_at (nat_cmp j)) ks
+
+-- those that wait wait where they did
+pub sound_through : (paths : Paths) (old new : Search) → Passes old new → Sound paths old → Sound paths new
+sound_through paths old new passes sound key w there =
+    let stands = sound key w (subst (λ v. Among w (waiters_at v key)) passes.waiting there) in
+    (stands.0, subst (λ (i : NodeIndex). reached (look_by i) None (take w.found (names_by (texts_of i) (path_at paths w.augment))) ≡ Some key.above) (sym passes.index) stands.1)

@@ -1,11 +1,11 @@
 -- What comes of augments that go on along their paths.
-use Rattle.std.proofs.Common.{◌≡◌, ◌⊎◌, inl, inr, ℕ, suc, ◌<◌, ◌==◌, ◌&&◌, Bool, true, false, cond, List, [], ◌∷◌, ◌++◌, length, take, get_or, zero, arith, Option, Some, None, refl, sym, ap, ap₂, subst, ◌∙◌, nat_cmp, nat_lt}
+use Rattle.std.proofs.Common.{◌≡◌, ◌⊎◌, inl, inr, ℕ, suc, ◌+◌, ◌<◌, ◌==◌, ◌&&◌, Bool, true, false, cond, List, [], ◌∷◌, ◌++◌, length, take, get_or, zero, arith, Option, Some, None, refl, sym, ap, ap₂, subst, ◌∙◌, nat_cmp, nat_lt}
 use Rattle.std.specs.Prelude.{slice_get, option_map, option_and_then}
 use Rattle.std.specs.Option.{option_map_or}
 use Rattle.std.specs.Ordering.{is_eq}
 use Rattle.std.specs.BTreeMap.{is_at}
 use Rattle.std.specs.BTreeSet.{contains, Updates}
-use Rattle.std.proofs.lemmas.Bool.{eq-eqb, eqb-true, and_parts, false≢true}
+use Rattle.std.proofs.lemmas.Bool.{cases_eq, eq-eqb, eqb-true, and_parts, false≢true}
 use Rattle.std.proofs.lemmas.Option.{none-some, slice_get-map}
 use Rattle.yspec.specs.linking.Prefixes.{NodeName}
 use Rattle.yspec.specs.linking.Planned.{same_number}
@@ -228,3 +228,23 @@ pub among_at : {A : Type 0} (xs : List A) (i : ℕ) (x d : A) → i < length xs 
 among_at [] i x d less e = absurd (omega (arith, less))
 among_at (y ∷ xs) zero x d less e = inl (sym e)
 among_at (y ∷ xs) (suc i) x d less e = inr (among_at xs i x d (omega (arith, less)) e)
+
+-- one more from the top
+pub all_more : (ws : List Waiter) (n j : ℕ) → ((i : ℕ) → i < n → Among (record { augment = i; found = 0 }) ws) → j < n + 1
+    → Among (record { augment = j; found = 0 }) (ws ++ record { augment = n; found = 0 } ∷ [])
+all_more ws n j all less = by (cases_eq j n)
+  where
+    last : Waiter
+    last = record { augment = n; found = 0 }
+    by : ((j ≡ n) ⊎ (j ≡ n → ⊥)) → Among (record { augment = j; found = 0 }) (ws ++ last ∷ [])
+    by (inl same) = among_right (record { augment = j; found = 0 }) ws (last ∷ []) (inl (ap (λ (i : ℕ). record { augment = i; found = 0 }) (sym same)))
+    by (inr other) = among_left (record { augment = j; found = 0 }) ws (last ∷ []) (all j (omega (arith, less, other)))
+
+pub none_more : (ws : List Waiter) (n : ℕ) (w : Waiter) → ((v : Waiter) → Among v ws → (v.augment < n) × (v.found ≡ 0))
+    → Among w (ws ++ record { augment = n; found = 0 } ∷ []) → (w.augment < n + 1) × (w.found ≡ 0)
+none_more ws n w none there = by (among_either w ws (record { augment = n; found = 0 } ∷ []) there)
+  where
+    by : Among w ws ⊎ Among w (record { augment = n; found = 0 } ∷ []) → (w.augment < n + 1) × (w.found ≡ 0)
+    by (inl before) = let both = none w before in (omega (arith, both.0), both.1)
+    by (inr (inl same)) = subst (λ (v : Waiter). (v.augment < n + 1) × (v.found ≡ 0)) same (omega arith, refl)
+    by (inr (inr nothing)) = elim nothing [ ]
