@@ -1,12 +1,12 @@
 //! Worked examples of augments: what they add and where, in which order, what is left of them, and what they may not add.
 
-ghost use Rattle.std.specs.Prelude.{◌≡◌, ◌++◌, [], ◌∷◌, codes, None, false};
+ghost use Rattle.std.specs.Prelude.{◌≡◌, ◌++◌, [], ◌∷◌, codes, Some, None, false};
 ghost use Rattle.yspec.specs.linking.Prefixes.{prefix_breaks};
 ghost use Rattle.yspec.specs.linking.Augments.{augment_breaks, left_breaks};
 ghost use Rattle.yspec.specs.program.Examples.{module_text};
 ghost use Rattle.yspec.specs.schema.Schema.{leaf, choice, case, allowed};
-ghost use Rattle.yspec.specs.types.Types.{integer_base, uint8};
-ghost use Rattle.yexamples.specs.SchemaExamples.{of_base};
+ghost use Rattle.yspec.specs.types.Types.{integer_base, uint8, plain};
+ghost use Rattle.yexamples.specs.SchemaExamples.{of_base, referring};
 ghost use Rattle.yexamples.specs.ScopeSamples.{all_told};
 ghost use Rattle.yexamples.specs.ExpansionSamples.{kinds_in, names_in, drawn, text_leaf, plain_container, number_leaf, used_number, told_in, count_of_texts};
 ghost use Rattle.yexamples.specs.AugmentSamples.{augmented_texts, made_anyway, additions_told, m_and_a, added_to_c, added_to_choice, three_with};
@@ -225,6 +225,14 @@ pub fn configuration_added_to_others()
     ensures to_a_case { augmented_texts (added_to_choice
         (codes "  augment /m:h/m:k {\n    leaf y { type string; mandatory true; } }\n"))
         ≡ told_in 1 15 6 }
+    ensures to_a_list { augmented_texts (m_and_a
+        (codes "  list l { key k; leaf k { type string; } }\n")
+        (codes "  augment /m:l {\n    leaf y { type string; mandatory true; } }\n"))
+        ≡ told_in 1 15 6 }
+    ensures to_a_container_with_presence { augmented_texts (m_and_a
+        (codes "  container c { presence x; }\n")
+        (codes "  augment /m:c {\n    leaf y { type string; mandatory true; } }\n"))
+        ≡ told_in 1 15 6 }
     ensures single_node { names_in (augmented_texts (added_to_choice
         (codes "  augment /m:h { leaf y { type string; mandatory true; } }\n")))
         ≡ (0, codes "h") ∷ (0, codes "k") ∷ (0, codes "k") ∷ (1, codes "y")
@@ -243,6 +251,34 @@ pub fn configuration_added_to_others()
     ensures its_own_module { names_in (augmented_texts (added_to_c (codes "  container d { }\n"
         ++ codes "  augment /d { leaf y { type string; mandatory true; } }\n")))
         ≡ (0, codes "c") ∷ (1, codes "d") ∷ (1, codes "y") ∷ [] }
+{}
+
+/// Other rules, too, are judged once all is added: of leafrefs, default cases and configuration.
+pub fn judged_once_added()
+    ensures reference { kinds_in (augmented_texts (added_to_c (codes "  augment /m:c {\n"
+        ++ codes "    leaf r { type leafref { path /m:c/y; } } leaf y { type uint8; } }\n")))
+        ≡ plain_container (codes "c")
+        ∷ (codes "r", leaf (referring (plain (integer_base uint8)).shape 2) allowed)
+        ∷ number_leaf (codes "y") allowed ∷ [] }
+    ensures default_case { kinds_in (augmented_texts (module_text (codes "m")
+        (codes "  choice h { default k; }\n  augment /h { leaf k { type string; } }\n") ∷ []))
+        ≡ (codes "h", choice (Some 1) false) ∷ (codes "k", case)
+        ∷ text_leaf (codes "k") allowed ∷ [] }
+    ensures default_case_of_another { augmented_texts (m_and_a
+        (codes "  choice h { default k; }\n")
+        (codes "  augment /m:h { leaf k { type string; } }\n"))
+        ≡ told_in 0 11 5 }
+    ensures mandatory_in_a_default_case { augmented_texts (module_text (codes "m")
+        (codes "  choice h { default k; container k { } }\n"
+        ++ codes "  augment /h/k { leaf y { type string; mandatory true; } }\n") ∷ [])
+        ≡ told_in 0 11 5 }
+    ensures configuration_below_state { augmented_texts (m_and_a
+        (codes "  container c { config false; }\n")
+        (codes "  augment /m:c {\n    leaf y { config true; type string; } }\n"))
+        ≡ told_in 1 16 7 }
+    ensures no_key { augmented_texts (added_to_c
+        (codes "  augment /m:c {\n    list l { leaf k { type string; } } }\n"))
+        ≡ told_in 1 16 7 }
 {}
 
 /// What augments state is counted as it stands, whether they find a target or not: a single node for a choice without a
