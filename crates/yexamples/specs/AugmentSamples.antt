@@ -54,9 +54,13 @@ added_to_c others = m_and_a (codes "  container c { }\n") others
 abbrev pub added_to_choice : Text → List Text
 added_to_choice others = m_and_a (codes "  choice h { container k { } }\n") others
 
--- a container of m, in it one of b, and in that a leaf of a
-abbrev pub three_with : Text → List Text
-three_with leaf_text = module_text (codes "a")
-    (codes "  import m { prefix m; }\n  import b { prefix b; }\n  augment /m:c/b:x { " ++ (leaf_text ++ codes " }\n"))
+-- a module m with a container, a module b that adds a container to it, and a module a, given first, with these lines from 7
+-- on
+abbrev pub a_b_and_m : Text → List Text
+a_b_and_m lines = module_text (codes "a") (codes "  import m { prefix m; }\n  import b { prefix b; }\n" ++ lines)
     ∷ module_text (codes "b") (codes "  import m { prefix m; }\n  augment /m:c { container x { } }\n")
     ∷ module_text (codes "m") (codes "  container c { }\n") ∷ []
+
+-- the same with a leaf of a in the container of b
+abbrev pub three_with : Text → List Text
+three_with leaf_text = a_b_and_m (codes "  augment /m:c/b:x { " ++ (leaf_text ++ codes " }\n"))

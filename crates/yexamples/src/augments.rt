@@ -9,7 +9,7 @@ ghost use Rattle.yspec.specs.types.Types.{integer_base, uint8, plain};
 ghost use Rattle.yexamples.specs.SchemaExamples.{of_base, referring};
 ghost use Rattle.yexamples.specs.ScopeSamples.{all_told};
 ghost use Rattle.yexamples.specs.ExpansionSamples.{kinds_in, names_in, drawn, text_leaf, plain_container, number_leaf, used_number, told_in, count_of_texts};
-ghost use Rattle.yexamples.specs.AugmentSamples.{augmented_texts, made_anyway, additions_told, m_and_a, added_to_c, added_to_choice, three_with};
+ghost use Rattle.yexamples.specs.AugmentSamples.{augmented_texts, made_anyway, additions_told, m_and_a, added_to_c, added_to_choice, a_b_and_m, three_with};
 
 /// A container, in it a container of another module, and in that a leaf of a third, whose module is given first.
 pub fn nodes_of_three_modules()
@@ -48,6 +48,31 @@ pub fn augments_in_turn()
         ∷ m_and_a (codes "  container c { }\n  augment /c { leaf o { type string; } }\n")
         (codes "  augment /m:c { leaf y { type string; } }\n")))
         ≡ (1, codes "c") ∷ (0, codes "z") ∷ (1, codes "o") ∷ (2, codes "y") ∷ [] }
+{}
+
+/// Each augment is drawn with what it adds itself, in the order of the text, whatever comes first in turn.
+pub fn drawn_augments()
+    ensures in_order { drawn 0 (augmented_texts (a_b_and_m
+        (codes "  augment /m:c/b:x { leaf p { type string; } }\n"
+        ++ codes "  augment /m:c { leaf longer { type string; } }\n")))
+        ≡ codes "module: a\n\n  augment /m:c/b:x:\n    +--rw p?   string\n"
+        ++ codes "\n  augment /m:c:\n    +--rw longer?   string\n" }
+    ensures in_turn { drawn 2 (augmented_texts (a_b_and_m
+        (codes "  augment /m:c/b:x { leaf p { type string; } }\n"
+        ++ codes "  augment /m:c { leaf longer { type string; } }\n")))
+        ≡ codes "module: m\n  +--rw c\n     +--rw a:longer?   string\n"
+        ++ codes "     +--rw b:x\n        +--rw a:p?   string\n" }
+    ensures one_target { drawn 0 (augmented_texts (a_b_and_m
+        (codes "  augment /m:c { leaf p { type string; } }\n"
+        ++ codes "  augment /m:c { leaf longer { type string; } }\n")))
+        ≡ codes "module: a\n\n  augment /m:c:\n    +--rw p?   string\n"
+        ++ codes "\n  augment /m:c:\n    +--rw longer?   string\n" }
+    ensures in_a_case { drawn 1 (augmented_texts (added_to_choice
+        (codes "  augment /m:h/m:k { leaf y { type string; } }\n")))
+        ≡ codes "module: a\n\n  augment /m:h/m:k:\n    +--rw y?   string\n" }
+    ensures nothing { drawn 1 (augmented_texts (added_to_c
+        (codes "  augment /m:c { description x; }\n")))
+        ≡ codes "module: a\n\n  augment /m:c:\n" }
 {}
 
 /// What is added comes last below the target, and belongs to the module of the augment.
