@@ -4,6 +4,7 @@ pub mod LinkingSamples
 pub mod CompilingSamples
 pub mod ScopeSamples
 pub mod ExpansionSamples
+pub mod AugmentSamples
 pub mod TableSamples
 pub mod DiagramExamples
 pub mod CornerExamples

@@ -2,6 +2,7 @@
 //! have no code, and their contracts compute both sides. No crate stands on this one.
 #![tactic(auto)]
 
+pub mod augments;
 pub mod commands;
 pub mod corners;
 pub mod diagrams;
