@@ -23,4 +23,5 @@ pub mod TakenLemmas
 pub mod ReadyLemmas
 pub mod ReachedLemmas
 pub mod AddingLemmas
+pub mod AskingLemmas
 pub mod SettlingLemmas
