@@ -23,6 +23,7 @@ pub mod TakenLemmas
 pub mod ReadyLemmas
 pub mod ReachedLemmas
 pub mod AddingLemmas
+pub mod AskingLemmas
 pub mod SettlingLemmas
 pub mod WakingLemmas
 pub mod PickingLemmas

@@ -8,6 +8,7 @@ pub mod Placing
 pub mod Resolving
 pub mod WaitingView
 pub mod SearchView
+pub mod Asking
 pub mod Settling
 pub mod Picking
 pub mod Turning

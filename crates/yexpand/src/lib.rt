@@ -11,6 +11,7 @@ mod groupings;
 mod laying;
 mod named;
 mod nodes;
+mod paths;
 mod places;
 mod refining;
 mod search;

@@ -72,6 +72,13 @@ impl<'a, 't> NodeTable<'a, 't> {
         }
     }
 
+    /// The nodes as they lie, in the order of their numbers.
+    pub(crate) fn slots(&self) -> &[Slot<ExpandedNode<'a, 't>>]
+        ensures { result.now ≡ slots_of self.now }
+    {
+        self.slots.as_slice()
+    }
+
     /// How many nodes there are.
     pub(crate) fn len(&self) -> u32
         ensures { result ≡ length (slots_of self.now) }
