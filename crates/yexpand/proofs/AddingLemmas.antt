@@ -1,21 +1,20 @@
 -- What is found once nodes come behind the children of a node.
-use Rattle.std.proofs.Common.{◌≡◌, ℕ, Bool, true, false, cond, ◌&&◌, ◌==◌, List, [], ◌∷◌, ◌++◌, Option, Some, None, refl, sym, ap, ap₂, subst, ◌∙◌}
+use Rattle.std.proofs.Common.{◌≡◌, ℕ, Bool, true, false, cond, ◌&&◌, ◌==◌, List, [], ◌∷◌, ◌++◌, Option, Some, None, refl, sym, ap, ◌∙◌}
 use Rattle.std.specs.Prelude.{option_map, option_and_then, slice_get}
 use Rattle.std.specs.Option.{option_map_or}
-use Rattle.yspec.specs.Forest.{Forest, end, node, row, join, first_of}
+use Rattle.yspec.specs.Forest.{end, node, row, join, first_of}
 use Rattle.yspec.specs.text.Text.{Text, is_text}
 use Rattle.yspec.specs.linking.Source.{argument_in}
 use Rattle.yspec.specs.linking.Parts.{Part}
 use Rattle.yspec.specs.linking.Prefixes.{NodeName}
 use Rattle.yspec.specs.linking.Planned.{same_number}
 use Rattle.yindex.specs.declared.keys.Among.TheVariants.{Children}
-use Rattle.yindex.specs.declared.keys.IndexedNode.{IndexedNode}
 use Rattle.yindex.specs.declared.index.NodeIndex.{NodeIndex}
 use Rattle.yindex.specs.Index.{found, texts_of}
-use Rattle.yindex.specs.Names.{is_at, text_in}
+use Rattle.yindex.specs.Names.{text_in}
 use Rattle.yexpand.specs.Hanging.{Numbered, is_step_of}
-use Rattle.yexpand.specs.Searching.{Lookup, first_in, looked_behind}
-use Rattle.yexpand.specs.SearchView.{Adds, AreTexts, look_in, woken_by}
+use Rattle.yexpand.specs.Searching.{first_in}
+use Rattle.yexpand.specs.SearchView.{Adds, look_in, woken_by}
 use Rattle.yexpand.specs.WaitingView.{waiters_at}
 use Rattle.yexpand.specs.declared.waiting.Waiter.{Waiter}
 use Rattle.yexpand.specs.declared.search.Search.{Search}
@@ -105,6 +104,7 @@ woken_none s target l e = by (same_number (found s.index Children (Some target) 
   where
     waiters : Option ℕ → List Waiter
     waiters o = option_map_or (λ n. waiters_at s.waiting (record { above = Some target; «module» = l.label.owner; name = n })) o []
+
     by : (b : Bool) → cond b (waiters (slice_get s.names.of_nodes.items l.number)) [] ≡ []
     by true = ap waiters e
     by false = refl

@@ -1,11 +1,11 @@
 -- The names that are asked for, by the numbers of nodes and the steps of paths.
-use Rattle.std.proofs.Common.{◌≡◌, ℕ, zero, suc, ◌+◌, ◌-◌, ◌<◌, ◌≤◌, List, [], ◌∷◌, ◌++◌, length, map, take, drop, Option, Some, None, refl, sym, ap, ap₂, subst, ◌∙◌, arith, length-take, length-drop, length-append}
+use Rattle.std.proofs.Common.{◌≡◌, ℕ, zero, suc, ◌+◌, ◌-◌, ◌<◌, ◌≤◌, List, [], ◌∷◌, ◌++◌, length, map, take, drop, Option, Some, refl, sym, ap, ap₂, subst, ◌∙◌, arith, length-take, length-drop, length-append}
 use Rattle.std.specs.Prelude.{slice_get, option_map, unwrap_or, Vec}
 use Rattle.std.specs.Borrow.{Bor}
 use Rattle.std.specs.Global.{Global}
 use Rattle.std.specs.Option.{option_map_or}
 use Rattle.std.specs.List.{flat_map}
-use Rattle.std.proofs.lemmas.List.{append_assoc, append-nil, take-append-drop}
+use Rattle.std.proofs.lemmas.List.{append_assoc, take-append-drop}
 use Rattle.std.proofs.lemmas.Option.{none-some, slice_get-map, slice_get_within}
 use Rattle.yspec.specs.Forest.{Forest, size}
 use Rattle.yspec.specs.text.Text.{Text}
@@ -89,9 +89,9 @@ unfolding AreNamesFrom
 texts_between texts slots first past names =
     let row = take (past - first) (drop first slots) in
     texts_within texts (length row) first row (omega arith) (λ i x e.
-        let at = ap (λ xs. slice_get xs i) (sym (take-append-drop (past - first) (drop first slots)))
-            ∙ get_before row (drop (past - first) (drop first slots)) i x e in
-        names (first + i) x (get_drop first slots i x at))
+    let at = ap (λ xs. slice_get xs i) (sym (take-append-drop (past - first) (drop first slots)))
+    ∙ get_before row (drop (past - first) (drop first slots)) i x e in
+    names (first + i) x (get_drop first slots i x at))
 
 -- ---- the steps of paths
 

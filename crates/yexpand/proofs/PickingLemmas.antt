@@ -1,25 +1,21 @@
 -- Which augment is applied next.
-use Rattle.std.proofs.Common.{◌≡◌, ◌⊎◌, inl, inr, ℕ, suc, ◌<◌, ◌≤◌, ◌==◌, Bool, true, false, cond, not, List, [], ◌∷◌, length, take, arith, Option, Some, None, refl, sym, ap, subst, ◌∙◌, nat_cmp}
-use Rattle.std.specs.Prelude.{slice_get, option_and_then}
+use Rattle.std.proofs.Common.{◌≡◌, ◌⊎◌, inl, inr, ℕ, ◌<◌, Bool, true, false, not, List, take, arith, Option, Some, None, refl, sym, ap, subst, ◌∙◌, nat_cmp}
+use Rattle.std.specs.Prelude.{option_and_then}
 use Rattle.std.specs.Option.{option_map_or}
-use Rattle.std.specs.BTreeSet.{contains}
 use Rattle.std.specs.BTreeMap.{is_at}
 use Rattle.std.specs.List.{list_any}
 use Rattle.std.proofs.lemmas.Bool.{cases_eq, false≢true}
 use Rattle.yspec.specs.linking.Augments.{Augment}
 use Rattle.yindex.specs.declared.index.NodeIndex.{NodeIndex}
-use Rattle.yindex.specs.declared.keys.Key.{Key}
 use Rattle.yindex.specs.Index.{texts_of}
 use Rattle.ypreorder.specs.declared.slot.Slot.{Slot}
 use Rattle.yexpand.specs.Searching.{reached, target_in}
-use Rattle.yexpand.specs.SearchView.{look_by, look_in, name_by, names_by, path_at, key_by, key_for, Takes, Ends}
-use Rattle.yexpand.specs.Settling.{Among, Paths, steps_of, leads, Lacks, has_arrived, Settled, Sound}
-use Rattle.yexpand.specs.Picking.{holds_at, refused_by, is_waiting, found_at, AllSettled, IsNext, NoneIs, Passes}
+use Rattle.yexpand.specs.SearchView.{look_by, name_by, names_by, path_at, key_by, Takes, Ends}
+use Rattle.yexpand.specs.Settling.{Among, Paths, leads, has_arrived, Settled, Sound}
+use Rattle.yexpand.specs.Picking.{holds_at, refused_by, is_waiting, found_at, AllSettled, NoneIs, Passes}
 use Rattle.yexpand.specs.WaitingView.{waiters_at}
 use Rattle.yexpand.specs.declared.nodes.ExpandedNode.{ExpandedNode}
-use Rattle.yexpand.specs.declared.waiting.Waiter.{Waiter}
 use Rattle.yexpand.specs.declared.search.Search.{Search}
-use Rattle.yexpand.specs.declared.search.Step.{Step}
 
 -- what is settled rests on what is found and who waits, and on whether it has arrived
 pub settled_through : (refused : ℕ → Option ℕ → Bool) (paths : Paths) (old new : Search) → new.index ≡ old.index → new.names ≡ old.names → new.waiting ≡ old.waiting
@@ -32,10 +28,18 @@ settled_through refused paths old new index names waiting j come (inl (p, there,
     still (inl e) = come p there e
     still (inr unfit) = inr unfit
 settled_through refused paths old new index names waiting j come (inr (none, (place, n, step, there, is, missing, waits))) =
-    inr (subst (λ (i : NodeIndex). reached (look_by i) None (names_by (texts_of i) (path_at paths j)) ≡ None) (sym index) none,
-    (place, n, step, subst (λ (i : NodeIndex). reached (look_by i) None (take n (names_by (texts_of i) (path_at paths j))) ≡ Some place) (sym index) there, is,
-    subst (λ (i : NodeIndex). look_by i place (name_by (texts_of i) step) ≡ None) (sym index) missing,
-    λ key k. subst (λ v. Among (record { augment = j; found = n }) (waiters_at v key)) (sym waiting) (waits key (subst (λ ns. key_by ns place step ≡ Some key) names k))))
+    inr (
+      subst (λ (i : NodeIndex). reached (look_by i) None (names_by (texts_of i) (path_at paths j)) ≡ None) (sym index) none,
+      (
+        place,
+        n,
+        step,
+        subst (λ (i : NodeIndex). reached (look_by i) None (take n (names_by (texts_of i) (path_at paths j))) ≡ Some place) (sym index) there,
+        is,
+        subst (λ (i : NodeIndex). look_by i place (name_by (texts_of i) step) ≡ None) (sym index) missing,
+        λ key k. subst (λ v. Among (record { augment = j; found = n }) (waiters_at v key)) (sym waiting) (waits key (subst (λ ns. key_by ns place step ≡ Some key) names k)),
+      ),
+    )
 
 module _ (slots : List (Slot ExpandedNode)) (augments : List Augment) (paths : Paths) (waits : List Bool) where
   -- where its steps lead decides whether it is found

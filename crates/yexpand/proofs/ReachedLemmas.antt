@@ -1,5 +1,5 @@
 -- Steps from node to node, as far as they lead.
-use Rattle.std.proofs.Common.{◌≡◌, ℕ, zero, suc, ◌+◌, ◌==◌, Bool, true, false, cond, List, [], ◌∷◌, ◌++◌, take, length, Option, Some, None, refl, sym, ap, ap₂, subst, ◌∙◌}
+use Rattle.std.proofs.Common.{◌≡◌, ℕ, zero, suc, cond, List, [], ◌∷◌, take, Option, Some, None, refl, sym, ap, ap₂, ◌∙◌}
 use Rattle.std.specs.Prelude.{option_and_then, slice_get, unwrap_or}
 use Rattle.std.proofs.lemmas.Option.{none-some}
 use Rattle.yspec.specs.Forest.{Forest, first_of}
@@ -7,7 +7,7 @@ use Rattle.yspec.specs.linking.Parts.{Part}
 use Rattle.yspec.specs.linking.Prefixes.{NodeName}
 use Rattle.yspec.specs.linking.Planned.{same_number}
 use Rattle.yexpand.specs.Hanging.{Numbered}
-use Rattle.yexpand.specs.Searching.{Lookup, first_in, reached, target_in, looked_behind}
+use Rattle.yexpand.specs.Searching.{Lookup, first_in, reached, looked_behind}
 
 -- what is found stays found
 abbrev pub Grows : Lookup → Lookup → Type 0

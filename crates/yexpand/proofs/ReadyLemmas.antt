@@ -1,17 +1,17 @@
 -- An augment that finds its target by numbers is ready, and what it adds is hung there.
-use Rattle.std.proofs.Common.{◌≡◌, ℕ, zero, suc, ◌+◌, ◌==◌, ◌≤◌, Bool, true, false, cond, ◌&&◌, not, List, [], ◌∷◌, Option, Some, None, refl, sym, ap, ap₂, subst, ◌∙◌, arith}
+use Rattle.std.proofs.Common.{◌≡◌, ℕ, zero, suc, ◌+◌, ◌≤◌, Bool, true, false, cond, not, List, Option, Some, None, refl, sym, ap, ◌∙◌, arith}
 use Rattle.std.specs.Prelude.{is_some, option_map}
 use Rattle.std.specs.Option.{option_map_or}
-use Rattle.std.proofs.lemmas.Bool.{and_parts, cases_eq, eq-eqb}
+use Rattle.std.proofs.lemmas.Bool.{and_parts}
 use Rattle.std.proofs.lemmas.Option.{none-some}
 use Rattle.yspec.specs.Forest.{Forest, node, join, size}
 use Rattle.yspec.specs.linking.Keyword as word
 use Rattle.yspec.specs.linking.Source.{Source, is_source_of, first_with}
 use Rattle.yspec.specs.linking.Prefixes.{NodeName}
 use Rattle.yspec.specs.linking.Parts.{Part, as_cases, within}
-use Rattle.yspec.specs.linking.Expansion.{laid, groupings_of, stands_for, part_at}
+use Rattle.yspec.specs.linking.Expansion.{laid, groupings_of, stands_for}
 use Rattle.yspec.specs.linking.Augments.{Augment, target_steps, added_nodes, may_take, is_ready, marked, added_below, applied, first_that, done_first, in_turn}
-use Rattle.yexpand.specs.Hanging.{Numbered, Hung, put, times, plain, inner, marked_by, label_at}
+use Rattle.yexpand.specs.Hanging.{Numbered, put, times, plain, inner, marked_by, label_at}
 use Rattle.yexpand.specs.Searching.{Lookup, target_in, Agrees, AgreesAll, looked_behind}
 use Rattle.yexpand.specs.Arranging.{taken_for}
 use Rattle.yexpand.specs.Bodies.{body_of}
@@ -19,7 +19,7 @@ use Rattle.yexpand.specs.Resolving.{may_hold, is_found, hung_by, row_for, Stands
 use Rattle.yexpand.proofs.HangingLemmas.{Nodes}
 use Rattle.yexpand.proofs.PathLemmas.{part_plain, changed_plain}
 use Rattle.yexpand.proofs.SearchLemmas.{target_found, label_known, agrees_other}
-use Rattle.yexpand.proofs.PutLemmas.{agrees_put, agrees_all_put, times_put, times_marked, times_inner, agrees_marked, agrees_inner}
+use Rattle.yexpand.proofs.PutLemmas.{agrees_all_put, times_put, times_marked, times_inner, agrees_marked, agrees_inner}
 use Rattle.yexpand.proofs.TakenLemmas.{laid_lacks, cases_replaced, inner_replaced, plain_marked, plain_inner}
 
 abbrev Parts : Type 0
@@ -35,6 +35,7 @@ ready_found look source modules a f agrees =
   where
     steps : List NodeName
     steps = target_steps modules a
+
     by : (o : Option (Numbered Part)) → label_at steps f ≡ o → option_map (λ l. l.number) o ≡ target_in look steps
         → option_map_or (λ p. may_take p a.given) (option_map (λ l. l.label) o) false ≡ is_found look source modules a
     by None e is = ap (λ t. option_map_or (λ n. may_hold (source n) a.given) t false) is
@@ -49,6 +50,7 @@ label_of_target look source modules a target f agrees found = by (label_at steps
   where
     steps : List NodeName
     steps = target_steps modules a
+
     by : (o : Option (Numbered Part)) → label_at steps f ≡ o → option_map (λ l. l.number) o ≡ Some target
         → (l : Numbered Part) × (label_at steps f ≡ Some l) × (l.number ≡ target) × (l.label.source ≡ source target)
     by None e is = absurd (none-some target is)
@@ -72,6 +74,7 @@ taken_is modules a s rows is holds =
   where
     meant : Part → Forest Part
     meant = stands_for modules (groupings_of modules) a.source.home (suc (size modules))
+
     by : (b : Bool) → not (is_some (first_with (cond b word.uses_word word.case_word) a.given)) ≡ true
         → marked a.source.number (cond b (as_cases (added_nodes modules a)) (added_nodes modules a)) ≡ marked a.source.number (plain (cond b rows (inner rows)))
     by true none = ap (marked a.source.number) (cases_replaced meant a.source.home (laid a.given) (laid_lacks word.uses_word a.given (none_of word.uses_word a.given none)) ∙ sym is)
@@ -125,6 +128,7 @@ stands_put source rows left now look f alone stands a j target is_left once late
         → times n (put (hung_by a (rows j) target) f) ≡ times n f + times n (row_for a (rows j) (source target)) → times n (put (hung_by a (rows j) target) f) ≤ 1
     few_by n zero is within count = omega (arith, is, within, count, alone.few j n)
     few_by n (suc k) is within count = omega (arith, is, within, count, stands.few n, stands.apart j n is_left (omega (arith, is)))
+
     apart_by : (i n : ℕ) → (left i ≡ true) × (i ≡ j → ⊥) → (k : ℕ) → times n f ≡ k → times n (row_for a (rows j) (source target)) ≤ times n (rows j)
         → times n (put (hung_by a (rows j) target) f) ≡ times n f + times n (row_for a (rows j) (source target)) → 1 ≤ times n (put (hung_by a (rows j) target) f)
         → times n (rows i) ≡ 0

@@ -1,22 +1,21 @@
 -- One augment after another is applied, the first that finds its target.
-use Rattle.std.proofs.Common.{◌≡◌, ◌⊎◌, inl, inr, ℕ, zero, suc, ◌+◌, ◌<◌, ◌≤◌, Bool, true, false, cond, List, [], ◌∷◌, ◌++◌, length, map, get_or, set, drop, replicate, arith, Option, Some, None, refl, sym, ap, ap₂, subst, ◌∙◌}
-use Rattle.std.specs.Prelude.{find, slice_get, option_map, option_and_then}
+use Rattle.std.proofs.Common.{◌≡◌, ◌⊎◌, inl, inr, ℕ, zero, suc, ◌<◌, ◌≤◌, Bool, true, false, cond, List, [], ◌∷◌, ◌++◌, length, map, get_or, set, replicate, arith, Option, Some, None, refl, sym, ap, ap₂, subst, ◌∙◌}
+use Rattle.std.specs.Prelude.{find, option_map}
 use Rattle.std.specs.Option.{option_map_or}
 use Rattle.std.proofs.lemmas.Bool.{cases_eq, false≢true}
 use Rattle.std.proofs.lemmas.List.{get_or-set_same, get_or-set_other, length-set, length-replicate, map-append}
-use Rattle.std.proofs.lemmas.Option.{slice_get-get_or, slice_get-map}
+use Rattle.std.proofs.lemmas.Option.{slice_get-get_or}
 use Rattle.yspec.specs.Forest.{Forest, row, first_of}
-use Rattle.yspec.specs.Forest as Forest
 use Rattle.yspec.specs.linking.Source.{Source}
 use Rattle.yspec.specs.linking.Parts.{Part}
 use Rattle.yspec.specs.linking.Prefixes.{NodeName}
-use Rattle.yspec.specs.linking.Augments.{Augment, target_steps, is_ready, applied, in_turn, first_that}
+use Rattle.yspec.specs.linking.Augments.{Augment, target_steps, is_ready, applied, in_turn}
 use Rattle.ypreorder.specs.declared.slot.Slot.{Slot}
-use Rattle.yexpand.specs.Hanging.{Numbered, Hung, hung, put, times, plain, marked_by, is_step_of}
+use Rattle.yexpand.specs.Hanging.{Numbered, hung, put, times, plain, marked_by, is_step_of}
 use Rattle.yexpand.specs.Searching.{Lookup, first_in, target_in, Agrees, AgreesAll, looked_behind}
 use Rattle.yexpand.specs.Arranging.{rows_of, own_rows, taken_for, hung_view}
 use Rattle.yexpand.specs.Bodies.{body_of}
-use Rattle.yexpand.specs.Resolving.{may_hold, is_found, hung_by, row_for, Stands, AreApart}
+use Rattle.yexpand.specs.Resolving.{may_hold, hung_by, row_for, Stands}
 use Rattle.yexpand.specs.Picking.{source_at, given_at, holds_at, refused_by, is_waiting, found_at, left_of, count_left, IsNext, NoneIs, Passes}
 use Rattle.yindex.specs.Index.{texts_of}
 use Rattle.yspec.specs.linking.Planned.{same_number}

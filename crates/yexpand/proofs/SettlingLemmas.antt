@@ -5,18 +5,17 @@ use Rattle.std.specs.Option.{option_map_or}
 use Rattle.std.specs.Ordering.{is_eq}
 use Rattle.std.specs.BTreeMap.{is_at}
 use Rattle.std.specs.BTreeSet.{contains, Updates}
-use Rattle.std.proofs.lemmas.Bool.{cases_eq, eq-eqb, eqb-true, and_parts, false≢true}
-use Rattle.std.proofs.lemmas.Option.{none-some, slice_get-map}
-use Rattle.yspec.specs.linking.Prefixes.{NodeName}
+use Rattle.std.proofs.lemmas.Bool.{cases_eq, eq-eqb, eqb-true, false≢true}
+use Rattle.std.proofs.lemmas.Option.{slice_get-map}
 use Rattle.yspec.specs.linking.Planned.{same_number}
 use Rattle.yindex.specs.declared.keys.Key.{Key}
 use Rattle.yindex.specs.Keys.{same_key}
 use Rattle.yindex.proofs.KeyLemmas.{same_key-is}
-use Rattle.yexpand.specs.Searching.{Lookup, reached}
+use Rattle.yexpand.specs.Searching.{reached}
 use Rattle.yindex.specs.declared.index.NodeIndex.{NodeIndex}
 use Rattle.yindex.specs.Index.{texts_of}
-use Rattle.yexpand.specs.SearchView.{look_by, look_in, name_by, names_by, name_in, names_in, path_at, key_by, key_for, Arrives, Waits, Follows}
-use Rattle.yexpand.specs.Settling.{Among, Paths, steps_of, leads, StandsAt, Sound, Lacks, has_arrived, Settled, Moves}
+use Rattle.yexpand.specs.SearchView.{look_by, look_in, name_by, names_by, name_in, path_at, key_by, key_for, Arrives, Waits, Follows}
+use Rattle.yexpand.specs.Settling.{Among, Paths, StandsAt, Sound, has_arrived, Settled, Moves}
 use Rattle.yexpand.specs.WaitingView.{waiters_at}
 use Rattle.yexpand.specs.declared.waiting.Waiter.{Waiter}
 use Rattle.yexpand.specs.declared.search.Search.{Search}
@@ -91,9 +90,11 @@ moves_both paths v w a b c first second = record {
     by : (refused : ℕ → Option ℕ → Bool) (x : Waiter) → Among x v ⊎ Among x w → Settled refused paths c x.augment
     by refused x (inl there) = second.kept refused x.augment (first.settled refused x there)
     by refused x (inr there) = second.settled refused x there
+
     earlier : (j : ℕ) → (has_arrived a j ≡ true) ⊎ ((x : Waiter) × Among x v × (x.augment ≡ j)) → (has_arrived a j ≡ true) ⊎ ((x : Waiter) × Among x (v ++ w) × (x.augment ≡ j))
     earlier j (inl there) = inl there
     earlier j (inr there) = inr (there.0, among_left there.0 v w there.1, there.2)
+
     came : (j : ℕ) → (has_arrived b j ≡ true) ⊎ ((x : Waiter) × Among x w × (x.augment ≡ j)) → (has_arrived a j ≡ true) ⊎ ((x : Waiter) × Among x (v ++ w) × (x.augment ≡ j))
     came j (inl there) = earlier j (first.arrived j there)
     came j (inr there) = inr (there.0, among_right there.0 v w there.1, there.2)
@@ -137,17 +138,32 @@ module _ (paths : Paths) (w : Waiter) (old new : Search) where
       still : (refused : ℕ → Option ℕ → Bool) (j : ℕ) (p : Option ℕ) → (has_arrived old j ≡ true) ⊎ (refused j p ≡ true) → (has_arrived new j ≡ true) ⊎ (refused j p ≡ true)
       still refused j p (inl here) = inl (kept_in w.augment old new a.arrived j here)
       still refused j p (inr unfit) = inr unfit
+
       keep : (refused : ℕ → Option ℕ → Bool) (j : ℕ) → Settled refused paths old j → Settled refused paths new j
       keep refused j (inl (p, leads_there, here)) = inl (p, over a.index (λ i. all i (path_at paths j) ≡ Some p) leads_there, still refused j p here)
-      keep refused j (inr (none, (place, n, step, there, is, missing, waits))) = inr (over a.index (λ i. all i (path_at paths j) ≡ None) none, (
-          place, n, step, over a.index (λ i. reaches i (path_at paths j) n ≡ Some place) there, is,
+      keep refused j (inr (none, (place, n, step, there, is, missing, waits))) = inr (
+        over a.index (λ i. all i (path_at paths j) ≡ None) none,
+        (
+          place,
+          n,
+          step,
+          over a.index (λ i. reaches i (path_at paths j) n ≡ Some place) there,
+          is,
           over a.index (λ i. look_by i place (name_by (texts_of i) step) ≡ None) missing,
-          λ key k. subst (λ v. Among (record { augment = j; found = n }) (waiters_at v key)) (sym a.waiting) (waits key (subst (λ m. key_by m place step ≡ Some key) a.names k))))
+          λ key k. subst (λ v. Among (record { augment = j; found = n }) (waiters_at v key)) (sym a.waiting) (waits key (subst (λ m. key_by m place step ≡ Some key) a.names k)),
+        ),
+      )
+
       settle : (refused : ℕ → Option ℕ → Bool) (x : Waiter) → Among x (w ∷ []) → Settled refused paths new x.augment
       settle refused x (inl same) = subst (λ (y : Waiter). Settled refused paths new y.augment) same
-          (inl (above, over a.index (λ i. all i path ≡ Some above) (arrived (look_in old) None above (names_by (texts_of old.index) path) count e
-          (slice_get-map (name_by (texts_of old.index)) path count ∙ ap (option_map (name_by (texts_of old.index))) at)), inl a.arrived.1))
+          (inl (
+            above,
+            over a.index (λ i. all i path ≡ Some above) (arrived (look_in old) None above (names_by (texts_of old.index) path) count e
+                (slice_get-map (name_by (texts_of old.index)) path count ∙ ap (option_map (name_by (texts_of old.index))) at)),
+            inl a.arrived.1,
+          ))
       settle refused x (inr nothing) = elim nothing [ ]
+
       came : (j : ℕ) → (has_arrived old j ≡ true) ⊎ (w.augment ≡ j) → (has_arrived old j ≡ true) ⊎ ((x : Waiter) × Among x (w ∷ []) × (x.augment ≡ j))
       came j (inl there) = inl there
       came j (inr same) = inr (w, inl refl, same)
@@ -181,42 +197,66 @@ module _ (paths : Paths) (w : Waiter) (old new : Search) where
     where
       here : Waiter
       here = record { augment = w.augment; found = count }
+
       standing : (key : Key) (x : Waiter) → Among x (here ∷ []) → above ≡ key.above → StandsAt new paths key.above x
       standing key x (inl same) place = subst (StandsAt new paths key.above) same
           (within, over a.index (λ i. reaches i path count ≡ Some key.above) (e ∙ ap Some place))
       standing key x (inr nothing) place = elim nothing [ ]
+
       old_one : Sound paths old → (key : Key) (x : Waiter) → Among x (waiters_at old.waiting key) → StandsAt new paths key.above x
       old_one sound key x there = over a.index (λ i. (x.augment < length paths) × (reaches i (path_at paths x.augment) x.found ≡ Some key.above)) (sound key x there)
+
       either : Sound paths old → (key : Key) (x : Waiter) → above ≡ key.above → Among x (waiters_at old.waiting key) ⊎ Among x (here ∷ []) → StandsAt new paths key.above x
       either sound key x place (inl there) = old_one sound key x there
       either sound key x place (inr there) = standing key x there place
+
       sound_by : Sound paths old → (key : Key) (x : Waiter) (b : Bool) → is_key above step key ≡ b
           → Among x (cond b (waiters_at old.waiting key ++ here ∷ []) (waiters_at old.waiting key)) → StandsAt new paths key.above x
       sound_by sound key x true is there = either sound key x (key_above above step key is) (among_either x (waiters_at old.waiting key) (here ∷ []) there)
       sound_by sound key x false is there = old_one sound key x there
+
       grown : (key : Key) (x : Waiter) (b : Bool) → Among x (waiters_at old.waiting key) → Among x (cond b (waiters_at old.waiting key ++ here ∷ []) (waiters_at old.waiting key))
       grown key x true there = among_left x (waiters_at old.waiting key) (here ∷ []) there
       grown key x false there = there
+
       still : (refused : ℕ → Option ℕ → Bool) (j : ℕ) (p : Option ℕ) → (has_arrived old j ≡ true) ⊎ (refused j p ≡ true) → (has_arrived new j ≡ true) ⊎ (refused j p ≡ true)
       still refused j p (inl there) = inl (subst (λ s. contains nat_cmp s j ≡ true) (sym a.arrived) there)
       still refused j p (inr unfit) = inr unfit
+
       keep : (refused : ℕ → Option ℕ → Bool) (j : ℕ) → Settled refused paths old j → Settled refused paths new j
       keep refused j (inl (p, leads_there, there)) = inl (p, over a.index (λ i. all i (path_at paths j) ≡ Some p) leads_there, still refused j p there)
-      keep refused j (inr (none, (place, n, s, there, is, lacking, waits))) = inr (over a.index (λ i. all i (path_at paths j) ≡ None) none, (
-          place, n, s, over a.index (λ i. reaches i (path_at paths j) n ≡ Some place) there, is,
+      keep refused j (inr (none, (place, n, s, there, is, lacking, waits))) = inr (
+        over a.index (λ i. all i (path_at paths j) ≡ None) none,
+        (
+          place,
+          n,
+          s,
+          over a.index (λ i. reaches i (path_at paths j) n ≡ Some place) there,
+          is,
           over a.index (λ i. look_by i place (name_by (texts_of i) s) ≡ None) lacking,
           λ key k. subst (Among (record { augment = j; found = n })) (sym (a.waiting key))
-          (grown key (record { augment = j; found = n }) (is_key above step key) (waits key (subst (λ m. key_by m place s ≡ Some key) a.names k)))))
+              (grown key (record { augment = j; found = n }) (is_key above step key) (waits key (subst (λ m. key_by m place s ≡ Some key) a.names k))),
+        ),
+      )
+
       settle : (refused : ℕ → Option ℕ → Bool) (x : Waiter) → Among x (w ∷ []) → Settled refused paths new x.augment
       settle refused x (inl same) = subst (λ (y : Waiter). Settled refused paths new y.augment) same
-          (inr (over a.index (λ i. all i path ≡ None) (stopped (look_in old) None above (names_by (texts_of old.index) path) count (name_in old step) e
-          (slice_get-map (name_by (texts_of old.index)) path count ∙ ap (option_map (name_by (texts_of old.index))) at) missing), (
-          above, count, step, over a.index (λ i. reaches i path count ≡ Some above) e, at,
-          over a.index (λ i. look_by i above (name_by (texts_of i) step) ≡ None) missing,
-          λ key k. subst (Among here) (sym (a.waiting key))
-          (subst (λ b. Among here (cond b (waiters_at old.waiting key ++ here ∷ []) (waiters_at old.waiting key)))
-          (sym (ap (λ o. option_map_or (λ q. same_key q key) o false) (subst (λ m. key_by m above step ≡ Some key) a.names k) ∙ key_itself key))
-          (among_right here (waiters_at old.waiting key) (here ∷ []) (inl refl))))))
+          (inr (
+            over a.index (λ i. all i path ≡ None) (stopped (look_in old) None above (names_by (texts_of old.index) path) count (name_in old step) e
+                (slice_get-map (name_by (texts_of old.index)) path count ∙ ap (option_map (name_by (texts_of old.index))) at) missing),
+            (
+              above,
+              count,
+              step,
+              over a.index (λ i. reaches i path count ≡ Some above) e,
+              at,
+              over a.index (λ i. look_by i above (name_by (texts_of i) step) ≡ None) missing,
+              λ key k. subst (Among here) (sym (a.waiting key))
+                  (subst (λ b. Among here (cond b (waiters_at old.waiting key ++ here ∷ []) (waiters_at old.waiting key)))
+                  (sym (ap (λ o. option_map_or (λ q. same_key q key) o false) (subst (λ m. key_by m above step ≡ Some key) a.names k) ∙ key_itself key))
+                  (among_right here (waiters_at old.waiting key) (here ∷ []) (inl refl))),
+            ),
+          ))
       settle refused x (inr nothing) = elim nothing [ ]
 
   pub moves_one : w.augment < length paths → Follows path w.augment old new → Moves paths (w ∷ []) old new
@@ -236,6 +276,7 @@ all_more ws n j all less = by (cases_eq j n)
   where
     last : Waiter
     last = record { augment = n; found = 0 }
+
     by : ((j ≡ n) ⊎ (j ≡ n → ⊥)) → Among (record { augment = j; found = 0 }) (ws ++ last ∷ [])
     by (inl same) = among_right (record { augment = j; found = 0 }) ws (last ∷ []) (inl (ap (λ (i : ℕ). record { augment = i; found = 0 }) (sym same)))
     by (inr other) = among_left (record { augment = j; found = 0 }) ws (last ∷ []) (all j (omega (arith, less, other)))

@@ -1,6 +1,6 @@
 -- What a target takes of what an augment adds, with the cases for which single nodes stand or without.
-use Rattle.std.proofs.Common.{◌≡◌, ℕ, suc, ◌+◌, Bool, true, false, cond, ◌&&◌, ◌||◌, not, List, Option, Some, None, refl, sym, ap, ap₂, ◌∙◌}
-use Rattle.std.specs.Prelude.{find, is_some}
+use Rattle.std.proofs.Common.{◌≡◌, ℕ, Bool, true, false, cond, Some, None, refl, sym, ap, ap₂, ◌∙◌}
+use Rattle.std.specs.Prelude.{find}
 use Rattle.std.proofs.lemmas.Option.{none-some}
 use Rattle.yspec.specs.Forest.{Forest, end, node, row, join}
 use Rattle.yspec.specs.linking.Keyword.{Keyword}
@@ -9,8 +9,8 @@ use Rattle.yspec.specs.linking.Source.{Source, is_source_of, first_with}
 use Rattle.yspec.specs.linking.Parts.{Part, defines_node, part_of, case_for, as_cases, within}
 use Rattle.yspec.specs.linking.Expansion.{is_uses, laid, owned_by, replaced}
 use Rattle.yspec.specs.linking.Augments.{marked}
-use Rattle.yspec.proofs.ForestLemmas.{join_end, join_assoc}
-use Rattle.yexpand.specs.Hanging.{Numbered, plain, inner, marked_by}
+use Rattle.yspec.proofs.ForestLemmas.{join_end}
+use Rattle.yexpand.specs.Hanging.{plain, inner, marked_by}
 use Rattle.yexpand.proofs.HangingLemmas.{Nodes}
 use Rattle.yexpand.proofs.PathLemmas.{plain_join}
 
@@ -26,10 +26,12 @@ laid_lacks k (node s below after) none = by (is_source_of k s) refl none (laid_l
   where
     laid_by : Bool → Bool → Forest Part
     laid_by d u = cond d (node (part_of s below) (within s (laid below)) (laid after)) (cond u (node (part_of s below) end (laid after)) (laid after))
+
     each : (d u : Bool) → is_source_of k s ≡ false → Lacks k (laid after) → Lacks k (laid_by d u)
     each true u other later = (other, later)
     each false true other later = (other, later)
     each false false other later = later
+
     by : (b : Bool) → is_source_of k s ≡ b → cond b (Some s) (find (is_source_of k) (row after)) ≡ None
         → (find (is_source_of k) (row after) ≡ None → Lacks k (laid after))
         → Lacks k (laid_by (defines_node s.keyword) (is_source_of word.uses_word s))
@@ -56,8 +58,10 @@ module _ (meant : Part → Forest Part) (owner : ℕ) where
     where
       own : Forest Part → Forest Part
       own rest = cond (is_uses p) (join (meant p) rest) (node (owned_by owner p) (replaced meant owner below) rest)
+
       one : (rest : Forest Part) → node (owned_by owner p) (replaced meant owner below) rest ≡ own rest
       one rest = sym (ap (λ b. cond b (join (meant p) rest) (node (owned_by owner p) (replaced meant owner below) rest)) none.0)
+
       by : (b : Bool) → as_cases (replaced meant owner after) ≡ replaced meant owner (as_cases after)
           → cond b (node (owned_by owner p) (replaced meant owner below) (as_cases (replaced meant owner after)))
           (node (case_for (owned_by owner p)) (node (owned_by owner p) (replaced meant owner below) end) (as_cases (replaced meant owner after)))

@@ -1,12 +1,12 @@
 -- What was settled before a row came below a node is settled after it, or goes on.
-use Rattle.std.proofs.Common.{◌≡◌, ◌⊎◌, inl, inr, ℕ, suc, zero, ◌<◌, ◌==◌, ◌&&◌, Bool, true, false, cond, List, [], ◌∷◌, ◌++◌, length, take, get_or, arith, Option, Some, None, refl, sym, ap, ap₂, subst, ◌∙◌, nat_cmp}
+use Rattle.std.proofs.Common.{◌≡◌, ◌⊎◌, inl, inr, ℕ, ◌<◌, ◌==◌, Bool, true, false, cond, List, [], ◌∷◌, length, take, get_or, arith, Option, Some, None, refl, sym, ap, ap₂, subst, ◌∙◌, nat_cmp}
 use Rattle.std.specs.Prelude.{find, slice_get, option_map, option_and_then, unwrap_or}
 use Rattle.std.specs.Option.{option_map_or}
 use Rattle.std.specs.List.{flat_map}
 use Rattle.std.specs.BTreeSet.{contains}
 use Rattle.std.proofs.lemmas.Bool.{eq-eqb, eqb-true, and_parts, false≢true}
 use Rattle.std.proofs.lemmas.Option.{none-some, slice_get-map, slice_get-get_or}
-use Rattle.yspec.specs.Forest.{Forest, end, node, row, join, first_of}
+use Rattle.yspec.specs.Forest.{end, node, row, join, first_of}
 use Rattle.yspec.specs.text.Text.{Text, is_text}
 use Rattle.yspec.specs.linking.Source.{argument_in}
 use Rattle.yspec.specs.linking.Parts.{Part}
@@ -19,9 +19,9 @@ use Rattle.yindex.specs.Names.{text_in, number_among}
 use Rattle.yindex.proofs.KeyLemmas.{same_number-is}
 use Rattle.yexpand.specs.Hanging.{Numbered, inner, is_step_of}
 use Rattle.yexpand.specs.Arranging.{taken}
-use Rattle.yexpand.specs.Searching.{Lookup, first_in, reached, looked_behind}
-use Rattle.yexpand.specs.SearchView.{look_by, look_in, name_by, names_by, name_in, names_in, path_at, key_by, key_for, woken_by, Adds, AreTexts}
-use Rattle.yexpand.specs.Settling.{Among, Paths, steps_of, leads, StandsAt, Sound, Lacks, has_arrived, Settled, Moves, Ranged, Hangs}
+use Rattle.yexpand.specs.Searching.{first_in, reached}
+use Rattle.yexpand.specs.SearchView.{look_by, look_in, name_by, names_by, name_in, path_at, key_by, key_for, woken_by, Adds, AreTexts}
+use Rattle.yexpand.specs.Settling.{Among, Paths, StandsAt, Sound, has_arrived, Settled, Moves, Ranged, Hangs}
 use Rattle.yexpand.specs.WaitingView.{waiters_at}
 use Rattle.yexpand.specs.declared.waiting.Waiter.{Waiter}
 use Rattle.yexpand.specs.declared.search.Search.{Search}
@@ -42,6 +42,7 @@ first_there name (node l below after) r e = by (is_step_of name l) refl e (first
   where
     Found : List (Numbered Part) → Type 0
     Found ls = (k : Numbered Part) × Among k ls × (is_step_of name k ≡ true) × (k.number ≡ r)
+
     by : (b : Bool) → is_step_of name l ≡ b → option_map (λ (k : Numbered Part). k.number) (cond b (Some l) (find (is_step_of name) (row after))) ≡ Some r
         → (first_in name after ≡ Some r → Found (row after)) → Found (l ∷ row after)
     by true is e later = (l, inl refl, is, ap (λ o. unwrap_or o r) e)
@@ -111,6 +112,7 @@ module _ (paths : Paths) (target : ℕ) (added : Parts) (old now : Search) (adds
           → (same_number place (Some target) ≡ true) × (first_in (name_in old step) added ≡ Some r)
       below_it true e came = (e, came)
       below_it false e came = absurd (none-some r came)
+
       lets : (l : Numbered Part) → (l.number < length texts) × (text_in texts l.number ≡ argument_in l.label.source)
           → (same_number step.«module» (Some l.label.owner) ≡ true) × (is_text (text_in texts step.text) (argument_in l.label.source) ≡ true)
           → l.number ≡ r → place ≡ Some target → Among w (woken_by now target l)
@@ -150,14 +152,22 @@ module _ (paths : Paths) (target : ℕ) (added : Parts) (old now : Search) (adds
     where
       lacking : Waiter
       lacking = record { augment = j; found = n }
+
       by : (o : Option ℕ) → look_in now place (name_in old step) ≡ o → Settled refused paths now j ⊎ Woken j
       by None e = inl (inr (
-          ap (λ ts. reached (look_in now) None (names_by ts (path_at paths j))) adds.texts ∙ stopped (look_in now) None place (names_by texts (path_at paths j)) n (name_by texts step)
-          (reached_grows (look_in old) (look_in now) grows None place (take n (names_by texts (path_at paths j))) there)
-          (slice_get-map (name_by texts) (path_at paths j) n ∙ ap (option_map (name_by texts)) is) e,
-          (place, n, step, still_reached place (path_at paths j) n there, is,
+        ap (λ ts. reached (look_in now) None (names_by ts (path_at paths j))) adds.texts ∙ stopped (look_in now) None place (names_by texts (path_at paths j)) n (name_by texts step)
+            (reached_grows (look_in old) (look_in now) grows None place (take n (names_by texts (path_at paths j))) there)
+            (slice_get-map (name_by texts) (path_at paths j) n ∙ ap (option_map (name_by texts)) is) e,
+        (
+          place,
+          n,
+          step,
+          still_reached place (path_at paths j) n there,
+          is,
           ap (λ ts. look_in now place (name_by ts step)) adds.texts ∙ e,
-          λ key k. subst (λ v. Among lacking (waiters_at v key)) (sym adds.waiting) (waits key (subst (λ ns. key_by ns place step ≡ Some key) adds.names k)))))
+          λ key k. subst (λ v. Among lacking (waiters_at v key)) (sym adds.waiting) (waits key (subst (λ ns. key_by ns place step ≡ Some key) adds.names k)),
+        ),
+      ))
       by (Some r) e = inr (lacking, comes are place step r (ranged j n step is) missing e lacking waits, refl)
 
 -- ---- those that go on stand at the target

@@ -1,15 +1,14 @@
 -- Which augments find their targets, by the numbers of nodes.
-use Rattle.std.specs.Prelude.{◌≡◌, ◌≤◌, ◌&&◌, ℕ, zero, suc, Bool, true, false, not, List, [], ◌∷◌, is_some, if◌then◌else◌}
+use Rattle.std.specs.Prelude.{◌≡◌, ◌≤◌, ◌&&◌, ℕ, Bool, true, false, not, is_some, if◌then◌else◌}
 use Rattle.std.specs.Option.{option_map_or}
 use Rattle.yspec.specs.Forest.{Forest}
 use Rattle.yspec.specs.linking.Keyword as word
 use Rattle.yspec.specs.linking.Source.{Source, is_source_of, first_with}
 use Rattle.yspec.specs.linking.Parts.{Part}
 use Rattle.yspec.specs.linking.Augments.{Augment, may_be_augmented, target_steps}
-use Rattle.yexpand.specs.Hanging.{Numbered, Hung, times, plain, marked_by}
-use Rattle.yexpand.specs.Searching.{Lookup, target_in, Agrees, AgreesAll, looked_behind}
+use Rattle.yexpand.specs.Hanging.{Numbered, Hung, times, marked_by}
+use Rattle.yexpand.specs.Searching.{Lookup, target_in, Agrees, AgreesAll}
 use Rattle.yexpand.specs.Arranging.{taken_for}
-use Rattle.yexpand.specs.Bodies.{body_of}
 
 -- whether the node of a statement may take what an augment states
 abbrev pub may_hold : Source → Forest Source → Bool

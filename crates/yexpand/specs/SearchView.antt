@@ -1,5 +1,5 @@
 -- What is found so far, as a lookup by names; and what comes of following a path.
-use Rattle.std.specs.Prelude.{◌≡◌, ◌<◌, ◌≤◌, ◌++◌, length, ℕ, suc, Bool, true, false, List, [], ◌∷◌, map, take, slice_get, Option, Some, None, option_map, option_and_then, ◌⊎◌, if◌then◌else◌}
+use Rattle.std.specs.Prelude.{◌≡◌, ◌<◌, ◌≤◌, ◌++◌, length, ℕ, suc, true, false, List, [], ◌∷◌, map, take, slice_get, Option, Some, None, option_map, option_and_then, ◌⊎◌, if◌then◌else◌}
 use Rattle.std.specs.Option.{option_map_or}
 use Rattle.std.specs.Prelude.{Vec}
 use Rattle.std.specs.Global.{Global}

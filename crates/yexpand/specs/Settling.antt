@@ -10,7 +10,7 @@ use Rattle.yindex.specs.Index.{texts_of}
 use Rattle.yspec.specs.Forest.{Forest}
 use Rattle.yspec.specs.linking.Parts.{Part}
 use Rattle.yexpand.specs.Hanging.{Numbered}
-use Rattle.yexpand.specs.Searching.{Lookup, reached, looked_behind}
+use Rattle.yexpand.specs.Searching.{reached, looked_behind}
 use Rattle.yexpand.specs.SearchView.{look_in, name_in, names_in, path_at, key_for}
 use Rattle.yexpand.specs.WaitingView.{waiters_at}
 use Rattle.yexpand.specs.declared.waiting.Waiter.{Waiter}

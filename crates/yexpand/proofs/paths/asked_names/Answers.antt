@@ -64,7 +64,7 @@ returns-clause-nodes c =
     let texts = c.loop-augment.texts.items in
     let done = drop_all c.loop-augment.augment-index augments (omega (arith, c.loop-augment-test.false)) in
     let so_far = sym (append-nil (texts_seen texts))
-        ∙ (ap (λ (xs : List (Node Source)). texts_seen texts ++ flat_map texts_of_path (augments_seen xs)) (sym done) ∙ c.loop-augment.invariant.texts) in
+    ∙ (ap (λ (xs : List (Node Source)). texts_seen texts ++ flat_map texts_of_path (augments_seen xs)) (sym done) ∙ c.loop-augment.invariant.texts) in
     subst (λ ts. AreNames ts slots) (sym so_far) (are_names slots (flat_map texts_of_path (augments_seen augments)))
 
 pub returns-clause-paths : goal.returns-clause-paths
@@ -76,9 +76,9 @@ returns-clause-paths c =
     let paths = c.loop-augment.paths.items in
     let done = drop_all c.loop-augment.augment-index augments (omega (arith, c.loop-augment-test.false)) in
     let so_far = sym (append-nil (texts_seen texts))
-        ∙ (ap (λ (xs : List (Node Source)). texts_seen texts ++ flat_map texts_of_path (augments_seen xs)) (sym done) ∙ c.loop-augment.invariant.texts) in
+    ∙ (ap (λ (xs : List (Node Source)). texts_seen texts ++ flat_map texts_of_path (augments_seen xs)) (sym done) ∙ c.loop-augment.invariant.texts) in
     let made = sym (append-nil (steps_in paths))
-        ∙ (ap (λ (xs : List (Node Source)). steps_in paths ++ paths_from m (length texts) (augments_seen xs)) (sym done) ∙ c.loop-augment.invariant.paths) in
+    ∙ (ap (λ (xs : List (Node Source)). steps_in paths ++ paths_from m (length texts) (augments_seen xs)) (sym done) ∙ c.loop-augment.invariant.paths) in
     names_of_paths (texts_seen texts) paths
     ∙ (ap₂ (λ ts ps. map (names_by ts) ps) so_far made
     ∙ names_paths m (augments_seen augments) (map row_name slots) (length slots) (count_rows slots))
@@ -93,8 +93,8 @@ returns-clause-within c = λ augment n step e.
     let added = flat_map texts_of_path (augments_seen augments) in
     let done = drop_all c.loop-augment.augment-index augments (omega (arith, c.loop-augment-test.false)) in
     let so_far = sym (append-nil (texts_seen texts))
-        ∙ (ap (λ (xs : List (Node Source)). texts_seen texts ++ flat_map texts_of_path (augments_seen xs)) (sym done) ∙ c.loop-augment.invariant.texts) in
+    ∙ (ap (λ (xs : List (Node Source)). texts_seen texts ++ flat_map texts_of_path (augments_seen xs)) (sym done) ∙ c.loop-augment.invariant.texts) in
     let made = sym (append-nil (steps_in paths))
-        ∙ (ap (λ (xs : List (Node Source)). steps_in paths ++ paths_from m (length texts) (augments_seen xs)) (sym done) ∙ c.loop-augment.invariant.paths) in
+    ∙ (ap (λ (xs : List (Node Source)). steps_in paths ++ paths_from m (length texts) (augments_seen xs)) (sym done) ∙ c.loop-augment.invariant.paths) in
     let count = ap length so_far ∙ length-append (map row_name slots) added in
     omega (arith, count, count_rows slots, all_within m (augments_seen augments) paths (length slots) augment n step made e)

@@ -3,7 +3,7 @@ use Rattle.std.proofs.lemmas.List.{append_assoc, drop_more, length_push, map-app
 use Rattle.std.specs.Borrow.{Bor}
 use Rattle.yspec.specs.text.Text.{Text}
 use Rattle.yspec.specs.linking.Prefixes.{NodeName}
-use Rattle.ygrammar.specs.NameView.{name_view, names_view}
+use Rattle.ygrammar.specs.NameView.{names_view}
 use Rattle.ygrammar.specs.declared.name.Name.{Name}
 use Rattle.yexpand.specs.Asking.{identifiers, steps_from, texts_seen}
 use Rattle.yexpand.specs.declared.search.Step.{Step}

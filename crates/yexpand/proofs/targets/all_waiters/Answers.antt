@@ -1,6 +1,5 @@
-use Rattle.std.proofs.Common.{◌≡◌, ◌∙◌, ◌++◌, ℕ, ◌<◌, List, [], ◌∷◌, sym, subst, ap, arith}
+use Rattle.std.proofs.Common.{sym, subst}
 use Rattle.yexpand.specs.Settling.{Among}
-use Rattle.yexpand.specs.declared.waiting.Waiter.{Waiter}
 use Rattle.yexpand.proofs.SettlingLemmas.{all_more, none_more}
 use Rattle.yexpand.proofs.targets.all_waiters.Goals as goal
 

@@ -1,12 +1,10 @@
-use Rattle.std.proofs.Common.{◌≡◌, Bool, true, false, sym, ap, subst, refl, ◌∙◌}
-use Rattle.yspec.specs.Forest.{Forest, node, end, join}
+use Rattle.std.proofs.Common.{sym, subst}
 use Rattle.yindex.specs.Index.{texts_of}
-use Rattle.ypreorder.specs.View.{row_by, label_by}
+use Rattle.ypreorder.specs.View.{row_by}
 use Rattle.ypreorder.proofs.RowLemmas.{takes_by, takes_none_by}
 use Rattle.yexpand.specs.Arranging.{taken, with_number}
 use Rattle.yexpand.specs.Hanging.{inner}
 use Rattle.yexpand.specs.SearchView.{Adds, AreTexts}
-use Rattle.yexpand.specs.declared.search.Search.{Search}
 use Rattle.yexpand.proofs.AddingLemmas.{adds_none, adds_both}
 use Rattle.yexpand.proofs.search.Search.add_body.Goals as goal
 

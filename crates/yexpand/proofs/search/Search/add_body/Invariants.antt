@@ -1,4 +1,3 @@
-use Rattle.std.proofs.Common.{◌≡◌}
 use Rattle.yindex.specs.Index.{texts_of}
 use Rattle.ypreorder.specs.View.{row_by}
 use Rattle.yexpand.specs.Arranging.{with_number}

@@ -1,6 +1,5 @@
-use Rattle.std.proofs.Common.{◌≡◌, sym, ap, subst, refl, ◌∙◌, Some, None}
-use Rattle.yspec.specs.Forest.{Forest, node, end}
-use Rattle.yspec.specs.linking.Parts.{Part}
+use Rattle.std.proofs.Common.{sym, ap, subst, refl, ◌∙◌}
+use Rattle.yspec.specs.Forest.{node, end}
 use Rattle.yindex.specs.Index.{texts_of}
 use Rattle.yindex.specs.Names.{text_in}
 use Rattle.yindex.specs.declared.keys.Among.TheVariants.{Children}
@@ -9,7 +8,6 @@ use Rattle.ypreorder.proofs.RowLemmas.{takes_by, takes_none_by}
 use Rattle.yexpand.specs.Arranging.{with_number}
 use Rattle.yexpand.specs.NodeView.{part_view}
 use Rattle.yexpand.specs.SearchView.{Adds, AreTexts}
-use Rattle.yexpand.specs.declared.search.Search.{Search}
 use Rattle.yexpand.proofs.AddingLemmas.{adds_none, adds_both, found_alone}
 use Rattle.yexpand.proofs.search.Search.add_row.Goals as goal
 

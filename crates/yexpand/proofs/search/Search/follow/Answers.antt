@@ -1,12 +1,10 @@
-use Rattle.std.proofs.Common.{refl, length, nat_cmp, ◌≡◌, ◌∙◌, ◌+◌, ℕ, suc, Option, Some, None, List, take, sym, ap, subst, arith, true, inl, inr}
+use Rattle.std.proofs.Common.{refl, length, nat_cmp, ◌≡◌, ◌∙◌, ◌+◌, suc, Some, None, take, sym, ap, subst, arith, true, inl}
 use Rattle.std.specs.Prelude.{slice_get, option_map}
 use Rattle.std.specs.BTreeSet.{Updates}
 use Rattle.std.proofs.lemmas.Option.{slice_get-map, slice_get_read, slice_get_past}
 use Rattle.std.proofs.lemmas.Bool.{ltb-true}
-use Rattle.yspec.specs.linking.Prefixes.{NodeName}
 use Rattle.yexpand.specs.Searching.{reached}
 use Rattle.yexpand.specs.SearchView.{look_in, name_in, names_in, path_at}
-use Rattle.yexpand.specs.declared.search.Step.{Step}
 use Rattle.yexpand.specs.declared.search.Search.{Search}
 use Rattle.yexpand.proofs.ReachedLemmas.{onward}
 use Rattle.yexpand.proofs.search.Search.follow.Goals as goal
@@ -30,5 +28,13 @@ loop-step-preserved c =
     }
 
 pub returns : goal.returns
-returns c = (c.loop-step.above, c.loop-step.found, c.loop-step.invariant.so_far, inl (subst (λ xs. slice_get xs c.loop-step.found ≡ None) (c.deref.ensures.value ∙ c.loop-step.invariant.path)
-    (slice_get_past c.deref.result.now c.loop-step.found c.in_default.ensures.lookup.3), record { index = ap (λ (s : Search). s.index) c.loop-step.invariant.same; names = ap (λ (s : Search). s.names) c.loop-step.invariant.same; waiting = ap (λ (s : Search). s.waiting) c.loop-step.invariant.same; arrived = subst (λ (s : Search). Updates nat_cmp s.arrived c.insert.new.self c.args.waiter.augment true) c.loop-step.invariant.same c.in_ok-insert.ensures.updates }))
+returns c = (
+  c.loop-step.above,
+  c.loop-step.found,
+  c.loop-step.invariant.so_far,
+  inl (
+    subst (λ xs. slice_get xs c.loop-step.found ≡ None) (c.deref.ensures.value ∙ c.loop-step.invariant.path)
+        (slice_get_past c.deref.result.now c.loop-step.found c.in_default.ensures.lookup.3),
+    record { index = ap (λ (s : Search). s.index) c.loop-step.invariant.same; names = ap (λ (s : Search). s.names) c.loop-step.invariant.same; waiting = ap (λ (s : Search). s.waiting) c.loop-step.invariant.same; arrived = subst (λ (s : Search). Updates nat_cmp s.arrived c.insert.new.self c.args.waiter.augment true) c.loop-step.invariant.same c.in_ok-insert.ensures.updates },
+  ),
+)

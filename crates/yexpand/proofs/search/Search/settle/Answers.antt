@@ -1,11 +1,10 @@
-use Rattle.std.proofs.Common.{◌≡◌, ◌∙◌, ◌+◌, ◌<◌, ℕ, None, Some, Option, List, [], ◌∷◌, drop, get_or, take, length, sym, subst, refl}
+use Rattle.std.proofs.Common.{◌≡◌, ◌∙◌, ◌+◌, None, Some, [], ◌∷◌, drop, get_or, take, sym, subst, refl}
 use Rattle.std.proofs.lemmas.List.{drop_more, at_drop_all}
 use Rattle.yindex.specs.declared.index.NodeIndex.{NodeIndex}
 use Rattle.yindex.specs.Index.{texts_of}
 use Rattle.yexpand.specs.Searching.{reached}
 use Rattle.yexpand.specs.SearchView.{look_by, names_by, path_at}
-use Rattle.yexpand.specs.Settling.{Among, StandsAt, Moves}
-use Rattle.yexpand.specs.declared.search.Search.{Search}
+use Rattle.yexpand.specs.Settling.{Moves}
 use Rattle.yexpand.specs.declared.waiting.Waiter.{Waiter}
 use Rattle.yexpand.proofs.SettlingLemmas.{moves_none, moves_both, moves_one, among_at}
 use Rattle.yexpand.proofs.search.Search.settle.Goals as goal

@@ -1,7 +1,7 @@
-use Rattle.std.proofs.Common.{◌≡◌, ◌++◌, sym, ap, ap₂, ◌∙◌, append_assoc}
+use Rattle.std.proofs.Common.{◌≡◌, ◌++◌, sym, ap, ◌∙◌, append_assoc}
 use Rattle.std.specs.List.{flat_map}
 use Rattle.std.proofs.lemmas.Grind.{flat_map-append}
-use Rattle.yspec.specs.Forest.{Forest, row}
+use Rattle.yspec.specs.Forest.{row}
 use Rattle.ypreorder.specs.View.{row_by}
 use Rattle.ypreorder.proofs.RowLemmas.{takes_by}
 use Rattle.yexpand.specs.Arranging.{with_number}

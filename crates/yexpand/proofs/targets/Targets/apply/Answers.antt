@@ -1,17 +1,13 @@
-use Rattle.std.proofs.Common.{◌≡◌, ◌∙◌, List, Some, sym, ap, ap₂, subst}
-use Rattle.std.specs.List.{flat_map}
+use Rattle.std.proofs.Common.{◌≡◌, ◌∙◌, sym, ap₂, subst}
 use Rattle.std.proofs.lemmas.Result.{on_ok_weaker}
-use Rattle.yspec.specs.Forest.{Forest, row}
-use Rattle.yspec.specs.linking.Parts.{Part}
+use Rattle.yspec.specs.Forest.{row}
 use Rattle.yindex.specs.Index.{texts_of}
 use Rattle.ypreorder.specs.View.{row_by}
 use Rattle.yexpand.specs.Arranging.{rows_of, taken, taken_for, with_number}
-use Rattle.yexpand.specs.Hanging.{Numbered}
 use Rattle.yexpand.specs.Picking.{source_at}
-use Rattle.yexpand.specs.SearchView.{woken_by, Adds, AreTexts}
+use Rattle.yexpand.specs.SearchView.{AreTexts}
 use Rattle.yexpand.specs.Settling.{Among, Hangs}
 use Rattle.yexpand.specs.TableView.{slots_of}
-use Rattle.yexpand.specs.declared.waiting.Waiter.{Waiter}
 use Rattle.yexpand.proofs.WakingLemmas.{hangs_there, sound_added, texts_taken, woken_stand}
 use Rattle.yexpand.proofs.targets.Targets.apply.Goals as goal
 

@@ -1,4 +1,4 @@
-use Rattle.std.proofs.Common.{◌≡◌, length}
+use Rattle.std.proofs.Common.{length}
 use Rattle.yexpand.specs.AugmentView.{augments_seen}
 use Rattle.yexpand.specs.Picking.{AllSettled, Passes}
 use Rattle.yexpand.specs.TableView.{slots_of}

@@ -1,11 +1,9 @@
-use Rattle.std.proofs.Common.{◌≡◌, ◌∙◌, ◌<◌, ◌++◌, ℕ, suc, List, [], ◌∷◌, false, true, Some, None, replicate, set, length, sym, ap, ap₂, subst, arith}
-use Rattle.std.proofs.lemmas.List.{length-map}
-use Rattle.yindex.specs.declared.index.NodeIndex.{NodeIndex}
+use Rattle.std.proofs.Common.{◌≡◌, ◌∙◌, ◌<◌, false, true, Some, None, replicate, set, length, sym, ap, subst, arith}
 use Rattle.yindex.specs.Index.{texts_of}
 use Rattle.yexpand.specs.AugmentView.{augments_seen}
 use Rattle.yexpand.specs.Arranging.{rows_of}
 use Rattle.yexpand.specs.NamedView.{modules_of}
-use Rattle.yexpand.specs.Picking.{is_waiting, count_left, AllSettled, Picks, Passes}
+use Rattle.yexpand.specs.Picking.{is_waiting, count_left, AllSettled, Picks}
 use Rattle.yexpand.specs.SearchView.{AreTexts}
 use Rattle.yexpand.specs.TableView.{slots_of}
 use Rattle.yexpand.specs.Turning.{Goes}

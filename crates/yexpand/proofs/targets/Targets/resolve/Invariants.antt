@@ -1,4 +1,3 @@
-use Rattle.std.proofs.Common.{◌≡◌}
 use Rattle.yexpand.specs.AugmentView.{augments_seen}
 use Rattle.yexpand.specs.NamedView.{modules_of}
 use Rattle.yexpand.specs.Picking.{count_left}

@@ -1,4 +1,4 @@
-use Rattle.std.proofs.Common.{◌≡◌, ◌∙◌, ◌<◌, ℕ, List, [], Some, None, Option, length, take, replicate, true, sym, ap, subst, arith}
+use Rattle.std.proofs.Common.{◌≡◌, [], None, length, take, replicate, true, sym, ap, subst, arith}
 use Rattle.std.proofs.lemmas.List.{length-map}
 use Rattle.std.proofs.lemmas.Result.{on_ok_weaker}
 use Rattle.yexpand.specs.AugmentView.{augment_view, augments_seen}
@@ -6,10 +6,9 @@ use Rattle.yexpand.specs.NamedView.{modules_of}
 use Rattle.yexpand.specs.Picking.{refused_by}
 use Rattle.yexpand.specs.Searching.{reached}
 use Rattle.yexpand.specs.SearchView.{look_in}
-use Rattle.yexpand.specs.Settling.{Among, steps_of, Settled}
+use Rattle.yexpand.specs.Settling.{Among, steps_of}
 use Rattle.yexpand.specs.TableView.{slots_of}
 use Rattle.yexpand.specs.Turning.{Goes}
-use Rattle.yexpand.specs.declared.waiting.Waiter.{Waiter}
 use Rattle.yexpand.proofs.ResolvingLemmas.{goes_first}
 use Rattle.yexpand.proofs.targets.Targets.start.Goals as goal
 
