@@ -29,3 +29,4 @@ pub mod WakingLemmas
 pub mod PickingLemmas
 pub mod LeftLemmas
 pub mod ResolvingLemmas
+pub mod StartingLemmas

@@ -12,6 +12,7 @@ pub mod Asking
 pub mod Settling
 pub mod Picking
 pub mod Turning
+pub mod Starting
 pub mod NodeView
 pub mod TableView
 pub mod Targets

@@ -15,6 +15,7 @@ mod paths;
 mod places;
 mod refining;
 mod search;
+mod starting;
 mod stating;
 mod table;
 mod target;

@@ -1,0 +1,1 @@
+use Rattle.yexpand.proofs.starting.add_placed.Goals as goal
