@@ -1,11 +1,11 @@
 -- The first child among all nodes as they lie is the first of the row below its parent.
-use Rattle.std.proofs.Common.{◌≡◌, ◌⊎◌, inl, inr, ℕ, zero, suc, ◌+◌, ◌<◌, ◌≤◌, ◌==◌, ◌&&◌, ◌||◌, Bool, true, false, cond, nat_lt, List, [], ◌∷◌, ◌++◌, drop, get_or, length, Option, Some, None, refl, sym, ap, ap₂, subst, ◌∙◌, arith}
-use Rattle.std.specs.Prelude.{slice_get, is_some, find, option_map, option_and_then}
+use Rattle.std.proofs.Common.{◌≡◌, ◌⊎◌, inl, inr, ℕ, suc, ◌+◌, ◌<◌, ◌≤◌, ◌==◌, ◌&&◌, ◌||◌, Bool, true, false, cond, nat_lt, List, [], ◌∷◌, ◌++◌, drop, get_or, length, Option, Some, None, refl, sym, ap, ap₂, ◌∙◌, arith}
+use Rattle.std.specs.Prelude.{is_some, option_map, option_and_then}
 use Rattle.std.proofs.lemmas.Bool.{eq-eqb, ne_eqb, lt-ltb, le-ltb}
 use Rattle.std.proofs.lemmas.List.{drop_more}
-use Rattle.yspec.specs.Forest.{Forest, end, node, join, size, row, first_of}
+use Rattle.yspec.specs.Forest.{Forest, end, node, size, first_of}
 use Rattle.yspec.specs.text.Text.{Text, is_text}
-use Rattle.yspec.specs.linking.Source.{Source, argument_in}
+use Rattle.yspec.specs.linking.Source.{argument_in}
 use Rattle.yspec.specs.linking.Parts.{Part}
 use Rattle.yspec.specs.linking.Prefixes.{NodeName}
 use Rattle.yspec.specs.linking.Expansion.{is_step}
@@ -19,8 +19,8 @@ use Rattle.yindex.specs.declared.keys.Among.TheVariants.{Children}
 use Rattle.yexpand.specs.NodeView.{numbered_part, part_view}
 use Rattle.yexpand.specs.SearchView.{look_by}
 use Rattle.yexpand.specs.declared.nodes.ExpandedNode.{ExpandedNode}
-use Rattle.yexpand.specs.Hanging.{Numbered, numbered, is_step_of}
-use Rattle.yexpand.specs.Searching.{Lookup, first_in, Agrees, AgreesAll}
+use Rattle.yexpand.specs.Hanging.{Numbered, numbered}
+use Rattle.yexpand.specs.Searching.{first_in}
 use Rattle.yexpand.specs.Starting.{is_child, first_child}
 use Rattle.yexpand.proofs.SearchLemmas.{of_none}
 
@@ -69,9 +69,11 @@ no_child first j name k q (node p below after) other out =
     apart : ((j < k) ⊎ (k + suc (size below + size after) ≤ j)) → j ≡ k → ⊥
     apart (inl less) e = absurd (omega (arith, less, e))
     apart (inr more) e = absurd (omega (arith, more, e))
+
     under : ((j < k) ⊎ (k + suc (size below + size after) ≤ j)) → (j < k + 1) ⊎ (k + 1 + size below ≤ j)
     under (inl less) = inl (omega (arith, less))
     under (inr more) = inr (omega (arith, more))
+
     behind : ((j < k) ⊎ (k + suc (size below + size after) ≤ j)) → (j < k + suc (size below)) ⊎ (k + suc (size below) + size after ≤ j)
     behind (inl less) = inl (omega (arith, less))
     behind (inr more) = inr (omega (arith, more))
@@ -169,7 +171,7 @@ pub not_placed : (first number : ℕ) (parent : Option ℕ) (p : Part) → (nat_
     → (above : Option ℕ) (name : NodeName) (o : Option ℕ) → o ≡ first_of o (cond (is_child first above number parent && is_step name p) (Some number) None)
 not_placed first number parent p out above name o =
     let none = ap (λ b. cond {A = Option ℕ} ((same_number above parent && b) && is_step name p) (Some number) None) out
-        ∙ ap (λ b. cond {A = Option ℕ} (b && is_step name p) (Some number) None) (and_false (same_number above parent)) in
+    ∙ ap (λ b. cond {A = Option ℕ} (b && is_step name p) (Some number) None) (and_false (same_number above parent)) in
     sym (ap (first_of o) none ∙ of_none o)
 
 -- one node further

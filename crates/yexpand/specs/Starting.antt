@@ -1,8 +1,6 @@
 -- What is found before any augment is applied: the first child of a name among all nodes as they lie.
 use Rattle.std.specs.Prelude.{ℕ, ◌+◌, ◌&&◌, ◌||◌, Bool, List, [], ◌∷◌, Option, Some, None, is_some, nat_lt, if◌then◌else◌}
-use Rattle.std.specs.Option.{option_map_or}
 use Rattle.yspec.specs.Forest.{first_of}
-use Rattle.yspec.specs.linking.Source.{Source}
 use Rattle.yspec.specs.linking.Parts.{Part}
 use Rattle.yspec.specs.linking.Prefixes.{NodeName}
 use Rattle.yspec.specs.linking.Expansion.{is_step}

@@ -1,1 +1,0 @@
-use Rattle.yexpand.proofs.starting.add_placed.Goals as goal

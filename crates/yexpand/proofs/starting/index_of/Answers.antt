@@ -1,7 +1,6 @@
 use Rattle.std.proofs.Common.{◌≡◌, ◌<◌, ◌∙◌, Some, ap, arith, get_or, length, subst, sym}
 use Rattle.std.proofs.lemmas.Option.{slice_get-get_or}
 use Rattle.ypreorder.specs.declared.slot.Slot.{Slot}
-use Rattle.yindex.specs.Index.{texts_of}
 use Rattle.yindex.specs.Names.{text_in}
 use Rattle.yexpand.specs.Asking.{row_name}
 use Rattle.yexpand.specs.SearchView.{look_by}
