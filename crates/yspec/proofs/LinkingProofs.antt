@@ -11,6 +11,7 @@ pub mod LinkedTextLemmas
 pub mod NewestLemmas
 pub mod ExpansionLemmas
 pub mod RightExpandedLemmas
+pub mod RightAugmentedLemmas
 pub mod StepLemmas
 pub mod RefineLemmas
 pub mod GroupingLemmas

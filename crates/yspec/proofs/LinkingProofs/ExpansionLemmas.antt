@@ -29,7 +29,7 @@ SameNodes end (node q c d) = ⊥
 SameNodes (node p b a) end = ⊥
 SameNodes (node p b a) (node q c d) = (p.source ≡ q.source) × (p.owner ≡ q.owner) × SameNodes b c × SameNodes a d
 
-same_itself : (f : Nodes) → SameNodes f f
+pub same_itself : (f : Nodes) → SameNodes f f
 same_itself end = tt
 same_itself (node p b a) = (refl, refl, same_itself b, same_itself a)
 

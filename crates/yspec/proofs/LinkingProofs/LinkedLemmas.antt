@@ -15,7 +15,8 @@ use Rattle.yspec.specs.linking.Prefixes.{prefix_breaks}
 use Rattle.yspec.specs.linking.DerivedTypes.{type_breaks}
 use Rattle.yspec.specs.linking.Scopes.{taken_breaks}
 use Rattle.yspec.specs.linking.Parts.{Part}
-use Rattle.yspec.specs.linking.Expansion.{expanded_parts, unfit_breaks}
+use Rattle.yspec.specs.linking.Expansion.{unfit_breaks}
+use Rattle.yspec.specs.linking.Augments.{augmented, augment_breaks, in_turn}
 use Rattle.yspec.specs.linking.NodeCounts.{node_count}
 use Rattle.yspec.specs.linking.Planned.{Plan, Around, around_below, planned}
 use Rattle.yspec.specs.linking.SchemaNodes.{schema_node}
@@ -24,11 +25,14 @@ use Rattle.yspec.specs.linking.Compiling.{plan_of, schema_of, is_too_deep, names
 use Rattle.yspec.proofs.LinkingProofs.BreakLemmas.{none_first, none_second, none_told}
 use Rattle.yspec.proofs.LinkingProofs.LegalLemmas.{are_modules, are_at}
 use Rattle.yspec.proofs.LinkingProofs.RightPartLemmas.{AreRight, bare_of}
-use Rattle.yspec.proofs.LinkingProofs.RightExpandedLemmas.{right_expanded}
+use Rattle.yspec.proofs.LinkingProofs.RightAugmentedLemmas.{right_augmented}
 use Rattle.yspec.proofs.BasicLemmas.{or_parts}
 
 abbrev pub plan_in : Forest Statement → Plan
 plan_in modules = plan_of (sources_of modules)
+
+abbrev pub parts_in : Forest Statement → Forest Part
+parts_in modules = (augmented (sources_of modules)).0
 
 -- ---- what every phase says
 
@@ -46,7 +50,7 @@ not_passed passed nothing (node s below after) true is e =
     absurd (let f : broken 18 some.0.0 some.0.1 ≡ [] = sym (ap (λ x. option_map_or (λ last. broken 18 last.0 last.1) x []) some.1) ∙ e in cc)
 
 none_deep : is_too_deep (plan_in end).nodes ≡ false
-unfolding planned sources_from
+unfolding planned sources_from in_turn
 none_deep = refl
 
 pub record BreaksNothing (modules : Forest Statement) : Type 0 where
@@ -63,7 +67,8 @@ breaks_nothing modules e =
     let deep = limit_breaks (is_too_deep plan.nodes) modules in
     let of_nodes = node_breaks plan ∷ deep ∷ [] in
     let of_names = name_breaks plan ∷ of_nodes in
-    let of_refines = unfit_breaks sources ∷ of_names in
+    let unfit = unfit_breaks sources ++ augment_breaks sources in
+    let of_refines = unfit ∷ of_names in
     let of_sizes = limit_breaks (nat_lt node_limit (node_count sources)) modules ∷ of_refines in
     let of_types = type_breaks sources ∷ of_sizes in
     let of_meanings = meanings_phase sources ∷ of_types in
@@ -73,7 +78,7 @@ breaks_nothing modules e =
     let third = none_told (meanings_phase sources) (first_broken of_types) second.1 in
     let fourth = none_told (type_breaks sources) (first_broken of_sizes) third.1 in
     let fifth = none_told (limit_breaks (nat_lt node_limit (node_count sources)) modules) (first_broken of_refines) fourth.1 in
-    let sixth = none_told (unfit_breaks sources) (first_broken of_names) fifth.1 in
+    let sixth = none_told unfit (first_broken of_names) fifth.1 in
     let seventh = none_told (name_breaks plan) (first_broken of_nodes) sixth.1 in
     let eighth = none_told (node_breaks plan) (first_broken (deep ∷ [])) seventh.1 in
     let ninth = none_told deep None eighth.1 in
@@ -153,9 +158,9 @@ linked_numbered modules schema e =
 
 -- ---- leafs
 
-pub right_plan : (modules : Forest Statement) → BreaksNothing modules → AreRight (length (schema_of modules).modules) (expanded_parts (sources_of modules))
+pub right_plan : (modules : Forest Statement) → BreaksNothing modules → AreRight (length (schema_of modules).modules) (parts_in modules)
 right_plan modules none =
-    right_expanded (plan_in modules) (sources_of modules) (are_modules 0 modules none.statements 0) (are_at 0 modules none.statements 0)
+    right_augmented (plan_in modules) (sources_of modules) (are_modules 0 modules none.statements 0) (are_at 0 modules none.statements 0)
 
 pub linked_bare : (modules : Forest Statement) (schema : Schema) → compiled modules ≡ Ok schema → LeafsAreBare schema.nodes
 linked_bare modules schema e =

@@ -13,7 +13,6 @@ use Rattle.yspec.specs.linking.Keyword.{Keyword, same_keyword, choice_word, case
 use Rattle.yspec.specs.linking.Source.{Source, sources_from, sources_of, argument_in}
 use Rattle.yspec.specs.linking.StatementBreaks.{top_breaks, breaks_from}
 use Rattle.yspec.specs.linking.Parts.{Part, defines_node}
-use Rattle.yspec.specs.linking.Expansion.{expanded_parts}
 use Rattle.yspec.specs.linking.Planned.{Planned, Plan, Around, at_top, planned_node, data_parent_below, around_below, planned}
 use Rattle.yspec.specs.linking.SchemaNodes.{kind_by, schema_node}
 use Rattle.yspec.specs.linking.Compiling.{schema_modules, schema_of, compiled}
@@ -22,7 +21,7 @@ use Rattle.yspec.proofs.LinkingProofs.KeywordLemmas.{by_definition}
 use Rattle.yspec.proofs.LinkingProofs.LegalLemmas.{AreModules, is_module, sources_first, are_modules}
 use Rattle.yspec.proofs.LinkingProofs.RightPartLemmas.{AllCases, IsRightAt, AreRight}
 use Rattle.yspec.proofs.LinkingProofs.ApartLemmas.{NoneLike, Apart, apart_of, Within, within_none, within_first, within_second, within_joined, apart_within, names_apart}
-use Rattle.yspec.proofs.LinkingProofs.LinkedLemmas.{plan_in, BreaksNothing, compiles, right_plan}
+use Rattle.yspec.proofs.LinkingProofs.LinkedLemmas.{plan_in, parts_in, BreaksNothing, compiles, right_plan}
 use Rattle.yspec.proofs.DocumentProofs.WrittenNameLemmas.{names_differ}
 use Rattle.yspec.proofs.BasicLemmas.{or_parts, texts_differ}
 use Rattle.yspec.proofs.IdentifierLemmas.{identifier_plain}
@@ -199,8 +198,8 @@ are_named modules none =
     let plan = plan_in modules in
     let right = right_plan modules none in
     let apart = apart_of [] (preorder plan.nodes) none.names in (
-      row_named (schema_of modules) plan 0 at_top (expanded_parts (sources_of modules)) right (inl refl) apart,
-      all_named (schema_of modules) plan 0 at_top (expanded_parts (sources_of modules)) right apart,
+      row_named (schema_of modules) plan 0 at_top (parts_in modules) right (inl refl) apart,
+      all_named (schema_of modules) plan 0 at_top (parts_in modules) right apart,
     )
 
 nodes_named : (schema : Schema) (plan : Plan) (next : ℕ) (around : Around) (f : Forest Part) → AreRight (length schema.modules) f
@@ -303,4 +302,4 @@ pub linked_nodes : (modules : Forest Statement) (schema : Schema) → compiled m
 linked_nodes modules schema e =
     let i = compiles modules schema e in
     subst (λ (s : Schema). NodesAreNamed s s.nodes) i.is
-    (nodes_named (schema_of modules) (plan_in modules) 0 at_top (expanded_parts (sources_of modules)) (right_plan modules i.none))
+    (nodes_named (schema_of modules) (plan_in modules) 0 at_top (parts_in modules) (right_plan modules i.none))

@@ -11,14 +11,13 @@ use Rattle.yspec.specs.text.Statement.{Statement}
 use Rattle.yspec.specs.schema.Schema.{Schema, SchemaNode, is_module, module_name, written_name}
 use Rattle.yspec.specs.linking.Source.{Source, sources_of, argument_in}
 use Rattle.yspec.specs.linking.Parts.{Part}
-use Rattle.yspec.specs.linking.Expansion.{expanded_parts}
 use Rattle.yspec.specs.linking.Planned.{Plan, Around, at_top, around_below, planned}
 use Rattle.yspec.specs.linking.SchemaNodes.{schema_node}
 use Rattle.yspec.specs.linking.Compiling.{schema_modules, schema_of, compiled}
 use Rattle.yspec.proofs.BasicLemmas.{ascii_text}
 use Rattle.yspec.proofs.LinkingProofs.LegalLemmas.{AreModules, are_modules}
 use Rattle.yspec.proofs.LinkingProofs.RightPartLemmas.{AreRight}
-use Rattle.yspec.proofs.LinkingProofs.LinkedLemmas.{plan_in, BreaksNothing, compiles, right_plan}
+use Rattle.yspec.proofs.LinkingProofs.LinkedLemmas.{plan_in, parts_in, BreaksNothing, compiles, right_plan}
 
 -- ---- identifiers
 
@@ -80,7 +79,7 @@ module_text plan home (suc i) (node s below after) legal = module_text plan (hom
 names_texts : (modules : Forest Statement) → BreaksNothing modules → NamesAreTexts (schema_of modules)
 names_texts modules none = (
   λ i. module_text (plan_in modules) 0 i (sources_of modules) (are_modules 0 modules none.statements 0),
-  nodes_texts (length (schema_of modules).modules) (plan_in modules) 0 at_top (expanded_parts (sources_of modules)) (right_plan modules none),
+  nodes_texts (length (schema_of modules).modules) (plan_in modules) 0 at_top (parts_in modules) (right_plan modules none),
 )
 
 pub linked_texts : (modules : Forest Statement) (schema : Schema) → compiled modules ≡ Ok schema → NamesAreTexts schema

@@ -57,14 +57,14 @@ below_choices k choice = turned (is_allowed uses_word (rule_of k).substatements)
 
 -- ---- laid rows
 
-record IsLaidAt (p : Part) (below : Nodes) : Type 0 where
+pub record IsLaidAt (p : Part) (below : Nodes) : Type 0 where
   defines : defines_node p.source.keyword ≡ true
   name : is_identifier (argument_in p.source) ≡ true
   bare : is_leaf_word p.source.keyword ≡ true → below ≡ end
   cases : same_keyword choice_word p.source.keyword ≡ true → AllCases below
 
 -- all but the `uses` among them
-abbrev AreLaid : Nodes → Type 0
+abbrev pub AreLaid : Nodes → Type 0
 AreLaid end = Unit {0}
 AreLaid (node p below after) = (is_uses p ≡ false → IsLaidAt p below) × AreLaid below × AreLaid after
 
@@ -112,7 +112,7 @@ laid_cases (node p below after) none right = by (same_keyword case_word p.source
       rest,
     )
 
-laid_right : (home : ℕ) (allowed : List Allowed) (f : Forest Source) → IsLegal home allowed f → AreLaid (laid f)
+pub laid_right : (home : ℕ) (allowed : List Allowed) (f : Forest Source) → IsLegal home allowed f → AreLaid (laid f)
 unfolding laid
 laid_right home allowed end legal = tt
 laid_right home allowed (node s below after) legal = by (defines_node s.keyword) refl (same_keyword uses_word s.keyword) refl
@@ -158,7 +158,7 @@ cases_replaced meant owner (node p below after) all = by (same_keyword uses_word
     by true is rest = absurd (let e = ap (same_keyword uses_word) (same_is case_word p.source.keyword all.0) in let f : false ≡ true = e ∙ is in cc)
     by false is rest = (all.0, rest)
 
-right_replaced : (count : ℕ) (meant : Part → Nodes) → ((u : Part) → AreRight count (meant u)) → (owner : ℕ) → owner < count → (f : Nodes) → AreLaid f
+pub right_replaced : (count : ℕ) (meant : Part → Nodes) → ((u : Part) → AreRight count (meant u)) → (owner : ℕ) → owner < count → (f : Nodes) → AreLaid f
     → AreRight count (replaced meant owner f)
 unfolding replaced
 right_replaced count meant right owner few end are_laid = tt
@@ -192,7 +192,7 @@ same_cases end (node q c d) same all = absurd same
 same_cases (node p b a) end same all = absurd same
 same_cases (node p b a) (node q c d) same all = (ap (is_source_of case_word) (sym same.0) ∙ all.0, same_cases a d same.3 all.1)
 
-same_right : (count : ℕ) (f g : Nodes) → SameNodes f g → AreRight count f → AreRight count g
+pub same_right : (count : ℕ) (f g : Nodes) → SameNodes f g → AreRight count f → AreRight count g
 same_right count end end same right = tt
 same_right count end (node q c d) same right = absurd same
 same_right count (node p b a) end same right = absurd same
@@ -211,10 +211,10 @@ same_right count (node p b a) (node q c d) same right = (
 -- ---- groupings
 
 -- each statement has a legal row below it
-abbrev LegalRow : Placed → Type 0
+abbrev pub LegalRow : Placed → Type 0
 LegalRow p = (home : ℕ) × IsLegal home (rule_of p.source.keyword).substatements p.below
 
-AllLegal : List Placed → Type 0
+pub AllLegal : List Placed → Type 0
 AllLegal [] = Unit {0}
 AllLegal (p ∷ ps) = LegalRow p × AllLegal ps
 
@@ -233,7 +233,7 @@ legal_placed home allowed ancestors (node s below after) legal = (
       (legal_placed home allowed ancestors after legal.2),
 )
 
-legal_statements : (home : ℕ) (f : Forest Source) → AreModules home f → AreAt home f → AllLegal (placed [] f)
+pub legal_statements : (home : ℕ) (f : Forest Source) → AreModules home f → AreAt home f → AllLegal (placed [] f)
 unfolding placed AllLegal
 legal_statements home end legal at = tt
 legal_statements home (node s below after) legal at = (
@@ -243,7 +243,7 @@ legal_statements home (node s below after) legal at = (
       (legal_statements (home + 1) after legal.2 at.2),
 )
 
-row_laid : (ps : List Placed) → AllLegal ps → (number : ℕ) → AreLaid (row_in (filter_map grouping_at ps) number)
+pub row_laid : (ps : List Placed) → AllLegal ps → (number : ℕ) → AreLaid (row_in (filter_map grouping_at ps) number)
 unfolding AllLegal
 row_laid [] legal number = tt
 row_laid (p ∷ ps) legal number = by (is_source_of grouping_word p.source) (row_laid ps legal.1 number)
@@ -270,7 +270,7 @@ used_laid modules groupings right u = by (number_named modules u.source.number)
     by None = tt
     by (Some number) = right number
 
-right_stands : (count : ℕ) (modules : Forest Source) (groupings : List Grouping) → ((number : ℕ) → AreLaid (row_in groupings number)) → (owner : ℕ) → owner < count
+pub right_stands : (count : ℕ) (modules : Forest Source) (groupings : List Grouping) → ((number : ℕ) → AreLaid (row_in groupings number)) → (owner : ℕ) → owner < count
     → (depth : ℕ) (u : Part) → AreRight count (stands_for modules groupings owner depth u)
 unfolding stands_for
 right_stands count modules groupings right owner few zero u = tt

@@ -12,9 +12,9 @@ use Rattle.yspec.specs.linking.Prefixes.{prefix_breaks}
 use Rattle.yspec.specs.linking.Scopes.{taken_breaks, lost_breaks}
 use Rattle.yspec.specs.linking.Circles.{import_circles, definition_circles}
 use Rattle.yspec.specs.linking.DerivedTypes.{type_breaks}
-use Rattle.yspec.specs.linking.Expansion.{expanded_parts, unfit_breaks}
+use Rattle.yspec.specs.linking.Expansion.{unfit_breaks}
 use Rattle.yspec.specs.linking.Augments as augments
-use Rattle.yspec.specs.linking.Augments.{augments_in, target_steps}
+use Rattle.yspec.specs.linking.Augments.{augments_in, augmented, augment_breaks, target_steps}
 use Rattle.yspec.specs.linking.NodeCounts.{node_count}
 use Rattle.yspec.specs.linking.Planned.{Planned, Plan, at_top, planned, nodes_of, same_number, way}
 use Rattle.yspec.specs.linking.SchemaNodes.{number_in, schema_nodes}
@@ -24,7 +24,7 @@ use Rattle.yspec.specs.schema.Schema.{Schema, SchemaModule, Augment}
 
 -- the nodes of a set of modules, in order of definition
 abbrev pub plan_of : Forest Source → Plan
-plan_of modules = record { modules = modules; nodes = planned 0 at_top (expanded_parts modules) }
+plan_of modules = record { modules = modules; nodes = planned 0 at_top (augmented modules).0 }
 
 -- ---- modules with their augments
 
@@ -69,7 +69,7 @@ is_too_deep nodes = nat_lt node_limit (size nodes) || nat_lt level_limit (levels
 -- the number of nodes is counted before any grouping is expanded
 abbrev pub phases_of_plan : Forest Statement → Plan → List (List Break)
 phases_of_plan modules plan = limit_breaks (nat_lt node_limit (node_count plan.modules)) modules
-    ∷ unfit_breaks plan.modules
+    ∷ (unfit_breaks plan.modules ++ augment_breaks plan.modules)
     ∷ name_breaks plan
     ∷ node_breaks plan
     ∷ limit_breaks (is_too_deep plan.nodes) modules ∷ []

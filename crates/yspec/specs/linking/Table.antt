@@ -1,8 +1,7 @@
 -- The table of statements: which argument each takes, and which substatements, how many of each (RFC 7950, 7 and 14).
-use Rattle.std.specs.Prelude.{Bool, not, List, [], ◌∷◌, ◌++◌, filter}
-use Rattle.std.specs.List.{list_any}
+use Rattle.std.specs.Prelude.{List, [], ◌∷◌, ◌++◌}
 pub use Rattle.yspec.specs.schema.Breaks.{Count, exactly_one, at_most_one, any_number}
-use Rattle.yspec.specs.linking.Keyword.{Keyword, same_keyword, module_word, yang_version_word, namespace_word, prefix_word, import_word, revision_date_word, organization_word, contact_word, description_word, reference_word, revision_word, extension_word, typedef_word, grouping_word, augment_word, container_word, leaf_word, leaf_list_word, list_word, choice_word, case_word, uses_word, refine_word, type_word, fraction_digits_word, range_word, length_word, enum_word, bit_word, path_word, require_instance_word, error_message_word, error_app_tag_word, value_word, position_word, units_word, default_word, config_word, mandatory_word, presence_word, min_elements_word, max_elements_word, ordered_by_word, status_word, key_word, unique_word}
+use Rattle.yspec.specs.linking.Keyword.{Keyword, module_word, yang_version_word, namespace_word, prefix_word, import_word, revision_date_word, organization_word, contact_word, description_word, reference_word, revision_word, extension_word, typedef_word, grouping_word, augment_word, container_word, leaf_word, leaf_list_word, list_word, choice_word, case_word, uses_word, refine_word, type_word, fraction_digits_word, range_word, length_word, enum_word, bit_word, path_word, require_instance_word, error_message_word, error_app_tag_word, value_word, position_word, units_word, default_word, config_word, mandatory_word, presence_word, min_elements_word, max_elements_word, ordered_by_word, status_word, key_word, unique_word}
 use Rattle.yspec.specs.linking.Arguments.{Form, identifier_form, name_form, date_form, relative_path_form, absolute_path_form, leafref_path_form, key_form, unique_form, flag_form, status_form, ordered_by_form, count_form, max_elements_form, value_form, fraction_digits_form, spans_form, any_form}
 
 pub record Allowed : Type 0 where
@@ -84,63 +83,50 @@ in_choice = perhaps default_word ∷ perhaps config_word ∷ perhaps mandatory_w
 abbrev pub in_refine : List Allowed
 in_refine = many default_word ∷ perhaps mandatory_word ∷ perhaps presence_word ∷ perhaps config_word ∷ (amounts ++ texts)
 
-abbrev pub whole_rule_of : Keyword → Rule
-whole_rule_of module_word = rule identifier_form in_module
-whole_rule_of yang_version_word = rule any_form []
-whole_rule_of namespace_word = rule any_form []
-whole_rule_of prefix_word = rule identifier_form []
-whole_rule_of import_word = rule identifier_form in_import
-whole_rule_of revision_date_word = rule date_form []
-whole_rule_of organization_word = rule any_form []
-whole_rule_of contact_word = rule any_form []
-whole_rule_of description_word = rule any_form []
-whole_rule_of reference_word = rule any_form []
-whole_rule_of revision_word = rule date_form texts
-whole_rule_of extension_word = rule any_form []
-whole_rule_of typedef_word = rule identifier_form in_typedef
-whole_rule_of grouping_word = rule identifier_form (definitions ++ nodes ++ doc)
-whole_rule_of augment_word = rule absolute_path_form (many case_word ∷ (nodes ++ doc))
-whole_rule_of container_word = rule identifier_form in_container
-whole_rule_of leaf_word = rule identifier_form in_leaf
-whole_rule_of leaf_list_word = rule identifier_form in_leaf_list
-whole_rule_of list_word = rule identifier_form in_list
-whole_rule_of choice_word = rule identifier_form in_choice
-whole_rule_of case_word = rule identifier_form (nodes ++ doc)
-whole_rule_of uses_word = rule name_form (many refine_word ∷ doc)
-whole_rule_of refine_word = rule relative_path_form in_refine
-whole_rule_of type_word = rule name_form in_type
-whole_rule_of fraction_digits_word = rule fraction_digits_form []
-whole_rule_of range_word = rule spans_form in_range
-whole_rule_of length_word = rule spans_form in_range
-whole_rule_of enum_word = rule any_form (perhaps value_word ∷ doc)
-whole_rule_of bit_word = rule identifier_form (perhaps position_word ∷ doc)
-whole_rule_of path_word = rule leafref_path_form []
-whole_rule_of require_instance_word = rule flag_form []
-whole_rule_of error_message_word = rule any_form []
-whole_rule_of error_app_tag_word = rule any_form []
-whole_rule_of value_word = rule value_form []
-whole_rule_of position_word = rule count_form []
-whole_rule_of units_word = rule any_form []
-whole_rule_of default_word = rule any_form []
-whole_rule_of config_word = rule flag_form []
-whole_rule_of mandatory_word = rule flag_form []
-whole_rule_of presence_word = rule any_form []
-whole_rule_of min_elements_word = rule count_form []
-whole_rule_of max_elements_word = rule max_elements_form []
-whole_rule_of ordered_by_word = rule ordered_by_form []
-whole_rule_of status_word = rule status_form []
-whole_rule_of key_word = rule key_form []
-whole_rule_of unique_word = rule unique_form []
-
--- ---- what is compiled today
-
--- Statements that no part of the compiler knows yet. They are misplaced wherever they stand.
-abbrev pub not_yet : List Keyword
-not_yet = augment_word ∷ []
-
-abbrev pub is_compiled : Allowed → Bool
-is_compiled a = not (list_any (same_keyword a.keyword) not_yet)
-
--- what a statement may have today
 abbrev pub rule_of : Keyword → Rule
-rule_of k = let r = whole_rule_of k in rule r.form (filter is_compiled r.substatements)
+rule_of module_word = rule identifier_form in_module
+rule_of yang_version_word = rule any_form []
+rule_of namespace_word = rule any_form []
+rule_of prefix_word = rule identifier_form []
+rule_of import_word = rule identifier_form in_import
+rule_of revision_date_word = rule date_form []
+rule_of organization_word = rule any_form []
+rule_of contact_word = rule any_form []
+rule_of description_word = rule any_form []
+rule_of reference_word = rule any_form []
+rule_of revision_word = rule date_form texts
+rule_of extension_word = rule any_form []
+rule_of typedef_word = rule identifier_form in_typedef
+rule_of grouping_word = rule identifier_form (definitions ++ nodes ++ doc)
+rule_of augment_word = rule absolute_path_form (many case_word ∷ (nodes ++ doc))
+rule_of container_word = rule identifier_form in_container
+rule_of leaf_word = rule identifier_form in_leaf
+rule_of leaf_list_word = rule identifier_form in_leaf_list
+rule_of list_word = rule identifier_form in_list
+rule_of choice_word = rule identifier_form in_choice
+rule_of case_word = rule identifier_form (nodes ++ doc)
+rule_of uses_word = rule name_form (many refine_word ∷ doc)
+rule_of refine_word = rule relative_path_form in_refine
+rule_of type_word = rule name_form in_type
+rule_of fraction_digits_word = rule fraction_digits_form []
+rule_of range_word = rule spans_form in_range
+rule_of length_word = rule spans_form in_range
+rule_of enum_word = rule any_form (perhaps value_word ∷ doc)
+rule_of bit_word = rule identifier_form (perhaps position_word ∷ doc)
+rule_of path_word = rule leafref_path_form []
+rule_of require_instance_word = rule flag_form []
+rule_of error_message_word = rule any_form []
+rule_of error_app_tag_word = rule any_form []
+rule_of value_word = rule value_form []
+rule_of position_word = rule count_form []
+rule_of units_word = rule any_form []
+rule_of default_word = rule any_form []
+rule_of config_word = rule flag_form []
+rule_of mandatory_word = rule flag_form []
+rule_of presence_word = rule any_form []
+rule_of min_elements_word = rule count_form []
+rule_of max_elements_word = rule max_elements_form []
+rule_of ordered_by_word = rule ordered_by_form []
+rule_of status_word = rule status_form []
+rule_of key_word = rule key_form []
+rule_of unique_word = rule unique_form []
