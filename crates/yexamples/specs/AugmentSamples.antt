@@ -1,44 +1,22 @@
 -- Worked examples: modules that augment one another, and the schema that they make or what is told of them.
-use Rattle.std.specs.Prelude.{List, [], ◌∷◌, ◌++◌, codes, Result, Ok, Err}
-use Rattle.std.specs.Option.{option_map_or}
+use Rattle.std.specs.Prelude.{List, [], ◌∷◌, ◌++◌, codes, Result, Ok}
 use Rattle.yspec.specs.Forest.{Forest}
 use Rattle.yspec.specs.text.Text.{Text}
 use Rattle.yspec.specs.program.Examples.{module_text}
-use Rattle.yspec.specs.schema.Breaks.{Break, first_broken}
+use Rattle.yspec.specs.schema.Breaks.{Break}
 use Rattle.yspec.specs.schema.Schema.{Schema}
 use Rattle.yspec.specs.linking.Source.{Source}
-use Rattle.yexamples.specs.ScopeSamples.{sources_in}
-use Rattle.yspec.specs.linking.Expansion.{unfit_breaks}
-use Rattle.yspec.specs.linking.Augments.{augmented, augment_breaks}
-use Rattle.yspec.specs.linking.Planned.{Plan, at_top, planned}
-use Rattle.yspec.specs.linking.NodeBreaks.{name_breaks, node_breaks}
-use Rattle.yspec.specs.linking.Compiling.{schema_of_plan}
+use Rattle.yexamples.specs.LinkingSamples.{statements_in}
+use Rattle.yspec.specs.linking.NodeBreaks.{node_breaks}
+use Rattle.yspec.specs.linking.Compiling.{plan_of, schema_of}
 
--- ---- what comes of augments
-
--- the nodes of a set of modules with all that augments add
-abbrev pub plan_with : Forest Source → Plan
-plan_with modules = record { modules = modules; nodes = planned 0 at_top (augmented modules).0 }
-
--- the phases that judge refines, augments and nodes
-abbrev pub phases_with : Plan → List (List Break)
-phases_with plan =
-    (unfit_breaks plan.modules ++ augment_breaks plan.modules) ∷ name_breaks plan ∷ node_breaks plan ∷ []
-
-abbrev pub made_by : Plan → Result Schema Break
-made_by plan = option_map_or Err (first_broken (phases_with plan)) (Ok (schema_of_plan plan))
-
--- the schema of some texts, or what those phases tell
-abbrev pub augmented_texts : List Text → Result Schema Break
-augmented_texts texts = made_by (plan_with (sources_in texts))
-
--- the schema whatever is told
+-- the schema of some texts whatever is told
 abbrev pub made_anyway : List Text → Result Schema Break
-made_anyway texts = Ok (schema_of_plan (plan_with (sources_in texts)))
+made_anyway texts = Ok (schema_of (statements_in texts))
 
 -- all that is told of nodes
 abbrev pub additions_told : Forest Source → List Break
-additions_told modules = node_breaks (plan_with modules)
+additions_told modules = node_breaks (plan_of modules)
 
 -- ---- modules
 

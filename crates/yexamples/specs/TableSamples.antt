@@ -5,7 +5,7 @@ use Rattle.yspec.specs.text.Text.{Text}
 use Rattle.yspec.specs.schema.Breaks.{Count, exactly_one, at_most_one, any_number}
 use Rattle.yspec.specs.linking.Keyword.{Keyword, keyword_text}
 use Rattle.yspec.specs.linking.Arguments.{Form, identifier_form, name_form, date_form, relative_path_form, absolute_path_form, leafref_path_form, key_form, unique_form, flag_form, status_form, ordered_by_form, count_form, max_elements_form, value_form, fraction_digits_form, spans_form, any_form}
-use Rattle.yspec.specs.linking.Table.{Allowed, whole_rule_of}
+use Rattle.yspec.specs.linking.Table.{Allowed, rule_of}
 
 abbrev pub count_text : Count → Text
 count_text exactly_one = codes "1"
@@ -37,7 +37,7 @@ allowed_text a = codes " " ++ (keyword_text a.keyword ++ (codes " " ++ count_tex
 
 -- a keyword, the form of its argument, and its substatements
 abbrev pub row_text : Keyword → Text
-row_text k = let r = whole_rule_of k in
+row_text k = let r = rule_of k in
     keyword_text k ++ (codes " " ++ (form_text r.form ++ (codes ":" ++ (flat_map allowed_text r.substatements ++ codes "\n"))))
 
 abbrev pub table_text : List Keyword → Text

@@ -9,41 +9,42 @@ ghost use Rattle.yspec.specs.types.Types.{integer_base, uint8, plain};
 ghost use Rattle.yexamples.specs.SchemaExamples.{of_base, referring};
 ghost use Rattle.yexamples.specs.ScopeSamples.{all_told};
 ghost use Rattle.yexamples.specs.ExpansionSamples.{kinds_in, names_in, drawn, text_leaf, plain_container, number_leaf, used_number, told_in, count_of_texts};
-ghost use Rattle.yexamples.specs.AugmentSamples.{augmented_texts, made_anyway, additions_told, m_and_a, added_to_c, added_to_choice, a_b_and_m, three_with};
+ghost use Rattle.yexamples.specs.CompilingSamples.{compiled_texts};
+ghost use Rattle.yexamples.specs.AugmentSamples.{made_anyway, additions_told, m_and_a, added_to_c, added_to_choice, a_b_and_m, three_with};
 
 /// A container, in it a container of another module, and in that a leaf of a third, whose module is given first.
 pub fn nodes_of_three_modules()
-    ensures nodes { names_in (augmented_texts (three_with (codes "leaf y { type string; }")))
+    ensures nodes { names_in (compiled_texts (three_with (codes "leaf y { type string; }")))
         ≡ (2, codes "c") ∷ (1, codes "x") ∷ (0, codes "y") ∷ [] }
-    ensures of_the_container { drawn 2 (augmented_texts (three_with
+    ensures of_the_container { drawn 2 (compiled_texts (three_with
         (codes "leaf y { type string; }")))
         ≡ codes "module: m\n  +--rw c\n     +--rw b:x\n        +--rw a:y?   string\n" }
-    ensures of_the_second { drawn 1 (augmented_texts (three_with (codes "leaf y { type string; }")))
+    ensures of_the_second { drawn 1 (compiled_texts (three_with (codes "leaf y { type string; }")))
         ≡ codes "module: b\n\n  augment /m:c:\n    +--rw x\n       +--rw a:y?   string\n" }
-    ensures of_the_third { drawn 0 (augmented_texts (three_with (codes "leaf y { type string; }")))
+    ensures of_the_third { drawn 0 (compiled_texts (three_with (codes "leaf y { type string; }")))
         ≡ codes "module: a\n\n  augment /m:c/b:x:\n    +--rw y?   string\n" }
 {}
 
 /// Always the first augment that has its target by then, in the order of modules and their texts.
 pub fn augments_in_turn()
-    ensures in_order { names_in (augmented_texts (added_to_c
+    ensures in_order { names_in (compiled_texts (added_to_c
         (codes "  augment /m:c { leaf q { type string; } }\n"
         ++ codes "  augment /m:c { leaf p { type string; } }\n")))
         ≡ (0, codes "c") ∷ (1, codes "q") ∷ (1, codes "p") ∷ [] }
-    ensures the_first { names_in (augmented_texts (added_to_c
+    ensures the_first { names_in (compiled_texts (added_to_c
         (codes "  augment /m:c/x { leaf p { type string; } }\n" ++
         (codes "  augment /m:c { leaf q { type string; } }\n  augment /m:c { container x { } }\n"
         ++ codes "  augment /m:c/x { leaf r { type string; } }\n"))))
         ≡ (0, codes "c") ∷ (1, codes "q") ∷ (1, codes "x") ∷ (1, codes "p")
         ∷ (1, codes "r") ∷ [] }
-    ensures one_by_one { names_in (augmented_texts (added_to_c
+    ensures one_by_one { names_in (compiled_texts (added_to_c
         (codes "  augment /m:c/x/z { leaf p { type string; } }\n" ++
         (codes "  augment /m:c/x { container z { } }\n  augment /m:c { container x { } }\n" ++
         (codes "  augment /m:c/x/z { leaf r { type string; } }\n"
         ++ codes "  augment /m:c/x { leaf s { type string; } }\n")))))
         ≡ (0, codes "c") ∷ (1, codes "x") ∷ (1, codes "z") ∷ (1, codes "p")
         ∷ (1, codes "r") ∷ (1, codes "s") ∷ [] }
-    ensures of_modules { names_in (augmented_texts (module_text (codes "b")
+    ensures of_modules { names_in (compiled_texts (module_text (codes "b")
         (codes "  import m { prefix m; }\n  augment /m:c { leaf z { type string; } }\n")
         ∷ m_and_a (codes "  container c { }\n  augment /c { leaf o { type string; } }\n")
         (codes "  augment /m:c { leaf y { type string; } }\n")))
@@ -52,74 +53,74 @@ pub fn augments_in_turn()
 
 /// Each augment is drawn with what it adds itself, in the order of the text, whatever comes first in turn.
 pub fn drawn_augments()
-    ensures in_order { drawn 0 (augmented_texts (a_b_and_m
+    ensures in_order { drawn 0 (compiled_texts (a_b_and_m
         (codes "  augment /m:c/b:x { leaf p { type string; } }\n"
         ++ codes "  augment /m:c { leaf longer { type string; } }\n")))
         ≡ codes "module: a\n\n  augment /m:c/b:x:\n    +--rw p?   string\n"
         ++ codes "\n  augment /m:c:\n    +--rw longer?   string\n" }
-    ensures in_turn { drawn 2 (augmented_texts (a_b_and_m
+    ensures in_turn { drawn 2 (compiled_texts (a_b_and_m
         (codes "  augment /m:c/b:x { leaf p { type string; } }\n"
         ++ codes "  augment /m:c { leaf longer { type string; } }\n")))
         ≡ codes "module: m\n  +--rw c\n     +--rw a:longer?   string\n"
         ++ codes "     +--rw b:x\n        +--rw a:p?   string\n" }
-    ensures one_target { drawn 0 (augmented_texts (a_b_and_m
+    ensures one_target { drawn 0 (compiled_texts (a_b_and_m
         (codes "  augment /m:c { leaf p { type string; } }\n"
         ++ codes "  augment /m:c { leaf longer { type string; } }\n")))
         ≡ codes "module: a\n\n  augment /m:c:\n    +--rw p?   string\n"
         ++ codes "\n  augment /m:c:\n    +--rw longer?   string\n" }
-    ensures in_a_case { drawn 1 (augmented_texts (added_to_choice
+    ensures in_a_case { drawn 1 (compiled_texts (added_to_choice
         (codes "  augment /m:h/m:k { leaf y { type string; } }\n")))
         ≡ codes "module: a\n\n  augment /m:h/m:k:\n    +--rw y?   string\n" }
-    ensures nothing { drawn 1 (augmented_texts (added_to_c
+    ensures nothing { drawn 1 (compiled_texts (added_to_c
         (codes "  augment /m:c { description x; }\n")))
         ≡ codes "module: a\n\n  augment /m:c:\n" }
 {}
 
 /// What is added comes last below the target, and belongs to the module of the augment.
 pub fn added_nodes()
-    ensures last { names_in (augmented_texts (m_and_a
+    ensures last { names_in (compiled_texts (m_and_a
         (codes "  container c { leaf u { type string; } leaf t { type string; } }\n")
         (codes "  augment /m:c { leaf w { type string; } leaf v { type string; } }\n")))
         ≡ (0, codes "c") ∷ (0, codes "u") ∷ (0, codes "t") ∷ (1, codes "w")
         ∷ (1, codes "v") ∷ [] }
-    ensures of_its_own_module { drawn 0 (augmented_texts (module_text (codes "m")
+    ensures of_its_own_module { drawn 0 (compiled_texts (module_text (codes "m")
         (codes "  augment /c { leaf v { type string; } }\n  container c { }\n") ∷ []))
         ≡ codes "module: m\n  +--rw c\n     +--rw v?   string\n" }
-    ensures one_name_in_two_modules { names_in (augmented_texts (m_and_a
+    ensures one_name_in_two_modules { names_in (compiled_texts (m_and_a
         (codes "  container c { leaf v { type string; } }\n")
         (codes "  augment /m:c { leaf v { type string; } }\n")))
         ≡ (0, codes "c") ∷ (0, codes "v") ∷ (1, codes "v") ∷ [] }
-    ensures one_name_twice { augmented_texts (added_to_c
+    ensures one_name_twice { compiled_texts (added_to_c
         (codes "  augment /m:c { leaf v { type string; } }\n  augment /m:c {\n"
         ++ codes "    leaf v { type string; } }\n"))
         ≡ told_in 1 13 8 }
-    ensures state { drawn 0 (augmented_texts (m_and_a
+    ensures state { drawn 0 (compiled_texts (m_and_a
         (codes "  container c { config false; }\n")
         (codes "  augment /m:c { leaf v { type string; } }\n")))
         ≡ codes "module: m\n  +--ro c\n     +--ro a:v?   string\n" }
-    ensures types { kinds_in (augmented_texts (m_and_a
+    ensures types { kinds_in (compiled_texts (m_and_a
         (codes "  typedef t { type string; }\n  container c { }\n")
         (codes "  typedef t { type uint8; }\n  augment /m:c { leaf v { type t; } }\n")))
         ≡ plain_container (codes "c")
         ∷ (codes "v", leaf (of_base (codes "t") (integer_base uint8)) allowed) ∷ [] }
-    ensures single_nodes { kinds_in (augmented_texts (added_to_choice
+    ensures single_nodes { kinds_in (compiled_texts (added_to_choice
         (codes "  augment /m:h { leaf y { type string; } case z { leaf w { type string; } } }\n")))
         ≡ (codes "h", choice None false) ∷ (codes "k", case) ∷ plain_container (codes "k")
         ∷ (codes "y", case) ∷ text_leaf (codes "y") allowed ∷ (codes "z", case)
         ∷ text_leaf (codes "w") allowed ∷ [] }
-    ensures cases { drawn 0 (augmented_texts (added_to_choice
+    ensures cases { drawn 0 (compiled_texts (added_to_choice
         (codes "  augment /m:h { leaf y { type string; } case z { leaf w { type string; } } }\n")))
         ≡ codes "module: m\n  +--rw (h)?\n     +--:(k)\n     |  +--rw k\n     +--:(a:y)\n"
         ++ codes "     |  +--rw a:y?   string\n     +--:(a:z)\n        +--rw a:w?   string\n" }
-    ensures added_cases { drawn 1 (augmented_texts (added_to_choice
+    ensures added_cases { drawn 1 (compiled_texts (added_to_choice
         (codes "  augment /m:h { leaf y { type string; } case z { leaf w { type string; } } }\n")))
         ≡ codes "module: a\n\n  augment /m:h:\n    +--:(y)\n    |  +--rw y?   string\n"
         ++ codes "    +--:(z)\n       +--rw w?   string\n" }
-    ensures used { names_in (augmented_texts (m_and_a
+    ensures used { names_in (compiled_texts (m_and_a
         (codes "  grouping g { leaf v { type string; } container o { } }\n  container c { }\n")
         (codes "  augment /m:c { uses m:g; leaf w { type string; } }\n")))
         ≡ (0, codes "c") ∷ (1, codes "v") ∷ (1, codes "o") ∷ (1, codes "w") ∷ [] }
-    ensures refined { kinds_in (augmented_texts (added_to_c
+    ensures refined { kinds_in (compiled_texts (added_to_c
         (codes "  grouping g { leaf v { type uint8; } }\n"
         ++ codes "  augment /m:c { uses g { refine v { default 7; } } }\n")))
         ≡ plain_container (codes "c") ∷ number_leaf (codes "v") (used_number 7) ∷ [] }
@@ -127,26 +128,26 @@ pub fn added_nodes()
 
 /// A path leads through choices and cases; a name without a prefix is of the module of the augment.
 pub fn ways_to_targets()
-    ensures to_a_case { drawn 0 (augmented_texts (added_to_choice
+    ensures to_a_case { drawn 0 (compiled_texts (added_to_choice
         (codes "  augment /m:h/m:k { leaf y { type string; } }\n")))
         ≡ codes "module: m\n  +--rw (h)?\n     +--:(k)\n        +--rw k\n        +--rw a:y?   string\n" }
-    ensures through_a_case { drawn 0 (augmented_texts (added_to_choice
+    ensures through_a_case { drawn 0 (compiled_texts (added_to_choice
         (codes "  augment /m:h/m:k/m:k { leaf y { type string; } }\n")))
         ≡ codes "module: m\n  +--rw (h)?\n     +--:(k)\n        +--rw k\n           +--rw a:y?   string\n" }
-    ensures without_the_choice { augmented_texts (added_to_choice
+    ensures without_the_choice { compiled_texts (added_to_choice
         (codes "  augment /m:k { leaf y { type string; } }\n"))
         ≡ told_in 1 14 6 }
-    ensures to_a_list { names_in (augmented_texts (m_and_a
+    ensures to_a_list { names_in (compiled_texts (m_and_a
         (codes "  list l { key k; leaf k { type string; } }\n")
         (codes "  augment /m:l { leaf y { type string; } }\n")))
         ≡ (0, codes "l") ∷ (0, codes "k") ∷ (1, codes "y") ∷ [] }
-    ensures plain_names { names_in (augmented_texts (added_to_c
+    ensures plain_names { names_in (compiled_texts (added_to_c
         (codes "  container c { }\n  augment /c { leaf y { type string; } }\n")))
         ≡ (0, codes "c") ∷ (1, codes "c") ∷ (1, codes "y") ∷ [] }
-    ensures plain_names_of_others { augmented_texts (added_to_c
+    ensures plain_names_of_others { compiled_texts (added_to_c
         (codes "  augment /c { leaf y { type string; } }\n"))
         ≡ told_in 1 14 6 }
-    ensures its_own_prefix { names_in (augmented_texts (added_to_c
+    ensures its_own_prefix { names_in (compiled_texts (added_to_c
         (codes "  augment /m:c { container x { } }\n"
         ++ codes "  augment /m:c/a:x { leaf y { type string; } }\n")))
         ≡ (0, codes "c") ∷ (1, codes "x") ∷ (1, codes "y") ∷ [] }
@@ -166,28 +167,28 @@ pub fn ways_to_targets()
 
 /// Augments without a target, or with one that may not take all that they add; and unfit refines in them.
 pub fn augments_that_are_left()
-    ensures no_target { augmented_texts (added_to_c
+    ensures no_target { compiled_texts (added_to_c
         (codes "  augment /m:d { leaf y { type string; } }\n"))
         ≡ told_in 1 14 6 }
-    ensures no_way { augmented_texts (added_to_c
+    ensures no_way { compiled_texts (added_to_c
         (codes "  augment /m:d/m:c { leaf y { type string; } }\n"))
         ≡ told_in 1 14 6 }
-    ensures leaf { augmented_texts (m_and_a (codes "  leaf c { type string; }\n")
+    ensures leaf { compiled_texts (m_and_a (codes "  leaf c { type string; }\n")
         (codes "  augment /m:c { leaf y { type string; } }\n"))
         ≡ told_in 1 14 6 }
-    ensures leaf_list { augmented_texts (m_and_a (codes "  leaf-list c { type string; }\n")
+    ensures leaf_list { compiled_texts (m_and_a (codes "  leaf-list c { type string; }\n")
         (codes "  augment /m:c { leaf y { type string; } }\n"))
         ≡ told_in 1 14 6 }
-    ensures case_in_a_container { augmented_texts (added_to_c
+    ensures case_in_a_container { compiled_texts (added_to_c
         (codes "  augment /m:c {\n    leaf y { type string; } case k { } }\n"))
         ≡ told_in 1 14 6 }
-    ensures case_in_a_case { augmented_texts (added_to_choice
+    ensures case_in_a_case { compiled_texts (added_to_choice
         (codes "  augment /m:h/m:k { case z { } }\n"))
         ≡ told_in 1 14 6 }
-    ensures uses_in_a_choice { augmented_texts (added_to_choice
+    ensures uses_in_a_choice { compiled_texts (added_to_choice
         (codes "  grouping g { leaf y { type string; } }\n  augment /m:h { uses g; }\n"))
         ≡ told_in 1 14 7 }
-    ensures uses_in_a_case { names_in (augmented_texts (added_to_choice
+    ensures uses_in_a_case { names_in (compiled_texts (added_to_choice
         (codes "  grouping g { leaf y { type string; } }\n  augment /m:h/m:k { uses g; }\n")))
         ≡ (0, codes "h") ∷ (0, codes "k") ∷ (0, codes "k") ∷ (1, codes "y") ∷ [] }
     ensures that_alone { all_told left_breaks (added_to_c
@@ -215,25 +216,25 @@ pub fn augments_that_are_left()
 
 /// Configuration that must be may not be added to a node of another module; what must be is judged once all is added.
 pub fn configuration_added_to_others()
-    ensures leaf { augmented_texts (added_to_c
+    ensures leaf { compiled_texts (added_to_c
         (codes "  augment /m:c {\n    leaf y { type string; mandatory true; } }\n"))
         ≡ told_in 1 15 6 }
-    ensures choice { augmented_texts (added_to_c
+    ensures choice { compiled_texts (added_to_c
         (codes "  augment /m:c {\n    choice y { mandatory true; leaf z { type string; } } }\n"))
         ≡ told_in 1 15 6 }
-    ensures list { augmented_texts (added_to_c (codes "  augment /m:c {\n"
+    ensures list { compiled_texts (added_to_c (codes "  augment /m:c {\n"
         ++ codes "    list y { key k; min-elements 1; leaf k { type string; } } }\n"))
         ≡ told_in 1 15 6 }
-    ensures list_of_none { names_in (augmented_texts (added_to_c (codes "  augment /m:c {\n"
+    ensures list_of_none { names_in (compiled_texts (added_to_c (codes "  augment /m:c {\n"
         ++ codes "    list y { key k; leaf k { type string; mandatory true; } } }\n")))
         ≡ (0, codes "c") ∷ (1, codes "y") ∷ (1, codes "k") ∷ [] }
-    ensures leaf_list { augmented_texts (added_to_c
+    ensures leaf_list { compiled_texts (added_to_c
         (codes "  augment /m:c {\n    leaf-list y { type string; min-elements 1; } }\n"))
         ≡ told_in 1 15 6 }
-    ensures container { augmented_texts (added_to_c (codes "  augment /m:c {\n"
+    ensures container { compiled_texts (added_to_c (codes "  augment /m:c {\n"
         ++ codes "    container x { leaf y { type string; mandatory true; } } }\n"))
         ≡ told_in 1 15 6 }
-    ensures presence { names_in (augmented_texts (added_to_c (codes "  augment /m:c {\n"
+    ensures presence { names_in (compiled_texts (added_to_c (codes "  augment /m:c {\n"
         ++ codes "    container x { presence x; leaf y { type string; mandatory true; } } }\n")))
         ≡ (0, codes "c") ∷ (1, codes "x") ∷ (1, codes "y") ∷ [] }
     ensures later { all_told additions_told (added_to_c
@@ -243,65 +244,65 @@ pub fn configuration_added_to_others()
     ensures three_modules { all_told additions_told (three_with
         (codes "leaf y { type string; mandatory true; }"))
         ≡ (15, (1, 6)) ∷ (15, (0, 7)) ∷ [] }
-    ensures refined { augmented_texts (added_to_c
+    ensures refined { compiled_texts (added_to_c
         (codes "  grouping g { leaf v { type uint8; } }\n"
         ++ codes "  augment /m:c { uses g { refine v { mandatory true; } } }\n"))
         ≡ told_in 1 15 7 }
-    ensures to_a_case { augmented_texts (added_to_choice
+    ensures to_a_case { compiled_texts (added_to_choice
         (codes "  augment /m:h/m:k {\n    leaf y { type string; mandatory true; } }\n"))
         ≡ told_in 1 15 6 }
-    ensures to_a_list { augmented_texts (m_and_a
+    ensures to_a_list { compiled_texts (m_and_a
         (codes "  list l { key k; leaf k { type string; } }\n")
         (codes "  augment /m:l {\n    leaf y { type string; mandatory true; } }\n"))
         ≡ told_in 1 15 6 }
-    ensures to_a_container_with_presence { augmented_texts (m_and_a
+    ensures to_a_container_with_presence { compiled_texts (m_and_a
         (codes "  container c { presence x; }\n")
         (codes "  augment /m:c {\n    leaf y { type string; mandatory true; } }\n"))
         ≡ told_in 1 15 6 }
-    ensures single_node { names_in (augmented_texts (added_to_choice
+    ensures single_node { names_in (compiled_texts (added_to_choice
         (codes "  augment /m:h { leaf y { type string; mandatory true; } }\n")))
         ≡ (0, codes "h") ∷ (0, codes "k") ∷ (0, codes "k") ∷ (1, codes "y")
         ∷ (1, codes "y") ∷ [] }
-    ensures case { names_in (augmented_texts (added_to_choice
+    ensures case { names_in (compiled_texts (added_to_choice
         (codes "  augment /m:h { case y { leaf z { type string; mandatory true; } } }\n")))
         ≡ (0, codes "h") ∷ (0, codes "k") ∷ (0, codes "k") ∷ (1, codes "y")
         ∷ (1, codes "z") ∷ [] }
-    ensures state { names_in (augmented_texts (added_to_c
+    ensures state { names_in (compiled_texts (added_to_c
         (codes "  augment /m:c { leaf y { config false; type string; mandatory true; } }\n")))
         ≡ (0, codes "c") ∷ (1, codes "y") ∷ [] }
-    ensures below_state { names_in (augmented_texts (m_and_a
+    ensures below_state { names_in (compiled_texts (m_and_a
         (codes "  container c { config false; }\n")
         (codes "  augment /m:c { leaf y { type string; mandatory true; } }\n")))
         ≡ (0, codes "c") ∷ (1, codes "y") ∷ [] }
-    ensures its_own_module { names_in (augmented_texts (added_to_c (codes "  container d { }\n"
+    ensures its_own_module { names_in (compiled_texts (added_to_c (codes "  container d { }\n"
         ++ codes "  augment /d { leaf y { type string; mandatory true; } }\n")))
         ≡ (0, codes "c") ∷ (1, codes "d") ∷ (1, codes "y") ∷ [] }
 {}
 
 /// Other rules, too, are judged once all is added: of leafrefs, default cases and configuration.
 pub fn judged_once_added()
-    ensures reference { kinds_in (augmented_texts (added_to_c (codes "  augment /m:c {\n"
+    ensures reference { kinds_in (compiled_texts (added_to_c (codes "  augment /m:c {\n"
         ++ codes "    leaf r { type leafref { path /m:c/y; } } leaf y { type uint8; } }\n")))
         ≡ plain_container (codes "c")
         ∷ (codes "r", leaf (referring (plain (integer_base uint8)).shape 2) allowed)
         ∷ number_leaf (codes "y") allowed ∷ [] }
-    ensures default_case { kinds_in (augmented_texts (module_text (codes "m")
+    ensures default_case { kinds_in (compiled_texts (module_text (codes "m")
         (codes "  choice h { default k; }\n  augment /h { leaf k { type string; } }\n") ∷ []))
         ≡ (codes "h", choice (Some 1) false) ∷ (codes "k", case)
         ∷ text_leaf (codes "k") allowed ∷ [] }
-    ensures default_case_of_another { augmented_texts (m_and_a
+    ensures default_case_of_another { compiled_texts (m_and_a
         (codes "  choice h { default k; }\n")
         (codes "  augment /m:h { leaf k { type string; } }\n"))
         ≡ told_in 0 11 5 }
-    ensures mandatory_in_a_default_case { augmented_texts (module_text (codes "m")
+    ensures mandatory_in_a_default_case { compiled_texts (module_text (codes "m")
         (codes "  choice h { default k; container k { } }\n"
         ++ codes "  augment /h/k { leaf y { type string; mandatory true; } }\n") ∷ [])
         ≡ told_in 0 11 5 }
-    ensures configuration_below_state { augmented_texts (m_and_a
+    ensures configuration_below_state { compiled_texts (m_and_a
         (codes "  container c { config false; }\n")
         (codes "  augment /m:c {\n    leaf y { config true; type string; } }\n"))
         ≡ told_in 1 16 7 }
-    ensures no_key { augmented_texts (added_to_c
+    ensures no_key { compiled_texts (added_to_c
         (codes "  augment /m:c {\n    list l { leaf k { type string; } } }\n"))
         ≡ told_in 1 16 7 }
 {}

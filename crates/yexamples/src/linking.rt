@@ -89,7 +89,9 @@ pub fn refused_statements()
     ensures unknown { told_of_lines (codes "  leafs a;\n") ≡ Some (1, 5) }
     ensures misplaced { told_of_lines (codes "  container c {\n    key a; }\n") ≡ Some (1, 6) }
     ensures not_judged_below { told_of_lines (codes "  x { leaf; }\n") ≡ Some (1, 5) }
-    ensures not_yet { told_of_lines (codes "  augment /a;\n") ≡ Some (1, 5) }
+    ensures augment { told_of_lines (codes "  augment /a;\n") ≡ None }
+    ensures augment_inside { told_of_lines (codes "  container c {\n    augment /a; }\n")
+        ≡ Some (1, 6) }
     ensures type_outside { told_of_lines (codes "  leaf a {\n    type binary; }\n") ≡ Some (1, 6) }
     ensures too_many { told_of_lines (codes "  leaf a { type string; units a;\n units b; }\n")
         ≡ Some (2, 5) }

@@ -37,6 +37,7 @@ const IN_MODULE: &[Allowed] = &[
     Allowed(Keyword::Contact, Count::AtMostOne),
     Allowed(Keyword::Revision, Count::Any),
     Allowed(Keyword::Extension, Count::Any),
+    Allowed(Keyword::Augment, Count::Any),
     Allowed(Keyword::Description, Count::AtMostOne),
     Allowed(Keyword::Reference, Count::AtMostOne),
     Allowed(Keyword::Typedef, Count::Any),
