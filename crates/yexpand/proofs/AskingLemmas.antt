@@ -26,12 +26,12 @@ use Rattle.yexpand.specs.declared.search.Step.{Step}
 -- ---- elements of lists one behind the other
 
 module _ {X : Type 0} where
-  get_before : (xs ys : List X) (i : ℕ) (x : X) → slice_get xs i ≡ Some x → slice_get (xs ++ ys) i ≡ Some x
+  pub get_before : (xs ys : List X) (i : ℕ) (x : X) → slice_get xs i ≡ Some x → slice_get (xs ++ ys) i ≡ Some x
   get_before [] ys i x e = absurd (none-some x e)
   get_before (y ∷ xs) ys zero x e = e
   get_before (y ∷ xs) ys (suc i) x e = get_before xs ys i x e
 
-  get_behind : (xs ys : List X) (i n : ℕ) → length xs + i ≡ n → slice_get (xs ++ ys) n ≡ slice_get ys i
+  pub get_behind : (xs ys : List X) (i n : ℕ) → length xs + i ≡ n → slice_get (xs ++ ys) n ≡ slice_get ys i
   get_behind [] ys i n e = ap (slice_get ys) (sym (omega (arith, e)))
   get_behind (y ∷ xs) ys i zero e = absurd (omega (arith, e))
   get_behind (y ∷ xs) ys i (suc n) e = get_behind xs ys i n (omega (arith, e))

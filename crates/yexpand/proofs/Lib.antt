@@ -30,3 +30,4 @@ pub mod PickingLemmas
 pub mod LeftLemmas
 pub mod ResolvingLemmas
 pub mod StartingLemmas
+pub mod PreparedLemmas

@@ -31,7 +31,7 @@ of_assoc : (a b c : Option ℕ) → first_of (first_of a b) c ≡ first_of a (fi
 of_assoc None b c = refl
 of_assoc (Some n) b c = refl
 
-first_append : (first : ℕ) (above : Option ℕ) (name : NodeName) (k : ℕ) (ps qs : List (Place Part))
+pub first_append : (first : ℕ) (above : Option ℕ) (name : NodeName) (k : ℕ) (ps qs : List (Place Part))
     → first_child first above name k (ps ++ qs) ≡ first_of (first_child first above name k ps) (first_child first above name (k + length ps) qs)
 first_append first above name k [] qs = ap (λ n. first_child first above name n qs) (omega arith)
 first_append first above name k (p ∷ ps) qs =
@@ -41,7 +41,7 @@ first_append first above name k (p ∷ ps) qs =
     ∙ sym (of_assoc head (first_child first above name (k + 1) ps) (first_child first above name (k + suc (length ps)) qs))
 
 -- a node, what stands below it, and what comes after
-first_node : (first : ℕ) (above : Option ℕ) (name : NodeName) (k : ℕ) (q : Option ℕ) (p : Part) (below after : Forest Part)
+pub first_node : (first : ℕ) (above : Option ℕ) (name : NodeName) (k : ℕ) (q : Option ℕ) (p : Part) (below after : Forest Part)
     → first_child first above name k (places q k (node p below after))
     ≡ first_of (cond (is_child first above k q && is_step name p) (Some k) None)
     (first_of (first_child first above name (k + 1) (places (Some k) (k + 1) below))
@@ -53,11 +53,11 @@ first_node first above name k q p below after =
     (first_append first above name (k + 1) (places (Some k) (k + 1) below) (places q (k + suc (size below)) after)
     ∙ ap (λ n. first_of (first_child first above name (k + 1) (places (Some k) (k + 1) below)) (first_child first above name n (places q (k + suc (size below)) after))) past)
 
-no_head : (b c d : Bool) (k : ℕ) (o : Option ℕ) → b ≡ false → first_of (cond ((b && c) && d) (Some k) None) o ≡ o
+pub no_head : (b c d : Bool) (k : ℕ) (o : Option ℕ) → b ≡ false → first_of (cond ((b && c) && d) (Some k) None) o ≡ o
 no_head b c d k o e = ap (λ x. first_of (cond ((x && c) && d) (Some k) None) o) e
 
 -- none, where no node below which these stand has that number
-no_child : (first j : ℕ) (name : NodeName) (k : ℕ) (q : Option ℕ) (f : Forest Part) → same_number (Some j) q ≡ false → ((j < k) ⊎ (k + size f ≤ j))
+pub no_child : (first j : ℕ) (name : NodeName) (k : ℕ) (q : Option ℕ) (f : Forest Part) → same_number (Some j) q ≡ false → ((j < k) ⊎ (k + size f ≤ j))
     → first_child first (Some j) name k (places q k f) ≡ None
 no_child first j name k q end other out = refl
 no_child first j name k q (node p below after) other out =
@@ -88,7 +88,7 @@ first_row : (b : Bool) (k : ℕ) (p : Part) (rest : Option ℕ) (more : Option (
 first_row true k p rest more e = refl
 first_row false k p rest more e = e
 
-below_one : (first j : ℕ) (name : NodeName) (k : ℕ) (f : Forest Part) → j < k
+pub below_one : (first j : ℕ) (name : NodeName) (k : ℕ) (f : Forest Part) → j < k
     → first_child first (Some j) name k (places (Some j) k f) ≡ first_in name (numbered k f)
 below_one first j name k end less = refl
 below_one first j name k (node p below after) less =

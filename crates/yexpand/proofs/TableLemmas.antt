@@ -30,7 +30,7 @@ changed_past (suc n) change (p ∷ ps) past = ap (λ rest. p ∷ rest) (changed_
 
 -- ---- the row that begins at a number
 
-behind_them : (k n : ℕ) (slots : List (Slot ExpandedNode)) (before after : List (Place Part)) → length before ≡ n
+pub behind_them : (k n : ℕ) (slots : List (Slot ExpandedNode)) (before after : List (Place Part)) → length before ≡ n
     → seen numbered_part k (laid slots) ≡ before ++ after → seen numbered_part (k + n) (laid (drop n slots)) ≡ after
 behind_them k n slots [] after count is =
     let none : 0 ≡ n = count in let plain : k + 0 ≡ k = omega arith in

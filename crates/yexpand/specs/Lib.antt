@@ -1,5 +1,6 @@
 pub mod NamedView
 pub mod AugmentView
+pub mod Augmenting
 pub mod Bodies
 pub mod Hanging
 pub mod Searching

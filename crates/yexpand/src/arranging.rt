@@ -85,7 +85,7 @@ pub(crate) fn body_of<'b, 'a, 't>(
 }
 
 /// A number that stands in a list, or another one where none does.
-fn number_at(numbers: &[u32], place: usize, other: u32) -> u32
+pub(crate) fn number_at(numbers: &[u32], place: usize, other: u32) -> u32
     ensures { result ≡ get_or numbers.now place other }
 {
     match numbers.get(place) {

@@ -42,7 +42,7 @@ pub(crate) struct Place {
 }
 
 /// The nodes that all modules define, each `uses` replaced, and the least of the refines that aren't fit.
-pub fn expanded<'a, 't>(
+pub(crate) fn expanded<'a, 't>(
     alloc: Global,
     named: &'a Named<'a, 't>,
     groupings: &'a Groupings,

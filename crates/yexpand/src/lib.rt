@@ -3,6 +3,7 @@
 
 mod applied;
 mod arranging;
+mod augmenting;
 mod augments;
 mod bodies;
 mod counting;
@@ -23,8 +24,9 @@ mod targets;
 mod waiting;
 mod walking;
 
+pub use augmenting::augmented;
 pub use augments::augments_of;
-pub use expanding::{Made, expanded};
+pub use expanding::Made;
 pub use groupings::Groupings;
 pub use named::Named;
 pub use nodes::ExpandedNode;

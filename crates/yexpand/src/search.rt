@@ -32,7 +32,8 @@ pub(crate) struct Search<'t> {
 }
 
 impl<'t> Search<'t> {
-    ghost use Rattle.std.specs.Prelude.{◌≡◌, ◌<◌, ◌++◌, None, Some, OnOk, IfOk, take, length};
+    ghost use Rattle.yexpand.specs.WaitingView.{waiters_at};
+    ghost use Rattle.std.specs.Prelude.{◌≡◌, ◌<◌, ◌++◌, [], None, Some, OnOk, IfOk, take, length};
     ghost use Rattle.yindex.specs.Index.{texts_of};
     ghost use Rattle.std.specs.List.{flat_map};
     ghost use Rattle.yspec.specs.Forest.{row as list_row};
@@ -41,6 +42,20 @@ impl<'t> Search<'t> {
     ghost use Rattle.yexpand.specs.Searching.{reached, target_in};
     ghost use Rattle.yexpand.specs.Settling.{Among as Within, Moves, StandsAt};
     ghost use Rattle.yexpand.specs.SearchView.{look_in, name_in, names_in, path_at, woken_by, Adds, AreTexts, Follows, Pops, Waits};
+
+    /// Nodes that stand in their places, where no augment waits yet.
+    pub fn new(alloc: Global, index: NodeIndex<'t>) -> Result<Search<'t>, AllocError>
+        ensures index { IfOk result (λ s. s.index ≡ index.entry) }
+        ensures none { IfOk result (λ s. (key : _) → waiters_at s.waiting key ≡ []) }
+    {
+        let names = index.names(alloc)?;
+        Ok(Search {
+            index,
+            names,
+            waiting: Waiting::new(alloc),
+            arrived: BTreeSet::new(alloc),
+        })
+    }
 
     /// The child of a node, or the top node, that a step names.
     fn child(&self, above: Option<u32>, step: Step) -> Option<u32>

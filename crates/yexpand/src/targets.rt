@@ -15,6 +15,7 @@ use ypreorder::Node;
 use yword::Keyword;
 
 /// The augments of a set with the paths to their targets, and the nodes among which these are.
+#[derive(Drop)]
 pub(crate) struct Targets<'b, 'a, 't> {
     pub nodes: &'b NodeTable<'a, 't>,
     pub augments: &'b [Node<'a, Source<'t>>],

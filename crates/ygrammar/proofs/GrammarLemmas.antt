@@ -235,3 +235,15 @@ judged_module ms i m told result whole within is judged so =
     let others = breaks_from (i + 1) (modules_view (drop (i + 1) ms)) in
     ap (λ t. least_from t others) judged ∙ sym (least_of_both told own others)
     ∙ ap (λ f. least_from told (breaks_from i f)) (sym (modules_view_at ms i m within is)) ∙ so
+
+-- ---- what a statement breaks by itself
+
+-- the least of what is told so far and of four more lists
+pub judged_alone : (told first second third last : Option Break) (a b c d x y z w : List Break) → first ≡ least_from told a → second ≡ least_from first b
+    → third ≡ least_from second c → last ≡ least_from third d → a ≡ x → b ≡ y → c ≡ z → d ≡ w → last ≡ least_from told (x ++ (y ++ (z ++ w)))
+judged_alone told first second third last a b c d x y z w first_is second_is third_is last_is a_is b_is c_is d_is =
+    let one : first ≡ least_from told x = first_is ∙ ap (least_from told) a_is in
+    let two : second ≡ least_from told (x ++ y) = second_is ∙ (ap₂ least_from one b_is ∙ sym (least_of_both told x y)) in
+    let last_two : last ≡ least_from second (z ++ w) = last_is ∙ (ap₂ least_from (third_is ∙ ap (least_from second) c_is) d_is ∙ sym (least_of_both second z w)) in
+    last_two ∙ (ap (λ t. least_from t (z ++ w)) (second_is ∙ ap₂ least_from one b_is)
+    ∙ (sym (least_of_both (least_from told x) y (z ++ w)) ∙ sym (least_of_both told x (y ++ (z ++ w)))))

@@ -229,7 +229,6 @@ fn tell(told: &mut Option<BrokenRule>, found: BrokenRule)
 }
 
 /// The rules that a statement breaks, apart from those that its substatements break.
-#[tactic(auto, using(yspec::proofs::SchemaProofs::LeastLemmas::least_of_both))]
 fn judge_alone(
     alloc: Global,
     module: usize,

@@ -50,7 +50,7 @@ impl<'a, 't> Plan<'a, 't> {
     ghost use Rattle.yindex.specs.Names.{AreNamesOf};
     ghost use Rattle.yplan.specs.Finding.{is_before, is_found, name_of};
     ghost use Rattle.yspec.specs.linking.Compiling.{plan_of};
-    ghost use Rattle.yspec.specs.linking.Expansion.{expanded_parts};
+    ghost use Rattle.yspec.specs.linking.Augments.{augmented};
     ghost use Rattle.yexpand.specs.TableView.{parts_in};
     ghost use Rattle.yspec.specs.linking.Planned as spec;
     ghost use Rattle.ygrammar.specs.LinkView as link;
@@ -73,8 +73,8 @@ impl<'a, 't> Plan<'a, 't> {
         nodes: &'a NodeTable<'a, 't>,
     ) -> Result<Plan<'a, 't>, AllocError>
         requires prefixed { IsOf prefixes.now (link.view sources.now) }
-        requires expanded { parts_in nodes.now
-            ≡ places None 0 (expanded_parts (link.view sources.now)) }
+        requires made { parts_in nodes.now
+            ≡ places None 0 (augmented (link.view sources.now)).0 }
         ensures { IfOk result (λ plan. view plan
             ≡ plan_of (link.view sources.entry.now)) }
     {

@@ -9,12 +9,11 @@ use Rattle.yspec.specs.Results.{Fails}
 use Rattle.yspec.specs.text.Statement.{Statement}
 use Rattle.yspec.specs.schema.Breaks.{Break, broken, when, least_from, first_broken, last_module, limit_breaks, node_limit}
 use Rattle.yspec.specs.linking.Source.{Source, sources_of}
-use Rattle.yspec.specs.linking.Expansion.{unfit_breaks}
 use Rattle.yspec.specs.linking.NodeBreaks.{name_breaks}
 use Rattle.yspec.specs.linking.NodeCounts.{node_count}
 use Rattle.yspec.specs.linking.Planned.{Plan}
 use Rattle.yspec.specs.linking.Compiling.{linking_phases, linked, phases, phases_of_plan, compiled, plan_of, schema_of, schema_of_plan}
-use Rattle.yschema.specs.Phases.{expansion_part, plan_part, rule_part}
+use Rattle.yschema.specs.Phases.{expansion_part, target_breaks, plan_part, rule_part}
 use Rattle.ylink.proofs.LinkingLemmas.{refused}
 use Rattle.ylink.proofs.PhaseLemmas.{told_here, told_later, told_last, told_first, told_then}
 
@@ -66,15 +65,15 @@ module _ (f : Forest Statement) where
     in_expansion b e = refused_as f b (told_first (expansion_part f s) (name_breaks (plan_of s) ∷ rule_part f (plan_of s)) b e
         ∙ (sym (told_then (linking_phases f) (expansion_part f s ++ (name_breaks (plan_of s) ∷ rule_part f (plan_of s))) first) ∙ ap first_broken expansion))
 
-  -- too many nodes are told, and else the refines
+  -- too many nodes are told, and else what finds no target
   module _ (s : Forest Source) where
     pub many_told : (b : Break) → Some b ≡ least_from None (limit_breaks (nat_lt node_limit (node_count s)) f) → Some b ≡ first_broken (expansion_part f s)
-    many_told b e = told_here (limit_breaks (nat_lt node_limit (node_count s)) f) (first_broken (unfit_breaks s ∷ [])) b e
+    many_told b e = told_here (limit_breaks (nat_lt node_limit (node_count s)) f) (first_broken (target_breaks s ∷ [])) b e
 
-    pub refines_told : (t : Option Break) → None ≡ least_from None (limit_breaks (nat_lt node_limit (node_count s)) f) → t ≡ least_from None (unfit_breaks s)
+    pub targets_told : (t : Option Break) → None ≡ least_from None (limit_breaks (nat_lt node_limit (node_count s)) f) → t ≡ least_from None (target_breaks s)
         → t ≡ first_broken (expansion_part f s)
-    refines_told t few e = e ∙ (sym (told_last (unfit_breaks s))
-        ∙ sym (told_later (limit_breaks (nat_lt node_limit (node_count s)) f) (first_broken (unfit_breaks s ∷ [])) few))
+    targets_told t few e = e ∙ (sym (told_last (target_breaks s))
+        ∙ sym (told_later (limit_breaks (nat_lt node_limit (node_count s)) f) (first_broken (target_breaks s ∷ [])) few))
 
   -- and then names
   pub names_told : (p : Plan) (t : Option Break) → None ≡ first_broken (expansion_part f p.modules) → t ≡ least_from None (name_breaks p)

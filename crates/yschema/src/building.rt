@@ -6,7 +6,8 @@ ghost use Rattle.yspec.specs.Results.{Gives};
 ghost use Rattle.yspec.specs.document.Fitting.{LeafsAreBare};
 ghost use Rattle.yspec.specs.document.Writing.{NamesDiffer};
 ghost use Rattle.yspec.specs.schema.Breaks.{first_broken, least_from, level_limit, limit_breaks, node_limit};
-ghost use Rattle.yspec.specs.linking.Expansion.{expanded_parts};
+ghost use Rattle.yspec.specs.linking.Augments.{augmented, augments_of};
+ghost use Rattle.yexpand.specs.AugmentView.{augments_seen};
 ghost use Rattle.yspec.specs.linking.NodeCounts.{node_count};
 ghost use Rattle.yspec.specs.linking.Compiling as spec;
 ghost use Rattle.yspec.specs.linking.Compiling.{compiled, linking_phases, IsCompiled};
@@ -31,7 +32,7 @@ use crate::augmenting::{Added, augments_in};
 use crate::limits::{LEVEL_LIMIT, NODE_LIMIT};
 use crate::making::slots_of;
 use std::alloc::{AllocError, Global};
-use yexpand::{Groupings, Named, NodeTable, augments_of, expanded};
+use yexpand::{Groupings, Named, NodeTable, augmented, augments_of};
 use ygrammar::{BrokenRule, CompileCode, Source, argument_of, argument_with, broken};
 use ylink::{CompileFault, Linked, link};
 use ymodel::{Schema, SchemaModule};
@@ -43,7 +44,7 @@ use yword::Keyword;
 
 /// The schema of a set of modules, or the least broken rule, by module, line and number, of the first phase that has one.
 /// Phases: the table of statements; prefixes, and names of modules and definitions; imports, and what names mean; types; the
-/// number of nodes; refines; names of siblings; what nodes state and refer to; levels. Of no modules it is a schema without nodes.
+/// number of nodes; refines and augments; names of siblings; what nodes state and refer to; levels. Of no modules it is a schema without nodes.
 pub fn compile(alloc: Global, modules: &[Module]) -> Result<Schema, CompileFault>
     ensures exact { Gives view told_by result (compiled (modules_view modules.now)) }
     ensures names { IfOk result (λ schema. NamesDiffer (view schema)) }
@@ -67,25 +68,26 @@ fn compile_linked<'t>(
 {
     let named = Named::new(linked.sources(), linked.prefixes(), linked.meanings());
     let groupings = Groupings::of(alloc, &named, linked.order())?;
-    if let Some(found) = broken_count_rule(alloc, modules, &named, &groupings)? {
+    let augments = augments_of(alloc, &named)?;
+    if let Some(found) = broken_count_rule(modules, &named, &groupings, &augments) {
         return Err(CompileFault::from(found));
     }
-    let made = expanded(alloc, &named, &groupings)?;
+    let made = augmented(alloc, &named, &groupings, &augments)?;
     if let Some(found) = made.told {
         return Err(CompileFault::from(found));
     }
-    compile_expanded(alloc, modules, linked, &made.table)
+    compile_nodes(alloc, modules, linked, &made.table)
 }
 
-/// Compiles modules whose groupings are expanded, and that have no more nodes than they may.
-fn compile_expanded<'t>(
+/// Compiles modules whose nodes are made, and are no more than they may be.
+fn compile_nodes<'t>(
     alloc: Global,
     modules: &[Module],
     linked: &Linked<'t>,
     nodes: &NodeTable<'_, 't>,
 ) -> Result<Schema, CompileFault>
     requires links { spec.linked (modules_view modules.now) ≡ Ok (statements.view linked.now) }
-    requires made { parts_in nodes.now ≡ places None 0 (expanded_parts (statements.view linked.now)) }
+    requires made { parts_in nodes.now ≡ places None 0 (augmented (statements.view linked.now)).0 }
     requires none { None ≡ first_broken
         (expansion_part (modules_view modules.now) (statements.view linked.now)) }
     ensures { Gives view told_by result (compiled (modules_view modules.now)) }
@@ -129,19 +131,19 @@ fn at_last(modules: &[Module], is_passed: bool) -> Option<BrokenRule>
 }
 
 /// The rule that is told of the number of nodes, which are counted before any grouping is expanded.
-fn broken_count_rule(
-    alloc: Global,
+fn broken_count_rule<'a, 't>(
     modules: &[Module],
-    named: &Named<'_, '_>,
+    named: &Named<'a, 't>,
     groupings: &Groupings,
-) -> Result<Option<BrokenRule>, AllocError>
-    requires { AreCounts groupings.now.counts.items (modules_of named.now) }
-    ensures { IfOk result (λ told. seen told ≡ least_from None (limit_breaks
-        (nat_lt node_limit (node_count (modules_of named.now))) (modules_view modules.now))) }
+    augments: &[Node<'a, Source<'t>>],
+) -> Option<BrokenRule>
+    requires counts { AreCounts groupings.now.counts.items (modules_of named.now) }
+    requires augments { augments_seen augments.now ≡ augments_of (modules_of named.now) }
+    ensures { seen result ≡ least_from None (limit_breaks
+        (nat_lt node_limit (node_count (modules_of named.now))) (modules_view modules.now)) }
 {
-    let augments = augments_of(alloc, named)?;
-    let count = groupings.node_count(named, augments.as_slice());
-    Ok(at_last(modules, count as usize > NODE_LIMIT))
+    let count = groupings.node_count(named, augments);
+    at_last(modules, count as usize > NODE_LIMIT)
 }
 
 /// Whether a plan has too many nodes or levels.

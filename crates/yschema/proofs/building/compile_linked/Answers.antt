@@ -1,7 +1,6 @@
 use Rattle.std.proofs.Common.{◌≡◌, Some, None, nat_lt, sym, ap, subst, ◌∙◌}
 use Rattle.yspec.specs.Results.{Fails}
 use Rattle.yspec.specs.schema.Breaks.{least_from, limit_breaks, node_limit}
-use Rattle.yspec.specs.linking.Expansion.{unfit_breaks}
 use Rattle.yspec.specs.linking.NodeCounts.{node_count}
 use Rattle.yspec.specs.linking.Compiling.{compiled}
 use Rattle.ytext.specs.View.{modules_view}
@@ -9,7 +8,8 @@ use Rattle.yexpand.specs.NamedView.{modules_of}
 use Rattle.ylink.specs.LinkedView as statements
 use Rattle.ylink.specs.Told.{seen, told_by, break_view}
 use Rattle.ylink.proofs.LinkingLemmas.{passed}
-use Rattle.yschema.proofs.ToldLemmas.{in_expansion, many_told, refines_told}
+use Rattle.yschema.specs.Phases.{target_breaks}
+use Rattle.yschema.proofs.ToldLemmas.{in_expansion, many_told, targets_told}
 use Rattle.yschema.proofs.building.compile_linked.Goals as goal
 
 pub returns-in-Some : goal.returns-in-Some
@@ -29,6 +29,6 @@ returns-in-Some-told c =
     let known = passed f s c.requires.links in
     let same : modules_of c.new-named.result ≡ s = c.new-named.ensures ∙ c.sources.ensures in
     let few : None ≡ _ = sym (ap seen c.in_default.is) ∙ (c.in_ok-found.ensures ∙ ap (λ m. least_from None (limit_breaks (nat_lt node_limit (node_count m)) f)) same) in
-    let told : Some (break_view c.in-Some-told.found) ≡ _ = sym (ap seen c.in-Some-told.is) ∙ (c.in_ok-made.ensures.told ∙ ap (λ m. least_from None (unfit_breaks m)) same) in
+    let told : Some (break_view c.in-Some-told.found) ≡ _ = sym (ap seen c.in-Some-told.is) ∙ (c.in_ok-made.ensures.told ∙ ap (λ m. least_from None (target_breaks m)) same) in
     subst (λ fault. Fails (told_by fault) (compiled f)) (sym c.from-in-Some-told.ensures)
-    (in_expansion f s known.1 known.0 (break_view c.in-Some-told.found) (refines_told f s (Some (break_view c.in-Some-told.found)) few told))
+    (in_expansion f s known.1 known.0 (break_view c.in-Some-told.found) (targets_told f s (Some (break_view c.in-Some-told.found)) few told))

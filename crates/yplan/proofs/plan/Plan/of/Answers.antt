@@ -1,5 +1,5 @@
 use Rattle.std.proofs.Common.{ap, sym, ◌∙◌}
-use Rattle.yspec.specs.linking.Expansion.{expanded_parts}
+use Rattle.yspec.specs.linking.Augments.{augmented}
 use Rattle.yspec.specs.linking.Planned as spec
 use Rattle.yspec.specs.linking.Planned.{at_top, planned}
 use Rattle.ypreorder.specs.View.{row_by}
@@ -11,9 +11,9 @@ use Rattle.yplan.proofs.plan.Plan.of.Goals as goal
 
 pub invariant_of-result : goal.invariant_of-result
 invariant_of-result c =
-    let parts = expanded_parts (link.view c.args.sources.now) in
+    let parts = (augmented (link.view c.args.sources.now)).0 in
     let all = all_planned c.in_ok-table.table c.args.nodes.now (row_by numbered_part c.roots.result) parts
-    c.in_ok-table.ensures c.roots.ensures c.requires.expanded in
+    c.in_ok-table.ensures c.roots.ensures c.requires.made in
     record {
       prefixed = c.requires.prefixed;
       laid_out = all.1;
@@ -25,6 +25,6 @@ invariant_of-result c =
 pub returns : goal.returns
 returns c =
     let modules = link.view c.args.sources.now in
-    let made : spec.Plan = record { modules = modules; nodes = planned 0 at_top (expanded_parts modules) } in
+    let made : spec.Plan = record { modules = modules; nodes = planned 0 at_top (augmented modules).0 } in
     ap (λ nodes. record made { nodes = nodes })
-    (all_planned c.in_ok-table.table c.args.nodes.now (row_by numbered_part c.roots.result) (expanded_parts modules) c.in_ok-table.ensures c.roots.ensures c.requires.expanded).0
+    (all_planned c.in_ok-table.table c.args.nodes.now (row_by numbered_part c.roots.result) (augmented modules).0 c.in_ok-table.ensures c.roots.ensures c.requires.made).0

@@ -10,7 +10,7 @@ use Rattle.ylink.specs.Told.{seen, told_by, break_view}
 use Rattle.ylink.proofs.LinkingLemmas.{passed}
 use Rattle.yschema.specs.Phases.{expansion_part}
 use Rattle.yschema.proofs.ToldLemmas.{in_plan, names_told}
-use Rattle.yschema.proofs.building.compile_expanded.Goals as goal
+use Rattle.yschema.proofs.building.compile_nodes.Goals as goal
 
 pub returns-in-Some : goal.returns-in-Some
 returns-in-Some c =
