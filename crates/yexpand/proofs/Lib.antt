@@ -31,3 +31,4 @@ pub mod LeftLemmas
 pub mod ResolvingLemmas
 pub mod StartingLemmas
 pub mod PreparedLemmas
+pub mod AugmentingLemmas

@@ -91,7 +91,7 @@ module _ (m : Forest Source) where
   start_first n last (a ∷ augments) is = refl
 
   size_join : (f g : Forest Part) → size (join f g) ≡ size f + size g
-  size_join end g = refl
+  size_join end g = omega arith
   size_join (node p below after) g = omega (arith, size_join after g)
 
   starts_after : (n last : ℕ) (augments : List Augment) (j : ℕ) → last ≡ n + size (bodies_of m augments) → n ≤ get_or (starts_from m n augments) j last
@@ -127,7 +127,10 @@ module _ (m : Forest Source) where
   body_lies n (a ∷ augments) slots before count last is (suc j) =
       let body = body_of m a in
       let later = bodies_of m augments in
-      body_lies (n + size body) augments slots (before ++ places None n body)
+      let next : suc j + 1 ≡ suc (j + 1) = omega arith in
+      let starts = n ∷ starts_from m (n + size body) augments in
+      ap (λ i. rows_between (get_or starts (suc j) (length slots)) (get_or starts i (length slots)) slots) next
+      ∙ body_lies (n + size body) augments slots (before ++ places None n body)
       (length-append before (places None n body) ∙ omega (arith, count, length-places None n body))
       (omega (arith, last, size_join body later))
       (is ∙ (ap (λ ps. before ++ ps) (places-join None n body later) ∙ sym (append_assoc before (places None n body) (places None (n + size body) later)))) j
@@ -259,22 +262,32 @@ steps_at texts (p ∷ paths) steps (a ∷ augments) is (suc j) less =
     let rest : map (λ p. names_by texts p.items) paths ≡ map steps augments = cc in
     steps_at texts paths steps augments rest j (omega (arith, less))
 
+pub same_count : {A B C : Type 0} (of_path : A → C) (of_augment : B → C) (paths : List A) (augments : List B)
+    → map of_path paths ≡ map of_augment augments → length paths ≡ length augments
+same_count of_path of_augment [] [] is = refl
+same_count of_path of_augment [] (a ∷ augments) is = absurd cc
+same_count of_path of_augment (p ∷ paths) [] is = absurd cc
+same_count of_path of_augment (p ∷ paths) (a ∷ augments) is =
+    let rest : map of_path paths ≡ map of_augment augments = cc in ap suc (same_count of_path of_augment paths augments rest)
+
 -- ---- all of it
 
-module _ (m : Forest Source) (augments : List Augment) (slots : Rows) (starts : List ℕ) (paths : Paths) (s : Search) (e : Forest Part)
+module _ (m : Forest Source) (augments : List Augment) (slots : Rows) (starts : List ℕ) (e : Forest Part)
     (lie : parts slots ≡ places None 0 (join e (bodies_of m augments))) (begin : starts ≡ starts_from m (size e) augments) where
   last : length slots ≡ size e + size (bodies_of m augments)
   last = sym (count_parts slots) ∙ (ap length lie ∙ (length-places None 0 (join e (bodies_of m augments)) ∙ size_join m e (bodies_of m augments)))
 
   apart_parts : parts slots ≡ places None 0 e ++ places None (size e) (bodies_of m augments)
-  apart_parts = lie ∙ places-join None 0 e (bodies_of m augments)
+  apart_parts =
+      let plain_size : 0 + size e ≡ size e = omega arith in
+      lie ∙ (places-join None 0 e (bodies_of m augments) ∙ ap (λ n. places None 0 e ++ places None n (bodies_of m augments)) plain_size)
 
   first_is : get_or starts 0 (length slots) ≡ size e
   first_is = ap (λ xs. get_or xs 0 (length slots)) begin ∙ start_first m (size e) (length slots) augments last
 
   pub own_is : own_rows starts slots ≡ numbered 0 e
   own_is = ap (λ n. rows_between 0 n slots) first_is
-      ∙ rows_lie 0 (size e) slots [] (places None (size e) (bodies_of m augments)) None e refl refl apart_parts
+      ∙ rows_lie 0 (size e) slots [] (places None (size e) (bodies_of m augments)) None e refl (omega arith) apart_parts
 
   abbrev start : ℕ → ℕ
   start j = get_or starts j (length slots)
@@ -293,7 +306,7 @@ module _ (m : Forest Source) (augments : List Augment) (slots : Rows) (starts : 
   behind_own : (j : ℕ) → size e ≤ start j
   behind_own j = subst (λ xs. size e ≤ get_or xs j (length slots)) (sym begin) (starts_after m (size e) (length slots) augments j last)
 
-  module _ (look : (above : Option ℕ) (name : NodeName) → look_in s above name ≡ first_child (get_or starts 0 (length slots)) above name 0 (parts slots)) where
+  module _ (paths : Paths) (s : Search) (look : (above : Option ℕ) (name : NodeName) → look_in s above name ≡ first_child (get_or starts 0 (length slots)) above name 0 (parts slots)) where
     all : Forest Part
     all = join e (bodies_of m augments)
 
@@ -310,13 +323,16 @@ module _ (m : Forest Source) (augments : List Augment) (slots : Rows) (starts : 
 
     both_agree : Agrees (look_in s) (source_at slots) (numbered 0 e) × Agrees (look_in s) (source_at slots) (numbered (size e) (bodies_of m augments))
     unfolding all
-    both_agree = agrees_both (look_in s) (source_at slots) 0 e (bodies_of m augments) all_agree
+    both_agree =
+        let plain_size : 0 + size e ≡ size e = omega arith in
+        let both = agrees_both (look_in s) (source_at slots) 0 e (bodies_of m augments) all_agree in
+        (both.0, subst (λ n. Agrees (look_in s) (source_at slots) (numbered n (bodies_of m augments))) plain_size both.1)
 
     top_agrees : (name : NodeName) → look_in s None name ≡ first_in name (numbered 0 e)
     top_agrees name = found None name ∙ (ap (first_child (size e) None name 0) apart_parts
         ∙ (first_append (size e) None name 0 (places None 0 e) (places None (size e) (bodies_of m augments))
         ∙ (ap₂ first_of (at_top (size e) name 0 e (omega arith))
-        (ap (λ n. first_child (size e) None name n (places None (size e) (bodies_of m augments))) (length-places None 0 e)
+        (ap (λ n. first_child (size e) None name n (places None (size e) (bodies_of m augments))) (omega (arith, length-places None 0 e))
         ∙ none_at_top (size e) name (size e) (bodies_of m augments) (omega arith))
         ∙ of_none _)))
 
