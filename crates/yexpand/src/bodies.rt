@@ -19,7 +19,7 @@ use ypreorder::Node;
 
 /// Adds what augments add behind all other nodes, each single node in the case for which it stands where a choice takes
 /// it, and answers where it begins for each.
-pub(crate) fn add_bodies<'a, 't>(
+pub fn add_bodies<'a, 't>(
     alloc: Global,
     context: &Context<'a, 't>,
     augments: &[Node<'a, Source<'t>>],

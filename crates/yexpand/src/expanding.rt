@@ -25,7 +25,7 @@ pub struct Made<'a, 't> {
 
 /// What is looked up on the way: statements, and what is known of groupings.
 #[derive(Drop)]
-pub(crate) struct Context<'a, 't> {
+pub struct Context<'a, 't> {
     pub named: &'a Named<'a, 't>,
     pub groupings: &'a Groupings,
 }
@@ -42,7 +42,7 @@ pub(crate) struct Place {
 }
 
 /// The nodes that all modules define, each `uses` replaced, and the least of the refines that aren't fit.
-pub(crate) fn expanded<'a, 't>(
+pub fn expanded<'a, 't>(
     alloc: Global,
     named: &'a Named<'a, 't>,
     groupings: &'a Groupings,

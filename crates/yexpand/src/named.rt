@@ -48,14 +48,14 @@ impl<'a, 't> Named<'a, 't> {
     }
 
     /// The statements.
-    pub(crate) fn sources(&self) -> &'a Sources<'t>
+    pub fn sources(&self) -> &'a Sources<'t>
         ensures { view result.now ≡ modules_of self.now }
     {
         self.sources
     }
 
     /// What prefixes stand for.
-    pub(crate) fn prefixes(&self) -> &'a Prefixes<'t>
+    pub fn prefixes(&self) -> &'a Prefixes<'t>
         ensures { IsOf result.now (modules_of self.now) }
     {
         self.prefixes

@@ -54,7 +54,7 @@ impl<'a, 't> ExpandedNode<'a, 't> {
     }
 
     /// A copy of it, with the number of the augment that adds the copy, where one does.
-    pub(crate) fn copied(
+    pub fn copied(
         &self,
         alloc: Global,
         added_by: Option<u32>,

@@ -20,11 +20,11 @@ impl<'a, 't> NodeTable<'a, 't> {
     ghost use Rattle.ypreorder.specs.View.{row_by};
     ghost use Rattle.ygrammar.specs.SourceView.{source_view};
     ghost use Rattle.yexpand.specs.NodeView.{numbered_part};
-    ghost use Rattle.yexpand.specs.Arranging.{rows_between, with_number};
+    ghost use Rattle.yexpand.specs.NumberedView.{rows_between, with_number};
     ghost use Rattle.yexpand.specs.TableView.{slots_of, parts_in, nodes_in, refined_part, changed_place};
 
     /// A table without nodes.
-    pub(crate) fn new(alloc: Global) -> NodeTable<'a, 't>
+    pub fn new(alloc: Global) -> NodeTable<'a, 't>
         ensures { slots_of result ≡ [] }
     {
         NodeTable {
@@ -51,7 +51,7 @@ impl<'a, 't> NodeTable<'a, 't> {
     }
 
     /// The nodes from that of a number up to that of another one.
-    pub(crate) fn between(&self, first: u32, past: u32) -> Siblings<'_, ExpandedNode<'a, 't>>
+    pub fn between(&self, first: u32, past: u32) -> Siblings<'_, ExpandedNode<'a, 't>>
         ensures { row_by with_number result ≡ rows_between first past (slots_of self.now) }
     {
         let slots = self.slots.as_slice();
@@ -62,7 +62,7 @@ impl<'a, 't> NodeTable<'a, 't> {
     }
 
     /// The node of a number.
-    pub(crate) fn node(&self, number: u32) -> Option<&ExpandedNode<'a, 't>>
+    pub fn node(&self, number: u32) -> Option<&ExpandedNode<'a, 't>>
         ensures { option_map (λ n. n.now) result
             ≡ option_map (λ r. r.label) (slice_get (slots_of self.now) number) }
     {
@@ -73,21 +73,21 @@ impl<'a, 't> NodeTable<'a, 't> {
     }
 
     /// The nodes as they lie, in the order of their numbers.
-    pub(crate) fn slots(&self) -> &[Slot<ExpandedNode<'a, 't>>]
+    pub fn slots(&self) -> &[Slot<ExpandedNode<'a, 't>>]
         ensures { result.now ≡ slots_of self.now }
     {
         self.slots.as_slice()
     }
 
     /// How many nodes there are.
-    pub(crate) fn len(&self) -> u32
+    pub fn len(&self) -> u32
         ensures { result ≡ length (slots_of self.now) }
     {
         self.slots.len() as u32
     }
 
     /// Adds a node behind all others, below one of them or at the top, with nothing below it yet, and answers its number.
-    pub(crate) fn open(
+    pub fn open(
         &mut self,
         parent: Option<u32>,
         label: ExpandedNode<'a, 't>,
@@ -109,7 +109,7 @@ impl<'a, 't> NodeTable<'a, 't> {
     }
 
     /// All nodes behind that of a number stand below it.
-    pub(crate) fn close(&mut self, number: u32)
+    pub fn close(&mut self, number: u32)
         ensures { laid (slots_of self.new) ≡ closed number (laid (slots_of self.old)) }
     {
         let behind = self.slots.len() as u32;

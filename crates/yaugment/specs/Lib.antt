@@ -1,0 +1,13 @@
+pub mod Augmenting
+pub mod Hanging
+pub mod Searching
+pub mod Arranging
+pub mod Placing
+pub mod Resolving
+pub mod WaitingView
+pub mod SearchView
+pub mod Asking
+pub mod Settling
+pub mod Picking
+pub mod Turning
+pub mod Starting
