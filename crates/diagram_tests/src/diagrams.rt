@@ -68,17 +68,44 @@ const STATE_DIAGRAM: &str = "module: w
      +--ro at   uint64
 ";
 
-/// The schema of two modules; nothing where memory runs out or one is refused.
-pub(crate) fn schema_of(alloc: Global, first: &str, second: &str) -> Option<Schema> {
+// A container, one that is added to it, and a leaf that is added to that; the last module is given first.
+const AUGMENTED: [&str; 3] = [
+    "module a { yang-version 1.1; namespace u; prefix a; import m { prefix m; } import b { prefix b; }
+  augment /m:c/b:x { leaf y { type string; } } }",
+    "module b { yang-version 1.1; namespace u; prefix b; import m { prefix m; } augment /m:c { container x; } }",
+    "module m { yang-version 1.1; namespace u; prefix m; container c; }",
+];
+
+const ADDED: &str = "module: a
+
+  augment /m:c/b:x:
+    +--rw y?   string
+";
+
+const WITH_ADDED: &str = "module: m
+  +--rw c
+     +--rw b:x
+        +--rw a:y?   string
+";
+
+/// The schema of modules; nothing where memory runs out or one is refused.
+pub(crate) fn schema_of(alloc: Global, texts: &[&str]) -> Option<Schema> {
     let mut modules = Vec::new(alloc);
-    modules.push(parse(alloc, first.as_bytes()).ok()?).ok()?;
-    modules.push(parse(alloc, second.as_bytes()).ok()?).ok()?;
+    for text in texts {
+        modules.push(parse(alloc, text.as_bytes()).ok()?).ok()?;
+    }
     compile(alloc, &modules).ok()
 }
 
 // Whether that is the diagram of the module of a number, through a sink that takes so many bytes a call.
-fn shows(alloc: Global, place: usize, bytes_per_call: usize, wanted: &str) -> Option<bool> {
-    let schema = schema_of(alloc, NETWORK, STATE)?;
+fn shows(
+    alloc: Global,
+    texts: &[&str],
+    place: usize,
+    bytes_per_call: usize,
+    wanted: &str,
+) -> Option<bool> {
+    let schema = schema_of(alloc, texts)?;
     let mut sink = Cut::new(alloc, 4096, bytes_per_call, None).ok()?;
     match write(&schema, place, &mut sink) {
         Ok(()) => Some(sink.bytes() == wanted.as_bytes()),
@@ -88,7 +115,7 @@ fn shows(alloc: Global, place: usize, bytes_per_call: usize, wanted: &str) -> Op
 
 // Whether a failing call ends it, with so many bytes taken.
 fn breaks(alloc: Global, call: u64) -> Option<bool> {
-    let schema = schema_of(alloc, NETWORK, STATE)?;
+    let schema = schema_of(alloc, &[NETWORK, STATE])?;
     let mut sink = Cut::new(alloc, 4096, 4096, Some(call)).ok()?;
     match write(&schema, 1, &mut sink) {
         Ok(()) => Some(false),
@@ -100,17 +127,27 @@ fn breaks(alloc: Global, call: u64) -> Option<bool> {
 
 #[test]
 fn first_module(rt: HostRuntime) {
-    assert!(rt; shows(rt.alloc(), 0, 4096, NETWORK_DIAGRAM) == Some(true));
+    let shown = shows(rt.alloc(), &[NETWORK, STATE], 0, 4096, NETWORK_DIAGRAM);
+    assert!(rt; shown == Some(true));
 }
 
 #[test]
 fn byte_by_byte(rt: HostRuntime) {
-    assert!(rt; shows(rt.alloc(), 1, 1, STATE_DIAGRAM) == Some(true));
+    let shown = shows(rt.alloc(), &[NETWORK, STATE], 1, 1, STATE_DIAGRAM);
+    assert!(rt; shown == Some(true));
 }
 
 #[test]
 fn no_module(rt: HostRuntime) {
-    assert!(rt; shows(rt.alloc(), 2, 4096, "module: \n") == Some(true));
+    let shown = shows(rt.alloc(), &[NETWORK, STATE], 2, 4096, "module: \n");
+    assert!(rt; shown == Some(true));
+}
+
+#[test]
+fn augments(rt: HostRuntime) {
+    let alloc = rt.alloc();
+    assert!(rt; shows(alloc, &AUGMENTED, 0, 4096, ADDED) == Some(true));
+    assert!(rt; shows(alloc, &AUGMENTED, 2, 4096, WITH_ADDED) == Some(true));
 }
 
 #[test]

@@ -28,7 +28,7 @@ fn is_shown(alloc: Global, row: &str) -> Option<bool> {
     let (shown, type_text) = row.split_once(" = ")?;
     let module = format!(in alloc; "{}{type_text} }}\n}}\n", BEGINNING).ok()?;
     let wanted = format!(in alloc; "module: m\n  +--rw b?   string\n  +--rw a?   {shown}\n").ok()?;
-    let schema = schema_of(alloc, module.as_str(), IMPORTED)?;
+    let schema = schema_of(alloc, &[module.as_str(), IMPORTED])?;
     let mut sink = Cut::new(alloc, 4096, 4096, None).ok()?;
     match write(&schema, 0, &mut sink) {
         Ok(()) => Some(sink.bytes() == wanted.as_bytes()),

@@ -77,7 +77,8 @@ fn compiled(rt: HostRuntime) {
 fn refused_statements(rt: HostRuntime) {
     let rows = "C1:5/leaf l { type string;| must 'x'; }
 C1:4/rpc r;
-C1:5/container c;|augment /p:c { leaf a { type string; } }
+C1:5/container c {| augment /p:c { leaf a { type string; } } }
+C1:5/container c;|augment /p:c { key k; }
 C1:5/container c {| key k; }
 C1:4/leaf l { type instance-identifier; }
 C1:4/leaf l { type binary; }

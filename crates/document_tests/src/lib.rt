@@ -2,6 +2,8 @@
 #![tactic(auto)]
 
 #[cfg(test)]
+mod augments;
+#[cfg(test)]
 mod building;
 #[cfg(test)]
 mod compiling;
