@@ -18,7 +18,7 @@ returns-in-Some c =
     let s = statements.view c.args.linked.now in
     let known = passed f s c.requires.links in
     let same : modules_of c.new-named.result ≡ s = c.new-named.ensures ∙ c.sources.ensures in
-    let told : Some (break_view c.in-Some.found) ≡ _ = sym (ap seen c.in-Some.is) ∙ (c.in_ok-found.ensures ∙ ap (λ m. least_from None (limit_breaks (nat_lt node_limit (node_count m)) f)) same) in
+    let told : Some (break_view c.in-Some.found) ≡ _ = sym (ap seen c.in-Some.is) ∙ (c.broken_count_rule.ensures ∙ ap (λ m. least_from None (limit_breaks (nat_lt node_limit (node_count m)) f)) same) in
     subst (λ fault. Fails (told_by fault) (compiled f)) (sym c.from.ensures)
     (in_expansion f s known.1 known.0 (break_view c.in-Some.found) (many_told f s (break_view c.in-Some.found) told))
 
@@ -28,7 +28,7 @@ returns-in-Some-told c =
     let s = statements.view c.args.linked.now in
     let known = passed f s c.requires.links in
     let same : modules_of c.new-named.result ≡ s = c.new-named.ensures ∙ c.sources.ensures in
-    let few : None ≡ _ = sym (ap seen c.in_default.is) ∙ (c.in_ok-found.ensures ∙ ap (λ m. least_from None (limit_breaks (nat_lt node_limit (node_count m)) f)) same) in
+    let few : None ≡ _ = sym (ap seen c.in_default.is) ∙ (c.broken_count_rule.ensures ∙ ap (λ m. least_from None (limit_breaks (nat_lt node_limit (node_count m)) f)) same) in
     let told : Some (break_view c.in-Some-told.found) ≡ _ = sym (ap seen c.in-Some-told.is) ∙ (c.in_ok-made.ensures.told ∙ ap (λ m. least_from None (target_breaks m)) same) in
     subst (λ fault. Fails (told_by fault) (compiled f)) (sym c.from-in-Some-told.ensures)
     (in_expansion f s known.1 known.0 (break_view c.in-Some-told.found) (targets_told f s (Some (break_view c.in-Some-told.found)) few told))
