@@ -1,21 +1,20 @@
 -- All nodes with what augments add, and all that is told of refines and augments without a target.
-use Rattle.std.proofs.Common.{◌≡◌, ℕ, suc, ◌+◌, ◌<◌, Bool, true, false, cond, List, [], ◌∷◌, ◌++◌, drop, get_or, length, map, Option, Some, None, refl, sym, ap, ap₂, subst, ◌∙◌, arith}
+use Rattle.std.proofs.Common.{◌≡◌, ◌+◌, Bool, List, [], ◌∷◌, ◌++◌, length, Option, None, refl, sym, ap, ap₂, ◌∙◌, arith}
 use Rattle.std.specs.List.{flat_map}
 use Rattle.std.proofs.lemmas.List.{append-nil}
 use Rattle.yspec.specs.Forest.{Forest, join, size}
-use Rattle.yspec.specs.schema.Breaks.{Break, broken, least_from}
+use Rattle.yspec.specs.schema.Breaks.{Break, least_from}
 use Rattle.yspec.specs.linking.Source.{Source}
 use Rattle.yspec.specs.linking.Parts.{Part}
 use Rattle.yspec.specs.linking.Expansion.{expanded_parts, unfit_breaks}
 use Rattle.yspec.specs.linking.Augments.{Augment, augments_of, is_ready, applied, in_turn, augmented, body_breaks, augment_breaks}
 use Rattle.yspec.proofs.SchemaProofs.LeastLemmas.{least_of_both}
-use Rattle.ypreorder.specs.Layout.{places, laid, seen as seen_parts}
+use Rattle.ypreorder.specs.Layout.{places, laid}
 use Rattle.ypreorder.specs.declared.siblings.Node.{Node}
 use Rattle.ypreorder.proofs.LayoutLemmas.{length-places, length-laid, length-seen, places-join}
 use Rattle.ygrammar.specs.declared.source.Source as held
 use Rattle.yexpand.specs.AugmentView.{augments_seen}
 use Rattle.yaugment.specs.Augmenting.{breaks_of}
-use Rattle.yexpand.specs.Bodies.{bodies_of}
 use Rattle.yexpand.specs.NodeView.{numbered_part}
 use Rattle.yaugment.specs.Picking.{left_of}
 use Rattle.yexpand.specs.TableView.{parts_in, slots_of}
@@ -46,7 +45,7 @@ pub lie_behind : (old new : NodeTable) (e bodies : Forest Part) → parts_in old
     → parts_in new ≡ parts_in old ++ places None (length (slots_of old)) bodies → parts_in new ≡ places None 0 (join e bodies)
 lie_behind old new e bodies is more =
     let none : size e ≡ 0 + size e = omega arith in
-    more ∙ (ap₂ (λ ps n. ps ++ places None n bodies) is (count_in old e is) 
+    more ∙ (ap₂ (λ ps n. ps ++ places None n bodies) is (count_in old e is)
     ∙ (ap (λ n. places None 0 e ++ places None n bodies) none ∙ sym (places-join None 0 e bodies)))
 
 -- ---- what is told

@@ -1,7 +1,6 @@
 -- What is known before any augment is applied, where the nodes of modules lie first and behind them what each augment adds.
-use Rattle.std.proofs.Common.{◌≡◌, ◌⊎◌, inl, inr, ℕ, zero, suc, ◌+◌, ◌-◌, ◌<◌, ◌≤◌, Bool, true, false, cond, List, [], ◌∷◌, ◌++◌, take, drop, get_or, length, map, replicate, Option, Some, None, refl, sym, ap, ap₂, subst, ◌∙◌, arith, length-append}
-use Rattle.std.specs.Prelude.{slice_get, Vec}
-use Rattle.std.specs.Global.{Global}
+use Rattle.std.proofs.Common.{◌≡◌, ◌⊎◌, inl, inr, ℕ, zero, suc, ◌+◌, ◌-◌, ◌<◌, ◌≤◌, true, false, List, [], ◌∷◌, ◌++◌, take, drop, get_or, length, map, replicate, Option, Some, None, refl, sym, ap, ap₂, subst, ◌∙◌, arith, length-append}
+use Rattle.std.specs.Prelude.{slice_get}
 use Rattle.std.specs.Option.{option_map_or}
 use Rattle.std.proofs.lemmas.Bool.{cases_lt, ne_eqb}
 use Rattle.std.proofs.lemmas.List.{append-nil, append_assoc}
@@ -19,7 +18,6 @@ use Rattle.ypreorder.specs.declared.slot.Slot.{Slot}
 use Rattle.ypreorder.proofs.LayoutLemmas.{forest_seen, length-places, length-laid, length-seen, places-join}
 use Rattle.ypreorder.proofs.LabelLemmas.{size-by}
 use Rattle.yindex.specs.Index.{texts_of}
-use Rattle.yindex.specs.Names.{text_in}
 use Rattle.yexpand.specs.declared.nodes.ExpandedNode.{ExpandedNode}
 use Rattle.yaugment.specs.declared.search.Search.{Search}
 use Rattle.yaugment.specs.declared.search.Step.{Step}
@@ -31,9 +29,9 @@ use Rattle.yexpand.specs.Bodies.{bodies_of, body_of, starts_from}
 use Rattle.yaugment.specs.Hanging.{numbered, plain, times}
 use Rattle.yaugment.specs.Picking.{is_waiting, source_at, nothing}
 use Rattle.yaugment.specs.Resolving.{AreApart, Stands}
-use Rattle.yaugment.specs.Searching.{Lookup, Agrees, AgreesAll, first_in}
-use Rattle.yaugment.specs.SearchView.{look_in, name_in, names_by, path_at, AreTexts}
-use Rattle.yaugment.specs.Settling.{Among, Paths, Ranged, Sound, steps_of}
+use Rattle.yaugment.specs.Searching.{Lookup, Agrees, first_in}
+use Rattle.yaugment.specs.SearchView.{look_in, names_by, path_at}
+use Rattle.yaugment.specs.Settling.{Among, Paths}
 use Rattle.yaugment.specs.Starting.{first_child}
 use Rattle.yaugment.specs.Turning.{augment_at, no_augment, Prepared}
 use Rattle.yaugment.specs.WaitingView.{waiters_at}
@@ -184,7 +182,7 @@ agrees first look source q k end other children sourced = tt
 agrees first look source q k (node p below after) other children sourced =
     let past = k + suc (size below) in
     let of : (j : ℕ) (name : NodeName) → k ≤ j → j < k + suc (size below + size after) → look (Some j) name
-        ≡ first_of (first_child first (Some j) name (k + 1) (places (Some k) (k + 1) below)) (first_child first (Some j) name past (places q past after)) =
+    ≡ first_of (first_child first (Some j) name (k + 1) (places (Some k) (k + 1) below)) (first_child first (Some j) name past (places q past after)) =
     λ j name more less. children j name more less ∙ (first_node first (Some j) name k q p below after ∙ no_head (same_number (Some j) q) _ _ k _ (other j more)) in (
       (
         sym sourced.0,
@@ -319,8 +317,8 @@ module _ (m : Forest Source) (augments : List Augment) (slots : Rows) (starts : 
     all_agree = agrees (size e) (look_in s) (source_at slots) None 0 all (λ j more. refl)
         (λ j name more less. found (Some j) name ∙ ap (first_child (size e) (Some j) name 0) lie)
         (sourced_of (source_at slots) None 0 all (λ i p at.
-            let plain_i : 0 + i ≡ i = omega arith in
-            ap (source_at slots) plain_i ∙ source_seen 0 slots i p (ap (λ ps. slice_get ps i) lie ∙ at)))
+        let plain_i : 0 + i ≡ i = omega arith in
+        ap (source_at slots) plain_i ∙ source_seen 0 slots i p (ap (λ ps. slice_get ps i) lie ∙ at)))
 
     both_agree : Agrees (look_in s) (source_at slots) (numbered 0 e) × Agrees (look_in s) (source_at slots) (numbered (size e) (bodies_of m augments))
     unfolding all

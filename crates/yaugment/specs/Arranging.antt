@@ -1,15 +1,13 @@
 -- Augments that are applied, over the table in which all nodes lie.
-use Rattle.std.specs.Prelude.{Bool, ℕ, ◌+◌, ◌-◌, List, length, take, drop, get_or, if◌then◌else◌}
+use Rattle.std.specs.Prelude.{Bool, ℕ, ◌+◌, List, length, get_or, if◌then◌else◌}
 use Rattle.yspec.specs.Forest.{Forest}
 use Rattle.yspec.specs.linking.Keyword.{choice_word}
 use Rattle.yspec.specs.linking.Source.{Source, is_source_of}
 use Rattle.yspec.specs.linking.Parts.{Part}
-use Rattle.ypreorder.specs.Layout.{forest_of, numbered_by}
 use Rattle.ypreorder.specs.declared.slot.Slot.{Slot}
 use Rattle.yexpand.specs.NumberedView.{rows_between}
 use Rattle.yaugment.specs.Hanging.{Hung, inner, marked_by}
 use Rattle.yexpand.specs.NumberedView.{Numbered}
-use Rattle.yexpand.specs.NodeView.{part_view}
 use Rattle.yexpand.specs.declared.nodes.ExpandedNode.{ExpandedNode}
 use Rattle.yaugment.specs.declared.applied.Applied.{Applied}
 

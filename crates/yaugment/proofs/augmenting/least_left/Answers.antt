@@ -1,4 +1,4 @@
-use Rattle.std.proofs.Common.{◌≡◌, ap, sym, ◌∙◌, arith, drop}
+use Rattle.std.proofs.Common.{ap, sym, ◌∙◌, arith, drop}
 use Rattle.std.proofs.lemmas.List.{drop_all}
 use Rattle.yspec.specs.schema.Breaks.{least_from}
 use Rattle.ygrammar.specs.BreakView.{seen}

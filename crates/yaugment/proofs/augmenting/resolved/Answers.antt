@@ -1,19 +1,17 @@
-use Rattle.std.proofs.Common.{◌≡◌, ◌<◌, get_or, length, map, sym, ap, ap₂, subst, ◌∙◌, arith}
+use Rattle.std.proofs.Common.{◌<◌, get_or, length, map, sym, ap, subst, ◌∙◌}
 use Rattle.std.proofs.lemmas.Result.{IfOk-weaker}
 use Rattle.std.proofs.lemmas.List.{length-map}
 use Rattle.yspec.specs.linking.Augments as spec
 use Rattle.yspec.specs.linking.Expansion.{expanded_parts}
 use Rattle.yindex.specs.Index.{texts_of}
-use Rattle.yaugment.specs.Arranging.{own_rows}
 use Rattle.yaugment.specs.Asking.{AreNames, texts_seen}
 use Rattle.yexpand.specs.AugmentView.{augment_view, augments_seen}
 use Rattle.yaugment.specs.Hanging.{plain}
 use Rattle.yexpand.specs.NamedView.{modules_of}
-use Rattle.yaugment.specs.Picking.{left_of}
-use Rattle.yaugment.specs.SearchView.{look_by, names_by, path_at}
+use Rattle.yaugment.specs.SearchView.{look_by, names_by}
 use Rattle.yaugment.specs.Starting.{first_child}
 use Rattle.yexpand.specs.TableView.{parts_in, slots_of}
-use Rattle.yaugment.specs.Turning.{placed, Prepared}
+use Rattle.yaugment.specs.Turning.{Prepared}
 use Rattle.yaugment.proofs.PreparedLemmas.{own_is, prepared, same_count}
 use Rattle.yaugment.proofs.PutLemmas.{plain_numbered}
 use Rattle.yaugment.proofs.augmenting.resolved.Goals as goal
