@@ -1,8 +1,9 @@
 -- Worked examples: modules that augment one another, and the schema that they make or what is told of them.
-use Rattle.std.specs.Prelude.{List, [], ◌∷◌, ◌++◌, codes, Result, Ok}
+use Rattle.std.specs.Prelude.{List, [], ◌∷◌, ◌++◌, map, codes, true, Option, Some, Result, Ok}
 use Rattle.yspec.specs.Forest.{Forest}
 use Rattle.yspec.specs.text.Text.{Text}
 use Rattle.yspec.specs.program.Examples.{module_text}
+use Rattle.yspec.specs.program.Output.{Outcome, compile, edit, outcome, validate}
 use Rattle.yspec.specs.schema.Breaks.{Break}
 use Rattle.yspec.specs.schema.Schema.{Schema}
 use Rattle.yspec.specs.linking.Source.{Source}
@@ -42,3 +43,24 @@ a_b_and_m lines = module_text (codes "a") (codes "  import m { prefix m; }\n  im
 -- the same with a leaf of a in the container of b
 abbrev pub three_with : Text → List Text
 three_with leaf_text = a_b_and_m (codes "  augment /m:c/b:x { " ++ (leaf_text ++ codes " }\n"))
+
+-- ---- runs
+
+-- the texts of three modules, given as their files are read
+abbrev pub three_files : List (Option Text)
+three_files = map (λ t. Some t) (three_with (codes "leaf y { type string; }"))
+
+abbrev pub three_names : List Text
+three_names = codes "a.yang" ∷ codes "b.yang" ∷ codes "m.yang" ∷ []
+
+-- what `compile` prints of them, and `validate` of a document under them
+abbrev pub counted_of_three : Outcome
+counted_of_three = outcome (compile three_names) three_files
+
+abbrev pub shown_of_three : Text → Outcome
+shown_of_three document = outcome (validate (codes "d.json") three_names) (three_files ++ Some document ∷ [])
+
+-- what `edit --dump` prints of a document and a script
+abbrev pub dumped_of_three : Text → Text → Outcome
+dumped_of_three document script =
+    outcome (edit true (codes "d.json") (codes "s.txt") three_names) (three_files ++ Some document ∷ Some script ∷ [])

@@ -4,13 +4,15 @@ ghost use Rattle.std.specs.Prelude.{◌≡◌, ◌++◌, [], ◌∷◌, codes, S
 ghost use Rattle.yspec.specs.linking.Prefixes.{prefix_breaks};
 ghost use Rattle.yspec.specs.linking.Augments.{augment_breaks, left_breaks};
 ghost use Rattle.yspec.specs.program.Examples.{module_text};
+ghost use Rattle.yspec.specs.program.Output.{failed, found};
+ghost use Rattle.yexamples.specs.RunExamples.{faulty, without_faults};
 ghost use Rattle.yspec.specs.schema.Schema.{leaf, choice, case, allowed};
 ghost use Rattle.yspec.specs.types.Types.{integer_base, uint8, plain};
 ghost use Rattle.yexamples.specs.SchemaExamples.{of_base, referring};
 ghost use Rattle.yexamples.specs.ScopeSamples.{all_told};
 ghost use Rattle.yexamples.specs.ExpansionSamples.{kinds_in, names_in, drawn, text_leaf, plain_container, number_leaf, used_number, told_in, count_of_texts};
 ghost use Rattle.yexamples.specs.CompilingSamples.{compiled_texts};
-ghost use Rattle.yexamples.specs.AugmentSamples.{made_anyway, additions_told, m_and_a, added_to_c, added_to_choice, a_b_and_m, three_with};
+ghost use Rattle.yexamples.specs.AugmentSamples.{counted_of_three, dumped_of_three, shown_of_three, made_anyway, additions_told, m_and_a, added_to_c, added_to_choice, a_b_and_m, three_with};
 
 /// A container, in it a container of another module, and in that a leaf of a third, whose module is given first.
 pub fn nodes_of_three_modules()
@@ -327,4 +329,20 @@ pub fn counted_augments()
         (codes "  grouping g { leaf u { type string; } leaf v { type string; } }\n"
         ++ codes "  augment /m:c { uses g; uses g { refine w { default 7; } } }\n"))
         ≡ 5 }
+{}
+
+/// Documents with nodes of three modules: a name bears its module where that isn't the one of the data node above.
+pub fn documents_of_three_modules()
+    ensures nodes { counted_of_three ≡ found 0 (codes "3 nodes\n") }
+    ensures read { shown_of_three (codes "{\"m:c\":{\"b:x\":{\"a:y\":\"v\"}}}") ≡ without_faults }
+    ensures without_its_module { shown_of_three (codes "{\"m:c\":{\"x\":{}}}")
+        ≡ failed 2 (codes "d.json: J4 /m:c") }
+    ensures of_another_module { shown_of_three (codes "{\"m:c\":{\"b:x\":{\"b:y\":\"v\"}}}")
+        ≡ failed 2 (codes "d.json: J3 /m:c/b:x") }
+    ensures fault { shown_of_three (codes "{\"m:c\":{\"b:x\":{\"a:y\":5}}}")
+        ≡ faulty [] (codes "V1 invalid-value - /m:c/b:x/a:y -\n1 faults\n") }
+    ensures edit { dumped_of_three (codes "{\"m:c\":{}}") (codes "create /m:c/b:x {\"a:y\":\"v\"}")
+        ≡ found 0 (codes "{\"m:c\":{\"b:x\":{\"a:y\":\"v\"}}}\n") }
+    ensures refused_edit { dumped_of_three (codes "{\"m:c\":{}}") (codes "create /m:c/x {}")
+        ≡ faulty (codes "line 1: E2\n") (codes "{\"m:c\":{}}\n") }
 {}
