@@ -1,0 +1,5 @@
+//! Tests of what is said of codes.
+#![tactic(auto)]
+
+#[cfg(test)]
+mod saying;

@@ -1,0 +1,74 @@
+//! What is said of each code, and of what is none.
+
+use std::alloc::Global;
+use ycodes::{explain, write_explanation};
+use youtput::Cut;
+
+// Whether that is written of a code, through a sink that takes so many bytes a call.
+fn says(alloc: Global, code: &str, bytes_per_call: usize, wanted: &str) -> Option<bool> {
+    let mut sink = Cut::new(alloc, 4096, bytes_per_call, None).ok()?;
+    match explain(code) {
+        None => Some(false),
+        Some(explanation) => match write_explanation(&mut sink, explanation) {
+            Ok(()) => Some(sink.bytes() == wanted.as_bytes()),
+            Err(_) => Some(false),
+        },
+    }
+}
+
+const KEYS: &str = "C12: The key or a unique of a list names no fitting leaf.
+  Told: the list.
+  To do: Name leafs of the list, each once; keys stand right below it, of the same module and as much configuration as it.
+  Source: RFC 7950, 7.8.2 and 7.8.3.
+";
+
+#[test]
+fn sentences(rt: HostRuntime) {
+    assert!(rt; says(rt.alloc(), "C12", 4096, KEYS) == Some(true));
+    assert!(rt;
+        says(rt.alloc(), "C12", 1, KEYS) == Some(true),
+        "byte by byte"
+    );
+}
+
+// Whether a failing call ends it, with a beginning taken.
+fn breaks(alloc: Global, call: u64) -> Option<bool> {
+    let mut sink = Cut::new(alloc, 4096, 4096, Some(call)).ok()?;
+    let explanation = explain("C12")?;
+    match write_explanation(&mut sink, explanation) {
+        Ok(()) => Some(false),
+        Err(_) => Some(sink.calls() == call && KEYS.as_bytes().starts_with(sink.bytes())),
+    }
+}
+
+#[test]
+fn failing_calls(rt: HostRuntime) {
+    for call in 1..10 {
+        assert!(rt; breaks(rt.alloc(), call) == Some(true), "{call}");
+    }
+}
+
+// `CODE` that is one, or `-CODE` for what is none.
+fn is_known(row: &str) -> bool {
+    match row.split_once('-') {
+        Some((_, other)) => explain(other).is_none(),
+        None => match explain(row) {
+            Some(explanation) => explanation.code == row,
+            None => false,
+        },
+    }
+}
+
+#[test]
+fn codes(rt: HostRuntime) {
+    let rows = "L1 L2 L3 L4 L5 L6 L7 L8 -L0 -L9
+C1 C2 C3 C4 C5 C6 C7 C8 C9 C10 C11 C12 C13 C14 C15 C16 C17 C18 -C0 -C19 -c1
+J1 J2 J3 J4 J5 J6 J7 -J8
+V1 V2 V3 V4 V5 V6 V7 V8 V9 V10 V11 -V12
+E1 E2 E3 E4 E5 E6 E7 E8 E9 E10 E11 E12 E13 -E14 -E -";
+    for row in rows.lines() {
+        for code in row.split(' ') {
+            assert!(rt; is_known(code), "{code:?}");
+        }
+    }
+}
