@@ -4,6 +4,8 @@
 #[cfg(test)]
 mod augments;
 #[cfg(test)]
+mod codes;
+#[cfg(test)]
 mod commands;
 #[cfg(test)]
 mod failing;
