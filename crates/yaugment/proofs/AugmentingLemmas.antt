@@ -9,16 +9,16 @@ use Rattle.yspec.specs.linking.Parts.{Part}
 use Rattle.yspec.specs.linking.Expansion.{expanded_parts, unfit_breaks}
 use Rattle.yspec.specs.linking.Augments.{Augment, augments_of, is_ready, applied, in_turn, augmented, body_breaks, augment_breaks}
 use Rattle.yspec.proofs.SchemaProofs.LeastLemmas.{least_of_both}
-use Rattle.ypreorder.specs.Layout.{places, laid}
+use Rattle.ypreorder.specs.Layout.{places}
 use Rattle.ypreorder.specs.declared.siblings.Node.{Node}
-use Rattle.ypreorder.proofs.LayoutLemmas.{length-places, length-laid, length-seen, places-join}
+use Rattle.ypreorder.proofs.LayoutLemmas.{length-places, places-join}
 use Rattle.ygrammar.specs.declared.source.Source as held
 use Rattle.yexpand.specs.AugmentView.{augments_seen}
 use Rattle.yaugment.specs.Augmenting.{breaks_of}
-use Rattle.yexpand.specs.NodeView.{numbered_part}
 use Rattle.yaugment.specs.Picking.{left_of}
 use Rattle.yexpand.specs.TableView.{parts_in, slots_of}
 use Rattle.yexpand.specs.declared.table.NodeTable.{NodeTable}
+use Rattle.yaugment.proofs.PreparedLemmas.{count_parts}
 
 -- ---- where no augment is given
 
@@ -38,8 +38,7 @@ none_seen (a ∷ augments) e = absurd (omega (arith, e))
 -- ---- nodes and what augments add behind them
 
 pub count_in : (t : NodeTable) (e : Forest Part) → parts_in t ≡ places None 0 e → length (slots_of t) ≡ size e
-count_in t e is =
-    sym (length-seen numbered_part 0 (laid (slots_of t)) ∙ length-laid (slots_of t)) ∙ (ap length is ∙ length-places None 0 e)
+count_in t e is = sym (count_parts (slots_of t)) ∙ (ap length is ∙ length-places None 0 e)
 
 pub lie_behind : (old new : NodeTable) (e bodies : Forest Part) → parts_in old ≡ places None 0 e
     → parts_in new ≡ parts_in old ++ places None (length (slots_of old)) bodies → parts_in new ≡ places None 0 (join e bodies)

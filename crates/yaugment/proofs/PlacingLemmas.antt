@@ -13,11 +13,14 @@ use Rattle.yaugment.specs.Arranging.{hung_view}
 use Rattle.yaugment.specs.Hanging.{given_by, hung_at, inner, marked_by, plain}
 use Rattle.yexpand.specs.NumberedView.{Numbered}
 use Rattle.yexpand.specs.NodeView.{marked_with, numbered_part, part_view}
-use Rattle.yaugment.specs.Placing.{Adds, FindsFrom, Others, marked, steps, steps_in}
+use Rattle.yaugment.specs.Placing.{Adds, Always, Does, FindsFrom, Leads, Others, marked, steps, steps_in, toll}
 use Rattle.yexpand.specs.TableView.{slots_of, parts_in}
 use Rattle.yaugment.specs.declared.applied.Applied.{Applied}
+use Rattle.yaugment.specs.declared.arranging.Arrangement.{Arrangement}
+use Rattle.yaugment.specs.declared.arranging.Task.{Task}
 use Rattle.yexpand.specs.declared.nodes.ExpandedNode.{ExpandedNode}
 use Rattle.yexpand.specs.declared.table.NodeTable.{NodeTable}
+use Rattle.yexpand.proofs.TurnLemmas.{leaves_so, leaves_task}
 use Rattle.yaugment.proofs.HangingLemmas.{Nodes}
 
 -- ---- what is added
@@ -216,3 +219,13 @@ module _ (starts : List ℕ) (slots : List (Slot ExpandedNode)) (numbers : List 
 
   pub given_none : (order : List Applied) (l : Numbered Part) (place : ℕ) → slice_get order place ≡ None → at (drop place order) l ≡ end
   given_none order l place none = ap (λ (all : List Applied). at all l) (dropped_none order place none)
+
+-- ---- one task left behind
+
+pub leads_by : (x : Arrangement) (that : NodeTable → NodeTable → Type 0) (t : Task) (most : ℕ) (before after : List Task) (made : NodeTable)
+    → after ≡ before ++ t ∷ [] → suc (toll x t) ≤ most → ((final : NodeTable) → Does x t made final → that made final)
+    → Leads x that most before after made made
+leads_by x that t most before after made pushed few so =
+    subst (λ ts. Leads x that most before ts made made) (sym pushed)
+    (leaves_so (Does x) (toll x) Always (Does x t) that (suc (toll x t)) most before (before ++ t ∷ []) made made so few
+    (leaves_task (Does x) (toll x) Always t before made tt))

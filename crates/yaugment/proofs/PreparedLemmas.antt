@@ -13,6 +13,7 @@ use Rattle.yspec.specs.linking.Prefixes.{NodeName}
 use Rattle.yspec.specs.linking.Planned.{same_number}
 use Rattle.yspec.specs.linking.Expansion.{laid as laid_parts, replaced}
 use Rattle.yspec.specs.linking.Augments.{Augment, target_steps}
+use Rattle.yspec.proofs.LinkingProofs.ExpansionLemmas.{size_join}
 use Rattle.ypreorder.specs.Layout.{Place, places, laid, seen, numbered_by, forest_of}
 use Rattle.ypreorder.specs.declared.slot.Slot.{Slot}
 use Rattle.ypreorder.proofs.LayoutLemmas.{forest_seen, length-places, length-laid, length-seen, places-join}
@@ -75,7 +76,7 @@ rows_lie n past slots before after p f count ends is =
     let here = take_seen n (past - n) (drop n slots) (places p n f) after (length-places p n f ∙ omega (arith, ends)) behind in
     with_numbered n (forest_of row) ∙ ap (numbered n) (forest_seen numbered_part f p n row here).0
 
-count_parts : (slots : Rows) → length (parts slots) ≡ length slots
+pub count_parts : (slots : Rows) → length (parts slots) ≡ length slots
 count_parts slots = length-seen numbered_part 0 (laid slots) ∙ length-laid slots
 
 -- ---- what augments add, where it lies
@@ -88,10 +89,6 @@ module _ (m : Forest Source) where
   start_first : (n last : ℕ) (augments : List Augment) → last ≡ n + size (bodies_of m augments) → get_or (starts_from m n augments) 0 last ≡ n
   start_first n last [] is = omega (arith, is)
   start_first n last (a ∷ augments) is = refl
-
-  size_join : (f g : Forest Part) → size (join f g) ≡ size f + size g
-  size_join end g = omega arith
-  size_join (node p below after) g = omega (arith, size_join after g)
 
   starts_after : (n last : ℕ) (augments : List Augment) (j : ℕ) → last ≡ n + size (bodies_of m augments) → n ≤ get_or (starts_from m n augments) j last
   starts_after n last [] j is = omega (arith, is)
@@ -261,20 +258,12 @@ steps_at texts (p ∷ paths) steps (a ∷ augments) is (suc j) less =
     let rest : map (λ p. names_by texts p.items) paths ≡ map steps augments = cc in
     steps_at texts paths steps augments rest j (omega (arith, less))
 
-pub same_count : {A B C : Type 0} (of_path : A → C) (of_augment : B → C) (paths : List A) (augments : List B)
-    → map of_path paths ≡ map of_augment augments → length paths ≡ length augments
-same_count of_path of_augment [] [] is = refl
-same_count of_path of_augment [] (a ∷ augments) is = absurd cc
-same_count of_path of_augment (p ∷ paths) [] is = absurd cc
-same_count of_path of_augment (p ∷ paths) (a ∷ augments) is =
-    let rest : map of_path paths ≡ map of_augment augments = cc in ap suc (same_count of_path of_augment paths augments rest)
-
 -- ---- all of it
 
 module _ (m : Forest Source) (augments : List Augment) (slots : Rows) (starts : List ℕ) (e : Forest Part)
     (lie : parts slots ≡ places None 0 (join e (bodies_of m augments))) (begin : starts ≡ starts_from m (size e) augments) where
   last : length slots ≡ size e + size (bodies_of m augments)
-  last = sym (count_parts slots) ∙ (ap length lie ∙ (length-places None 0 (join e (bodies_of m augments)) ∙ size_join m e (bodies_of m augments)))
+  last = sym (count_parts slots) ∙ (ap length lie ∙ (length-places None 0 (join e (bodies_of m augments)) ∙ size_join e (bodies_of m augments)))
 
   apart_parts : parts slots ≡ places None 0 e ++ places None (size e) (bodies_of m augments)
   apart_parts =

@@ -3,6 +3,7 @@ use Rattle.std.proofs.Common.{◌≡◌, ◌⊎◌, inl, inr, ℕ, suc, ◌+◌,
 use Rattle.std.specs.Prelude.{is_some, option_map, option_and_then}
 use Rattle.std.proofs.lemmas.Bool.{eq-eqb, ne_eqb, lt-ltb, le-ltb}
 use Rattle.std.proofs.lemmas.List.{drop_more}
+use Rattle.std.proofs.lemmas.Option.{slice_get-get_or}
 use Rattle.yspec.specs.Forest.{Forest, end, node, size, first_of}
 use Rattle.yspec.specs.text.Text.{Text, is_text}
 use Rattle.yspec.specs.linking.Source.{argument_in}
@@ -14,9 +15,11 @@ use Rattle.ypreorder.specs.Layout.{Place, laid, places, seen}
 use Rattle.ypreorder.specs.declared.slot.Slot.{Slot}
 use Rattle.ypreorder.proofs.LayoutLemmas.{length-places}
 use Rattle.yindex.specs.Index.{found}
+use Rattle.yindex.specs.Names.{text_in}
 use Rattle.yindex.specs.declared.index.NodeIndex.{NodeIndex}
 use Rattle.yindex.specs.declared.keys.Among.TheVariants.{Children}
 use Rattle.yexpand.specs.NodeView.{numbered_part, part_view}
+use Rattle.yaugment.specs.Asking.{AreNames, row_name}
 use Rattle.yaugment.specs.SearchView.{look_by}
 use Rattle.yexpand.specs.declared.nodes.ExpandedNode.{ExpandedNode}
 use Rattle.yaugment.specs.Hanging.{numbered}
@@ -187,3 +190,15 @@ further first above name slots i r before after total within is added so_far =
     let at : drop i slots ≡ r ∷ drop (i + 1) slots = drop_more slots i r within ∙ ap (λ (x : Slot ExpandedNode). x ∷ drop (i + 1) slots) (sym is) in
     ap (λ o. first_of o rest) added ∙ (of_assoc before here rest
     ∙ (ap (λ xs. first_of before (first_child first above name i (seen numbered_part i (laid xs)))) (sym at) ∙ so_far))
+
+-- ---- a row of the table that is gone through
+
+pub row_read : (items slots : List (Slot ExpandedNode)) (i : ℕ) (r : Slot ExpandedNode) → items ≡ slots → i < length items → r ≡ get_or items i r
+    → (i < length slots) × (r ≡ get_or slots i r)
+row_read items slots i r same within is =
+    let count = ap length same in (omega (arith, within, count), is ∙ ap (λ xs. get_or xs i r) same)
+
+-- its name among others
+pub row_named : (texts : List Text) (slots : List (Slot ExpandedNode)) (i : ℕ) (r : Slot ExpandedNode) → AreNames texts slots
+    → (i < length slots) × (r ≡ get_or slots i r) → (i < length texts) × (text_in texts i ≡ row_name r)
+row_named texts slots i r names read = names i r (slice_get-get_or slots i r read.0 ∙ ap Some (sym read.1))

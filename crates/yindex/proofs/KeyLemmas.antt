@@ -1,6 +1,6 @@
 -- What is found by a key, once a node is noted.
 use Rattle.std.proofs.Common.{◌≡◌, ℕ, Bool, true, false, cond, ◌&&◌, Option, Some, None, refl, sym, ap, ap₂, ◌∙◌}
-use Rattle.std.specs.Prelude.{◌==◌, OnOk, Result, Ok, Err, option_and_then, unwrap_or}
+use Rattle.std.specs.Prelude.{◌==◌, OnOk, Result, Ok, Err, option_and_then}
 use Rattle.std.proofs.lemmas.Bool.{and_parts, eqb-true}
 use Rattle.yspec.specs.Forest.{first_of}
 use Rattle.yspec.specs.linking.Planned.{same_number}
@@ -28,21 +28,18 @@ same_key-is a b e =
     let names = eqb-true a.name b.name more.1 in
     (λ i. record { above = above i; «module» = modules i; name = names i })
 
-none_in : (among : Among) → first_in among (record { child = None; in_scope = None; data_node = None }) ≡ None
-none_in Children = refl
-none_in Scope = refl
-none_in DataNodes = refl
-
-pub first_held : (among : Among) (held : Option Firsts) → option_and_then (first_in among) held ≡ first_in among (unwrap_or held (record { child = None; in_scope = None; data_node = None }))
-first_held among (Some firsts) = refl
-first_held among None = sym (none_in among)
-
 -- one key after a node is noted at another, or at itself
 pub noted : (among : Among) (is_here asks : Bool) (old : Option Firsts) (firsts : Firsts) (number : ℕ)
     → (is_here ≡ true → first_in among firsts ≡ first_of (option_and_then (first_in among) old) (cond asks (Some number) None))
     → option_and_then (first_in among) (cond is_here (Some firsts) old) ≡ first_of (option_and_then (first_in among) old) (cond (is_here && asks) (Some number) None)
 noted among true asks old firsts number here = here refl
 noted among false asks old firsts number here = sym (first_of_none (option_and_then (first_in among) old))
+
+-- what is put where it was just put
+pub put_twice : (is_here : Bool) (now before : Firsts) (old : Option Firsts)
+    → cond is_here (Some now) (cond is_here (Some before) old) ≡ cond is_here (Some now) old
+put_twice true now before old = refl
+put_twice false now before old = refl
 
 pub on_ok : {X Y : Type 0} {P Q : Type 0} (r : Result X Y) → OnOk r P → (P → Q) → OnOk r Q
 on_ok (Ok x) h more = more h

@@ -145,9 +145,16 @@ impl FirstNodes {
         ensures err { OnErr result ((among : _) → (k : _)
             → first_at self.new among k ≡ first_at self.old among k) }
     {
-        let firsts = self.by_key.get(&key).copied().unwrap_or(Firsts::NONE);
-        match self.by_key.insert(key, firsts.followed_by(asked, number)) {
-            Ok(_) => Ok(()),
+        // Most keys are new, so they are looked for no earlier than they are put in.
+        match self
+            .by_key
+            .insert(key, Firsts::NONE.followed_by(asked, number))
+        {
+            Ok(None) => Ok(()),
+            Ok(Some(before)) => match self.by_key.insert(key, before.followed_by(asked, number)) {
+                Ok(_) => Ok(()),
+                Err(_) => Err(AllocError),
+            },
             Err(_) => Err(AllocError),
         }
     }

@@ -74,7 +74,7 @@ pub neither : (a b : Bool) → (a || b) ≡ false → (a ≡ false) × (b ≡ fa
 neither true b e = absurd cc
 neither false b e = (refl, e)
 
-not_defined : (kind : DefinitionKind) (s : Source) → is_definition s ≡ false → is_source_of (kind_word kind) s ≡ false
+pub not_defined : (kind : DefinitionKind) (s : Source) → is_definition s ≡ false → is_source_of (kind_word kind) s ≡ false
 not_defined Typedef s none = (neither (is_source_of (kind_word Typedef) s) (is_source_of (kind_word Grouping) s) none).0
 not_defined Grouping s none = (neither (is_source_of (kind_word Typedef) s) (is_source_of (kind_word Grouping) s) none).1
 

@@ -4,6 +4,7 @@ pub mod DefinitionLemmas
 pub mod EdgeLemmas
 pub mod FirstNamedLemmas
 pub mod ImportingLemmas
+pub mod LackingLemmas
 pub mod MeaningLemmas
 pub mod NumberedLemmas
 pub mod OrderedLemmas

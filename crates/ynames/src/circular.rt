@@ -14,6 +14,7 @@ ghost use Rattle.ynames.specs.EdgeView.{flag_at, circle_by, circles_by};
 ghost use Rattle.ynames.specs.MeaningView.{AreMeanings};
 ghost use Rattle.ynames.specs.ReferringView.{AreReferring};
 
+use crate::definitions::has_any_definition;
 use crate::references::{edges_by_number, present};
 use std::alloc::{AllocError, Global};
 use ygrammar::{BrokenRule, CompileCode, Source, Sources, broken, least_when};
@@ -100,6 +101,9 @@ pub fn broken_circle_rule(
         → AreMeanings meanings.now (view sources.now) → IfOk result (λ told. seen told
         ≡ least_from (seen so_far) (definition_circles (view sources.now))) }
 {
+    if !has_any_definition(sources) {
+        return Ok(so_far);
+    }
     let edges = edges_by_number(alloc, holders, meanings)?;
     let found = present(alloc, &edges)?;
     let flags = on_circles(alloc, &found)?;

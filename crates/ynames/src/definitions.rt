@@ -1,9 +1,9 @@
 //! The definitions that stand in rows of statements, found by kind and name (RFC 7950, 5.5 and 6.2.1).
 
-ghost use Rattle.std.specs.Prelude.{◌≡◌, ℕ, None, Some, if◌then◌else◌, IfOk, OnOk};
+ghost use Rattle.std.specs.Prelude.{◌≡◌, ℕ, None, Some, if◌then◌else◌, IfOk, OnOk, map};
 ghost use Rattle.std.specs.List.{list_any};
 ghost use Rattle.yspec.specs.Forest.{first_of, preorder, row};
-ghost use Rattle.yspec.specs.linking.Scopes.{is_definition};
+ghost use Rattle.yspec.specs.linking.Scopes.{is_definition, statements_of};
 ghost use Rattle.yspec.specs.text.Text.{is_text};
 ghost use Rattle.ypreorder.specs.View.{row_by};
 ghost use Rattle.yword.specs.KeywordView.{keyword_view};
@@ -73,6 +73,20 @@ pub(crate) fn has_any_definition(sources: &Sources<'_>) -> bool
         }
     }
     false
+}
+
+/// A table that holds nothing of each statement of a set.
+pub(crate) fn nothing_of(
+    alloc: Global,
+    sources: &Sources<'_>,
+) -> Result<Vec<Option<u32>>, AllocError>
+    ensures { IfOk result (λ made. made.items
+        ≡ map (λ _. None) (statements_of (view sources.now))) }
+{
+    let count = sources.slots().len();
+    let mut made = Vec::with_capacity(alloc, count)?;
+    made.resize(count, None)?;
+    Ok(made)
 }
 
 /// The numbers of the statements of a keyword in a row, by their arguments: of several with one argument the first.

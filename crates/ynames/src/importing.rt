@@ -79,6 +79,9 @@ pub fn circular_import(
 {
     let edges = import_edges(alloc, sources, places)?;
     let found = present(alloc, &edges)?;
+    if found.is_empty() {
+        return Ok(so_far);
+    }
     let flags = on_circles(alloc, &found)?;
     let circular = flags_by_number(alloc, &edges, &flags)?;
     Ok(least_circle(sources, &circular, so_far))

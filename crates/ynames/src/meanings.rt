@@ -11,7 +11,7 @@ ghost use Rattle.ynames.specs.PrefixView.{IsOf};
 ghost use Rattle.ynames.specs.DefinitionView.{IsAround};
 ghost use Rattle.ynames.specs.MeaningView.{number_meant, AreMeanings, AreModules, AreTopsOf};
 
-use crate::definitions::{DefinitionKind, Definitions, Scope};
+use crate::definitions::{DefinitionKind, Definitions, Scope, has_any_definition, nothing_of};
 use crate::prefix::Prefixes;
 use crate::taken::is_built_in;
 use std::alloc::{AllocError, Global};
@@ -168,6 +168,9 @@ pub fn meanings_of<'t>(
     ensures { IsOf prefixes.now (view sources.now)
         → IfOk result (λ made. AreMeanings made.items (view sources.now)) }
 {
+    if !has_any_definition(sources) {
+        return nothing_of(alloc, sources);
+    }
     let tops = tops_of(alloc, sources)?;
     let modules = NamedModules { prefixes, tops };
     let mut made = Vec::new(alloc);

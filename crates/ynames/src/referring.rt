@@ -11,6 +11,7 @@ ghost use Rattle.ygrammar.specs.LinkView.{view};
 ghost use Rattle.ygrammar.specs.SourceView.{source_view};
 ghost use Rattle.ynames.specs.ReferringView.{innermost_of, AreReferring};
 
+use crate::definitions::{has_any_definition, nothing_of};
 use std::alloc::{AllocError, Global};
 use ygrammar::{Source, Sources};
 use ypreorder::{Node, Siblings};
@@ -72,6 +73,9 @@ fn add_holders(
 pub fn holders_of(alloc: Global, sources: &Sources<'_>) -> Result<Vec<Option<u32>>, AllocError>
     ensures { IfOk result (λ made. AreReferring made.items (view sources.now)) }
 {
+    if !has_any_definition(sources) {
+        return nothing_of(alloc, sources);
+    }
     let mut made = Vec::new(alloc);
     add_holders(None, None, sources.modules(), &mut made)?;
     Ok(made)

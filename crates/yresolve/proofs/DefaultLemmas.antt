@@ -236,6 +236,14 @@ default_named plan p found default may is so =
     by None = refl
     by (Some x) = refl
 
+pub without_default : (plan : Plan) (p : Planned) (found : Option (Source × Forest Source)) → found ≡ found_with type_word p.part.own
+    → None ≡ option_and_then (λ (x : Source × Forest Source). default_meant plan.modules x.0) found → None ≡ type_default plan p
+without_default plan p found is none = by (is_mandatory p || ltb 0 (min_elements_of p)) refl
+  where
+    by : (b : Bool) → (is_mandatory p || ltb 0 (min_elements_of p)) ≡ b → None ≡ type_default plan p
+    by true must = no_default plan p must
+    by false may = default_named plan p found None may is none
+
 -- ---- by the keyword of a node
 
 abbrev wrong_by : Plan → Planned → Keyword → Bool

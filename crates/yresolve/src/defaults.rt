@@ -67,11 +67,13 @@ fn type_default<'t>(linked: &Linked<'t>, planned: &Planned<'_, 't>) -> Option<&'
         → option_map (λ t. t.now) result
         ≡ spec.type_default plan (planned_view number planned.now) }
 {
+    let statement = planned.first_own(Keyword::Type)?;
+    // Most types have none, and then nothing else is asked of the node.
+    let text = linked.default_named(statement.number())?;
     if planned.is_mandatory() || planned.min_elements() > 0 {
         return None;
     }
-    let statement = planned.first_own(Keyword::Type)?;
-    linked.default_named(statement.number())
+    Some(text)
 }
 
 /// The texts of the defaults of a node, in order: its own, or where it has none that of its type.

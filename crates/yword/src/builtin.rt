@@ -27,7 +27,7 @@ pub enum BuiltIn {
 }
 
 impl BuiltIn {
-    /// The built-in type of a name. It is looked for among those of its length.
+    /// The built-in type of a name. It is looked for among those of its length, frequent ones first.
     pub fn named(name: &str) -> Option<BuiltIn>
         ensures { option_map built_in_view result ≡ built_in_named name.now }
     {
@@ -96,10 +96,10 @@ fn of_six(name: &str) -> Option<BuiltIn>
     ensures { option_map built_in_view result ≡ type_among is_six name.now }
 {
     Some(match name {
+        "string" => BuiltIn::String,
         "uint16" => BuiltIn::Uint16,
         "uint32" => BuiltIn::Uint32,
         "uint64" => BuiltIn::Uint64,
-        "string" => BuiltIn::String,
         _ => return None,
     })
 }
@@ -108,10 +108,10 @@ fn of_another_length(name: &str) -> Option<BuiltIn>
     ensures { option_map built_in_view result ≡ type_among is_another name.now }
 {
     Some(match name {
-        "decimal64" => BuiltIn::Decimal64,
         "boolean" => BuiltIn::Boolean,
         "enumeration" => BuiltIn::Enumeration,
         "leafref" => BuiltIn::Leafref,
+        "decimal64" => BuiltIn::Decimal64,
         _ => return None,
     })
 }

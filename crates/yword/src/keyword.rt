@@ -90,7 +90,7 @@ impl Keyword {
         )
     }
 
-    /// The keyword that a text is, if it is one. It is looked for among those of about its length.
+    /// The keyword that a text is, if it is one. It is looked for among those of about its length, frequent ones first.
     pub fn named(text: &str) -> Option<Keyword>
         ensures { option_map keyword_view result ≡ spec.keyword_named text.now }
     {
@@ -116,10 +116,10 @@ fn of_four(text: &str) -> Option<Keyword>
 {
     Some(match text {
         "leaf" => Keyword::Leaf,
+        "type" => Keyword::Type,
         "list" => Keyword::List,
         "case" => Keyword::Case,
         "uses" => Keyword::Uses,
-        "type" => Keyword::Type,
         "enum" => Keyword::Enum,
         "path" => Keyword::Path,
         _ => return None,
@@ -147,12 +147,12 @@ fn of_nine(text: &str) -> Option<Keyword>
     ensures { option_map keyword_view result ≡ named_among is_nine text.now }
 {
     Some(match text {
-        "namespace" => Keyword::Namespace,
-        "reference" => Keyword::Reference,
-        "extension" => Keyword::Extension,
         "container" => Keyword::Container,
         "leaf-list" => Keyword::LeafList,
         "mandatory" => Keyword::Mandatory,
+        "namespace" => Keyword::Namespace,
+        "reference" => Keyword::Reference,
+        "extension" => Keyword::Extension,
         _ => return None,
     })
 }
@@ -174,13 +174,13 @@ fn of_middle(text: &str) -> Option<Keyword>
     ensures { option_map keyword_view result ≡ named_among is_middle text.now }
 {
     Some(match text {
+        "default" => Keyword::Default,
         "contact" => Keyword::Contact,
         "revision" => Keyword::Revision,
         "typedef" => Keyword::Typedef,
         "grouping" => Keyword::Grouping,
         "augment" => Keyword::Augment,
         "position" => Keyword::Position,
-        "default" => Keyword::Default,
         "presence" => Keyword::Presence,
         _ => return None,
     })
@@ -190,10 +190,10 @@ fn of_long(text: &str) -> Option<Keyword>
     ensures { option_map keyword_view result ≡ named_among is_long text.now }
 {
     Some(match text {
+        "description" => Keyword::Description,
         "yang-version" => Keyword::YangVersion,
         "revision-date" => Keyword::RevisionDate,
         "organization" => Keyword::Organization,
-        "description" => Keyword::Description,
         "fraction-digits" => Keyword::FractionDigits,
         "require-instance" => Keyword::RequireInstance,
         "error-message" => Keyword::ErrorMessage,

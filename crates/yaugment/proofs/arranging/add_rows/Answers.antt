@@ -1,16 +1,16 @@
-use Rattle.std.proofs.Common.{◌≡◌, ◌+◌, ◌++◌, suc, [], ◌∷◌, Some, true, false, cond, get_or, sym, ap, ap₂, ◌∙◌, subst, arith}
+use Rattle.std.proofs.Common.{◌≡◌, ◌+◌, Some, true, false, cond, get_or, sym, ap, ap₂, ◌∙◌, subst, arith}
 use Rattle.yspec.specs.linking.Keyword.{choice_word}
 use Rattle.yspec.specs.linking.Source.{is_source_of}
 use Rattle.ypreorder.specs.View.{label_by}
 use Rattle.yaugment.specs.Arranging.{hung_view, rows_of}
 use Rattle.yexpand.specs.NumberedView.{with_number}
 use Rattle.yaugment.specs.Hanging.{given_by, inner, marked_by}
-use Rattle.yaugment.specs.Placing.{given, steps, steps_from, toll, Adds, Always, Does, Leads}
+use Rattle.yaugment.specs.Placing.{given, steps, steps_from, Adds}
 use Rattle.yexpand.specs.TableView.{slots_of}
 use Rattle.yaugment.specs.declared.arranging.Spot.{Spot}
 use Rattle.yaugment.specs.declared.arranging.Task.{Task}
 use Rattle.yaugment.specs.declared.arranging.Task.TheVariants.{Row, Inner}
-use Rattle.yexpand.proofs.TurnLemmas.{leaves_so, leaves_task}
+use Rattle.yaugment.proofs.PlacingLemmas.{leads_by}
 use Rattle.yaugment.proofs.arranging.add_rows.Goals as goal
 
 pub returns-in_ok-push : goal.returns-in_ok-push
@@ -25,15 +25,12 @@ returns-in_ok-push c = λ made.
     let h = hung_view x.starts.now (slots_of x.nodes.now) x.numbers.now a in
     let spot : Spot = record { parent = c.args.parent; added_by = Some c.number_at.result; from = later } in
     let t : Task = Row spot c.rows_of-rows.result in
-    let before = c.args.tasks.now.items in
     let choice : is_source_of choice_word l.label.source ≡ true = sym c.is_choice.ensures ∙ c.if-is_choice.true in
     let is = ap₂ (λ n f. given_by g (marked_by n (f))) c.number_at.ensures c.rows_of-rows.ensures
     ∙ sym (ap (λ b. given_by g (marked_by number (cond b rows (inner rows)))) choice) in
     let costs = ap (steps (steps_from x later)) c.rows_of-rows.ensures in
-    subst (λ ts. Leads x (Adds c.args.parent (given_by g (h.row l))) (1 + steps (steps_from x later) rows) before ts made made) (sym c.in_ok-push.ensures.items)
-    (leaves_so (Does x) (toll x) Always (Does x t) (Adds c.args.parent (given_by g (h.row l))) (suc (toll x t)) (1 + steps (steps_from x later) rows) before (before ++ t ∷ []) made made
-    (λ final done. subst (λ f. Adds c.args.parent f made final) is done) (omega (arith, costs))
-    (leaves_task (Does x) (toll x) Always t before made tt))
+    leads_by x (Adds c.args.parent (given_by g (h.row l))) t (1 + steps (steps_from x later) rows) c.args.tasks.now.items _ made c.in_ok-push.ensures.items
+    (omega (arith, costs)) (λ final done. subst (λ f. Adds c.args.parent f made final) is done)
 
 pub returns-in_ok-push-2 : goal.returns-in_ok-push-2
 returns-in_ok-push-2 c = λ made.
@@ -47,12 +44,9 @@ returns-in_ok-push-2 c = λ made.
     let h = hung_view x.starts.now (slots_of x.nodes.now) x.numbers.now a in
     let spot : Spot = record { parent = c.args.parent; added_by = Some c.number_at.result; from = later } in
     let t : Task = Inner spot c.rows_of-rows.result in
-    let before = c.args.tasks.now.items in
     let choice : is_source_of choice_word l.label.source ≡ false = sym c.is_choice.ensures ∙ c.if-is_choice.false in
     let is = ap₂ (λ n f. given_by g (marked_by n (inner f))) c.number_at.ensures c.rows_of-rows.ensures
     ∙ sym (ap (λ b. given_by g (marked_by number (cond b rows (inner rows)))) choice) in
     let costs = ap (steps (steps_from x later)) c.rows_of-rows.ensures in
-    subst (λ ts. Leads x (Adds c.args.parent (given_by g (h.row l))) (1 + steps (steps_from x later) rows) before ts made made) (sym c.in_ok-push-2.ensures.items)
-    (leaves_so (Does x) (toll x) Always (Does x t) (Adds c.args.parent (given_by g (h.row l))) (suc (toll x t)) (1 + steps (steps_from x later) rows) before (before ++ t ∷ []) made made
-    (λ final done. subst (λ f. Adds c.args.parent f made final) is done) (omega (arith, costs))
-    (leaves_task (Does x) (toll x) Always t before made tt))
+    leads_by x (Adds c.args.parent (given_by g (h.row l))) t (1 + steps (steps_from x later) rows) c.args.tasks.now.items _ made c.in_ok-push-2.ensures.items
+    (omega (arith, costs)) (λ final done. subst (λ f. Adds c.args.parent f made final) is done)

@@ -1,4 +1,4 @@
-use Rattle.std.proofs.Common.{◌≡◌, ◌+◌, ◌++◌, suc, [], ◌∷◌, Some, None, length, refl, sym, ap, ◌∙◌, subst, arith}
+use Rattle.std.proofs.Common.{◌≡◌, ◌+◌, Some, None, length, refl, sym, ap, ◌∙◌, subst, arith}
 use Rattle.std.specs.Prelude.{slice_get}
 use Rattle.std.proofs.lemmas.Option.{slice_get_read, slice_get_past}
 use Rattle.std.proofs.lemmas.Result.{on_ok_weaker}
@@ -11,8 +11,8 @@ use Rattle.yaugment.specs.Placing.{given, steps, steps_from, toll, Adds, Always,
 use Rattle.yexpand.specs.TableView.{slots_of}
 use Rattle.yaugment.specs.declared.arranging.Task.{Task}
 use Rattle.yaugment.specs.declared.arranging.Task.TheVariants.{Hang}
-use Rattle.yaugment.proofs.PlacingLemmas.{adds_none, adds_both, given_on, given_here, given_later, given_none, fewer, steps_here}
-use Rattle.yexpand.proofs.TurnLemmas.{leaves_none, leaves_so, leaves_behind, leaves_task}
+use Rattle.yaugment.proofs.PlacingLemmas.{adds_none, adds_both, given_on, given_here, given_later, given_none, fewer, leads_by, steps_here}
+use Rattle.yexpand.proofs.TurnLemmas.{leaves_none, leaves_behind}
 use Rattle.yaugment.proofs.arranging.hang.Goals as goal
 
 pub returns-in_default : goal.returns-in_default
@@ -34,12 +34,9 @@ returns-then-applied-number c = λ made.
     let is : slice_get order place ≡ Some a = slice_get_read order (length order) place a refl c.in-Some.ensures.lookup.3.0 c.in-Some.ensures.lookup.1 in
     let other : a.target ≡ l.number → ⊥ = λ e. absurd (omega (arith, e, c.number.ensures, c.if-applied-number.true)) in
     let t : Task = Hang c.args.parent c.args.original (place + 1) in
-    let before = c.args.tasks.now.items in
     let costs = steps_here (λ b. rows_of x.starts.now slots b.augment) order place a is in
-    subst (λ ts. Leads x (Adds c.args.parent (given x place l)) (steps_from x place) before ts made made) (sym c.in_ok-push.ensures.items)
-    (leaves_so (Does x) (toll x) Always (Does x t) (Adds c.args.parent (given x place l)) (suc (toll x t)) (steps_from x place) before (before ++ t ∷ []) made made
+    leads_by x (Adds c.args.parent (given x place l)) t (steps_from x place) c.args.tasks.now.items _ made c.in_ok-push.ensures.items (omega (arith, costs))
     (λ final done. subst (λ f. Adds c.args.parent f made final) (sym (given_later x.starts.now slots x.numbers.now order l place a is other)) done)
-    (omega (arith, costs)) (leaves_task (Does x) (toll x) Always t before made tt))
 
 pub returns : goal.returns
 returns c = λ made.

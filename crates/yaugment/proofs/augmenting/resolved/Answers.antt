@@ -12,16 +12,17 @@ use Rattle.yaugment.specs.SearchView.{look_by, names_by}
 use Rattle.yaugment.specs.Starting.{first_child}
 use Rattle.yexpand.specs.TableView.{parts_in, slots_of}
 use Rattle.yaugment.specs.Turning.{Prepared}
-use Rattle.yaugment.proofs.PreparedLemmas.{own_is, prepared, same_count}
+use Rattle.yaugment.proofs.PreparedLemmas.{own_is, prepared}
 use Rattle.yaugment.proofs.PutLemmas.{plain_numbered}
 use Rattle.yaugment.proofs.augmenting.resolved.Goals as goal
 
 pub invariant_of-targets : goal.invariant_of-targets
 invariant_of-targets c = record {
   paired = ap length c.as_slice.ensures.value
-      ∙ (same_count (λ p. names_by (texts_seen c.in_ok-texts.field-0.texts.items) p.items) (spec.target_steps (modules_of c.args.named.now))
-      c.in_ok-texts.field-0.paths.items (augments_seen c.args.augments.now) c.in_ok-texts.ensures.paths
-      ∙ length-map c.args.augments.now augment_view);
+      ∙ (sym (length-map c.in_ok-texts.field-0.paths.items (λ p. names_by (texts_seen c.in_ok-texts.field-0.texts.items) p.items))
+      ∙ (ap length c.in_ok-texts.ensures.paths
+      ∙ (length-map (augments_seen c.args.augments.now) (spec.target_steps (modules_of c.args.named.now))
+      ∙ length-map c.args.augments.now augment_view)));
 }
 
 pub resolve-requires : goal.resolve-requires

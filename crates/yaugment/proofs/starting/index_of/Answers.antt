@@ -1,46 +1,36 @@
-use Rattle.std.proofs.Common.{◌≡◌, ◌<◌, ◌∙◌, Some, ap, arith, get_or, length, subst, sym}
-use Rattle.std.proofs.lemmas.Option.{slice_get-get_or}
+use Rattle.std.proofs.Common.{◌≡◌, ◌<◌, ◌∙◌, ap, arith, length, subst, sym}
 use Rattle.ypreorder.specs.declared.slot.Slot.{Slot}
 use Rattle.yindex.specs.Names.{text_in}
 use Rattle.yaugment.specs.Asking.{row_name}
 use Rattle.yaugment.specs.SearchView.{look_by}
 use Rattle.yexpand.specs.TableView.{slots_of}
 use Rattle.yexpand.specs.declared.nodes.ExpandedNode.{ExpandedNode}
-use Rattle.yaugment.proofs.StartingLemmas.{further}
+use Rattle.yaugment.proofs.StartingLemmas.{further, row_named, row_read}
 use Rattle.yaugment.proofs.starting.index_of.Goals as goal
 
 pub add_placed-requires-clause-within : goal.add_placed-requires-clause-within
 add_placed-requires-clause-within c =
     let slots = slots_of c.args.nodes.now in
     let i = c.loop-number.number in
-    let r : Slot ExpandedNode = c.slot-item.result in
-    let same = c.slots-slot-items.ensures in
-    let within : i < length slots = omega (arith, c.loop-number-test.true, ap length same) in
-    let is : r ≡ get_or slots i r = c.slot-item.is ∙ ap (λ xs. get_or xs i r) same in
-    let named = c.requires.names i r (slice_get-get_or slots i r within ∙ ap Some (sym is)) in
-    subst (λ n. i < n) (sym (ap length c.loop-number.invariant.texts)) named.0
+    let read = row_read _ slots i c.slot-item.result c.slots-slot-items.ensures (omega arith) c.slot-item.is in
+    subst (λ n. i < n) (sym (ap length c.loop-number.invariant.texts)) (row_named _ slots i c.slot-item.result c.requires.names read).0
 
 pub add_placed-requires-clause-name : goal.add_placed-requires-clause-name
 add_placed-requires-clause-name c =
     let slots = slots_of c.args.nodes.now in
     let i = c.loop-number.number in
     let r : Slot ExpandedNode = c.slot-item.result in
-    let same = c.slots-slot-items.ensures in
-    let within : i < length slots = omega (arith, c.loop-number-test.true, ap length same) in
-    let is : r ≡ get_or slots i r = c.slot-item.is ∙ ap (λ xs. get_or xs i r) same in
-    let named = c.requires.names i r (slice_get-get_or slots i r within ∙ ap Some (sym is)) in
-    subst (λ ts. text_in ts i ≡ row_name r) (sym c.loop-number.invariant.texts) named.1
+    let read = row_read _ slots i r c.slots-slot-items.ensures (omega arith) c.slot-item.is in
+    subst (λ ts. text_in ts i ≡ row_name r) (sym c.loop-number.invariant.texts) (row_named _ slots i r c.requires.names read).1
 
 pub loop-number-preserved : goal.loop-number-preserved
 loop-number-preserved c =
     let slots = slots_of c.args.nodes.now in
     let i = c.loop-number.number in
     let r : Slot ExpandedNode = c.slot-item.result in
-    let same = c.slots-slot-items.ensures in
-    let within : i < length slots = omega (arith, c.loop-number-test.true, ap length same) in
-    let is : r ≡ get_or slots i r = c.slot-item.is ∙ ap (λ xs. get_or xs i r) same in
+    let read = row_read _ slots i r c.slots-slot-items.ensures (omega arith) c.slot-item.is in
     record {
       texts = c.in_ok-add_placed.ensures.texts ∙ c.loop-number.invariant.texts;
       look = λ above name. further c.args.first above name slots i r (look_by c.loop-number.index above name) (look_by c.add_placed.new.index above name) _
-          within is (c.in_ok-add_placed.ensures.look above name) (c.loop-number.invariant.look above name);
+          read.0 read.1 (c.in_ok-add_placed.ensures.look above name) (c.loop-number.invariant.look above name);
     }

@@ -1,13 +1,16 @@
-use Rattle.std.proofs.Common.{◌≡◌, Bool, false, map, ap, sym, ◌∙◌}
+use Rattle.std.proofs.Common.{◌≡◌, Bool, false, map, rules, ap, sym, ◌∙◌}
 use Rattle.std.specs.List.{filter_map}
 use Rattle.std.specs.Option.{option_map_or}
 use Rattle.yspec.specs.linking.Circles.{definition_edge, definition_edges, is_circular}
 use Rattle.yspec.specs.linking.Graph.{is_on_circle}
 use Rattle.yspec.specs.linking.Scopes.{Placed, statements_of}
+use Rattle.yspec.specs.schema.Breaks.{least_from}
 use Rattle.ygraph.specs.Edges.{edge_view}
 use Rattle.ygraph.specs.declared.circles.Edge.{Edge}
+use Rattle.ygrammar.specs.BreakView.{seen}
 use Rattle.ygrammar.specs.LinkView.{view}
 use Rattle.ynames.proofs.EdgeLemmas.{circular_flags}
+use Rattle.ynames.proofs.LackingLemmas.{nothing_circular}
 use Rattle.ynames.proofs.circular.broken_circle_rule.Goals as goal
 
 pub returns : goal.returns
@@ -28,3 +31,8 @@ returns c held meant =
     ∙ (ap (map (λ e. option_map_or test e false)) c.deref-3.ensures.value
     ∙ circular_flags modules c.args.holders.now c.args.meanings.now table found held meant c.in_ok-edges.ensures all)) in
     c.least_circle.ensures flag circular
+
+pub returns-then-not-has_any_definition : goal.returns-then-not-has_any_definition
+returns-then-not-has_any_definition c held meant =
+    let none : c.has_any_definition.result ≡ false = first_of (search rules, cc) in
+    sym (ap (least_from (seen c.args.so_far)) (nothing_circular (view c.args.sources.now) (sym c.has_any_definition.ensures ∙ none)))
