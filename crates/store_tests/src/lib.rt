@@ -1,0 +1,5 @@
+//! Tests of the store of a live document.
+#![tactic(auto)]
+
+#[cfg(test)]
+mod stores;

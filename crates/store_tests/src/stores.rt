@@ -1,0 +1,167 @@
+//! Each call of a store, on a container with two leafs, and on the index.
+
+use std::alloc::Global;
+use ycheck::FaultCode;
+use ymodel::SchemaId;
+use ystore::{Counted, Judged, Key, Label, NodeId, Nodes, Row, Told, same_keys};
+use ytype::{Raw, Val, YType};
+
+const CONTAINER: SchemaId = SchemaId(1);
+
+const FIRST: SchemaId = SchemaId(2);
+
+const SECOND: SchemaId = SchemaId(3);
+
+// Inserts a node of which nothing is told, with a flag, and with room for so many children.
+fn insert(
+    counted: &mut Counted<'_>,
+    schema: SchemaId,
+    value: Option<Raw>,
+    parent: Row,
+    room: usize,
+) -> Option<NodeId> {
+    let alloc = counted.alloc();
+    let label = Label {
+        schema,
+        value,
+        parent,
+    };
+    let mut same = Vec::new(alloc);
+    same.push(false).ok()?;
+    let told = Told {
+        judged: Judged::Right,
+        same,
+        play: Vec::new(alloc),
+    };
+    counted.insert(label, told, 0, room).ok()
+}
+
+// Hangs a node on a row.
+#[tactic(auto, using(ystore::proofs::CallerLemmas::room_is_there))]
+fn hang(counted: &mut Counted<'_>, row: Row, schema: SchemaId, node: NodeId) -> Option<()> {
+    match counted.reserve_child(row) {
+        Ok(()) => {
+            counted.add_child(row, schema, node);
+            Some(())
+        }
+        Err(_) => None,
+    }
+}
+
+// Adds a node to those that hold an item's value.
+#[tactic(auto, using(ystore::proofs::CallerLemmas::node_is_awaited))]
+fn hold(counted: &mut Counted<'_>, value: &Val, node: NodeId) -> Option<()> {
+    let key = Key::Item(Row::Top, FIRST, value.clone().ok()?);
+    let again = Key::Item(Row::Top, FIRST, value.clone().ok()?);
+    match counted.await_holder(key) {
+        Ok(()) => {
+            counted.add_holder(&again, node);
+            Some(())
+        }
+        Err(_) => None,
+    }
+}
+
+fn text(alloc: Global, text: &str) -> Option<Raw> {
+    Some(Raw::Text(String::from_str(alloc, text).ok()?))
+}
+
+// A row is read as it was made, also once its nodes moved, came and went.
+fn rows(alloc: Global) -> Option<bool> {
+    let mut nodes = Nodes::new(alloc);
+    let mut counted = nodes.counted();
+    counted.reserve_nodes(4).ok()?;
+    let above = insert(&mut counted, CONTAINER, None, Row::Top, 0)?;
+    hang(&mut counted, Row::Top, CONTAINER, above)?;
+    let row = Row::Below(above);
+    let second = insert(&mut counted, SECOND, text(alloc, "b"), row, 0)?;
+    let first = insert(&mut counted, FIRST, text(alloc, "a"), row, 0)?;
+    let other = insert(&mut counted, FIRST, None, row, 0)?;
+    hang(&mut counted, row, SECOND, second)?;
+    hang(&mut counted, row, FIRST, first)?;
+    hang(&mut counted, row, FIRST, other)?;
+    let made = counted.node_count() == 4
+        && counted.child(Row::Top, 0) == Some(above)
+        && counted.child(row, 0) == Some(first)
+        && counted.child(row, 2) == Some(second)
+        && counted.child(row, 3) == None
+        && counted.child_of(row, FIRST, 1) == Some(other)
+        && counted.child_of(row, FIRST, 2) == None
+        && counted.count_of(row, FIRST) == 2
+        && counted.schema(first) == Some(FIRST)
+        && counted.parent(first) == Some(row)
+        && matches!(counted.value(first), Some(Raw::Text(value)) if value.as_str() == "a");
+    counted.move_child(row, FIRST, first, 1);
+    let moved = counted.child(row, 1) == Some(first);
+    counted.put_child(row, FIRST, other, second);
+    let put = counted.child(row, 0) == Some(second);
+    counted.take_child(row, FIRST, first);
+    counted.remove(first);
+    let gone = counted.count_of(row, FIRST) == 1 && counted.schema(first) == None;
+    Some(made && moved && put && gone && counted.node_count() == 3)
+}
+
+// What is told is kept at its node, and a view shows it.
+fn told(alloc: Global) -> Option<bool> {
+    let mut nodes = Nodes::new(alloc);
+    let mut counted = nodes.counted();
+    let node = insert(&mut counted, FIRST, text(alloc, "a"), Row::Top, 0)?;
+    hang(&mut counted, Row::Top, FIRST, node)?;
+    let mut play = Vec::new(alloc);
+    play.push((FaultCode::V3, SECOND)).ok()?;
+    counted.set_play(Row::Top, play);
+    counted.set_judged(node, Judged::Missing);
+    counted.set_same(node, 0, true);
+    counted.change_total(Row::Top, 5, 2);
+    let read = counted.total(Row::Top) == 3 && counted.play_len(Row::Top) == 1;
+    let view = nodes.view();
+    Some(
+        read && view.node_count() == 1
+            && view.children(Row::Top) == [(FIRST, node)].as_slice()
+            && view.schema(node) == Some(FIRST)
+            && view.parent(node) == Some(Row::Top)
+            && matches!(view.value(node), Some(Raw::Text(_)))
+            && matches!(view.judged(node), Some(Judged::Missing))
+            && view.same(node) == [true].as_slice()
+            && view.play(Row::Top) == [(FaultCode::V3, SECOND)].as_slice()
+            && view.total(Row::Top) == 3,
+    )
+}
+
+// What holds a key, and how many instances a value has.
+fn keys(alloc: Global) -> Option<bool> {
+    let mut nodes = Nodes::new(alloc);
+    let mut counted = nodes.counted();
+    let value = YType::string(alloc)
+        .ok()?
+        .check(alloc, &text(alloc, "a")?)
+        .ok()?;
+    same_keys();
+    counted
+        .await_instance(Key::Value(FIRST, value.clone().ok()?))
+        .ok()?;
+    let instances = Key::Value(FIRST, value.clone().ok()?);
+    counted.add_instance(&instances);
+    counted.add_instance(&instances);
+    counted.take_instance(&instances);
+    let counts = counted.instance_count(&instances) == 1;
+    let node = insert(&mut counted, FIRST, None, Row::Top, 0)?;
+    let other = insert(&mut counted, FIRST, None, Row::Top, 0)?;
+    hold(&mut counted, &value, node)?;
+    hold(&mut counted, &value, other)?;
+    let key = Key::Item(Row::Top, FIRST, value);
+    let held = counted.holder_count(&key) == 2 && counted.holder(&key, 1) == Some(other);
+    counted.take_holder(&key, node);
+    let left = counted.holder_count(&key) == 1 && counted.holder(&key, 0) == Some(other);
+    counted.take_holder(&key, other);
+    counted.tidy(&key);
+    Some(counts && held && left && counted.holder(&key, 0) == None)
+}
+
+#[test]
+fn all_calls(rt: HostRuntime) {
+    let alloc = rt.alloc();
+    assert!(rt; rows(alloc) == Some(true));
+    assert!(rt; told(alloc) == Some(true));
+    assert!(rt; keys(alloc) == Some(true));
+}

@@ -1,0 +1,128 @@
+-- What becomes of a store where a record or an entry of it changes.
+use Rattle.std.proofs.Common.{Bool, true, List, ◌∷◌, ◌≡◌, ℕ, ◌+◌, ◌<◌, false, cond, [], length, Option, Some, None, is_some, option_map, Result, Ok, Err, OnOk, refl, sym, ap, ◌∙◌, arith, Less, Equal, Greater, Ordering, is_eq}
+use Rattle.std.specs.BTreeMap.{BTreeMap}
+use Rattle.std.specs.Cmp.{IsTotalOrder}
+use Rattle.std.specs.Map.{lookup}
+use Rattle.std.specs.Option.{option_map_or}
+use Rattle.std.proofs.lemmas.Cmp.{tied_itself}
+use Rattle.std.proofs.lemmas.Bool.{eq-eqb, false≢true}
+use Rattle.std.proofs.lemmas.List.Sums.{sum_by-set}
+use Rattle.slab.specs.Slab.{Slab, get, slab_len, with_value, Updates}
+use Rattle.slab.proofs.SlabLemmas.{ContainsKey-within, Updates-with_value}
+use Rattle.ystore.specs.Children.{nodes_of, room_of}
+use Rattle.ystore.specs.Entries as entries
+use Rattle.ystore.specs.Index.{entry_by}
+use Rattle.ystore.specs.declared.entry.Entry.{Entry}
+use Rattle.ystore.specs.Held.{Held, held_of, with_room}
+use Rattle.ystore.specs.Lending.{with_record}
+use Rattle.ystore.specs.Store.{record_at, held_at, there, same_row, ChangesRow, MakesRoom, Stays}
+use Rattle.ystore.specs.declared.row.NodeId.{NodeId}
+use Rattle.ystore.specs.declared.row.Row.{Row}
+use Rattle.ystore.specs.declared.row.Row.TheVariants.{Top, Below}
+use Rattle.ystore.specs.declared.children.Children.{Children}
+use Rattle.ystore.specs.declared.record.Record.{Record}
+use Rattle.ystore.specs.declared.nodes.Nodes.{Nodes}
+
+abbrev slot_count : Option Record → ℕ
+slot_count o = cond (is_some o) 1 0
+
+there_held : (o : Option Record) → there (option_map held_of o) ≡ slot_count o
+there_held (Some r) = refl
+there_held None = refl
+
+-- one slot of the records is changed
+pub slot_changed : (nodes : Nodes) (new : Slab Record) (id : NodeId) (slot : Option Record) (change : Option Held → Option Held)
+    → Updates nodes.records new id.0 slot
+    → slab_len new + slot_count (get nodes.records id.0) ≡ slab_len nodes.records + slot_count slot
+    → option_map held_of slot ≡ change (held_at nodes (Below id))
+    → ChangesRow (Below id) change nodes (record nodes { records = new })
+slot_changed nodes new id slot change updates lengths made =
+    let here = updates.changed in
+    record {
+      changed = ap (option_map held_of) here ∙ made;
+      others = by;
+      entries = λ key. refl;
+      reads = refl;
+      node_count = omega (arith, lengths, there_held (get nodes.records id.0), there_held (get new id.0), ap slot_count here);
+    }
+  where
+    by : (other : Row) → same_row (Below id) other ≡ false → held_at (record nodes { records = new }) other ≡ held_at nodes other
+    by Top apart = refl
+    by (Below m) apart = ap (option_map held_of) (updates.others m.0 (λ same. false≢true (sym apart ∙ eq-eqb id.0 m.0 (sym same))))
+
+slot_written : (s : Slab Record) (key : ℕ) (was w : Record) → get s key ≡ Some was → slab_len (with_value s key w) + slot_count (get s key) ≡ slab_len s + slot_count (Some w)
+slot_written s key was w e =
+    sum_by-set slot_count s.slots key (Some w) None (ContainsKey-within s key (rw e refl))
+
+-- a record is written through the reference that was lent
+pub record_changed : (nodes : Nodes) (row : Row) (was w : Record) (change : Option Held → Option Held)
+    → record_at nodes row ≡ Some was → Some (held_of w) ≡ change (Some (held_of was))
+    → ChangesRow row change nodes (with_record nodes row w)
+record_changed nodes Top was w change e made =
+    record {
+      changed = made ∙ ap (λ o. change (option_map held_of o)) (sym e);
+      others = by;
+      entries = λ key. refl;
+      reads = refl;
+      node_count = refl;
+    }
+  where
+    by : (other : Row) → same_row Top other ≡ false → held_at (record nodes { top = w }) other ≡ held_at nodes other
+    by Top apart = absurd (false≢true (sym apart))
+    by (Below m) apart = refl
+record_changed nodes (Below id) was w change e made =
+    slot_changed nodes (with_value nodes.records id.0 w) id (Some w) change
+    (Updates-with_value nodes.records id.0 w (rw e refl))
+    (slot_written nodes.records id.0 was w e)
+    (made ∙ ap (λ o. change (option_map held_of o)) (sym e))
+
+-- there is room for more nodes
+pub resized : (nodes : Nodes) (new : Slab Record) → new ≡ record nodes.records { capacity = new.capacity } → Stays nodes (record nodes { records = new })
+resized nodes new e =
+    record {
+      held = by;
+      entries = λ key. refl;
+      reads = refl;
+      node_count = ap slab_len e;
+    }
+  where
+    by : (row : Row) → held_at (record nodes { records = new }) row ≡ held_at nodes row
+    by Top = refl
+    by (Below id) = ap (λ s. option_map held_of (get s id.0)) e
+
+-- a row has room for one child more
+pub room_made : (nodes : Nodes) (row : Row) (was : Record) (children : Children) → record_at nodes row ≡ Some was
+    → nodes_of children ≡ nodes_of was.children → length (nodes_of children) < room_of children
+    → MakesRoom row nodes (with_record nodes row (record was { children = children }))
+room_made nodes row was children e same more =
+    record {
+      room = room_of children;
+      enough = omega (arith, more, ap length same, ap (λ o. length (option_map_or (λ held. held.shape.children) (option_map held_of o) [])) e);
+      changed = record_changed nodes row was (record was { children = children }) (option_map (with_room (room_of children))) e
+          (ap (λ row. Some (record (held_of was) { shape = record (held_of was).shape { children = row }; room = room_of children })) same);
+    }
+
+pub on_ok : {X Y : Type 0} {P Q : Type 0} (r : Result X Y) → OnOk r P → (P → Q) → OnOk r Q
+on_ok (Ok x) h more = more h
+on_ok (Err e) h more = tt
+
+-- ---- keys that are the same
+
+lookup_alike : {K X : Type 0} (s t : K → Bool) (es : List (K × X)) → ((k : K) → s k ≡ t k) → lookup s es ≡ lookup t es
+lookup_alike s t [] alike = refl
+lookup_alike s t (e ∷ es) alike =
+    ap (λ b. cond b (Some e.1) (lookup s es)) (alike e.0) ∙ ap (λ o. cond (t e.0) (Some e.1) o) (lookup_alike s t es alike)
+
+equal_is : (r : Ordering) → is_eq r ≡ true → r ≡ Equal
+equal_is Less e = absurd (false≢true e)
+equal_is Equal e = refl
+equal_is Greater e = absurd (false≢true e)
+
+module _ {K : Type 0} {R : K → K → Ordering} (o : IsTotalOrder R) where
+  pub same_as_itself : (key : K) → is_eq (R key key) ≡ true
+  same_as_itself key = ap is_eq (tied_itself o key)
+
+  pub found_alike : (index : BTreeMap K Entry) (key other : K) → is_eq (R key other) ≡ true → entry_by R index key ≡ entry_by R index other
+  found_alike index key other e =
+      ap (option_map entries.entry_of) (lookup_alike (λ k. is_eq (R key k)) (λ k. is_eq (R other k)) index.entries
+      (λ k. ap is_eq (o.congr key other k (equal_is (R key other) e))))
