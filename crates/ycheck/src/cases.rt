@@ -96,7 +96,7 @@ impl Chosen {
 /// Whether a data node of these children is stored in what is left of a row, which is in order. Choices and cases are
 /// passed through.
 #[cycle(stored)]
-pub(crate) fn has_stored(children: Children<'_>, rest: &[Stored]) -> bool
+pub fn has_stored(children: Children<'_>, rest: &[Stored]) -> bool
     ensures { let t = document_view.row_view rest.now in
         IsSorted t → result ≡ nat_lt 0
         (stored_among (instances_in t) (schema_view.row_view children.entry)) }

@@ -75,7 +75,7 @@ pub(crate) fn repeated_tuples(
 }
 
 /// The tuple of that number of an entry, given the row below it.
-fn tuple_of(
+pub fn tuple_of(
     alloc: Global,
     schema: &Schema,
     tuples: &Tuples,

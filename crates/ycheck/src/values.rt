@@ -35,11 +35,7 @@ pub(crate) fn valid_value(
 }
 
 /// The valid value of a stored node.
-pub(crate) fn value_of(
-    alloc: Global,
-    schema: &Schema,
-    stored: &Stored,
-) -> Result<Option<Val>, AllocError>
+pub fn value_of(alloc: Global, schema: &Schema, stored: &Stored) -> Result<Option<Val>, AllocError>
     ensures { IfOk result (λ value. value
         ≡ spec.value_of (schema_view.view schema.now) (document_view.view stored.now).0) }
 {

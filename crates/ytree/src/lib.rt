@@ -15,4 +15,4 @@ pub use fault::{DocCode, DocFault};
 pub use instances::instances_of;
 pub use reading::{DOCUMENT_LIMIT, read, read_node};
 pub use tree::{Step, Stored, Tree};
-pub use writing::write;
+pub use writing::{value_of_leaf, write};

@@ -192,7 +192,8 @@ fn value_of(
     Ok(Value::Object(members_of(alloc, schema, module, child.children(), below)?))
 }
 
-fn value_of_leaf(alloc: Global, raw: Option<&Raw>) -> Result<Value, AllocError>
+/// What is written for the value of a leaf or an item.
+pub fn value_of_leaf(alloc: Global, raw: Option<&Raw>) -> Result<Value, AllocError>
     ensures { IfOk result (λ value. json.view value
         ≡ leaf_data (option_map (λ r. held.raw_of r.now) raw.entry)) }
 {

@@ -1,0 +1,102 @@
+//! What is said of each fault of a document, in order.
+
+use crate::module::{ADDED, NET};
+use std::alloc::{AllocError, Global};
+use ycheck::{Fault, faults};
+use yexplain::explanation_of;
+use ymodel::Schema;
+use yschema::compile;
+use ytext::{Module, parse};
+use ytree::{Tree, read};
+
+fn modules_of(alloc: Global) -> Option<Vec<Module>> {
+    let mut modules = Vec::new(alloc);
+    modules.push(parse(alloc, NET.as_bytes()).ok()?).ok()?;
+    modules.push(parse(alloc, ADDED.as_bytes()).ok()?).ok()?;
+    Some(modules)
+}
+
+pub(crate) fn schema_of(alloc: Global) -> Option<Schema> {
+    compile(alloc, &modules_of(alloc)?).ok()
+}
+
+fn all_explained(
+    alloc: Global,
+    schema: &Schema,
+    tree: &Tree,
+    found: &[Fault],
+) -> Result<String, AllocError> {
+    let mut text = String::new(alloc);
+    for fault in found {
+        text.push_str(explanation_of(alloc, schema, tree, fault)?.as_str())?;
+    }
+    Ok(text)
+}
+
+// `document => LINE|LINE|`, each line without its indentation.
+fn is_explained(alloc: Global, row: &str) -> Option<bool> {
+    let (document, lines) = row.split_once(" => ")?;
+    let schema = schema_of(alloc)?;
+    match read(alloc, &schema, document.as_bytes()) {
+        Ok(tree) => {
+            let found = faults(alloc, &schema, &tree).ok()?;
+            let text = all_explained(alloc, &schema, &tree, &found).ok()?;
+            are_lines(text.as_str(), lines)
+        }
+        Err(_) => None,
+    }
+}
+
+// Whether a text has these lines.
+fn are_lines(text: &str, lines: &str) -> Option<bool> {
+    let mut rest = text;
+    let mut wanted = lines;
+    while let Some((line, more)) = wanted.split_once('|') {
+        let (first, others) = rest.split_once('\n')?;
+        let (_, said) = first.split_once("  ")?;
+        if said != line {
+            return Some(false);
+        }
+        rest = others;
+        wanted = more;
+    }
+    Some(rest.is_empty() && wanted.is_empty())
+}
+
+const ROWS: &str =
+    r#"{"net:host":[{"name":"a","speed":1},{"name":"b","speed":70000}]} => /net:host[name='b']/speed: 70000 isn't a value of uint16.|
+{"net:host":[{"name":"a","speed":1,"tag":["x",5]}]} => /net:host[name='a']/tag[.='5']: 5 isn't a value of string.|
+{"net:host":[{"speed":"x"}]} => /net:host[1]: its key name is missing.|/net:host[1]/speed: "x" isn't a value of uint16.|
+{"net:host":[{"name":"b"}]} => /net:host[name='b']: speed is missing.|
+{"net:more":{"item":[1,2]}} => /net:more: no case of the choice how is there.|
+{"net:more":{"item":[1,2],"rate":1,"down":[null]}} => /net:more: the choice how has nodes of more than one case: slow, fast.|
+{"net:more":{"item":[1,2],"up":[null],"down":[null]}} => /net:more: the choice way has nodes of more than one case: up, down.|
+{"net:more":{"item":[1,2],"rate":1,"added:one":1,"added:two":2}} => /net:more: the choice how has nodes of more than one case: one, two.|
+{"net:more":{"item":[1],"rate":1}} => /net:more/item: it has 1, and must have at least 2.|
+{"net:host":[{"name":"a","speed":1},{"name":"b","speed":1},{"name":"c","speed":1},{"name":"d","speed":1}]} => /net:host: it has 4, and may have at most 3.|
+{"net:host":[{"name":"a","speed":1},{"name":"b","speed":1},{"name":"a","speed":1}]} => /net:host[1]: its keys are those of /net:host[3].|/net:host[3]: its keys are those of /net:host[1].|
+{"net:pairs":{"pair":[{"a":"x","b":true},{"a":"x","b":false},{"a":"x","b":true}]}} => /net:pairs/pair[1]: its keys are those of /net:pairs/pair[3].|/net:pairs/pair[3]: its keys are those of /net:pairs/pair[1].|
+{"net:pairs":{"pair":[{"a":"it's","b":true,"v":300}]}} => /net:pairs/pair[a="it's"][b='true']/v: 300 isn't a value of uint8.|
+{"net:pairs":{"pair":[{"a":"two\nlines","b":true,"v":-1}]}} => /net:pairs/pair[a="two\nlines"][b='true']/v: -1 isn't a value of uint8.|
+{"net:host":[{"name":"a","speed":1,"port":5},{"name":"b","speed":1},{"name":"c","speed":1,"port":5}]} => /net:host[name='a']: its values of unique 1 are those of /net:host[3].|/net:host[name='c']: its values of unique 1 are those of /net:host[1].|
+{"net:host":[{"name":"a","speed":1,"tag":["x","y","x","x"]}]} => /net:host[1]/tag[1]: its value is that of /net:host[1]/tag[3].|/net:host[1]/tag[3]: its value is that of /net:host[1]/tag[1].|/net:host[1]/tag[4]: its value is that of /net:host[1]/tag[1].|
+{"net:host":[{"name":"a","speed":1,"uplink":"b"}]} => /net:host[name='a']/uplink: no instance of /net:host/name is "b".|
+{"net:host":[{"name":"a","speed":1,"added:in":{"port":[{"number":4},{"number":400}]}}]} => /net:host[name='a']/added:in/port[2]/number: 400 isn't a value of int8.|
+{"net:host":[{"name":"a","speed":1,"added:in":{"port":[{"number":4}]}}],"net:more":{"rate":1,"item":[3,4],"added:of":[4,6]}} => /net:more/added:of[.='6']: no instance of /net:host/added:in/port/number is 6.|
+"#;
+
+#[test]
+fn faults_explained(rt: HostRuntime) {
+    let mut rest = ROWS;
+    while let Some((row, more)) = rest.split_once("|\n") {
+        let text = [row, "|"].concat(rt.alloc());
+        match text {
+            Ok(text) => assert!(rt;
+                is_explained(rt.alloc(), text.as_str()) == Some(true),
+                "{row}"
+            ),
+            Err(_) => assert!(rt; false, "memory"),
+        }
+        rest = more;
+    }
+}

@@ -1,0 +1,9 @@
+//! Tests of what is said of faults of documents.
+#![tactic(auto)]
+
+#[cfg(test)]
+mod explaining;
+#[cfg(test)]
+mod module;
+#[cfg(test)]
+mod writing;

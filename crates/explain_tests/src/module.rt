@@ -1,0 +1,37 @@
+//! The modules of the documents.
+
+/// Hosts with a key, a `unique` and a reference; other lists, items and a choice, in containers with presence.
+pub(crate) const NET: &str = "module net {
+  yang-version 1.1; namespace \"urn:net\"; prefix n;
+  list host {
+    key name; unique port; max-elements 3;
+    leaf name { type string; }
+    leaf speed { type uint16; mandatory true; }
+    leaf port { type uint16; }
+    leaf uplink { type leafref { path /n:host/n:name; } }
+    leaf-list tag { type string; }
+  }
+  container pairs {
+    list pair { key \"a b\"; leaf a { type string; } leaf b { type boolean; } leaf v { type uint8; } }
+  }
+  container more {
+    presence more;
+    leaf-list item { type uint8; min-elements 2; }
+    choice how {
+      mandatory true;
+      case slow { leaf rate { type uint8; } }
+      case fast { choice way { case up { leaf up { type empty; } } leaf down { type empty; } } }
+    }
+  }
+}
+";
+
+/// What another module adds to its hosts.
+pub(crate) const ADDED: &str = "module added {
+  yang-version 1.1; namespace \"urn:added\"; prefix a;
+  import net { prefix n; }
+  augment /n:host { container in { config false; list port { leaf number { type int8; } } } }
+  augment /n:more { choice how { leaf one { type uint8; } leaf two { type uint8; } } }
+  augment /n:more { leaf-list of { config false; type leafref { path /n:host/a:in/a:port/a:number; } } }
+}
+";

@@ -1,0 +1,4 @@
+pub mod CaseLemmas
+pub mod FellowLemmas
+pub mod PlaceLemmas
+pub mod SentenceLemmas

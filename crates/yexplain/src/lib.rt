@@ -1,0 +1,18 @@
+//! What is said of a fault of a document to a person: where it is, by keys, and what is there or is missing.
+#![tactic(auto)]
+
+mod cases;
+mod explanation;
+mod fault;
+mod fellows;
+mod laws;
+mod path;
+mod place;
+mod sentences;
+mod target;
+mod values;
+
+pub use explanation::{explanation_of, write_fault_explanation};
+pub use fault::ExplanationFault;
+pub use laws::{fellow_is_another, repeated_has_fellow};
+pub use path::keyed_path;
