@@ -1,7 +1,9 @@
 //! What is said of each code, and of what is none.
 
 use std::alloc::Global;
-use ycodes::{explain, write_explanation};
+use ycodes::{
+    all_explanations, explain, explanations, first_unknown, write_explanation, write_reason,
+};
 use youtput::Cut;
 
 // Whether that is written of a code, through a sink that takes so many bytes a call.
@@ -71,4 +73,48 @@ E1 E2 E3 E4 E5 E6 E7 E8 E9 E10 E11 E12 E13 -E14 -E -";
             assert!(rt; is_known(code), "{code:?}");
         }
     }
+}
+
+// Whether these are the codes of which that many are known, with the first and the last of them.
+fn are_all(alloc: Global, count: usize, first: &str, last: &str) -> Option<bool> {
+    let all = all_explanations(alloc).ok()?;
+    Some(all.len() == count && all.first()?.code == first && all.last()?.code == last)
+}
+
+// `CODES/COUNT/UNKNOWN`: how many of these are codes, and the first that is none, or `-`
+fn are_found(alloc: Global, row: &str) -> Option<bool> {
+    let (words, rest) = row.split_once('/')?;
+    let (count, unknown) = rest.split_once('/')?;
+    let count = count.parse::<usize>().ok()?;
+    let words: Vec<&str> = words.split(' ').collect(alloc).ok()?;
+    let found = explanations(alloc, &words).ok()?;
+    Some(found.len() == count && first_unknown(&words).unwrap_or("-") == unknown)
+}
+
+#[test]
+fn several(rt: HostRuntime) {
+    assert!(rt; are_all(rt.alloc(), 57, "L1", "E13") == Some(true));
+    let rows = "C1/1/-
+C1 V3 C1/3/-
+C1 V12 V3 x/2/V12";
+    for row in rows.lines() {
+        assert!(rt; are_found(rt.alloc(), row) == Some(true), "{row:?}");
+    }
+}
+
+// Whether that is the reason of a code, which is given by its letter and its number.
+fn is_reason(alloc: Global, letter: &str, number: &str, wanted: &str) -> Option<bool> {
+    let mut sink = Cut::new(alloc, 4096, 4096, None).ok()?;
+    let is_written = write_reason(&mut sink, letter, number).is_ok();
+    Some(is_written && sink.bytes() == wanted.as_bytes())
+}
+
+#[test]
+fn reasons(rt: HostRuntime) {
+    let wanted = "  The edit isn't there.";
+    assert!(rt; is_reason(rt.alloc(), "E", "99", "") == Some(true));
+    assert!(rt; is_reason(rt.alloc(), "J", "2", wanted) == Some(false));
+    let wanted =
+        "  The document isn't an object. Put the top nodes into an object: {\"module:name\": ..}.\n";
+    assert!(rt; is_reason(rt.alloc(), "J", "2", wanted) == Some(true));
 }

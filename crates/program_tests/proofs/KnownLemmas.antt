@@ -1,8 +1,8 @@
 -- From the run of any files to that of known ones.
-use Rattle.std.proofs.Common.{◌≡◌, inl, inr, ℕ, List, [], ◌∷◌, codes, Some, None, refl, sym, subst, ap, ◌∙◌, arith}
-use Rattle.yspec.specs.program.Output.{Outcome, Request, files_of, outcome, validate}
+use Rattle.std.proofs.Common.{◌≡◌, inl, inr, false, ℕ, List, [], ◌∷◌, codes, Some, None, refl, sym, subst, ap, ◌∙◌, arith}
+use Rattle.yprogram.specs.Output.{Outcome, Request, files_of, outcome, validate}
 use Rattle.clap.proofs.OnLiterals.{clap_on_literals}
-use Rattle.ycommand.specs.Command.{refusals, request_of}
+use Rattle.ycommand.specs.Command.{asks_reasons, refusals, request_of}
 use Rattle.yapp.specs.Files.{Answered, Contents, FileAnswers, IsOutcome, Store, WereRead, unread_in}
 use Rattle.program_tests.specs.Known.{IsKnown, contents_in, told_in, validate_words}
 use Rattle.yspec.specs.text.Text.{Text}
@@ -14,6 +14,10 @@ are_taken = refl
 pub ask_for : request_of validate_words ≡ validate (codes "d.json") (codes "p.yang" ∷ [])
 unfolding clap_on_literals
 ask_for = refl
+
+pub ask_no_reasons : asks_reasons validate_words ≡ false
+unfolding clap_on_literals
+ask_no_reasons = refl
 
 -- files of which none failed answered what they contain
 known_answers : (names : List Text) (texts : List (List ℕ)) (answers : FileAnswers) → Answered (told_in names texts) (codes "p.yang" ∷ codes "d.json" ∷ []) answers

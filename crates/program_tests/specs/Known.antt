@@ -1,7 +1,7 @@
 -- Files whose contents are known, and what checking a document of them comes to.
 use Rattle.std.specs.Prelude.{◌≡◌, ◌⊎◌, ℕ, List, [], ◌∷◌, codes, Option, Some, if◌then◌else◌}
 use Rattle.std.specs.Str.{bytes_eq}
-use Rattle.yspec.specs.program.Output.{Outcome, outcome, validate}
+use Rattle.yprogram.specs.Output.{Outcome, outcome, validate}
 use Rattle.yspec.specs.text.Text.{Text}
 use Rattle.ycommand.specs.Running.{without_memory}
 

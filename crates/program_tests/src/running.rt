@@ -1,7 +1,7 @@
 //! One run of the program, and what it left.
 
-ghost use Rattle.std.specs.Prelude.{◌≡◌, IfOk, map, string_bytes};
-ghost use Rattle.yspec.specs.program.Output.{Outcome};
+ghost use Rattle.std.specs.Prelude.{◌≡◌, IfOk, false, map, string_bytes};
+ghost use Rattle.yprogram.specs.Output.{Outcome, printed};
 ghost use Rattle.youtput.specs.Writing.{side};
 ghost use Rattle.ycommand.specs.Running.{Brings};
 ghost use Rattle.program_tests.specs.Known.{IsKnown, contents_in, told_in, validate_words};
@@ -155,7 +155,7 @@ fn validate_known<O: Sink, E: Sink>(
 ) -> Result<u8, AllocError>
     ensures { IfOk result (λ status. (o : Outcome) × IsKnown (map (λ f. f.name.now) files.old.files.now) (map (λ f. f.bytes.now) files.old.files.now) o
         × Brings (side O.taken O.failures output.old) (side O.taken O.failures output.new)
-        (side E.taken E.failures errors.old) (side E.taken E.failures errors.new) o status) }
+        (side E.taken E.failures errors.old) (side E.taken E.failures errors.new) (printed false o) status) }
 {
     let words = validate_words(alloc)?;
     Ok(run(alloc, &words, files, output, errors))

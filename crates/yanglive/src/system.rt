@@ -7,7 +7,10 @@ use std::{fs, rt};
 use yapp::{FileFault, Files};
 use ytext::{CallCount, Sink, SinkFault};
 
-/// The system's files.
+/// Where the system has what it is given on its standard input.
+const STANDARD_INPUT: &str = "/dev/stdin";
+
+/// The system's files; `-` is its standard input.
 #[derive(Drop)]
 pub struct FileSystem<'a, R> {
     runtime: &'a R,
@@ -35,7 +38,8 @@ impl<R: rt::Files + AllocGlobal> Files for FileSystem<'_, R> {
 
     fn read(&mut self, name: &str) -> Result<Vec<u8>, FileFault> {
         self.reads.rise();
-        match fs::read(self.runtime, name) {
+        let path = if name == "-" { STANDARD_INPUT } else { name };
+        match fs::read(self.runtime, path) {
             Ok(bytes) => Ok(bytes),
             Err(error) if error.kind() == ErrorKind::OutOfMemory => Err(FileFault::Memory),
             Err(_) => {

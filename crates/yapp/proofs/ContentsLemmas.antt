@@ -7,7 +7,7 @@ use Rattle.std.proofs.lemmas.List.{append-nil, length-append, length-map, map-ap
 use Rattle.yspec.specs.Forest.{Forest, end, node, join}
 use Rattle.yspec.specs.text.Statement.{Statement, Slip, module_of}
 use Rattle.yspec.specs.text.Text.{Text}
-use Rattle.yspec.specs.program.Output.{Outcome, Request, files_of, outcome, performed, with_files, with_module, with_modules}
+use Rattle.yprogram.specs.Output.{Outcome, Request, files_of, outcome, performed, with_files, with_module, with_modules}
 use Rattle.yspec.proofs.ForestLemmas.{join_end, join_assoc}
 use Rattle.ytext.specs.View.{view, modules_view}
 use Rattle.ytext.specs.declared.statement.Module.{Module}
@@ -211,6 +211,7 @@ came_of_answer before after request answers (Err (failures.Text name code line))
 came_of_answer before after request answers (Err (failures.Compile name code line)) read same is = inl (answers, read, sym is)
 came_of_answer before after request answers (Err (failures.Document name schema code place)) read same is = inl (answers, read, sym is)
 came_of_answer before after request answers (Err (failures.NoModule name)) read same is = inl (answers, read, sym is)
+came_of_answer before after request answers (Err (failures.NoCode word)) read same is = inl (answers, read, sym is)
 came_of_answer before after request answers (Err failures.Memory) read same is =
     let few = answers_few before.contents (files_of request) answers read.answered in
     inr (record { failures = same; reads = omega (arith, read.reads, few) }, refl)

@@ -14,8 +14,9 @@ use Rattle.yspec.specs.edit.Editing as editing
 use Rattle.yspec.specs.edit.Editing.{after}
 use Rattle.yspec.specs.document.Fault as spec_fault
 use Rattle.yspec.specs.document.Faults.{faults_of}
-use Rattle.yspec.specs.program.Output.{Outcome, dump, left, report}
-use Rattle.yspec.specs.program.Script.{after_lines, refused_lines}
+use Rattle.yprogram.specs.Output.{Outcome, dump, left, report}
+use Rattle.yprogram.specs.Part.{Part, plain}
+use Rattle.yprogram.specs.Script.{after_lines, refused_lines}
 use Rattle.yspec.proofs.EditProofs.FittingEditLemmas.{edits_whole}
 use Rattle.yspec.proofs.EditProofs.LimitLemmas.{edits_within}
 use Rattle.ycheck.specs.View.{view, views}
@@ -23,7 +24,7 @@ use Rattle.ycheck.specs.declared.fault.Fault.{Fault}
 use Rattle.ymodel.specs.View as schema_view
 use Rattle.ymodel.specs.declared.schema.Schema.{Schema}
 use Rattle.ymodel.proofs.CallerLemmas.{names_differ, numbered}
-use Rattle.yapp.specs.Asked.{IsScript, Line, refused_texts, told_from}
+use Rattle.yapp.specs.Asked.{IsScript, Line, refused_part, refused_parts, told_from}
 use Rattle.yapp.specs.Edited.{IsEdited, IsRun, IsSound, refused_of, schema_of, tree_of}
 use Rattle.yapp.specs.Failing.{LeadsTo}
 use Rattle.yapp.specs.declared.document.Document.{Document}
@@ -59,35 +60,30 @@ pub memory_leads : {X : Type 0} (o : Outcome) (next : X → Outcome) (r : Result
 memory_leads o next (Ok x) e = absurd e
 memory_leads o next (Err f) e = subst (λ g. LeadsTo o next (Err g)) (sym e) tt
 
-by_test : (n : ℕ) (b : Bool) → (n == 0) ≡ b → 0 < n → (n == 0) ≡ false
-by_test n true is some = let none = eqb-true n 0 is in absurd (omega (arith, none, some))
-by_test n false is some = is
+-- there are refused lines exactly where something is told of them
+pub none_refused : (lines : List RefusedLine) → (length (refused_parts lines) == 0) ≡ (length lines == 0)
+none_refused lines = ap (λ (n : ℕ). n == 0) (length-map lines refused_part)
 
-nonempty : {X : Type 0} (x : X) (xs : List X) → (length (x ∷ xs) == 0) ≡ false
-nonempty x xs = by_test (length (x ∷ xs)) _ refl (omega arith)
-
--- there are refused lines exactly where they have a text
-pub none_refused : (lines : List RefusedLine) → (length (refused_texts lines) == 0) ≡ (length lines == 0)
-none_refused [] = refl
-none_refused (line ∷ lines) = nonempty {X = ℕ} 108 (drop 1 (refused_texts (line ∷ lines))) ∙ sym (nonempty line lines)
-
-pub edited_same : (next : spec.Schema → Tree → List ℕ → Outcome) (s : spec.Schema) (t : Tree) (lines : List Text) (d : Document) → IsEdited s t lines d
+pub edited_same : (next : spec.Schema → Tree → List Part → Outcome) (s : spec.Schema) (t : Tree) (lines : List Text) (d : Document) → IsEdited s t lines d
     → next s (after_lines s t lines) (refused_lines s 1 t lines) ≡ next (schema_of d) (tree_of d) (refused_of d)
 edited_same next s t lines d edited = ap (λ (x : spec.Schema). next x (after_lines s t lines) (refused_lines s 1 t lines)) (sym edited.schema_is)
     ∙ ap₂ (next (schema_of d)) (sym edited.tree_is) (sym edited.refused_is)
 
 -- ---- reports
 
-abbrev outcome_with : List ℕ → List ℕ → Bool → Bool → Outcome
+abbrev outcome_with : List Part → List Part → Bool → Bool → Outcome
 outcome_with output errors no_fault none_refused =
     record { output = output; errors = errors; status = if no_fault && none_refused then 0 else 1 }
 
-text_shown : (is_dump : Bool) (text : Option (String Global)) (written shown : List ℕ)
+abbrev text_parts : Text → List Part
+text_parts text = plain (text ++ codes "\n") ∷ []
+
+text_shown : (is_dump : Bool) (text : Option (String Global)) (written : Text) (shown : List Part)
     → option_map string_bytes text ≡ (if is_dump then Some written else None)
-    → option_map_or (λ t. string_bytes t ++ codes "\n") text shown ≡ (if is_dump then written ++ codes "\n" else shown)
-text_shown true text written shown is = by_text text ∙ ap (λ (o : Option (List ℕ)). option_map_or (λ t. t ++ codes "\n") o shown) is
+    → option_map_or (λ t. text_parts (string_bytes t)) text shown ≡ (if is_dump then text_parts written else shown)
+text_shown true text written shown is = by_text text ∙ ap (λ (o : Option Text). option_map_or text_parts o shown) is
   where
-    by_text : (text : Option (String Global)) → option_map_or (λ t. string_bytes t ++ codes "\n") text shown ≡ option_map_or (λ t. t ++ codes "\n") (option_map string_bytes text) shown
+    by_text : (text : Option (String Global)) → option_map_or (λ t. text_parts (string_bytes t)) text shown ≡ option_map_or text_parts (option_map string_bytes text) shown
     by_text None = refl
     by_text (Some t) = refl
 text_shown false None written shown is = refl
@@ -95,10 +91,10 @@ text_shown false (Some t) written shown is = cc
 
 pub report_is : (is_dump : Bool) (s : spec.Schema) (t : Tree) (found : List Fault) (refused : List RefusedLine) (text : Option (String Global))
     → views found ≡ faults_of s t → option_map string_bytes text ≡ (if is_dump then Some (written_text s t) else None)
-    → outcome_with (option_map_or (λ t. string_bytes t ++ codes "\n") text (report s (views found))) (refused_texts refused) (length found == 0) (length refused == 0)
-    ≡ left is_dump s t (refused_texts refused)
+    → outcome_with (option_map_or (λ t. text_parts (string_bytes t)) text (report s (views found))) (refused_parts refused) (length found == 0) (length refused == 0)
+    ≡ left is_dump s t (refused_parts refused)
 report_is is_dump s t found refused text same is =
-    ap (λ (b : Bool). outcome_with (option_map_or (λ t. string_bytes t ++ codes "\n") text (report s (views found))) (refused_texts refused) (length found == 0) b) (sym (none_refused refused))
-    ∙ (ap (λ (o : List ℕ). outcome_with o (refused_texts refused) (length found == 0) (length (refused_texts refused) == 0)) (text_shown is_dump text (written_text s t) (report s (views found)) is)
-    ∙ (ap (λ (n : ℕ). outcome_with (if is_dump then dump s t else report s (views found)) (refused_texts refused) (n == 0) (length (refused_texts refused) == 0)) (sym (length-map found view))
-    ∙ ap (λ (fs : List spec_fault.Fault). outcome_with (if is_dump then dump s t else report s fs) (refused_texts refused) (length fs == 0) (length (refused_texts refused) == 0)) same))
+    ap (λ (b : Bool). outcome_with (option_map_or (λ t. text_parts (string_bytes t)) text (report s (views found))) (refused_parts refused) (length found == 0) b) (sym (none_refused refused))
+    ∙ (ap (λ (o : List Part). outcome_with o (refused_parts refused) (length found == 0) (length (refused_parts refused) == 0)) (text_shown is_dump text (written_text s t) (report s (views found)) is)
+    ∙ (ap (λ (n : ℕ). outcome_with (if is_dump then plain (dump s t) ∷ [] else report s (views found)) (refused_parts refused) (n == 0) (length (refused_parts refused) == 0)) (sym (length-map found view))
+    ∙ ap (λ (fs : List spec_fault.Fault). outcome_with (if is_dump then plain (dump s t) ∷ [] else report s fs) (refused_parts refused) (length fs == 0) (length (refused_parts refused) == 0)) same))

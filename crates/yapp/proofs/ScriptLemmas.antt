@@ -12,8 +12,9 @@ use Rattle.yspec.specs.schema.Schema.{Schema}
 use Rattle.yspec.specs.document.Document.{Tree}
 use Rattle.yspec.specs.edit.EditText.{Edit, is_passed_over}
 use Rattle.yspec.specs.edit.Editing.{EditRefusal, after, applied, decision, decisions, edit_asked, refused, tree_or}
-use Rattle.yspec.specs.program.Script.{after_lines, asked_in, line_text, refused_lines, without_return, without_returns}
-use Rattle.yapp.specs.Asked.{IsScript, Line, decision_text, edit_of, edits_of, kinds_of, line_of, told_from}
+use Rattle.yprogram.specs.Part.{Part}
+use Rattle.yprogram.specs.Script.{after_lines, asked_in, line_parts, refused_lines, without_return, without_returns}
+use Rattle.yapp.specs.Asked.{IsScript, Line, decision_parts, edit_of, edits_of, kinds_of, line_of, told_from}
 
 -- ---- edits in place of lines
 
@@ -32,18 +33,18 @@ pub after_is : (s : Schema) (t : Tree) (lines : List Text) → after_lines s t l
 after_is s t [] = refl
 after_is s t (line ∷ lines) = after_asked s t (asked_in line) lines (λ t. after_is s t lines)
 
-text_of_answer : (k : ℕ) (answer : Result Tree EditRefusal) → line_text k answer ≡ decision_text k (decision answer)
-text_of_answer k (Ok tree) = refl
-text_of_answer k (Err e) = refl
+parts_of_answer : (k : ℕ) (answer : Result Tree EditRefusal) → line_parts k answer ≡ decision_parts k (decision answer)
+parts_of_answer k (Ok tree) = refl
+parts_of_answer k (Err e) = refl
 
 refused_asked : (s : Schema) (k : ℕ) (t : Tree) (asked : Result (Option Edit) EditRefusal) (lines : List Text)
     → ((k : ℕ) (t : Tree) → refused_lines s k t lines ≡ told_from k (kinds_of lines) (decisions s t (edits_of lines)))
-    → line_text k (done s t asked) ++ refused_lines s (k + 1) (tree_or (done s t asked) t) lines
+    → line_parts k (done s t asked) ++ refused_lines s (k + 1) (tree_or (done s t asked) t) lines
     ≡ told_from k (line_of asked ∷ kinds_of lines) (decisions s t (edit_of asked ++ edits_of lines))
 refused_asked s k t (Ok None) lines rest = rest (k + 1) t
 refused_asked s k t (Ok (Some e)) lines rest =
-    ap₂ (λ (xs ys : List ℕ). xs ++ ys) (text_of_answer k (applied s t e)) (rest (k + 1) (tree_or (applied s t e) t))
-refused_asked s k t (Err e) lines rest = ap (λ (xs : List ℕ). line_text k (Err e) ++ xs) (rest (k + 1) t)
+    ap₂ (λ (xs ys : List Part). xs ++ ys) (parts_of_answer k (applied s t e)) (rest (k + 1) (tree_or (applied s t e) t))
+refused_asked s k t (Err e) lines rest = ap (λ (xs : List Part). line_parts k (Err e) ++ xs) (rest (k + 1) t)
 
 pub refused_is : (s : Schema) (k : ℕ) (t : Tree) (lines : List Text)
     → refused_lines s k t lines ≡ told_from k (kinds_of lines) (decisions s t (edits_of lines))

@@ -4,7 +4,8 @@ use Rattle.std.specs.List.{flat_map}
 use Rattle.yspec.specs.text.Text.{Text}
 use Rattle.yspec.specs.edit.EditText.{Edit}
 use Rattle.yspec.specs.edit.Editing.{Decision, EditRefusal}
-use Rattle.yspec.specs.program.Script.{asked_in, line_text}
+use Rattle.yprogram.specs.Part.{Part}
+use Rattle.yprogram.specs.Script.{asked_in, line_parts, refused_line}
 use Rattle.ypath.specs.Applying.{refusal_view}
 use Rattle.ylive.specs.View.{edits_view}
 use Rattle.yapp.specs.declared.script.Asked.{Asked}
@@ -74,18 +75,18 @@ behind (no_edit e) decisions = decisions
 behind an_edit [] = []
 behind an_edit (d ∷ decisions) = decisions
 
-abbrev pub decision_text : ℕ → Decision → List ℕ
-decision_text number None = []
-decision_text number (Some e) = line_text number (Err e)
+abbrev pub decision_parts : ℕ → Decision → List Part
+decision_parts number None = []
+decision_parts number (Some e) = line_parts number (Err e)
 
 -- those of lines from a number on
-abbrev pub told_from : ℕ → List Line → List Decision → List ℕ
+abbrev pub told_from : ℕ → List Line → List Decision → List Part
 told_from number [] decisions = []
 told_from number (line ∷ lines) decisions =
-    decision_text number (refusal_in line decisions) ++ told_from (number + 1) lines (behind line decisions)
+    decision_parts number (refusal_in line decisions) ++ told_from (number + 1) lines (behind line decisions)
 
-abbrev pub refused_text : RefusedLine → List ℕ
-refused_text line = line_text line.number (Err (refusal_of line.refusal))
+abbrev pub refused_part : RefusedLine → Part
+refused_part line = refused_line line.number (refusal_of line.refusal)
 
-abbrev pub refused_texts : List RefusedLine → List ℕ
-refused_texts = flat_map refused_text
+abbrev pub refused_parts : List RefusedLine → List Part
+refused_parts = map refused_part

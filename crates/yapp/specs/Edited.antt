@@ -1,5 +1,5 @@
 -- Documents that were read and edited, as the definitions' trees.
-use Rattle.std.specs.Prelude.{◌≡◌, ◌≤◌, ℕ, List}
+use Rattle.std.specs.Prelude.{◌≡◌, ◌≤◌, List}
 use Rattle.yspec.specs.Forest.{size}
 use Rattle.yspec.specs.text.Text.{Text}
 use Rattle.yspec.specs.schema.Schema.{Schema}
@@ -8,10 +8,11 @@ use Rattle.yspec.specs.document.Fitting.{Fits}
 use Rattle.yspec.specs.document.Writing.{IsDocument}
 use Rattle.yspec.specs.edit.EditText.{Edit}
 use Rattle.yspec.specs.edit.Editing.{after, decisions}
-use Rattle.yspec.specs.program.Script.{after_lines, refused_lines}
+use Rattle.yprogram.specs.Part.{Part}
+use Rattle.yprogram.specs.Script.{after_lines, refused_lines}
 use Rattle.ymodel.specs.View as schema_view
 use Rattle.ytree.specs.View.{tree_view}
-use Rattle.yapp.specs.Asked.{Line, refused_texts, told_from}
+use Rattle.yapp.specs.Asked.{Line, refused_parts, told_from}
 use Rattle.yapp.specs.declared.document.Document.{Document}
 
 abbrev pub schema_of : Document → Schema
@@ -20,8 +21,8 @@ schema_of d = schema_view.view d.schema
 abbrev pub tree_of : Document → Tree
 tree_of d = tree_view d.tree
 
-abbrev pub refused_of : Document → List ℕ
-refused_of d = refused_texts d.refused.items
+abbrev pub refused_of : Document → List Part
+refused_of d = refused_parts d.refused.items
 
 -- a document fits its schema, in its values too, and isn't too large
 pub record IsSound (schema : Schema) (tree : Tree) : Type 0 where

@@ -1,5 +1,6 @@
 -- What a report or a failure comes to, as the outcome that it prints.
-use Rattle.std.specs.Prelude.{◌≡◌, ℕ, ◌++◌, ◌==◌, ◌&&◌, List, length, codes, decimal, string_bytes, Result, Ok, Err, if◌then◌else◌}
+use Rattle.std.specs.Prelude.{◌≡◌, ◌++◌, ◌==◌, ◌&&◌, List, [], ◌∷◌, length, map, codes, decimal, string_bytes, Result, Ok, Err, if◌then◌else◌}
+use Rattle.std.specs.List.{flat_map}
 use Rattle.std.specs.Option.{option_map_or}
 use Rattle.ytext.specs.Told.{number_of}
 use Rattle.ylink.specs.Told.{code_number}
@@ -8,9 +9,12 @@ use Rattle.ytree.specs.Told as document
 use Rattle.ytree.specs.View.{place_view}
 use Rattle.ycheck.specs.View.{views}
 use Rattle.yspec.specs.schema.Diagram.{diagram}
-use Rattle.yspec.specs.program.Output.{Outcome, failed, found, refusal_line, report, unread}
+use Rattle.yprogram.specs.Output.{Outcome, document_part, failed, failed_with, found, refusal_part, report, unread}
+use Rattle.yprogram.specs.Part.{Part, plain}
+use Rattle.ycodes.specs.Codes.{explained}
+use Rattle.ycodes.specs.View.{explanation_view}
 use Rattle.yspec.specs.text.Text.{Text}
-use Rattle.yapp.specs.Asked.{refused_texts}
+use Rattle.yapp.specs.Asked.{refused_parts}
 use Rattle.ycommand.specs.Running.{without_memory}
 use Rattle.yapp.specs.declared.failure.Failure.{Failure}
 use Rattle.yapp.specs.declared.failure.Failure.TheVariants as failures
@@ -20,30 +24,29 @@ use Rattle.yapp.specs.declared.report.Report.{Report}
 use Rattle.yapp.specs.declared.report.Report.TheVariants as reports
 use Rattle.yapp.specs.declared.report.DocumentReport.{DocumentReport}
 
--- a file's name, a line of it, and a code: what a module's refusal prints
-abbrev pub refusal_in : Text → ℕ → Text → ℕ → List ℕ
-refusal_in name line kind code = name ++ (codes ":" ++ (decimal line ++ (kind ++ decimal code)))
-
 abbrev pub outcome_of : Failure → Outcome
 outcome_of (failures.Unread name) = unread name.now
-outcome_of (failures.Text name code line) = failed 2 (refusal_in name.now line (codes ": L") (number_of code))
-outcome_of (failures.Compile name code line) = failed 2 (refusal_in name.now line (codes ": C") (code_number code))
-outcome_of (failures.Document name schema code place) = failed 2 (refusal_line (schema_view.view schema) name.now
+outcome_of (failures.Text name code line) = failed_with 2 (refusal_part name.now line (codes "L") (number_of code))
+outcome_of (failures.Compile name code line) = failed_with 2 (refusal_part name.now line (codes "C") (code_number code))
+outcome_of (failures.Document name schema code place) = failed_with 2 (document_part (schema_view.view schema) name.now
     (record { code = document.code_number code; place = place_view place.items }))
 outcome_of (failures.NoModule name) = failed 2 (name.now ++ codes ": no such module")
+outcome_of (failures.NoCode word) = failed 2 (word.now ++ codes ": no such code")
 outcome_of failures.Memory = without_memory
 
 -- a document's text in a line, or its faults and how many there are
-abbrev pub document_text : DocumentReport → List ℕ
-document_text r = option_map_or (λ text. string_bytes text ++ codes "\n") r.text
+abbrev pub document_parts : DocumentReport → List Part
+document_parts r = option_map_or (λ text. plain (string_bytes text ++ codes "\n") ∷ []) r.text
     (report (schema_view.view r.schema) (views r.faults.items))
 
 abbrev pub reported : Report → Outcome
+reported (reports.Explanations explanations) =
+    found 0 (flat_map explained (map (λ e. explanation_view e.now) explanations.items))
 reported (reports.Nodes count) = found 0 (decimal count ++ codes " nodes\n")
 reported (reports.Diagram schema shown) = found 0 (diagram (schema_view.view schema) shown)
 reported (reports.Document r) = record {
-  output = document_text r;
-  errors = refused_texts r.refused.items;
+  output = document_parts r;
+  errors = refused_parts r.refused.items;
   status = if length r.faults.items == 0 && length r.refused.items == 0 then 0 else 1;
 }
 
@@ -59,6 +62,7 @@ FailsWith (failures.Text name code line) o = o ≡ outcome_of (failures.Text nam
 FailsWith (failures.Compile name code line) o = o ≡ outcome_of (failures.Compile name code line)
 FailsWith (failures.Document name schema code place) o = o ≡ outcome_of (failures.Document name schema code place)
 FailsWith (failures.NoModule name) o = o ≡ outcome_of (failures.NoModule name)
+FailsWith (failures.NoCode word) o = o ≡ outcome_of (failures.NoCode word)
 FailsWith failures.Memory o = Unit {0}
 
 -- what was returned goes on to the outcome so, or is the failure that it is

@@ -1,6 +1,6 @@
 -- What files contain, as far as that is told, how often one was read, and how often that failed.
 use Rattle.std.specs.Prelude.{◌≡◌, ◌⊎◌, ℕ, ◌+◌, ◌≤◌, List, [], ◌∷◌, length, map, Option, Some, None, Result, Ok, Err}
-use Rattle.yspec.specs.program.Output.{Outcome, Request, files_of, outcome, with_files}
+use Rattle.yprogram.specs.Output.{Outcome, Request, files_of, outcome, with_files}
 use Rattle.yspec.specs.text.Text.{Text}
 use Rattle.yapp.specs.Failing.{outcome_of, reported}
 use Rattle.ycommand.specs.Running.{without_memory}

@@ -2,7 +2,7 @@
 
 ghost use Rattle.std.specs.Prelude.{map, position};
 ghost use Rattle.yspec.specs.text.Text.{is_text};
-ghost use Rattle.yspec.specs.program.Output.{compilation, drawing, drawn, edition, performed, validation};
+ghost use Rattle.yprogram.specs.Output.{compilation, drawing, drawn, edition, explanation, performed, validation};
 ghost use Rattle.ymodel.specs.View as schema_view;
 ghost use Rattle.ycommand.specs.Command.{view};
 ghost use Rattle.yapp.specs.Failing.{LeadsTo, reported};
@@ -15,8 +15,24 @@ use crate::files::Files;
 use crate::modules::compile_contents;
 use crate::report::Report;
 use std::alloc::Global;
+use ycodes::{all_explanations, explanations, first_unknown};
 use ycommand::Request;
 use ymodel::Schema;
+
+/// What is said of codes; of all where none is named.
+fn explain<'a>(alloc: Global, codes: &[&'a str]) -> Result<Report, Failure<'a>>
+    ensures { LeadsTo (explanation (map (λ c. c.now) codes.now)) reported result }
+{
+    if let Some(word) = first_unknown(codes) {
+        return Err(Failure::NoCode { word });
+    }
+    let explanations = if codes.is_empty() {
+        all_explanations(alloc)?
+    } else {
+        explanations(alloc, codes)?
+    };
+    Ok(Report::Explanations(explanations))
+}
 
 /// How many nodes modules define, by the contents of their files.
 fn count_nodes<'a>(
@@ -104,6 +120,7 @@ fn perform<'a>(
         result }
 {
     match request {
+        Request::Explain { codes } => explain(alloc, codes),
         Request::Compile { modules } => count_nodes(alloc, modules, contents),
         Request::Tree { name, modules } => draw(alloc, *name, modules, contents),
         Request::Validate { document, modules } => validate(alloc, *document, modules, contents),

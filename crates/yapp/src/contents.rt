@@ -1,7 +1,7 @@
 //! The files of a request, and what they contain.
 
 ghost use Rattle.std.specs.Prelude.{◌≡◌, ◌++◌, IfOk, map};
-ghost use Rattle.yspec.specs.program.Output.{files_of, first_file, other_files};
+ghost use Rattle.yprogram.specs.Output.{files_of, first_file, other_files};
 ghost use Rattle.ycommand.specs.Command.{view};
 ghost use Rattle.yapp.specs.Files.{ReadsAll, store};
 
@@ -42,6 +42,7 @@ pub fn names_of<'a>(alloc: Global, request: &Request<'a>) -> Result<Vec<&'a str>
     ensures { IfOk result (λ names. map (λ n. n.now) names.items ≡ files_of (view request.now)) }
 {
     match request {
+        Request::Explain { .. } => Ok(Vec::new(alloc)),
         Request::Compile { modules } | Request::Tree { modules, .. } => {
             Vec::from_slice(alloc, modules)
         }

@@ -4,8 +4,9 @@ ghost use Rattle.std.specs.Prelude.{◌≡◌, [], ℕ, List, IfOk, map, option_
 ghost use Rattle.yspec.specs.document.Document as document_spec;
 ghost use Rattle.yspec.specs.document.Reading.{document_of};
 ghost use Rattle.yspec.specs.document.Writing.{written_text};
-ghost use Rattle.yspec.specs.program.Output.{Outcome, first_file, left, with_document, with_tree};
-ghost use Rattle.yspec.specs.program.Script.{after_lines, lines_of, refused_lines};
+ghost use Rattle.yprogram.specs.Output.{Outcome, first_file, left, with_document, with_tree};
+ghost use Rattle.yprogram.specs.Part.{Part};
+ghost use Rattle.yprogram.specs.Script.{after_lines, lines_of, refused_lines};
 ghost use Rattle.yspec.specs.schema.Schema as schema_spec;
 ghost use Rattle.ymodel.specs.View as schema_view;
 ghost use Rattle.ylive.specs.View as live_view;
@@ -131,7 +132,7 @@ pub fn edit_document<'a>(
     modules: &[&'a str],
     contents: &[Vec<u8>],
 ) -> Result<Document, Failure<'a>>
-    ensures leads { (next : schema_spec.Schema → document_spec.Tree → List ℕ → Outcome)
+    ensures leads { (next : schema_spec.Schema → document_spec.Tree → List Part → Outcome)
         → LeadsTo (with_document document.entry.now (map (λ n. n.now) modules.now)
         (map (λ c. c.items) contents.now) (λ schema tree files.
         next schema (after_lines schema tree (lines_of (first_file files)))

@@ -1,14 +1,16 @@
 //! Why there is no report, and the line that says so.
 
 ghost use Rattle.std.specs.Prelude.{◌≡◌, ◌++◌, codes, decimal};
-ghost use Rattle.yspec.specs.program.Output.{refusal_line};
+ghost use Rattle.yprogram.specs.Output.{document_part, printed, refusal_part};
+ghost use Rattle.yprogram.specs.Part.{spelled_part};
 ghost use Rattle.youtput.specs.Writing.{Writes, side};
 ghost use Rattle.ymodel.specs.View as schema_view;
 ghost use Rattle.ytree.specs.View.{place_view};
-ghost use Rattle.yapp.specs.Failing.{FromFile, outcome_of, refusal_in};
+ghost use Rattle.yapp.specs.Failing.{FromFile, outcome_of};
 ghost use Rattle.yapp.specs.declared.failure.Failure.TheVariants.{Memory};
 
 use crate::files::FileFault;
+use crate::reason::write_reason_where;
 use crate::status::{FAILED, REFUSED};
 use itoa::Buffer;
 use std::alloc::{AllocError, AllocFailed};
@@ -56,6 +58,11 @@ pub enum Failure<'a> {
     NoModule {
         name: &'a str,
     },
+    /// A word is no code.
+    #[error("{word}: no such code")]
+    NoCode {
+        word: &'a str,
+    },
     #[error("memory")]
     Memory,
 }
@@ -102,55 +109,90 @@ impl<'a> Failure<'a> {
             Failure::Text { .. }
             | Failure::Compile { .. }
             | Failure::Document { .. }
-            | Failure::NoModule { .. } => REFUSED,
+            | Failure::NoModule { .. }
+            | Failure::NoCode { .. } => REFUSED,
         }
     }
 
-    /// Writes its line.
-    pub fn write<S: Sink>(&self, sink: &mut S) -> Result<(), SinkFault>
+    /// Writes its line, and below it why a code in it is told, where that is wanted.
+    pub fn write<S: Sink>(&self, with_reasons: bool, sink: &mut S) -> Result<(), SinkFault>
         ensures { Writes (side S.taken S.failures sink.old) (side S.taken S.failures sink.new)
-            (outcome_of self.now).errors result }
+            (printed with_reasons (outcome_of self.now)).errors result }
     {
         match self {
             Failure::Unread { name } => write_texts(sink, &["cannot read ", *name, "\n"]),
             Failure::Text { name, code, line } => {
-                write_refusal(*name, *line, ": L", code.number(), sink)
+                write_refusal(*name, *line, "L", code.number(), with_reasons, sink)
             }
             Failure::Compile { name, code, line } => {
-                write_refusal(*name, *line, ": C", code.number(), sink)
+                write_refusal(*name, *line, "C", code.number(), with_reasons, sink)
             }
             Failure::Document {
                 name,
                 schema,
                 code,
                 place,
-            } => write_document_refusal(*name, schema, code.number(), place, sink),
+            } => { write_document_refusal(*name, schema, code.number(), place, with_reasons, sink) }
             Failure::NoModule { name } => write_texts(sink, &[*name, ": no such module", "\n"]),
+            Failure::NoCode { word } => write_texts(sink, &[*word, ": no such code", "\n"]),
             Failure::Memory => write_texts(sink, &["memory\n"]),
         }
     }
 }
 
-/// Writes the line of a module's refusal: `FILE:LINE: CODE`.
+/// Writes the line of a module's refusal, by the letter of the code and its number, and why it is told.
 fn write_refusal<S: Sink>(
     name: &str,
     line: u32,
-    kind: &str,
+    letter: &str,
+    code: u8,
+    with_reasons: bool,
+    sink: &mut S,
+) -> Result<(), SinkFault>
+    ensures { Writes (side S.taken S.failures sink.old) (side S.taken S.failures sink.new)
+        (spelled_part with_reasons (refusal_part name.now line letter.now code)) result }
+{
+    write_refusal_line(name, line, letter, code, sink)?;
+    write_reason_where(with_reasons, letter, code, sink)
+}
+
+/// Writes the line of a module's refusal: `FILE:LINE: CODE`.
+fn write_refusal_line<S: Sink>(
+    name: &str,
+    line: u32,
+    letter: &str,
     code: u8,
     sink: &mut S,
 ) -> Result<(), SinkFault>
     ensures { Writes (side S.taken S.failures sink.old) (side S.taken S.failures sink.new)
-        (refusal_in name.now line kind.now code ++ codes "\n") result }
+        (refusal_part name.now line letter.now code).text result }
 {
     let mut line_digits = Buffer::new();
     let mut code_digits = Buffer::new();
     let line_text = line_digits.format(line);
-    let code_text = code_digits.format(code);
-    write_texts(sink, &[name, ":", line_text, kind, code_text, "\n"])
+    let number = code_digits.format(code);
+    write_texts(sink, &[name, ":", line_text, ": ", letter, number, "\n"])
+}
+
+/// Writes the line of a document's refusal, and why it is told.
+fn write_document_refusal<S: Sink>(
+    name: &str,
+    schema: &Schema,
+    code: u8,
+    place: &[Step],
+    with_reasons: bool,
+    sink: &mut S,
+) -> Result<(), SinkFault>
+    ensures { Writes (side S.taken S.failures sink.old) (side S.taken S.failures sink.new)
+        (spelled_part with_reasons (document_part (schema_view.view schema.now) name.now
+        (record { code = code; place = place_view place.now }))) result }
+{
+    write_document_line(name, schema, code, place, sink)?;
+    write_reason_where(with_reasons, "J", code, sink)
 }
 
 /// Writes the line of a document's refusal: `FILE: CODE PLACE`.
-fn write_document_refusal<S: Sink>(
+fn write_document_line<S: Sink>(
     name: &str,
     schema: &Schema,
     code: u8,
@@ -158,8 +200,8 @@ fn write_document_refusal<S: Sink>(
     sink: &mut S,
 ) -> Result<(), SinkFault>
     ensures { Writes (side S.taken S.failures sink.old) (side S.taken S.failures sink.new)
-        (refusal_line (schema_view.view schema.now) name.now
-        (record { code = code; place = place_view place.now }) ++ codes "\n") result }
+        (document_part (schema_view.view schema.now) name.now
+        (record { code = code; place = place_view place.now })).text result }
 {
     write_document_code(name, code, sink)?;
     match write_path(schema, place, sink) {

@@ -3,8 +3,8 @@
 ghost use Rattle.std.specs.Prelude.{◌∷◌, [], ℕ, List, map};
 ghost use Rattle.yspec.specs.Forest.{Forest};
 ghost use Rattle.yspec.specs.linking.Compiling.{compiled};
-ghost use Rattle.yspec.specs.program.Output as spec;
-ghost use Rattle.yspec.specs.program.Output.{Outcome, with_compiled, with_modules, with_schema};
+ghost use Rattle.yprogram.specs.Output as spec;
+ghost use Rattle.yprogram.specs.Output.{Outcome, with_compiled, with_modules, with_schema};
 ghost use Rattle.yspec.specs.schema.Schema as schema_spec;
 ghost use Rattle.yspec.specs.text.Statement.{Statement, module_of};
 ghost use Rattle.ytext.specs.View.{modules_view};

@@ -1,10 +1,10 @@
 //! A run of the program.
 
 ghost use Rattle.std.specs.Prelude.{◌≡◌, [], is_ok, if◌then◌else◌, map, string_bytes};
-ghost use Rattle.yspec.specs.program.Output.{Outcome};
-ghost use Rattle.ycommand.specs.Command.{refusals, request_of};
+ghost use Rattle.yprogram.specs.Output.{Outcome, Printed, printed};
+ghost use Rattle.ycommand.specs.Command.{asks_reasons, refusals, request_of};
 ghost use Rattle.yapp.specs.Files.{IsOutcome, came_to, store};
-ghost use Rattle.ycommand.specs.Running.{AnswersWords, Brings, Ends, refused, without_memory};
+ghost use Rattle.ycommand.specs.Running.{AnswersWords, Brings, Ends, memory_told, refused};
 ghost use Rattle.youtput.specs.Writing.{side};
 
 use crate::answering::answer;
@@ -13,7 +13,7 @@ use crate::files::Files;
 use crate::report::Report;
 use crate::status::{FAILED, GOOD, MISUSED};
 use std::alloc::Global;
-use ycommand::{NoRequest, read_request};
+use ycommand::{NoRequest, read_words};
 use youtput::{Sink, SinkFault, write_texts};
 
 /// The exit status after something was to be written: another one where a write failed.
@@ -29,7 +29,7 @@ fn status_after(written: Result<(), SinkFault>, status: u8) -> u8
 /// Says that there is no memory.
 pub fn tell_memory<E: Sink>(errors: &mut E) -> u8
     ensures { Ends (side E.taken E.failures errors.old) (side E.taken E.failures errors.new)
-        without_memory.errors without_memory.status result }
+        memory_told.errors memory_told.status result }
 {
     status_after(write_texts(errors, &["memory\n"]), FAILED)
 }
@@ -50,15 +50,20 @@ fn show<O: Sink>(text: &str, output: &mut O) -> u8
     status_after(write_texts(output, &[text]), GOOD)
 }
 
-/// Tells what was found, or why nothing was.
-fn tell<O: Sink, E: Sink>(found: Result<Report, Failure<'_>>, output: &mut O, errors: &mut E) -> u8
+/// Tells what was found, or why nothing was; where that is wanted, with the reasons.
+fn tell<O: Sink, E: Sink>(
+    found: Result<Report, Failure<'_>>,
+    with_reasons: bool,
+    output: &mut O,
+    errors: &mut E,
+) -> u8
     ensures { Brings (side O.taken O.failures output.old) (side O.taken O.failures output.new)
         (side E.taken E.failures errors.old) (side E.taken E.failures errors.new)
-        (came_to found.entry) result }
+        (printed with_reasons (came_to found.entry)) result }
 {
     match found {
-        Ok(report) => status_after(report.write(output, errors), report.status()),
-        Err(failure) => status_after(failure.write(errors), failure.status()),
+        Ok(report) => status_after(report.write(with_reasons, output, errors), report.status()),
+        Err(failure) => status_after(failure.write(with_reasons, errors), failure.status()),
     }
 }
 
@@ -75,15 +80,21 @@ pub fn run<F: Files, O: Sink, E: Sink>(
         × IsOutcome (store F.contents F.reads F.failures files.old)
         (store F.contents F.reads F.failures files.new) (request_of (map string_bytes words.now)) o
         × Brings (side O.taken O.failures output.old) (side O.taken O.failures output.new)
-        (side E.taken E.failures errors.old) (side E.taken E.failures errors.new) o result }
-    ensures words { ¬ (refusals (map string_bytes words.now) ≡ []) → (o : Outcome)
+        (side E.taken E.failures errors.old) (side E.taken E.failures errors.new)
+        (printed (asks_reasons (map string_bytes words.now)) o) result }
+    ensures words { ¬ (refusals (map string_bytes words.now) ≡ []) → (o : Printed)
         × AnswersWords (refusals (map string_bytes words.now)) o
         × Brings (side O.taken O.failures output.old) (side O.taken O.failures output.new)
         (side E.taken E.failures errors.old) (side E.taken E.failures errors.new) o result }
     ensures untouched { ¬ (refusals (map string_bytes words.now) ≡ []) → files.new ≡ files.old }
 {
-    match read_request(alloc, words) {
-        Ok(request) => tell(answer(alloc, &request, files), output, errors),
+    match read_words(alloc, words) {
+        Ok(line) => tell(
+            answer(alloc, &line.request, files),
+            line.with_reasons,
+            output,
+            errors,
+        ),
         Err(NoRequest::Help(text)) => show(text.as_str(), output),
         Err(NoRequest::Refused(text)) => refuse(text.as_str(), errors),
         Err(NoRequest::Memory) => tell_memory(errors),

@@ -4,12 +4,12 @@ ghost use Rattle.std.specs.Prelude.{◌≡◌, ◌++◌, ◌==◌, IfOk, OnOk, m
 ghost use Rattle.std.specs.List.{slice_split};
 ghost use Rattle.yspec.specs.Results.{Gives};
 ghost use Rattle.yspec.specs.edit.EditText as text;
-ghost use Rattle.yspec.specs.program.Script as spec;
+ghost use Rattle.yprogram.specs.Script as spec;
 ghost use Rattle.yspec.specs.text.Text.{line_feed};
 ghost use Rattle.ypath.specs.Applying.{told_by};
 ghost use Rattle.ypath.specs.EditView.{edit_view};
 ghost use Rattle.ylive.specs.View.{outcomes_view};
-ghost use Rattle.yapp.specs.Asked.{behind, decision_text, line_view, refusal_in, refusal_of, refused_texts};
+ghost use Rattle.yapp.specs.Asked.{behind, decision_parts, line_view, refusal_in, refusal_of, refused_parts};
 
 use std::alloc::{AllocError, Global};
 use yinst::{DocCode, Edit, EditCode, EditFault};
@@ -49,9 +49,9 @@ pub struct Script {
 
 impl Script {
     ghost use Rattle.std.specs.Prelude.{◌≡◌, ◌++◌, [], ◌∷◌, IfOk, OnOk, map};
-    ghost use Rattle.yspec.specs.program.Script.{asked_in, lines_of, without_return};
+    ghost use Rattle.yprogram.specs.Script.{asked_in, lines_of, without_return};
     ghost use Rattle.ylive.specs.View.{edits_view, outcomes_view};
-    ghost use Rattle.yapp.specs.Asked.{IsScript, edit_of, edits_in, kinds_in, line_of, refused_texts, told_from};
+    ghost use Rattle.yapp.specs.Asked.{IsScript, edit_of, edits_in, kinds_in, line_of, refused_parts, told_from};
 
     /// A script without lines.
     fn new(alloc: Global) -> Script
@@ -119,7 +119,7 @@ impl Script {
 
     /// Its refused lines, by what came of each edit.
     pub fn refused(&self, outcomes: &[Outcome]) -> Result<Vec<RefusedLine>, AllocError>
-        ensures { IfOk result (λ lines. refused_texts lines.items
+        ensures { IfOk result (λ lines. refused_parts lines.items
             ≡ told_from 1 (kinds_in self.now) (outcomes_view outcomes.now)) }
     {
         let mut refused = Vec::new(self.alloc);
@@ -140,8 +140,8 @@ fn add_refused(
     number: usize,
     refusal: Option<Refusal>,
 ) -> Result<(), AllocError>
-    ensures { OnOk result (refused_texts lines.new.items ≡ refused_texts lines.old.items
-        ++ decision_text number (option_map refusal_of refusal)) }
+    ensures { OnOk result (refused_parts lines.new.items ≡ refused_parts lines.old.items
+        ++ decision_parts number (option_map refusal_of refusal)) }
 {
     if let Some(refusal) = refusal {
         lines.push(RefusedLine { number, refusal })?;

@@ -1,5 +1,5 @@
 -- The codes that the program prints, by the cause of each: which line or place is told, what to do, and where the rule stands.
-use Rattle.std.specs.Prelude.{List, [], ◌∷◌, ◌++◌, codes, Option, find}
+use Rattle.std.specs.Prelude.{List, [], ◌∷◌, ◌++◌, codes, Option, Some, None, is_none, find}
 use Rattle.yspec.specs.Forest.{first_of}
 use Rattle.yspec.specs.text.Text.{Text, is_text}
 
@@ -157,7 +157,7 @@ of_edits =
 abbrev pub said_of : Text → List Explanation → Option Explanation
 said_of code explanations = find (λ e. is_text code e.code) explanations
 
-abbrev pub explanation_of : Text → Option Explanation
+unfoldable pub explanation_of : Text → Option Explanation
 explanation_of code = first_of (first_of (first_of (first_of (said_of code of_texts) (said_of code of_modules))
     (said_of code of_documents)) (said_of code of_faults)) (said_of code of_edits)
 
@@ -166,3 +166,29 @@ explanation_of code = first_of (first_of (first_of (first_of (said_of code of_te
 abbrev pub explained : Explanation → Text
 explained e = e.code ++ (codes ": " ++ (e.cause ++ (codes "\n  Told: " ++ (e.place ++ (codes ".\n  To do: "
     ++ (e.remedy ++ (codes "\n  Source: " ++ (e.source ++ codes ".\n"))))))))
+
+abbrev pub reason_in : Option Explanation → Text
+reason_in None = []
+reason_in (Some e) = codes "  " ++ (e.cause ++ (codes " " ++ (e.remedy ++ codes "\n")))
+
+-- what stands below a line that tells a code: why it is told, and what to do
+abbrev pub reason_of : Text → Text
+reason_of code = reason_in (explanation_of code)
+
+-- ---- those of several codes
+
+abbrev pub all_explanations : List Explanation
+all_explanations = of_texts ++ (of_modules ++ (of_documents ++ (of_faults ++ of_edits)))
+
+abbrev pub known_among : Option Explanation → List Explanation → List Explanation
+known_among None others = others
+known_among (Some e) others = e ∷ others
+
+-- what is said of those that are codes
+abbrev pub explanations_of : List Text → List Explanation
+explanations_of [] = []
+explanations_of (code ∷ others) = known_among (explanation_of code) (explanations_of others)
+
+-- the first that is no code
+abbrev pub unknown_among : List Text → Option Text
+unknown_among names = find (λ name. is_none (explanation_of name)) names

@@ -4,4 +4,7 @@
 mod explanation;
 mod table;
 
-pub use explanation::{Explanation, explain, write_explanation};
+pub use explanation::{
+    Explanation, all_explanations, explain, explanations, first_unknown, write_explanation,
+    write_reason,
+};

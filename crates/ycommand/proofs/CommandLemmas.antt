@@ -1,7 +1,7 @@
 -- What clap's answers come to.
 use Rattle.std.proofs.Common.{◌≡◌, ◌⊎◌, inl, inr, List, [], ◌∷◌, ℕ, Bool, Option, Some, None, Bor, map, false, true, refl, sym, subst, ap, ap₂, ◌∙◌}
 use Rattle.std.specs.Prelude.{Result, Ok, Err, IsErrAnd, option_map, unwrap_or, ◌||◌, if◌then◌else◌}
-use Rattle.yspec.specs.program.Output.{compile, edit, found}
+use Rattle.yprogram.specs.Output.{compile, edit}
 use Rattle.clap.specs.Words.{AddsArg, AddsSubcommand, App, Kinds, IsAmong, Row, Rule, Text, app_of, first_value, rows_of, is_simple, is_simple_and_free, new_app, with_rule, with_subcommand}
 use Rattle.clap.specs.Simple.{app_of_fields}
 use Rattle.clap.specs.declared.builder.arg.Arg.{Arg}
@@ -15,8 +15,8 @@ use Rattle.clap.proofs.WalkLemmas.{first_value-rows}
 use Rattle.clap.proofs.OnLiterals.{clap_on_literals}
 use Rattle.ycommand.specs.Application.{IsArgument, IsCommand, yanglive}
 use Rattle.ycommand.specs.Command.{Declines, Explains, Understands, asked_by, asked_of, asks_help, is_help, value_of}
-use Rattle.ycommand.specs.Running.{refused, with_text}
-use Rattle.ycommand.specs.declared.command.Request.{Request}
+use Rattle.ycommand.specs.Running.{refused, shown, with_text}
+use Rattle.ycommand.specs.declared.command.CommandLine.{CommandLine}
 use Rattle.ycommand.specs.declared.command.NoRequest.{NoRequest}
 use Rattle.ycommand.specs.declared.command.NoRequest.TheVariants as none
 use Rattle.ycommand.proofs.HelpLemmas.{Alike, said_by}
@@ -97,7 +97,7 @@ declined kinds kind (none.Refused text) like (inl e) is = absurd (is.1 e)
 declined kinds kind (none.Refused text) like (inr among) is = (some_cause kinds kind among, said_by kind kinds like among ∙ is.0)
 declined kinds kind none.Memory like among is = tt
 
-pub declined_by_memory : (words : List Text) (r : Result Request NoRequest) → IsErrAnd r (λ e. e ≡ none.Memory) → Understands words r
+pub declined_by_memory : (words : List Text) (r : Result CommandLine NoRequest) → IsErrAnd r (λ e. e ≡ none.Memory) → Understands words r
 declined_by_memory words (Ok x) e = absurd e
 declined_by_memory words (Err a) e = subst (λ b. Understands words (Err b)) (sym e) tt
 
@@ -106,5 +106,5 @@ pub asked_help : (kinds : Kinds) → asks_help kinds ≡ true → kinds ≡ [] �
 asked_help [] is e = cc
 asked_help (k ∷ ks) is e = cc
 
-pub text_is : (kinds : Kinds) (help : Bool) (text : List ℕ) → asks_help kinds ≡ help → (if help then found 0 text else refused text) ≡ with_text kinds text
-text_is kinds help text is = ap (λ (b : Bool). if b then found 0 text else refused text) (sym is)
+pub text_is : (kinds : Kinds) (help : Bool) (text : List ℕ) → asks_help kinds ≡ help → (if help then shown text else refused text) ≡ with_text kinds text
+text_is kinds help text is = ap (λ (b : Bool). if b then shown text else refused text) (sym is)

@@ -16,34 +16,47 @@ wanted name = record (new_rule name) { required = true }
 abbrev pub wanted_all : Text → Rule
 wanted_all name = record (wanted name) { range = Some (record { start_inclusive = 1; end_inclusive = usize_max }) }
 
+-- one that takes all the words from its place on, be there any or none
+abbrev pub any_number : Text → Rule
+any_number name = record (new_rule name) { range = Some (record { start_inclusive = 0; end_inclusive = usize_max }) }
+
 -- a flag, as `--dump`, that may be given
 abbrev pub flag : Text → Rule
 flag name = record (new_rule name) { long = Some name; action = Some SetTrue }
 
--- `compile MODULE..`
+-- a command over files, of which each takes `--explain`
+abbrev pub over_files : Text → App
+over_files name = with_rule (new_app name) (flag (codes "explain"))
+
+-- `compile [--explain] MODULE..`
 abbrev pub compile_app : App
-compile_app = with_rule (new_app (codes "compile")) (wanted_all (codes "MODULE"))
+compile_app = with_rule (over_files (codes "compile")) (wanted_all (codes "MODULE"))
 
--- `tree NAME MODULE..`
+-- `tree [--explain] NAME MODULE..`
 abbrev pub tree_app : App
-tree_app = with_rule (with_rule (new_app (codes "tree")) (wanted (codes "NAME"))) (wanted_all (codes "MODULE"))
+tree_app = with_rule (with_rule (over_files (codes "tree")) (wanted (codes "NAME"))) (wanted_all (codes "MODULE"))
 
--- `validate DATA MODULE..`
+-- `validate [--explain] DATA MODULE..`
 abbrev pub validate_app : App
-validate_app = with_rule (with_rule (new_app (codes "validate")) (wanted (codes "DATA"))) (wanted_all (codes "MODULE"))
+validate_app = with_rule (with_rule (over_files (codes "validate")) (wanted (codes "DATA"))) (wanted_all (codes "MODULE"))
 
--- `edit [--dump] DATA SCRIPT MODULE..`
+-- `edit [--explain] [--dump] DATA SCRIPT MODULE..`
 abbrev pub edit_app : App
-edit_app = with_rule (with_rule (with_rule (with_rule (new_app (codes "edit")) (flag (codes "dump")))
+edit_app = with_rule (with_rule (with_rule (with_rule (over_files (codes "edit")) (flag (codes "dump")))
     (wanted (codes "DATA"))) (wanted (codes "SCRIPT"))) (wanted_all (codes "MODULE"))
 
--- a command with subcommands, of which one has to be named, and no `help` among them
+-- `explain [CODE..]`
+abbrev pub explain_app : App
+explain_app = with_rule (new_app (codes "explain")) (any_number (codes "CODE"))
+
+-- a command of a version with subcommands, of which one has to be named, and no `help` among them
 abbrev pub with_commands : Shape → Shape
-with_commands s = record s { disable_help_subcommand = true; subcommand_required = true }
+with_commands s = record s { has_version = true; disable_help_subcommand = true; subcommand_required = true }
 
 abbrev pub yanglive : App
-yanglive = with_subcommand (with_subcommand (with_subcommand (with_subcommand (on_top with_commands (new_app (codes "yanglive")))
-    compile_app.top) tree_app.top) validate_app.top) edit_app.top
+yanglive = with_subcommand (with_subcommand (with_subcommand (with_subcommand (with_subcommand
+    (on_top with_commands (new_app (codes "yanglive")))
+    compile_app.top) tree_app.top) validate_app.top) edit_app.top) explain_app.top
 
 -- ---- what is built of these
 

@@ -1,7 +1,7 @@
 -- What a run comes to: an outcome, and what of it goes out on the two sides.
-use Rattle.std.specs.Prelude.{◌≡◌, ◌⊎◌, ℕ, List, [], codes, take, Result, Ok, Err, if◌then◌else◌}
+use Rattle.std.specs.Prelude.{◌≡◌, ◌⊎◌, ℕ, false, List, [], codes, take, Result, Ok, Err, if◌then◌else◌}
 use Rattle.clap.specs.Words.{Kinds}
-use Rattle.yspec.specs.program.Output.{Outcome, failed, found}
+use Rattle.yprogram.specs.Output.{Outcome, Printed, failed, printed}
 use Rattle.youtput.specs.Writing.{Side, Wrote, Broke}
 use Rattle.ycommand.specs.Command.{asks_help}
 
@@ -9,28 +9,28 @@ use Rattle.ycommand.specs.Command.{asks_help}
 abbrev pub failure : ℕ
 failure = 4
 
-abbrev pub BringsAll : Side → Side → Side → Side → Outcome → ℕ → Type 0
+abbrev pub BringsAll : Side → Side → Side → Side → Printed → ℕ → Type 0
 BringsAll output output_after errors errors_after o status =
     Wrote output output_after o.output × Wrote errors errors_after o.errors × (status ≡ o.status)
 
-abbrev pub OutputBreaks : Side → Side → Side → Side → Outcome → ℕ → Type 0
+abbrev pub OutputBreaks : Side → Side → Side → Side → Printed → ℕ → Type 0
 OutputBreaks output output_after errors errors_after o status =
     (n : ℕ) × Broke output output_after o.output × Wrote errors errors_after (take n o.errors) × (status ≡ failure)
 
-abbrev pub ErrorsBreak : Side → Side → Side → Side → Outcome → ℕ → Type 0
+abbrev pub ErrorsBreak : Side → Side → Side → Side → Printed → ℕ → Type 0
 ErrorsBreak output output_after errors errors_after o status =
     (n : ℕ) × Wrote output output_after (take n o.output) × Broke errors errors_after o.errors × (status ≡ failure)
 
 -- The sides get an outcome and the status is the outcome's. Or one call fails: then what is taken on each side is a
 -- beginning of what was due there, and the status says that something failed.
-abbrev pub Brings : Side → Side → Side → Side → Outcome → ℕ → Type 0
+abbrev pub Brings : Side → Side → Side → Side → Printed → ℕ → Type 0
 Brings output output_after errors errors_after o status = BringsAll output output_after errors errors_after o status
     ⊎ (OutputBreaks output output_after errors errors_after o status
     ⊎ ErrorsBreak output output_after errors errors_after o status)
 
 -- The error side gets its part of an outcome, and then the output. Or one call fails: then the output isn't begun, or
 -- the error side has got its part.
-abbrev pub WritesBoth : {X E : Type 0} → Side → Side → Side → Side → Outcome → Result X E → Type 0
+abbrev pub WritesBoth : {X E : Type 0} → Side → Side → Side → Side → Printed → Result X E → Type 0
 WritesBoth output output_after errors errors_after o (Ok x) =
     Wrote output output_after o.output × Wrote errors errors_after o.errors
 WritesBoth output output_after errors errors_after o (Err e) =
@@ -48,13 +48,19 @@ Ends before after bytes status result =
 abbrev pub without_memory : Outcome
 without_memory = failed failure (codes "memory")
 
-abbrev pub refused : List ℕ → Outcome
+abbrev pub memory_told : Printed
+memory_told = printed false without_memory
+
+abbrev pub shown : List ℕ → Printed
+shown text = record { output = text; errors = []; status = 0 }
+
+abbrev pub refused : List ℕ → Printed
 refused text = record { output = []; errors = text; status = 3 }
 
 -- clap's text: as help, or as a refusal
-abbrev pub with_text : Kinds → List ℕ → Outcome
-with_text kinds text = if asks_help kinds then found 0 text else refused text
+abbrev pub with_text : Kinds → List ℕ → Printed
+with_text kinds text = if asks_help kinds then shown text else refused text
 
 -- words that aren't taken come to a text of clap's, or memory is wanting
-abbrev pub AnswersWords : Kinds → Outcome → Type 0
-AnswersWords kinds o = (o ≡ without_memory) ⊎ ((text : List ℕ) × (o ≡ with_text kinds text))
+abbrev pub AnswersWords : Kinds → Printed → Type 0
+AnswersWords kinds o = (o ≡ memory_told) ⊎ ((text : List ℕ) × (o ≡ with_text kinds text))

@@ -2,8 +2,8 @@
 
 ghost use Rattle.std.specs.Prelude.{◌≡◌, codes, map, string_bytes, IfOk};
 ghost use Rattle.clap.specs.Words.{app_of, found_of, kind_of, rows_of, subcommand_rows_of};
-ghost use Rattle.ycommand.specs.Application.{IsArgument, IsCommand, compile_app, edit_app, flag, tree_app, validate_app, wanted, wanted_all, yanglive};
-ghost use Rattle.ycommand.specs.Command.{Explains, Understands, asked_by, asked_of, compilation_of, drawing_of, edition_of, modules_of, validation_of, view};
+ghost use Rattle.ycommand.specs.Application.{IsArgument, IsCommand, any_number, compile_app, edit_app, explain_app, flag, over_files, tree_app, validate_app, wanted, wanted_all, yanglive};
+ghost use Rattle.ycommand.specs.Command.{Explains, Understands, asked_by, asked_of, compilation_of, drawing_of, edition_of, explained_by, explanation_of, is_given, modules_of, validation_of, view};
 ghost use Rattle.ycommand.specs.declared.command.NoRequest.TheVariants.{Memory};
 
 use clap::error::ErrorKind;
@@ -11,9 +11,20 @@ use clap::{Arg, ArgAction, ArgMatches, Command};
 use std::alloc::{AllocError, Global};
 use thiserror::Error;
 
-/// What a command line asks for. Files are named by the words that were given.
+/// What a command line asks for, and whether the reasons of what is told are wanted too.
+#[derive(Debug, Drop)]
+pub struct CommandLine<'a> {
+    pub request: Request<'a>,
+    pub with_reasons: bool,
+}
+
+/// What a command asks for. Files are named by the words that were given.
 #[derive(Debug, Drop)]
 pub enum Request<'a> {
+    /// What is said of codes; of all where none is named.
+    Explain {
+        codes: Vec<&'a str>,
+    },
     /// How many nodes modules define.
     Compile {
         modules: Vec<&'a str>,
@@ -40,7 +51,7 @@ pub enum Request<'a> {
 /// Why a command line asks for nothing, with the text that says so.
 #[derive(Debug, Drop, Error)]
 pub enum NoRequest {
-    /// It asks for help.
+    /// It asks for help, or for the version.
     #[error("{0}")]
     Help(String),
     /// It isn't one that the program takes.
@@ -58,8 +69,12 @@ impl From<AllocError> for NoRequest {
     }
 }
 
+/// The version that the program tells.
+const VERSION: &str = "0.1.0";
+
 /// What `compile` says at the end of its help.
 const COMPILE_HELP: &str = "Prints how many schema nodes the modules define, as `3 nodes`.
+A refused module is told as FILE:LINE: CODE, L1 to L8 of its text, C1 to C18 of its statements; `yanglive explain CODE` says what it means.
 
 Exit status:
   0  The modules compile
@@ -67,7 +82,7 @@ Exit status:
   3  The command line is refused
   4  A file, a stream or memory failed
 
-Example: yanglive compile net.yang types.yang";
+Example: yanglive compile net.yang";
 
 /// What `tree` says at the end of its help.
 const TREE_HELP: &str = "Prints the tree diagram (RFC 8340) of the module NAME, one of the modules.
@@ -78,11 +93,12 @@ Exit status:
   3  The command line is refused
   4  A file, a stream or memory failed
 
-Example: yanglive tree net net.yang types.yang";
+Example: yanglive tree net net.yang";
 
 /// What `validate` says at the end of its help.
 const VALIDATE_HELP: &str =
-    "Prints a line for each fault, and then how many there are, as `0 faults`.
+    "Prints a line for each fault, and then how many there are, as `0 faults`. The line has the code (V1 to V11), error-tag, error-app-tag, path, and the choice (V4, V5) or the number of the unique (V9), or - for none; [N] in a path is the position of an entry or item, from 1.
+A refused module is told as FILE:LINE: CODE (L1 to L8, C1 to C18), a refused document as FILE: CODE PATH (J1 to J7); `yanglive explain CODE` says what it means.
 
 Exit status:
   0  There is no fault
@@ -91,7 +107,7 @@ Exit status:
   3  The command line is refused
   4  A file, a stream or memory failed
 
-Example: yanglive validate hosts.json net.yang types.yang";
+Example: yanglive validate hosts.json net.yang";
 
 /// What `edit` says at the end of its help.
 const EDIT_HELP: &str = "Prints what `validate` prints, of the document after the edits.
@@ -100,7 +116,9 @@ An edit stands on a line of its own; empty lines and those that begin with # are
   create PATH VALUE
   replace PATH VALUE
   remove PATH
-A refused edit changes nothing, and the others are applied. Its line and why it is refused stand on the error side, as `line 4: E7`.
+PATH is a step or more: /module:name at the top and where the module changes, /name elsewhere, without choices and cases. Behind the name of an entry stands [N], its position from 1, or [key='text'] for each of its keys; behind that of an item [N]. The last step of create has none: an entry or item comes last.
+VALUE is JSON, up to the end of the line: an object for a container or an entry, as the document has it.
+A refused edit changes nothing, and the others are applied. Its line and why it is refused stand on the error side, as `line 4: E7`; `yanglive explain E7` says what it means.
 
 Exit status:
   0  There is no fault, and no edit is refused
@@ -109,9 +127,53 @@ Exit status:
   3  The command line is refused
   4  A file, a stream or memory failed
 
-Example: yanglive edit --dump hosts.json changes.txt net.yang types.yang";
+Example: yanglive edit --dump hosts.json changes.txt net.yang";
 
-/// The modules, which are the last words of each command.
+/// What `explain` says at the end of its help.
+const EXPLAIN_HELP: &str =
+    "Prints for each code its cause, which line or place is told with it, what to do, and where the rule stands. Without a code it prints this for all.
+
+The letter says what a code is told of:
+  L  The text of a module
+  C  Sets of modules
+  J  Documents
+  V  Faults of documents
+  E  Edits
+
+Exit status:
+  0  The codes are explained
+  2  A word is no code
+  3  The command line is refused
+  4  A stream or memory failed
+
+Example: yanglive explain C5 V11";
+
+/// `--explain`
+fn explain_argument<'a>(alloc: Global) -> Arg<'a>
+    ensures { IsArgument (flag (codes "explain")) result }
+{
+    Arg::new(alloc, "explain")
+        .long("explain")
+        .action(ArgAction::SetTrue)
+        .help("Prints below each line with a code why it is told, and what to do")
+}
+
+/// A command over files, with its texts for help.
+fn command_over_files<'a>(
+    alloc: Global,
+    name: &'a str,
+    about: &'a str,
+    help: &'a str,
+) -> Result<Command<'a>, AllocError>
+    ensures { IfOk result (IsCommand (over_files name.entry.now)) }
+{
+    Command::new(alloc, name)
+        .about(about)
+        .after_help(help)
+        .arg(explain_argument(alloc))
+}
+
+/// The modules, which are the last words of each command over files.
 fn modules_argument<'a>(alloc: Global) -> Arg<'a>
     ensures { IsArgument (wanted_all (codes "MODULE")) result }
 {
@@ -126,18 +188,21 @@ fn document_argument<'a>(alloc: Global) -> Arg<'a>
     ensures { IsArgument (wanted (codes "DATA")) result }
 {
     Arg::new(alloc, "DATA")
-        .help("The file of the document, in JSON")
+        .help("The file of the document, in JSON; - for standard input")
         .required(true)
 }
 
-/// `compile MODULE..`
+/// `compile [--explain] MODULE..`
 fn compile_command<'a>(alloc: Global) -> Result<Command<'a>, AllocError>
     ensures { IfOk result (IsCommand compile_app) }
 {
-    Command::new(alloc, "compile")
-        .about("Counts the schema nodes of modules")
-        .after_help(COMPILE_HELP)
-        .arg(modules_argument(alloc))
+    command_over_files(
+        alloc,
+        "compile",
+        "Counts the schema nodes of modules",
+        COMPILE_HELP,
+    )?
+    .arg(modules_argument(alloc))
 }
 
 /// The name of a module.
@@ -149,26 +214,32 @@ fn name_argument<'a>(alloc: Global) -> Arg<'a>
         .required(true)
 }
 
-/// `tree NAME MODULE..`
+/// `tree [--explain] NAME MODULE..`
 fn tree_command<'a>(alloc: Global) -> Result<Command<'a>, AllocError>
     ensures { IfOk result (IsCommand tree_app) }
 {
-    Command::new(alloc, "tree")
-        .about("Prints the tree diagram of a module")
-        .after_help(TREE_HELP)
-        .arg(name_argument(alloc))?
-        .arg(modules_argument(alloc))
+    command_over_files(
+        alloc,
+        "tree",
+        "Prints the tree diagram of a module",
+        TREE_HELP,
+    )?
+    .arg(name_argument(alloc))?
+    .arg(modules_argument(alloc))
 }
 
-/// `validate DATA MODULE..`
+/// `validate [--explain] DATA MODULE..`
 fn validate_command<'a>(alloc: Global) -> Result<Command<'a>, AllocError>
     ensures { IfOk result (IsCommand validate_app) }
 {
-    Command::new(alloc, "validate")
-        .about("Prints the faults of a document under modules")
-        .after_help(VALIDATE_HELP)
-        .arg(document_argument(alloc))?
-        .arg(modules_argument(alloc))
+    command_over_files(
+        alloc,
+        "validate",
+        "Prints the faults of a document under modules",
+        VALIDATE_HELP,
+    )?
+    .arg(document_argument(alloc))?
+    .arg(modules_argument(alloc))
 }
 
 /// The script.
@@ -176,7 +247,7 @@ fn script_argument<'a>(alloc: Global) -> Arg<'a>
     ensures { IsArgument (wanted (codes "SCRIPT")) result }
 {
     Arg::new(alloc, "SCRIPT")
-        .help("The file of the edits, one a line")
+        .help("The file of the edits, one a line; - for standard input")
         .required(true)
 }
 
@@ -190,17 +261,39 @@ fn dump_argument<'a>(alloc: Global) -> Arg<'a>
         .help("Prints the edited document in place of its faults")
 }
 
-/// `edit [--dump] DATA SCRIPT MODULE..`
+/// `edit [--explain] [--dump] DATA SCRIPT MODULE..`
 fn edit_command<'a>(alloc: Global) -> Result<Command<'a>, AllocError>
     ensures { IfOk result (IsCommand edit_app) }
 {
-    Command::new(alloc, "edit")
-        .about("Edits a document, and prints its faults then")
-        .after_help(EDIT_HELP)
-        .arg(dump_argument(alloc))?
-        .arg(document_argument(alloc))?
-        .arg(script_argument(alloc))?
-        .arg(modules_argument(alloc))
+    command_over_files(
+        alloc,
+        "edit",
+        "Edits a document, and prints its faults then",
+        EDIT_HELP,
+    )?
+    .arg(dump_argument(alloc))?
+    .arg(document_argument(alloc))?
+    .arg(script_argument(alloc))?
+    .arg(modules_argument(alloc))
+}
+
+/// The codes that are to be explained.
+fn codes_argument<'a>(alloc: Global) -> Arg<'a>
+    ensures { IsArgument (any_number (codes "CODE")) result }
+{
+    Arg::new(alloc, "CODE")
+        .help("A code as it is printed, such as C5")
+        .num_args(0..)
+}
+
+/// `explain [CODE..]`
+fn explain_command<'a>(alloc: Global) -> Result<Command<'a>, AllocError>
+    ensures { IfOk result (IsCommand explain_app) }
+{
+    Command::new(alloc, "explain")
+        .about("Tells what codes mean and what to do")
+        .after_help(EXPLAIN_HELP)
+        .arg(codes_argument(alloc))
 }
 
 /// The program's commands.
@@ -211,12 +304,14 @@ fn application<'a>(alloc: Global) -> Result<Command<'a>, AllocError>
         .about(
             "Compiles and draws YANG 1.1 modules, and checks and edits JSON documents under them",
         )
+        .version(VERSION)
         .disable_help_subcommand(true)
         .subcommand_required(true)
         .subcommand(compile_command(alloc)?)?
         .subcommand(tree_command(alloc)?)?
         .subcommand(validate_command(alloc)?)?
-        .subcommand(edit_command(alloc)?)
+        .subcommand(edit_command(alloc)?)?
+        .subcommand(explain_command(alloc)?)
 }
 
 /// The modules that were given.
@@ -225,6 +320,21 @@ fn modules_in<'a>(alloc: Global, found: &ArgMatches<'a>) -> Result<Vec<&'a str>,
         ≡ modules_of (rows_of (found_of found.now))) }
 {
     Vec::from_slice(alloc, found.get_strs("MODULE").unwrap_or(&[]))
+}
+
+/// Whether the flag of a name was given.
+fn has_flag(found: &ArgMatches<'_>, name: &str) -> bool
+    ensures { result ≡ is_given name.now (rows_of (found_of found.now)) }
+{
+    found.get_str(name).unwrap_or("") == "true"
+}
+
+/// What the arguments of `explain` ask for.
+fn explanation_in<'a>(alloc: Global, found: &ArgMatches<'a>) -> Result<Request<'a>, AllocError>
+    ensures { IfOk result (λ r. view r ≡ explanation_of (rows_of (found_of found.now))) }
+{
+    let codes = Vec::from_slice(alloc, found.get_strs("CODE").unwrap_or(&[]))?;
+    Ok(Request::Explain { codes })
 }
 
 /// What the arguments of `compile` ask for.
@@ -257,7 +367,7 @@ fn validation_in<'a>(alloc: Global, found: &ArgMatches<'a>) -> Result<Request<'a
 fn edition_in<'a>(alloc: Global, found: &ArgMatches<'a>) -> Result<Request<'a>, AllocError>
     ensures { IfOk result (λ r. view r ≡ edition_of (rows_of (found_of found.now))) }
 {
-    let is_dump = found.get_str("dump").unwrap_or("") == "true";
+    let is_dump = has_flag(found, "dump");
     let document = found.get_str("DATA").unwrap_or("");
     let script = found.get_str("SCRIPT").unwrap_or("");
     let modules = modules_in(alloc, found)?;
@@ -278,6 +388,7 @@ fn asked_in<'a>(
     ensures { IfOk result (λ r. view r ≡ asked_of name.now (rows_of (found_of found.now))) }
 {
     match name {
+        "explain" => explanation_in(alloc, found),
         "compile" => compilation_in(alloc, found),
         "tree" => drawing_in(alloc, found),
         "validate" => validation_in(alloc, found),
@@ -286,13 +397,22 @@ fn asked_in<'a>(
 }
 
 /// What taken words ask for.
-fn request_in<'a>(alloc: Global, matches: &ArgMatches<'a>) -> Result<Request<'a>, AllocError>
-    ensures { IfOk result (λ r. view r ≡ asked_by (subcommand_rows_of matches.now)) }
+fn line_in<'a>(alloc: Global, matches: &ArgMatches<'a>) -> Result<CommandLine<'a>, AllocError>
+    ensures request { IfOk result (λ l. view l.request
+        ≡ asked_by (subcommand_rows_of matches.now)) }
+    ensures reasons { IfOk result (λ l. l.with_reasons
+        ≡ explained_by (subcommand_rows_of matches.now)) }
 {
     match matches.subcommand() {
-        Some((name, found)) => asked_in(alloc, name, found),
-        None => Ok(Request::Compile {
-            modules: Vec::new(alloc),
+        Some((name, found)) => Ok(CommandLine {
+            request: asked_in(alloc, name, found)?,
+            with_reasons: has_flag(found, "explain"),
+        }),
+        None => Ok(CommandLine {
+            request: Request::Compile {
+                modules: Vec::new(alloc),
+            },
+            with_reasons: false,
         }),
     }
 }
@@ -307,17 +427,17 @@ fn without_request(alloc: Global, error: &clap::Error) -> NoRequest
     };
     match error.kind() {
         ErrorKind::OutOfMemory => NoRequest::Memory,
-        ErrorKind::DisplayHelp => NoRequest::Help(text),
+        ErrorKind::DisplayHelp | ErrorKind::DisplayVersion => NoRequest::Help(text),
         _ => NoRequest::Refused(text),
     }
 }
 
 /// What a command line asks for. Its first word is the program's name.
-pub fn read_request<'a>(alloc: Global, words: &'a [String]) -> Result<Request<'a>, NoRequest>
+pub fn read_words<'a>(alloc: Global, words: &'a [String]) -> Result<CommandLine<'a>, NoRequest>
     ensures { Understands (map string_bytes words.entry.now) result }
 {
     match application(alloc)?.try_get_matches_from(words) {
-        Ok(matches) => Ok(request_in(alloc, &matches)?),
+        Ok(matches) => Ok(line_in(alloc, &matches)?),
         Err(error) => Err(without_request(alloc, &error)),
     }
 }

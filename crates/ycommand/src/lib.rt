@@ -3,4 +3,4 @@
 
 mod command;
 
-pub use command::{NoRequest, Request, read_request};
+pub use command::{CommandLine, NoRequest, Request, read_words};

@@ -2,8 +2,9 @@
 use Rattle.std.specs.Prelude.{List, [], ◌∷◌, ◌++◌, map, codes, true, Option, Some, Result, Ok}
 use Rattle.yspec.specs.Forest.{Forest}
 use Rattle.yspec.specs.text.Text.{Text}
-use Rattle.yspec.specs.program.Examples.{module_text}
-use Rattle.yspec.specs.program.Output.{Outcome, compile, edit, outcome, validate}
+use Rattle.yspec.specs.edit.Examples.{module_text}
+use Rattle.yprogram.specs.Output.{Printed, compile, edit, validate}
+use Rattle.yexamples.specs.Printing.{printed_by}
 use Rattle.yspec.specs.schema.Breaks.{Break}
 use Rattle.yspec.specs.schema.Schema.{Schema}
 use Rattle.yspec.specs.linking.Source.{Source}
@@ -54,13 +55,13 @@ abbrev pub three_names : List Text
 three_names = codes "a.yang" ∷ codes "b.yang" ∷ codes "m.yang" ∷ []
 
 -- what `compile` prints of them, and `validate` of a document under them
-abbrev pub counted_of_three : Outcome
-counted_of_three = outcome (compile three_names) three_files
+abbrev pub counted_of_three : Printed
+counted_of_three = printed_by (compile three_names) three_files
 
-abbrev pub shown_of_three : Text → Outcome
-shown_of_three document = outcome (validate (codes "d.json") three_names) (three_files ++ Some document ∷ [])
+abbrev pub shown_of_three : Text → Printed
+shown_of_three document = printed_by (validate (codes "d.json") three_names) (three_files ++ Some document ∷ [])
 
 -- what `edit --dump` prints of a document and a script
-abbrev pub dumped_of_three : Text → Text → Outcome
+abbrev pub dumped_of_three : Text → Text → Printed
 dumped_of_three document script =
-    outcome (edit true (codes "d.json") (codes "s.txt") three_names) (three_files ++ Some document ∷ Some script ∷ [])
+    printed_by (edit true (codes "d.json") (codes "s.txt") three_names) (three_files ++ Some document ∷ Some script ∷ [])

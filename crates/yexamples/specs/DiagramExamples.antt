@@ -8,7 +8,7 @@ use Rattle.yspec.specs.schema.Schema.{Schema, SchemaNode, Kind, container, leaf,
 use Rattle.yspec.specs.schema.Diagram.{diagram}
 use Rattle.yexamples.specs.CompilingSamples.{compiled_texts}
 use Rattle.yexamples.specs.SchemaExamples.{node_of, of_base, augmenting, adding}
-use Rattle.yspec.specs.program.Examples.{module_text}
+use Rattle.yspec.specs.edit.Examples.{module_text}
 
 abbrev pub diagram_in : ℕ → Result Schema Break → Text
 diagram_in shown (Ok schema) = diagram schema shown

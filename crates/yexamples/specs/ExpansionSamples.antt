@@ -2,7 +2,7 @@
 use Rattle.std.specs.Prelude.{ℕ, zero, suc, false, Option, List, [], ◌∷◌, ◌++◌, codes, decimal, map, Result, Ok, Err}
 use Rattle.yspec.specs.Forest.{preorder}
 use Rattle.yspec.specs.text.Text.{Text}
-use Rattle.yspec.specs.program.Examples.{module_text}
+use Rattle.yspec.specs.edit.Examples.{module_text}
 use Rattle.yspec.specs.schema.Breaks.{Break, first_broken}
 use Rattle.yspec.specs.schema.Diagram.{diagram}
 use Rattle.yexamples.specs.SchemaExamples.{of_base, number_value_of}

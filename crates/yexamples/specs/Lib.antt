@@ -8,3 +8,4 @@ pub mod AugmentSamples
 pub mod TableSamples
 pub mod DiagramExamples
 pub mod CornerExamples
+pub mod Printing

@@ -6,7 +6,7 @@ use Rattle.yspec.specs.Forest.{Forest, end, join, preorder}
 use Rattle.yspec.specs.text.Text.{Text}
 use Rattle.yspec.specs.text.Statement.{Statement, module_of}
 use Rattle.yspec.specs.schema.Breaks.{Break, least_from}
-use Rattle.yspec.specs.program.Examples.{module_text}
+use Rattle.yspec.specs.edit.Examples.{module_text}
 use Rattle.yspec.specs.linking.Keyword.{keyword_text}
 use Rattle.yspec.specs.linking.StatementBreaks.{statement_phase}
 use Rattle.yspec.specs.linking.Source.{Source, sources_of, argument_in}

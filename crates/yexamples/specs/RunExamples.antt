@@ -7,8 +7,9 @@ use Rattle.yspec.specs.schema.Schema.{Schema}
 use Rattle.yspec.specs.linking.Compiling.{schema_of}
 use Rattle.yspec.specs.document.Reading.{document_of}
 use Rattle.yspec.specs.document.Writing.{written_text}
-use Rattle.yspec.specs.program.Examples.{module_p, module_text}
-use Rattle.yspec.specs.program.Output.{Outcome, compile, draw, edit, validate, outcome, found}
+use Rattle.yspec.specs.edit.Examples.{module_p, module_text}
+use Rattle.yprogram.specs.Output.{Printed, compile, draw, edit, validate}
+use Rattle.yexamples.specs.Printing.{found, printed_by}
 
 -- a mandatory leaf in a container in a container
 abbrev pub nested_module : Text
@@ -16,24 +17,24 @@ nested_module = module_text (codes "q") (codes "  container a {\n    container b
     ++ codes "      leaf c { type uint8; mandatory true; }\n    }\n    leaf d { type string; }\n  }\n")
 
 -- what `validate d.json m.yang` prints of a module's text and a document's
-abbrev pub shown : Text → Text → Outcome
+abbrev pub shown : Text → Text → Printed
 shown module_bytes document =
-    outcome (validate (codes "d.json") (codes "m.yang" ∷ [])) (Some module_bytes ∷ Some document ∷ [])
+    printed_by (validate (codes "d.json") (codes "m.yang" ∷ [])) (Some module_bytes ∷ Some document ∷ [])
 
 -- the same of two modules' texts
-abbrev pub shown_of_two : Text → Text → Text → Outcome
+abbrev pub shown_of_two : Text → Text → Text → Printed
 shown_of_two first second document =
-    outcome (validate (codes "d.json") (codes "m.yang" ∷ codes "n.yang" ∷ [])) (Some first ∷ Some second ∷ Some document ∷ [])
+    printed_by (validate (codes "d.json") (codes "m.yang" ∷ codes "n.yang" ∷ [])) (Some first ∷ Some second ∷ Some document ∷ [])
 
 -- what one prints under module p
-abbrev pub shown_by_p : Text → Outcome
+abbrev pub shown_by_p : Text → Printed
 shown_by_p document = shown module_p document
 
 -- the same, of an empty document under a module with these lines from line 5 on
-abbrev pub compiled_alone : Text → Outcome
+abbrev pub compiled_alone : Text → Printed
 compiled_alone lines = shown (module_text (codes "p") lines) (codes "{}")
 
-abbrev pub without_faults : Outcome
+abbrev pub without_faults : Printed
 without_faults = found 0 (codes "0 faults\n")
 
 abbrev pub read_and_written : Schema → Text → Option Text
@@ -47,23 +48,23 @@ rewritten module_bytes document =
 -- ---- commands
 
 -- what `compile m.yang` prints of a module's text
-abbrev pub counted : Text → Outcome
-counted module_bytes = outcome (compile (codes "m.yang" ∷ [])) (Some module_bytes ∷ [])
+abbrev pub counted : Text → Printed
+counted module_bytes = printed_by (compile (codes "m.yang" ∷ [])) (Some module_bytes ∷ [])
 
 -- what `tree NAME m.yang` prints of a module's text
-abbrev pub drawn_as : Text → Text → Outcome
-drawn_as name module_bytes = outcome (draw name (codes "m.yang" ∷ [])) (Some module_bytes ∷ [])
+abbrev pub drawn_as : Text → Text → Printed
+drawn_as name module_bytes = printed_by (draw name (codes "m.yang" ∷ [])) (Some module_bytes ∷ [])
 
 -- what `edit d.json s.txt m.yang` prints of a module's text, a document's and a script's
-abbrev pub scripted : Text → Text → Text → Outcome
-scripted module_bytes document script = outcome (edit false (codes "d.json") (codes "s.txt") (codes "m.yang" ∷ []))
+abbrev pub scripted : Text → Text → Text → Printed
+scripted module_bytes document script = printed_by (edit false (codes "d.json") (codes "s.txt") (codes "m.yang" ∷ []))
     (Some module_bytes ∷ Some document ∷ Some script ∷ [])
 
 -- the same with `--dump`
-abbrev pub dumped : Text → Text → Text → Outcome
-dumped module_bytes document script = outcome (edit true (codes "d.json") (codes "s.txt") (codes "m.yang" ∷ []))
+abbrev pub dumped : Text → Text → Text → Printed
+dumped module_bytes document script = printed_by (edit true (codes "d.json") (codes "s.txt") (codes "m.yang" ∷ []))
     (Some module_bytes ∷ Some document ∷ Some script ∷ [])
 
 -- what is printed on both sides where there is a fault, or a refused edit
-abbrev pub faulty : Text → Text → Outcome
+abbrev pub faulty : Text → Text → Printed
 faulty errors output = record { output = output; errors = errors; status = 1 }

@@ -11,8 +11,9 @@ use Rattle.yspec.specs.document.Writing.{written_text}
 use Rattle.yspec.specs.document.Faults.{faults_of}
 use Rattle.yspec.specs.edit.EditText.{Edit}
 use Rattle.yspec.specs.edit.Editing.{Decision, after, decisions}
-use Rattle.yspec.specs.program.Output.{Outcome, with_tree, report, edited}
-use Rattle.yspec.specs.program.Examples.{edits_of}
+use Rattle.yprogram.specs.Output.{Printed, printed, with_tree, report, edited}
+use Rattle.yprogram.specs.Part.{spelled}
+use Rattle.yspec.specs.edit.Examples.{edits_of}
 
 -- ---- how schemas are written here
 
@@ -139,8 +140,9 @@ m_schema = record {
 -- ---- what is shown
 
 -- what is printed of a document under a schema
-abbrev pub shown_under : Schema → Text → Outcome
-shown_under schema document = with_tree schema (codes "d.json") (document_of schema document) (λ tree. edited false schema tree [])
+abbrev pub shown_under : Schema → Text → Printed
+shown_under schema document =
+    printed false (with_tree schema (codes "d.json") (document_of schema document) (λ tree. edited false schema tree []))
 
 -- the first refusal of a document where there is room for so many nodes
 abbrev pub refused_within : ℕ → Schema → Text → Option Refusal
@@ -150,7 +152,7 @@ refused_within room schema document = option_and_then (λ d. first_refusal room 
 abbrev pub reported_after : Schema → List Edit → Result Tree Refusal → Option (List Decision × Text)
 reported_after schema edits (Err refusal) = None
 reported_after schema edits (Ok tree) =
-    Some (decisions schema tree edits, report schema (faults_of schema (after schema tree edits)))
+    Some (decisions schema tree edits, spelled false (report schema (faults_of schema (after schema tree edits))))
 
 abbrev pub edited_by : Schema → Text → List Text → Option (List Decision × Text)
 edited_by schema document lines =

@@ -3,7 +3,7 @@ use Rattle.std.specs.Prelude.{ℕ, zero, suc, Bool, List, [], ◌∷◌, ◌++�
 use Rattle.std.specs.Fmt.{decimal}
 use Rattle.yspec.specs.Forest.{Forest}
 use Rattle.yspec.specs.text.Text.{Text}
-use Rattle.yspec.specs.program.Examples.{module_text}
+use Rattle.yspec.specs.edit.Examples.{module_text}
 use Rattle.yspec.specs.schema.Breaks.{Break, first_broken}
 use Rattle.yspec.specs.linking.Source.{Source, sources_of}
 use Rattle.yexamples.specs.LinkingSamples.{statements_in, told_of}

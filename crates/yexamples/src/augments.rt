@@ -3,8 +3,8 @@
 ghost use Rattle.std.specs.Prelude.{◌≡◌, ◌++◌, [], ◌∷◌, codes, Some, None, false};
 ghost use Rattle.yspec.specs.linking.Prefixes.{prefix_breaks};
 ghost use Rattle.yspec.specs.linking.Augments.{augment_breaks, left_breaks};
-ghost use Rattle.yspec.specs.program.Examples.{module_text};
-ghost use Rattle.yspec.specs.program.Output.{failed, found};
+ghost use Rattle.yspec.specs.edit.Examples.{module_text};
+ghost use Rattle.yexamples.specs.Printing.{failed, found};
 ghost use Rattle.yexamples.specs.RunExamples.{faulty, without_faults};
 ghost use Rattle.yspec.specs.schema.Schema.{leaf, choice, case, allowed};
 ghost use Rattle.yspec.specs.types.Types.{integer_base, uint8, plain};

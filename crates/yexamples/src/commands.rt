@@ -2,10 +2,10 @@
 
 ghost use Rattle.std.specs.Prelude.{◌≡◌, ◌++◌, [], ◌∷◌, codes};
 ghost use Rattle.yexamples.specs.CompilingSamples.{net_module, k_module, t_module, restricted_module};
-ghost use Rattle.yspec.specs.program.Output.{failed, found};
-ghost use Rattle.yspec.specs.program.Script.{lines_of};
+ghost use Rattle.yexamples.specs.Printing.{failed, found};
+ghost use Rattle.yprogram.specs.Script.{lines_of};
 ghost use Rattle.yexamples.specs.SchemaExamples.{hosts, one_host};
-ghost use Rattle.yspec.specs.program.Examples.{module_p, module_text};
+ghost use Rattle.yspec.specs.edit.Examples.{module_p, module_text};
 ghost use Rattle.yexamples.specs.RunExamples.{counted, drawn_as, dumped, faulty, scripted, shown, shown_of_two, without_faults};
 
 /// How many nodes modules define.

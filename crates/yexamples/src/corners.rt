@@ -14,9 +14,9 @@ ghost use Rattle.yspec.specs.linking.NodeCounts.{node_count};
 ghost use Rattle.yspec.specs.linking.Planned.{Plan};
 ghost use Rattle.yexamples.specs.CompilingSamples.{compiled_lines, compiled_texts, told_at, v_module};
 ghost use Rattle.yexamples.specs.CornerExamples.{nested, other_choice_schema, other_container_schema, other_target_schema, same_name_schema};
-ghost use Rattle.yspec.specs.program.Examples.{module_p, module_text};
+ghost use Rattle.yspec.specs.edit.Examples.{module_p, module_text};
 ghost use Rattle.yexamples.specs.RunExamples.{counted, faulty, scripted, shown, shown_of_two, without_faults};
-ghost use Rattle.yspec.specs.program.Output.{failed, found};
+ghost use Rattle.yexamples.specs.Printing.{failed, found};
 ghost use Rattle.yexamples.specs.SchemaExamples.{shown_under};
 
 /// The limits; they are told at the module given last, and the number of nodes before their names.

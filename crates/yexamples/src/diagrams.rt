@@ -5,7 +5,7 @@ ghost use Rattle.yexamples.specs.CompilingSamples.{net_module, k_module, v_modul
 ghost use Rattle.yexamples.specs.DiagramExamples.{diagram_of, diagram_lines, diagram_among, diagram_of_two, own_augment, empty_augment, choice_augments, many_augments, mixed_augments};
 ghost use Rattle.yexamples.specs.SchemaExamples.{m_schema};
 ghost use Rattle.yspec.specs.schema.Diagram.{diagram};
-ghost use Rattle.yspec.specs.program.Examples.{module_text};
+ghost use Rattle.yspec.specs.edit.Examples.{module_text};
 
 /// Every kind of node, with keys, options, references and types in columns of their rows.
 pub fn network()

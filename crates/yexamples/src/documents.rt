@@ -2,7 +2,7 @@
 
 ghost use Rattle.std.specs.Prelude.{◌≡◌, [], ◌∷◌, codes, Some, None};
 ghost use Rattle.yspec.specs.document.Document.{step_to, step_at};
-ghost use Rattle.yspec.specs.program.Output.{found, failed};
+ghost use Rattle.yexamples.specs.Printing.{found, failed};
 ghost use Rattle.yexamples.specs.SchemaExamples.{net_schema, k_schema, v_schema, y_schema, w_schema, t_schema, m_schema, shown_under, refused_within, hosts, one_host, two_hosts, entries};
 
 /// How many entries a list has: too few, too many, and as many as it may.

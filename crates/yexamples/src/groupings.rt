@@ -7,7 +7,7 @@ ghost use Rattle.yspec.specs.schema.Breaks.{first_broken, node_limit};
 ghost use Rattle.yspec.specs.linking.Planned.{Plan};
 ghost use Rattle.yspec.specs.linking.NodeCounts.{node_count};
 ghost use Rattle.yspec.specs.linking.Compiling.{phases_of_plan};
-ghost use Rattle.yspec.specs.program.Examples.{module_text};
+ghost use Rattle.yspec.specs.edit.Examples.{module_text};
 ghost use Rattle.yexamples.specs.SchemaExamples.{of_base, state_node, any_amount, number_value_of, referring, limited_to, unrestricted, within};
 ghost use Rattle.yspec.specs.schema.Schema.{container, leaf, leaf_list, list, choice, case, own_type, current, allowed, default_used, mandatory, key};
 ghost use Rattle.yspec.specs.types.Types.{integer_base, string_base, uint8, plain};

@@ -1,9 +1,9 @@
 //! Worked examples of linking: imports, what names mean where they stand, circles, and types by way of typedefs.
 
 ghost use Rattle.std.specs.Prelude.{◌≡◌, ◌++◌, [], ◌∷◌, codes, pos, true, false, Some, None};
-ghost use Rattle.yspec.specs.program.Examples.{module_text};
+ghost use Rattle.yspec.specs.edit.Examples.{module_text};
 ghost use Rattle.yexamples.specs.RunExamples.{counted};
-ghost use Rattle.yspec.specs.program.Output.{found};
+ghost use Rattle.yexamples.specs.Printing.{found};
 ghost use Rattle.yspec.specs.types.Types.{integer_base, uint8, single};
 ghost use Rattle.yspec.specs.linking.TypeStatements.{own, of_target};
 ghost use Rattle.yspec.specs.linking.Circles.{import_circles, definition_circles};

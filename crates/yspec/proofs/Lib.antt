@@ -6,7 +6,6 @@ pub mod DocumentProofs
 pub mod EditProofs
 pub mod LinkingProofs
 pub mod LiteralLemmas
-pub mod ProgramProofs
 pub mod SchemaProofs
 pub mod TextProofs
 pub mod TypeProofs

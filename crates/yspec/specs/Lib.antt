@@ -3,7 +3,6 @@ pub mod Forest
 pub mod document
 pub mod edit
 pub mod linking
-pub mod program
 pub mod schema
 pub mod text
 pub mod types

@@ -3,3 +3,4 @@ pub mod Edit
 pub mod EditText
 pub mod Editing
 pub mod Live
+pub mod Examples

@@ -10,7 +10,7 @@ ghost use Rattle.yspec.specs.document.Sorting.{IsSorted};
 ghost use Rattle.yspec.specs.document.Writing.{NamesDiffer, IsDocument};
 ghost use Rattle.yspec.specs.edit.Editing.{after};
 ghost use Rattle.yspec.specs.edit.EditText.{Edit, unsaid, at_position, with_keys, path_of, edit_of, create, replace, remove};
-ghost use Rattle.yspec.specs.program.Examples.{accepted, at_id, checked_as, checked_lines, edited, module_p, module_text, refused_as, value_refused_as};
+ghost use Rattle.yspec.specs.edit.Examples.{accepted, at_id, checked_as, checked_lines, edited, module_p, module_text, refused_as, value_refused_as};
 ghost use Rattle.yspec.specs.edit.Live.{of_document, of_modules};
 
 /// A document that fits its schema fits it after any edits.

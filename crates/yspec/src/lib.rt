@@ -7,7 +7,6 @@
 pub mod changes;
 pub mod checking;
 pub mod compiling;
-pub mod dumping;
 pub mod editing;
 pub mod expansion;
 pub mod reading;

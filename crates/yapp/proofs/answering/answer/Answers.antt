@@ -1,5 +1,5 @@
 use Rattle.std.proofs.Common.{◌∙◌, ap, subst}
-use Rattle.yspec.specs.program.Output.{performed}
+use Rattle.yprogram.specs.Output.{performed}
 use Rattle.ycommand.specs.Command.{view}
 use Rattle.yapp.specs.Failing.{LeadsTo, reported}
 use Rattle.yapp.proofs.ContentsLemmas.{came_of_reading, came_of_texts, names_in, texts_in}

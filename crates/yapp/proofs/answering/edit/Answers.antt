@@ -1,5 +1,5 @@
 use Rattle.std.proofs.Common.{sym, ◌∙◌}
-use Rattle.yspec.specs.program.Output.{left}
+use Rattle.yprogram.specs.Output.{left}
 use Rattle.yapp.proofs.answering.edit.Goals as goal
 
 pub returns-in_ok-report_on-in-Ok : goal.returns-in_ok-report_on-in-Ok

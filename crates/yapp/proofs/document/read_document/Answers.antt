@@ -1,6 +1,6 @@
 use Rattle.std.proofs.Common.{List, ℕ, ap, subst, sym, ◌∙◌}
 use Rattle.yspec.specs.document.Reading.{document_of}
-use Rattle.yspec.specs.program.Output.{first_file, other_files, with_tree}
+use Rattle.yprogram.specs.Output.{first_file, other_files, with_tree}
 use Rattle.ymodel.specs.View as schema_view
 use Rattle.yapp.specs.Edited.{schema_of, tree_of}
 use Rattle.yapp.specs.Failing.{FailsWith}

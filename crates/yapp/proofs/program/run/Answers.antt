@@ -1,19 +1,18 @@
 use Rattle.std.proofs.Common.{arith, inl, inr, refl, map, string_bytes, false, true}
-use Rattle.yspec.specs.program.Output.{found}
 use Rattle.yapp.specs.Files.{came_to}
 use Rattle.yapp.proofs.ContentsLemmas.{outcome_same}
-use Rattle.ycommand.specs.Command.{Declines, refusals}
+use Rattle.ycommand.specs.Command.{Declines, asks_reasons, refusals}
 use Rattle.ycommand.specs.declared.command.NoRequest.TheVariants as none
-use Rattle.ycommand.specs.Running.{refused, without_memory}
+use Rattle.ycommand.specs.Running.{memory_told, refused, shown, without_memory}
 use Rattle.ycommand.proofs.CommandLemmas.{asked_help, text_is}
-use Rattle.yapp.proofs.RunningLemmas.{on_output, on_errors}
+use Rattle.yapp.proofs.RunningLemmas.{memory_either, on_output, on_errors, reasons_same}
 use Rattle.yapp.proofs.program.run.Goals as goal
 
 pub returns-in-Ok-clause-taken : goal.returns-in-Ok-clause-taken
 returns-in-Ok-clause-taken g c = λ taken. (
   came_to c.answer.result,
   outcome_same _ _ _ _ _ c.in-Ok.ensures.1 c.answer.ensures,
-  c.tell.ensures,
+  reasons_same _ _ _ _ _ _ _ _ c.in-Ok.ensures.2 c.tell.ensures,
 )
 
 pub returns-in-Err-Help : goal.returns-in-Err-Help
@@ -23,9 +22,9 @@ returns-in-Err-Help g c =
     record {
       taken = λ taken. absurd (asked_help kinds because taken);
       words = λ not_taken. (
-        found 0 c.as_str.result.now,
+        shown c.as_str.result.now,
         inr (c.as_str.result.now, text_is kinds true c.as_str.result.now because),
-        on_output _ _ _ (found 0 c.as_str.result.now) _ refl c.show.ensures,
+        on_output _ _ _ (shown c.as_str.result.now) _ refl c.show.ensures,
       );
       untouched = λ not_taken. refl;
     }
@@ -47,7 +46,11 @@ returns-in-Err-Refused g c =
 
 pub returns-in-Err-Memory : goal.returns-in-Err-Memory
 returns-in-Err-Memory g c = record {
-  taken = λ taken. (without_memory, inr (record { failures = refl; reads = omega arith }, refl), on_errors _ _ _ without_memory _ refl c.tell_memory.ensures);
-  words = λ not_taken. (without_memory, inl refl, on_errors _ _ _ without_memory _ refl c.tell_memory.ensures);
+  taken = λ taken. (
+    without_memory,
+    inr (record { failures = refl; reads = omega arith }, refl),
+    memory_either (asks_reasons (map string_bytes c.args.words.now)) _ _ _ _ _ (on_errors _ _ _ memory_told _ refl c.tell_memory.ensures),
+  );
+  words = λ not_taken. (memory_told, inl refl, on_errors _ _ _ memory_told _ refl c.tell_memory.ensures);
   untouched = λ not_taken. refl;
 }

@@ -1,10 +1,10 @@
 use Rattle.std.proofs.Common.{codes}
 use Rattle.std.proofs.lemmas.Result.{IfOk-weaker}
 use Rattle.ycommand.specs.Application.{wanted_all}
-use Rattle.ycommand.proofs.CommandLemmas.{told_command, with_argument}
+use Rattle.ycommand.proofs.CommandLemmas.{with_argument}
 use Rattle.ycommand.proofs.command.compile_command.Goals as goal
 
 pub returns : goal.returns
 returns c =
-    let bare = told_command (codes "compile") c.new.result c.about.result c.after_help.result _ _ c.new.ensures.app c.new.ensures.local c.about.ensures c.after_help.ensures in
+    let bare = c.in_ok-command_over_files.ensures in
     IfOk-weaker c.arg.result _ _ (λ r added. with_argument _ (wanted_all (codes "MODULE")) _ r _ bare c.modules_argument.ensures added) c.arg.ensures

@@ -1,6 +1,6 @@
 use Rattle.std.proofs.Common.{codes, ap₂, refl}
 use Rattle.clap.specs.Words.{found_of}
-use Rattle.yspec.specs.program.Output.{draw}
+use Rattle.yprogram.specs.Output.{draw}
 use Rattle.ycommand.proofs.CommandLemmas.{given}
 use Rattle.ycommand.proofs.command.drawing_in.Goals as goal
 

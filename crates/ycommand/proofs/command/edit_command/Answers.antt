@@ -1,12 +1,12 @@
 use Rattle.std.proofs.Common.{codes}
 use Rattle.std.proofs.lemmas.Result.{IfOk-weaker}
 use Rattle.ycommand.specs.Application.{flag, wanted, wanted_all}
-use Rattle.ycommand.proofs.CommandLemmas.{told_command, with_argument}
+use Rattle.ycommand.proofs.CommandLemmas.{with_argument}
 use Rattle.ycommand.proofs.command.edit_command.Goals as goal
 
 pub returns : goal.returns
 returns c =
-    let bare = told_command (codes "edit") c.new.result c.about.result c.after_help.result _ _ c.new.ensures.app c.new.ensures.local c.about.ensures c.after_help.ensures in
+    let bare = c.in_ok-command_over_files.ensures in
     let dump = with_argument _ (flag (codes "dump")) _ _ _ bare c.dump_argument.ensures c.in_ok-arg.ensures in
     let document = with_argument _ (wanted (codes "DATA")) _ _ _ dump c.document_argument.ensures c.in_ok-arg-2.ensures in
     let script = with_argument _ (wanted (codes "SCRIPT")) _ _ _ document c.script_argument.ensures c.in_ok-arg-3.ensures in

@@ -1,5 +1,4 @@
-use Rattle.std.proofs.Common.{codes, ap, refl, ◌∙◌}
-use Rattle.std.specs.Str.{bytes_eq}
+use Rattle.std.proofs.Common.{codes, refl}
 use Rattle.clap.specs.Words.{found_of}
 use Rattle.ycommand.proofs.CommandLemmas.{edit_same, given}
 use Rattle.ycommand.proofs.command.edition_in.Goals as goal
@@ -7,7 +6,6 @@ use Rattle.ycommand.proofs.command.edition_in.Goals as goal
 pub returns : goal.returns
 returns c =
     let found = found_of c.args.found.now in
-    let dump = given found (codes "dump") _ _ c.unwrap_or.result c.get_str.ensures c.unwrap_or.ensures refl in
-    let document = given found (codes "DATA") _ _ c.unwrap_or-document.result c.get_str-2.ensures c.unwrap_or-document.ensures refl in
-    let script = given found (codes "SCRIPT") _ _ c.unwrap_or-script.result c.get_str-3.ensures c.unwrap_or-script.ensures refl in
-    edit_same _ _ _ _ _ _ _ _ (c.eq-is_dump.ensures ∙ ap (λ t. bytes_eq t (codes "true")) dump) document script c.in_ok-modules.ensures
+    let document = given found (codes "DATA") _ _ c.unwrap_or-document.result c.get_str.ensures c.unwrap_or-document.ensures refl in
+    let script = given found (codes "SCRIPT") _ _ c.unwrap_or-script.result c.get_str-2.ensures c.unwrap_or-script.ensures refl in
+    edit_same _ _ _ _ _ _ _ _ c.has_flag-is_dump.ensures document script c.in_ok-modules.ensures

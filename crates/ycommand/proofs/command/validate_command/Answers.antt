@@ -1,11 +1,11 @@
 use Rattle.std.proofs.Common.{codes}
 use Rattle.std.proofs.lemmas.Result.{IfOk-weaker}
 use Rattle.ycommand.specs.Application.{wanted, wanted_all}
-use Rattle.ycommand.proofs.CommandLemmas.{told_command, with_argument}
+use Rattle.ycommand.proofs.CommandLemmas.{with_argument}
 use Rattle.ycommand.proofs.command.validate_command.Goals as goal
 
 pub returns : goal.returns
 returns c =
-    let bare = told_command (codes "validate") c.new.result c.about.result c.after_help.result _ _ c.new.ensures.app c.new.ensures.local c.about.ensures c.after_help.ensures in
+    let bare = c.in_ok-command_over_files.ensures in
     let document = with_argument _ (wanted (codes "DATA")) _ _ _ bare c.document_argument.ensures c.in_ok-arg.ensures in
     IfOk-weaker c.arg-2.result _ _ (λ r added. with_argument _ (wanted_all (codes "MODULE")) _ r _ document c.modules_argument.ensures added) c.arg-2.ensures

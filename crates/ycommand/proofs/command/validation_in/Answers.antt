@@ -1,6 +1,6 @@
 use Rattle.std.proofs.Common.{codes, ap₂, refl}
 use Rattle.clap.specs.Words.{found_of}
-use Rattle.yspec.specs.program.Output.{validate}
+use Rattle.yprogram.specs.Output.{validate}
 use Rattle.ycommand.proofs.CommandLemmas.{given}
 use Rattle.ycommand.proofs.command.validation_in.Goals as goal
 

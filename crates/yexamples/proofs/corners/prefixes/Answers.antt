@@ -1,9 +1,9 @@
 use Rattle.std.proofs.Common.{refl}
-use Rattle.yspec.proofs.LiteralLemmas.{yspec_on_literals}
+use Rattle.yprogram.proofs.ProgramLiterals.{yprogram_on_literals}
 use Rattle.yexamples.proofs.corners.prefixes.Goals as goal
 
 pub returns : goal.returns
-unfolding yspec_on_literals
+unfolding yprogram_on_literals
 returns c = record {
   of_a_type = refl;
   of_a_key = refl;

@@ -1,7 +1,7 @@
 use Rattle.std.proofs.Common.{refl}
-use Rattle.yspec.proofs.LiteralLemmas.{yspec_on_literals}
+use Rattle.yprogram.proofs.ProgramLiterals.{yprogram_on_literals}
 use Rattle.yexamples.proofs.groupings.groupings_of_another_module.Goals as goal
 
 pub returns : goal.returns
-unfolding yspec_on_literals
+unfolding yprogram_on_literals
 returns c = record { nodes = refl; diagram = refl; no_diagram = refl; through_a_third = refl; reference = refl; prefixed_reference = refl; told_where_it_stands = refl }

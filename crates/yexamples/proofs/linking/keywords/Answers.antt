@@ -1,11 +1,11 @@
 use Rattle.std.proofs.Common.{refl}
 use Rattle.std.specs.Prelude.{◌≡◌, Some}
-use Rattle.yspec.proofs.LiteralLemmas.{yspec_on_literals}
+use Rattle.yprogram.proofs.ProgramLiterals.{yprogram_on_literals}
 use Rattle.yspec.specs.linking.Keyword.{Keyword, keyword_named, keyword_text, module_word, yang_version_word, namespace_word, prefix_word, import_word, revision_date_word, organization_word, contact_word, description_word, reference_word, revision_word, extension_word, typedef_word, grouping_word, augment_word, container_word, leaf_word, leaf_list_word, list_word, choice_word, case_word, uses_word, refine_word, type_word, fraction_digits_word, range_word, length_word, enum_word, bit_word, path_word, require_instance_word, error_message_word, error_app_tag_word, value_word, position_word, units_word, default_word, config_word, mandatory_word, presence_word, min_elements_word, max_elements_word, ordered_by_word, status_word, key_word, unique_word}
 use Rattle.yexamples.proofs.linking.keywords.Goals as goal
 
 named : (k : Keyword) → keyword_named (keyword_text k) ≡ Some k
-unfolding yspec_on_literals
+unfolding yprogram_on_literals
 named module_word = refl
 named yang_version_word = refl
 named namespace_word = refl
@@ -54,5 +54,5 @@ named key_word = refl
 named unique_word = refl
 
 pub returns : goal.returns
-unfolding yspec_on_literals
+unfolding yprogram_on_literals
 returns c = record { named = named; prefixed = refl; other_case = refl }

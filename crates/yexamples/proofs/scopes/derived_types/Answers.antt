@@ -1,7 +1,7 @@
 use Rattle.std.proofs.Common.{refl}
-use Rattle.yspec.proofs.LiteralLemmas.{yspec_on_literals}
+use Rattle.yprogram.proofs.ProgramLiterals.{yprogram_on_literals}
 use Rattle.yexamples.proofs.scopes.derived_types.Goals as goal
 
 pub returns : goal.returns
-unfolding yspec_on_literals
+unfolding yprogram_on_literals
 returns c = record { chain = refl; wider = refl; by_the_typedef = refl; not_judged_behind = refl; in_a_list_of_a_grouping = refl; length_of_a_number = refl; enum_of_a_derived_type = refl; leafref_member = refl; instance_required = refl; instance_required_again = refl; path_of_another = refl }

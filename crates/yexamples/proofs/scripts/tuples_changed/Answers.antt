@@ -1,7 +1,7 @@
 use Rattle.std.proofs.Common.{refl}
-use Rattle.yspec.proofs.LiteralLemmas.{yspec_on_literals}
+use Rattle.yprogram.proofs.ProgramLiterals.{yprogram_on_literals}
 use Rattle.yexamples.proofs.scripts.tuples_changed.Goals as goal
 
 pub returns : goal.returns
-unfolding yspec_on_literals
+unfolding yprogram_on_literals
 returns c = record { below_a_container = refl; entry_gone = refl; key_again = refl }

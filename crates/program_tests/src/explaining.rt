@@ -1,0 +1,162 @@
+//! What is said of codes: by a command of its own, and below the lines that tell them. Where a row has lines of its own, the
+//! rows are parted by lines `==`.
+
+use crate::running::{NamedFile, file, shown_of};
+use std::alloc::Global;
+
+const MODULE: &str = "module p {
+  yang-version 1.1;
+  namespace \"urn:p\";
+  prefix p;
+  container c {
+    leaf id { type uint8; mandatory true; }
+    leaf note { type string; }
+  }
+}
+";
+
+/// Whether a run over the files of the tests prints so: its row is the words, the status, how many of the lines behind them
+/// go to the error side, and these lines, those of the error side first.
+fn prints(alloc: Global, files: &[NamedFile<'_>], row: &str) -> Option<bool> {
+    let (line, rest) = row.split_once('\n')?;
+    let (counts, lines) = rest.split_once('\n')?;
+    let (status, count) = counts.split_once(' ')?;
+    let status = status.parse::<u8>().ok()?;
+    let count = count.parse::<usize>().ok()?;
+    let mut errors = String::new(alloc);
+    let mut output = String::new(alloc);
+    let mut number = 0;
+    for text in lines.lines() {
+        let side = if number < count {
+            &mut errors
+        } else {
+            &mut output
+        };
+        side.push_str(text).ok()?;
+        side.push_str("\n").ok()?;
+        number += 1;
+    }
+    let shown = shown_of(alloc, line, files).ok()?;
+    let is_output = shown.output.bytes() == output.as_str().as_bytes();
+    let is_error = shown.errors.bytes() == errors.as_str().as_bytes();
+    Some(is_output && is_error && shown.status == status)
+}
+
+const SCRIPT: &str = "# the others are refused
+create /p:c {\"id\":7}
+replace /p:c/id 300
+replace /p:c/speed 1
+replace /p:c/note 5 6
+replace /p:c {\"speed\":1}
+";
+
+const ROWS: &str = "yanglive explain V3
+0 0
+V3: A leaf that must be there is missing.
+  Told: the leaf.
+  To do: Add it, or take the node out around which it must be there.
+  Source: RFC 7950, 7.6.5.
+==
+yanglive explain L8 E13 L8
+0 0
+L8: A keyword isn't formed as one: letters, digits, _, - and ., perhaps behind a prefix and a colon.
+  Told: the line of the keyword.
+  To do: Correct the keyword; an argument with such signs stands behind its keyword.
+  Source: RFC 7950, 6.1.2 and 6.2.
+E13: The document is stale, since memory ran out in an edit before.
+  Told: the line of the script.
+  To do: Begin again with the document.
+  Source: README, edits.
+L8: A keyword isn't formed as one: letters, digits, _, - and ., perhaps behind a prefix and a colon.
+  Told: the line of the keyword.
+  To do: Correct the keyword; an argument with such signs stands behind its keyword.
+  Source: RFC 7950, 6.1.2 and 6.2.
+==
+yanglive explain C1 c1 V12
+2 1
+c1: no such code
+==
+yanglive --version
+0 0
+yanglive 0.1.0
+==
+yanglive compile --explain p.yang
+0 0
+3 nodes
+==
+yanglive compile --explain open.yang
+2 2
+open.yang:1: L3
+  A quoted string or a comment isn't closed. Close it: a string with the quote that opens it, a comment with */.
+==
+yanglive compile --explain p.yang bare.yang
+2 2
+bare.yang:1: C4
+  The module has no yang-version, or another than 1.1. Write yang-version 1.1; at its beginning.
+==
+yanglive tree --explain q p.yang
+2 1
+q: no such module
+==
+yanglive validate --explain bare.json p.yang
+2 2
+bare.json: J3 /p:c
+  No node of that name may stand there. Correct the name, or give the module that defines it.
+==
+yanglive validate --explain two.json p.yang
+1 0
+V1 invalid-value - /p:c/id -
+  A value isn't one that its type takes. Look at the type's range, length and names; 64-bit integers and decimal64 are strings.
+V1 invalid-value - /p:c/note -
+  A value isn't one that its type takes. Look at the type's range, length and names; 64-bit integers and decimal64 are strings.
+2 faults
+==
+yanglive validate two.json p.yang
+1 0
+V1 invalid-value - /p:c/id -
+V1 invalid-value - /p:c/note -
+2 faults
+==
+yanglive validate - p.yang
+0 0
+0 faults
+==
+yanglive edit --explain empty.json script p.yang
+1 6
+line 4: E2
+  A step of the path names no node there, or in the wrong form. Write /module:name at the top and where the module changes, and /name elsewhere.
+line 5: E7
+  What is to be replaced or removed isn't stored. Create it, or leave the line out.
+line 6: E10 J3
+  No node of that name may stand there. Correct the name, or give the module that defines it.
+V1 invalid-value - /p:c/id -
+  A value isn't one that its type takes. Look at the type's range, length and names; 64-bit integers and decimal64 are strings.
+1 faults
+==
+yanglive edit --dump --explain empty.json script p.yang
+1 6
+line 4: E2
+  A step of the path names no node there, or in the wrong form. Write /module:name at the top and where the module changes, and /name elsewhere.
+line 5: E7
+  What is to be replaced or removed isn't stored. Create it, or leave the line out.
+line 6: E10 J3
+  No node of that name may stand there. Correct the name, or give the module that defines it.
+{\"p:c\":{\"id\":300}}
+";
+
+#[test]
+fn explained_runs(rt: HostRuntime) {
+    let files = [
+        file("p.yang", MODULE),
+        file("open.yang", "module \"p"),
+        file("bare.yang", "module q { namespace \"urn:q\"; prefix q; }"),
+        file("bare.json", "{\"p:c\":{\"speed\":1}}"),
+        file("two.json", "{\"p:c\":{\"id\":256,\"note\":5}}"),
+        file("empty.json", "{}"),
+        file("-", "{\"p:c\":{\"id\":1}}"),
+        file("script", SCRIPT),
+    ];
+    for row in ROWS.split("==\n") {
+        assert!(rt; prints(rt.alloc(), &files, row) == Some(true), "{row}");
+    }
+}

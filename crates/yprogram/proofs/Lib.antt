@@ -1,0 +1,4 @@
+pub mod ProgramLiterals
+pub mod ScriptLemmas
+pub mod RunLemmas
+pub mod DumpLemmas

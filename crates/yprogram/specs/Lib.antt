@@ -1,0 +1,4 @@
+-- What a run of the program prints.
+pub mod Part
+pub mod Script
+pub mod Output

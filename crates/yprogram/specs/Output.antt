@@ -1,0 +1,211 @@
+-- What a run of the program prints, as a function of the files that it asks for and of what they contain.
+use Rattle.std.specs.Prelude.{ℕ, ◌++◌, ◌&&◌, Bool, false, List, [], ◌∷◌, length, map, codes, decimal, Option, Some, None, Result, Ok, Err, if◌then◌else◌, ◌==◌, position, slice_get, unwrap_or}
+use Rattle.std.specs.List.{flat_map}
+use Rattle.ycodes.specs.Codes.{all_explanations, explained, explanations_of, reason_of, unknown_among}
+use Rattle.yspec.specs.Forest.{Forest, end, join, size}
+use Rattle.yspec.specs.text.Text.{Text, is_text}
+use Rattle.yspec.specs.text.Statement.{Statement, Slip, module_of}
+use Rattle.yspec.specs.schema.Breaks.{Break}
+use Rattle.yspec.specs.schema.Schema.{Schema}
+use Rattle.yspec.specs.schema.Diagram.{diagram}
+use Rattle.yspec.specs.linking.Compiling.{compiled}
+use Rattle.yspec.specs.document.Document.{Tree}
+use Rattle.yspec.specs.document.Reading.{Refusal, document_of}
+use Rattle.yspec.specs.document.Fault.{Fault}
+use Rattle.yspec.specs.document.FaultCode.{fault_number}
+use Rattle.yspec.specs.document.Faults.{faults_of, line_of}
+use Rattle.yspec.specs.document.Path.{path_text}
+use Rattle.yspec.specs.document.Writing.{written_text}
+use Rattle.yprogram.specs.Part.{Part, line_about, plain, spelled}
+use Rattle.yprogram.specs.Script.{after_lines, lines_of, refused_lines}
+
+-- what the words of a command line ask for
+pub data Request : Type 0 where
+  -- what is said of codes; of all where none is named
+  explain : List Text → Request
+  -- how many schema nodes modules define
+  compile : List Text → Request
+  -- the tree diagram of the module of a name
+  draw : Text → List Text → Request
+  -- the faults of a document under modules
+  validate : Text → List Text → Request
+  -- the same after the edits of a script; or, where it is to be dumped, the document then
+  edit : Bool → Text → Text → List Text → Request
+
+-- what goes to both sides, and the exit status
+pub record Outcome : Type 0 where
+  pub output : List Part
+  pub errors : List Part
+  pub status : ℕ
+
+-- both sides' bytes, and the exit status
+pub record Printed : Type 0 where
+  pub output : List ℕ
+  pub errors : List ℕ
+  pub status : ℕ
+
+-- what an outcome prints, with or without the reasons of its parts
+abbrev pub printed : Bool → Outcome → Printed
+printed with_reasons o =
+    record { output = spelled with_reasons o.output; errors = spelled with_reasons o.errors; status = o.status }
+
+abbrev pub found : ℕ → List ℕ → Outcome
+found status output = record { output = plain output ∷ []; errors = []; status = status }
+
+abbrev pub failed_with : ℕ → Part → Outcome
+failed_with status part = record { output = []; errors = part ∷ []; status = status }
+
+abbrev pub failed : ℕ → List ℕ → Outcome
+failed status line = failed_with status (plain (line ++ codes "\n"))
+
+-- ---- the files
+
+-- the words for files in the order in which they are read: modules, the document, the script
+abbrev pub files_of : Request → List Text
+files_of (explain names) = []
+files_of (compile modules) = modules
+files_of (draw name modules) = modules
+files_of (validate document modules) = modules ++ document ∷ []
+files_of (edit is_dump document script modules) = modules ++ document ∷ script ∷ []
+
+abbrev pub unread : Text → Outcome
+unread name = failed 4 (codes "cannot read " ++ name)
+
+abbrev pub with_contents : Text → Option (List ℕ) → (List ℕ → Outcome) → Outcome
+with_contents name None next = unread name
+with_contents name (Some bytes) next = next bytes
+
+-- `next` goes on with the contents of all files, where each could be read; with fewer answers than files, nothing is said
+abbrev pub with_files : List Text → List (Option (List ℕ)) → (List (List ℕ) → Outcome) → Outcome
+with_files [] answers next = next []
+with_files (name ∷ names) [] next = unread name
+with_files (name ∷ names) (answer ∷ answers) next =
+    with_contents name answer (λ bytes. with_files names answers (λ rest. next (bytes ∷ rest)))
+
+-- ---- modules
+
+-- `FILE:LINE: CODE`, by the letter of the code and its number
+abbrev pub refusal_part : Text → ℕ → Text → ℕ → Part
+refusal_part name line letter number = let code = letter ++ decimal number in
+    line_about code (name ++ (codes ":" ++ (decimal line ++ (codes ": " ++ code))))
+
+abbrev pub slipped : Text → Slip → Outcome
+slipped name s = failed_with 2 (refusal_part name s.line (codes "L") s.code)
+
+abbrev pub broken : List Text → Break → Outcome
+broken names b = failed_with 2 (refusal_part (unwrap_or (slice_get names b.module_number) []) b.line (codes "C") b.code)
+
+abbrev pub with_module : Text → Result (Forest Statement) Slip → (Forest Statement → Outcome) → Outcome
+with_module name (Err s) next = slipped name s
+with_module name (Ok top) next = next top
+
+-- `next` goes on with the row of all modules' statements, and with the files that are left
+abbrev pub with_modules : List Text → List (List ℕ) → (Forest Statement → List (List ℕ) → Outcome) → Outcome
+with_modules [] files next = next end files
+with_modules (name ∷ names) [] next = next end []
+with_modules (name ∷ names) (bytes ∷ files) next =
+    with_module name (module_of bytes) (λ top. with_modules names files (λ rest. next (join top rest)))
+
+abbrev pub with_compiled : List Text → Result Schema Break → (Schema → Outcome) → Outcome
+with_compiled names (Err b) next = broken names b
+with_compiled names (Ok schema) next = next schema
+
+-- `next` goes on with the schema of modules whose files have these contents, and with the files that are left
+abbrev pub with_schema : List Text → List (List ℕ) → (Schema → List (List ℕ) → Outcome) → Outcome
+with_schema names contents next = with_modules names contents (λ modules files.
+    with_compiled names (compiled modules) (λ schema. next schema files))
+
+-- ---- the document
+
+-- `FILE: CODE PLACE`
+abbrev pub document_part : Schema → Text → Refusal → Part
+document_part schema name r = let code = codes "J" ++ decimal r.code in
+    line_about code (name ++ (codes ": " ++ (code ++ (codes " " ++ path_text schema r.place))))
+
+abbrev pub with_tree : Schema → Text → Result Tree Refusal → (Tree → Outcome) → Outcome
+with_tree schema name (Err r) next = failed_with 2 (document_part schema name r)
+with_tree schema name (Ok tree) next = next tree
+
+abbrev pub first_file : List (List ℕ) → List ℕ
+first_file [] = []
+first_file (bytes ∷ files) = bytes
+
+abbrev pub other_files : List (List ℕ) → List (List ℕ)
+other_files [] = []
+other_files (bytes ∷ files) = files
+
+-- `next` goes on with the document, too
+abbrev pub with_document : Text → List Text → List (List ℕ) → (Schema → Tree → List (List ℕ) → Outcome) → Outcome
+with_document document names contents next = with_schema names contents (λ schema files.
+    with_tree schema document (document_of schema (first_file files)) (λ tree. next schema tree (other_files files)))
+
+-- ---- reports
+
+abbrev pub counted : Schema → Outcome
+counted schema = found 0 (decimal (size schema.nodes) ++ codes " nodes\n")
+
+-- the diagram of the module of a name, by its number in the set if there is one
+abbrev pub drawn : Schema → Text → Option ℕ → Outcome
+drawn schema name None = failed 2 (name ++ codes ": no such module")
+drawn schema name (Some shown) = found 0 (diagram schema shown)
+
+-- a fault's line, by the code in it
+abbrev pub fault_part : Schema → Fault → Part
+fault_part schema f = record { text = line_of schema f; reason = reason_of (codes "V" ++ decimal (fault_number f.code)) }
+
+-- a line for each fault, and then how many there are
+abbrev pub report : Schema → List Fault → List Part
+report schema faults = map (fault_part schema) faults ++ plain (decimal (length faults) ++ codes " faults\n") ∷ []
+
+-- the text of a document, in a line
+abbrev pub dump : Schema → Tree → List ℕ
+dump schema tree = written_text schema tree ++ codes "\n"
+
+-- a document after edits, of which the refused ones are told in these lines
+abbrev pub left : Bool → Schema → Tree → List Part → Outcome
+left is_dump schema tree refused = let faults = faults_of schema tree in record {
+  output = if is_dump then plain (dump schema tree) ∷ [] else report schema faults;
+  errors = refused;
+  status = if length faults == 0 && length refused == 0 then 0 else 1;
+}
+
+-- a document after the lines of a script
+abbrev pub edited : Bool → Schema → Tree → List Text → Outcome
+edited is_dump schema tree lines = left is_dump schema (after_lines schema tree lines) (refused_lines schema 1 tree lines)
+
+-- ---- what is printed where all files could be read, and have these contents
+
+abbrev pub compilation : List Text → List (List ℕ) → Outcome
+compilation names contents = with_schema names contents (λ schema files. counted schema)
+
+abbrev pub drawing : Text → List Text → List (List ℕ) → Outcome
+drawing name names contents = with_schema names contents (λ schema files.
+    drawn schema name (position (λ m. is_text m.name name) schema.modules))
+
+-- as an edit by a script without lines
+abbrev pub validation : Text → List Text → List (List ℕ) → Outcome
+validation document names contents = with_document document names contents (λ schema tree files. edited false schema tree [])
+
+abbrev pub edition : Bool → Text → List Text → List (List ℕ) → Outcome
+edition is_dump document names contents = with_document document names contents (λ schema tree files.
+    edited is_dump schema tree (lines_of (first_file files)))
+
+-- what is said of codes, or the first word that is none
+abbrev pub explanation_found : List Text → Option Text → Outcome
+explanation_found names (Some unknown) = failed 2 (unknown ++ codes ": no such code")
+explanation_found [] None = found 0 (flat_map explained all_explanations)
+explanation_found (name ∷ names) None = found 0 (flat_map explained (explanations_of (name ∷ names)))
+
+abbrev pub explanation : List Text → Outcome
+explanation names = explanation_found names (unknown_among names)
+
+abbrev pub performed : Request → List (List ℕ) → Outcome
+performed (explain names) contents = explanation names
+performed (compile names) contents = compilation names contents
+performed (draw name names) contents = drawing name names contents
+performed (validate document names) contents = validation document names contents
+performed (edit is_dump document script names) contents = edition is_dump document names contents
+
+-- the outcome of a request, where the files answered so, in order and up to the first failure
+unfoldable pub outcome : Request → List (Option (List ℕ)) → Outcome
+outcome request answers = with_files (files_of request) answers (performed request)

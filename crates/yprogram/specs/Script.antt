@@ -1,0 +1,73 @@
+-- Scripts of edits, one a line, and what they do to a document.
+use Rattle.std.specs.Prelude.{ℕ, ◌+◌, ◌==◌, ◌++◌, List, [], ◌∷◌, codes, decimal, Option, Some, None, Result, Ok, Err, if◌then◌else◌}
+use Rattle.std.specs.List.{slice_split}
+use Rattle.std.specs.Option.{option_map_or}
+use Rattle.std.specs.Str.{is_utf8}
+use Rattle.yspec.specs.Results.{◌>>=◌}
+use Rattle.yspec.specs.text.Text.{Text, line_feed, carriage_return}
+use Rattle.yspec.specs.schema.Schema.{Schema}
+use Rattle.yspec.specs.document.Document.{Tree}
+use Rattle.yspec.specs.edit.EditText.{Edit, is_passed_over}
+use Rattle.yspec.specs.edit.Editing.{EditRefusal, applied, edit_asked, refused, tree_or}
+use Rattle.yprogram.specs.Part.{Part, line_about}
+
+-- ---- lines
+
+-- one carriage return at the end goes away
+abbrev pub without_return : Text → Text
+without_return [] = []
+without_return (x ∷ []) = if x == carriage_return then [] else x ∷ []
+without_return (x ∷ y ∷ line) = x ∷ without_return (y ∷ line)
+
+-- a carriage return goes with the line feed behind it; behind the last line no line feed stands
+abbrev pub without_returns : List Text → List Text
+without_returns [] = []
+without_returns (last ∷ []) = last ∷ []
+without_returns (line ∷ next ∷ lines) = without_return line ∷ without_returns (next ∷ lines)
+
+-- what stands between line feeds; what follows the last one is a line too
+abbrev pub lines_of : List ℕ → List Text
+lines_of bytes = without_returns (slice_split (λ x. x == line_feed) bytes)
+
+-- ---- what comes of them
+
+-- what a line asks for, if it asks for anything; bytes that are no text are no edit's (E1)
+abbrev pub asked_in : Text → Result (Option Edit) EditRefusal
+asked_in line = if is_passed_over line then Ok None else (if is_utf8 line then edit_asked line else refused 1)
+
+-- the document after a line, or why that is refused
+abbrev pub line_applied : Schema → Tree → Text → Result Tree EditRefusal
+line_applied schema tree line = asked_in line >>= (λ asked. option_map_or (applied schema tree) asked (Ok tree))
+
+-- the document after the lines of a script; a refused one changes nothing
+abbrev pub after_lines : Schema → Tree → List Text → Tree
+after_lines schema tree [] = tree
+after_lines schema tree (line ∷ lines) = after_lines schema (tree_or (line_applied schema tree line) tree) lines
+
+-- ---- what is printed of refused ones
+
+abbrev pub document_code_text : Option ℕ → List ℕ
+document_code_text None = []
+document_code_text (Some code) = codes " J" ++ decimal code
+
+abbrev pub code_text : EditRefusal → List ℕ
+code_text e = codes "E" ++ (decimal e.code ++ document_code_text e.document_code)
+
+-- the code that says most: the document's where the value doesn't fit
+abbrev pub telling_code : EditRefusal → Text
+telling_code e = option_map_or (λ code. codes "J" ++ decimal code) e.document_code (codes "E" ++ decimal e.code)
+
+-- `line K: CODE`, of a refused line
+abbrev pub refused_line : ℕ → EditRefusal → Part
+refused_line number e = line_about (telling_code e) (codes "line " ++ (decimal number ++ (codes ": " ++ code_text e)))
+
+-- where a line is refused
+abbrev pub line_parts : ℕ → Result Tree EditRefusal → List Part
+line_parts number (Ok tree) = []
+line_parts number (Err e) = refused_line number e ∷ []
+
+-- those of all refused lines, of which the first has a number
+abbrev pub refused_lines : Schema → ℕ → Tree → List Text → List Part
+refused_lines schema number tree [] = []
+refused_lines schema number tree (line ∷ lines) = let answer = line_applied schema tree line in
+    line_parts number answer ++ refused_lines schema (number + 1) (tree_or answer tree) lines

@@ -1,0 +1,23 @@
+//! The law that joins the commands: what is found of an edited document is found of what is dumped of it.
+
+ghost use Rattle.std.specs.Prelude.{◌≡◌, ◌≤◌, ◌++◌, ◌∷◌, [], ℕ, List, Option, Some, false, true, length, take};
+ghost use Rattle.yspec.specs.text.Text.{Text};
+ghost use Rattle.yprogram.specs.Output.{edit, outcome, printed, validate};
+
+/// Where `edit` reports on a document (status 0 or 1), `validate` reports the same, under the same modules, on a file with
+/// the bytes that `edit --dump` writes, and refuses nothing of it.
+pub fn dumped_documents_are_validated()
+    ensures alike { (document script dumped : Text) (modules : List Text)
+        (answers : List (Option (List ℕ)))
+        → let shown = outcome (edit false document script modules) answers in
+        let bytes = (printed false (outcome (edit true document script modules) answers)).output in
+        let again = outcome (validate dumped modules) (take (length modules) answers ++ Some bytes
+        ∷ []) in
+        shown.status ≤ 1 → again.output ≡ shown.output }
+    ensures unrefused { (document script dumped : Text) (modules : List Text)
+        (answers : List (Option (List ℕ)))
+        → let bytes = (printed false (outcome (edit true document script modules) answers)).output in
+        let again = outcome (validate dumped modules) (take (length modules) answers ++ Some bytes
+        ∷ []) in
+        (outcome (edit false document script modules) answers).status ≤ 1 → again.errors ≡ [] }
+{}

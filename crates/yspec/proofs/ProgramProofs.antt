@@ -1,3 +1,0 @@
-pub mod ScriptLemmas
-pub mod RunLemmas
-pub mod DumpLemmas

@@ -1,8 +1,0 @@
-use Rattle.yspec.proofs.ProgramProofs.DumpLemmas.{dump_validated}
-use Rattle.yspec.proofs.dumping.dumped_documents_are_validated.Goals as goal
-
-pub returns : goal.returns
-returns c = record {
-  alike = λ document script dumped modules answers shown. (dump_validated document script modules answers dumped shown).0;
-  unrefused = λ document script dumped modules answers shown. (dump_validated document script modules answers dumped shown).1;
-}
