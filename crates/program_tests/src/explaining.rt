@@ -15,6 +15,12 @@ const MODULE: &str = "module p {
 }
 ";
 
+/// Adds a line.
+fn push_line(lines: &mut String, line: &str) -> Option<()> {
+    lines.push_str(line).ok()?;
+    lines.push_str("\n").ok()
+}
+
 /// Whether a run over the files of the tests prints so: its row is the words, the status, how many of the lines behind them
 /// go to the error side, and these lines, those of the error side first.
 fn prints(alloc: Global, files: &[NamedFile<'_>], row: &str) -> Option<bool> {
@@ -25,16 +31,14 @@ fn prints(alloc: Global, files: &[NamedFile<'_>], row: &str) -> Option<bool> {
     let count = count.parse::<usize>().ok()?;
     let mut errors = String::new(alloc);
     let mut output = String::new(alloc);
-    let mut number = 0;
+    let mut number = 0usize;
     for text in lines.lines() {
-        let side = if number < count {
-            &mut errors
+        if number < count {
+            push_line(&mut errors, text)?;
         } else {
-            &mut output
-        };
-        side.push_str(text).ok()?;
-        side.push_str("\n").ok()?;
-        number += 1;
+            push_line(&mut output, text)?;
+        }
+        number = number.saturating_add(1);
     }
     let shown = shown_of(alloc, line, files).ok()?;
     let is_output = shown.output.bytes() == output.as_str().as_bytes();

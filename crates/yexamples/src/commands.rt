@@ -1,8 +1,9 @@
 //! Worked examples of commands: what is printed of the nodes of modules, and of documents after scripts of edits.
 
-ghost use Rattle.std.specs.Prelude.{◌≡◌, ◌++◌, [], ◌∷◌, codes};
+ghost use Rattle.std.specs.Prelude.{◌≡◌, ◌++◌, [], ◌∷◌, Some, codes, false, true};
 ghost use Rattle.yexamples.specs.CompilingSamples.{net_module, k_module, t_module, restricted_module};
 ghost use Rattle.yexamples.specs.Printing.{failed, found};
+ghost use Rattle.yprogram.specs.Output.{compile, edit, explain, outcome, printed, validate};
 ghost use Rattle.yprogram.specs.Script.{lines_of};
 ghost use Rattle.yexamples.specs.SchemaExamples.{hosts, one_host};
 ghost use Rattle.yspec.specs.edit.Examples.{module_p, module_text};
@@ -145,4 +146,25 @@ pub fn derived_values()
         (module_text (codes "s") (codes "  typedef t { type uint8 { range 0..9; } default 4; }\n"))
         (codes "{\"u:v\":10,\"u:w\":\"a\"}")
         ≡ found 1 (codes "V1 invalid-value - /u:v -\n1 faults\n") }
+{}
+
+/// What is said of codes: by the command, and where it is asked for below the lines that tell them.
+pub fn reasons()
+    ensures of_a_fault { printed true (outcome (validate (codes "d.json") (codes "m.yang" ∷ []))
+        (Some module_p ∷ Some (codes "{\"p:c\":{}}") ∷ []))
+        ≡ found 1 (codes "V3 data-missing - /p:c/id -\n  A leaf that must be there is missing. Add it, or take the node out around which it must be there.\n1 faults\n") }
+    ensures unasked { printed false (outcome (validate (codes "d.json") (codes "m.yang" ∷ []))
+        (Some module_p ∷ Some (codes "{\"p:c\":{}}") ∷ []))
+        ≡ found 1 (codes "V3 data-missing - /p:c/id -\n1 faults\n") }
+    ensures of_a_value { printed true (outcome (edit true (codes "d.json") (codes "s.txt") (codes "m.yang" ∷ []))
+        (Some module_p ∷ Some (codes "{\"p:c\":{\"id\":1}}") ∷ Some (codes "replace /p:c []") ∷ []))
+        ≡ faulty (codes "line 1: E10 J5\n  A value is of another kind than its node: no object for a container or an entry, no array for a list or leaf-list. Write a container as an object, a list as an array of objects, a leaf-list as an array of values, an empty leaf as [null].\n")
+        (codes "{\"p:c\":{\"id\":1}}\n") }
+    ensures of_a_text { printed true (outcome (compile (codes "m.yang" ∷ []))
+        (Some (codes "module a;}") ∷ []))
+        ≡ failed 2 (codes "m.yang:1: L6\n  The text isn't one whole module: it ends within a statement, has a } too many, no statement, or a second one at the top. Balance the braces; one file holds one module.") }
+    ensures of_a_code { printed false (outcome (explain (codes "V10" ∷ [])) [])
+        ≡ found 0 (codes "V10: Another item of a configuration leaf-list has the same value.\n  Told: the item.\n  To do: Take one of them out.\n  Source: RFC 7950, 7.7.\n") }
+    ensures of_no_code { printed true (outcome (explain (codes "V10" ∷ codes "v1" ∷ [])) [])
+        ≡ failed 2 (codes "v1: no such code") }
 {}

@@ -1,0 +1,15 @@
+use Rattle.std.proofs.Common.{refl}
+use Rattle.ycodes.specs.Codes.{explanation_of}
+use Rattle.yprogram.proofs.ProgramLiterals.{yprogram_on_literals}
+use Rattle.yexamples.proofs.commands.reasons.Goals as goal
+
+pub returns : goal.returns
+unfolding yprogram_on_literals explanation_of
+returns c = record {
+  of_a_fault = refl;
+  unasked = refl;
+  of_a_value = refl;
+  of_a_text = refl;
+  of_a_code = refl;
+  of_no_code = refl;
+}
