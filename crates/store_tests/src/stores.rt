@@ -6,14 +6,14 @@ use ymodel::SchemaId;
 use ystore::{Counted, Judged, Key, Label, NodeId, Nodes, Row, Told, same_keys};
 use ytype::{Raw, Val, YType};
 
-const CONTAINER: SchemaId = SchemaId(1);
+pub(crate) const CONTAINER: SchemaId = SchemaId(1);
 
-const FIRST: SchemaId = SchemaId(2);
+pub(crate) const FIRST: SchemaId = SchemaId(2);
 
-const SECOND: SchemaId = SchemaId(3);
+pub(crate) const SECOND: SchemaId = SchemaId(3);
 
 // Inserts a node of which nothing is told, with a flag, and with room for so many children.
-fn insert(
+pub(crate) fn insert(
     counted: &mut Counted<'_>,
     schema: SchemaId,
     value: Option<Raw>,
@@ -38,7 +38,12 @@ fn insert(
 
 // Hangs a node on a row.
 #[tactic(auto, using(ystore::proofs::CallerLemmas::room_is_there))]
-fn hang(counted: &mut Counted<'_>, row: Row, schema: SchemaId, node: NodeId) -> Option<()> {
+pub(crate) fn hang(
+    counted: &mut Counted<'_>,
+    row: Row,
+    schema: SchemaId,
+    node: NodeId,
+) -> Option<()> {
     match counted.reserve_child(row) {
         Ok(()) => {
             counted.add_child(row, schema, node);
@@ -50,7 +55,7 @@ fn hang(counted: &mut Counted<'_>, row: Row, schema: SchemaId, node: NodeId) -> 
 
 // Adds a node to those that hold an item's value.
 #[tactic(auto, using(ystore::proofs::CallerLemmas::node_is_awaited))]
-fn hold(counted: &mut Counted<'_>, value: &Val, node: NodeId) -> Option<()> {
+pub(crate) fn hold(counted: &mut Counted<'_>, value: &Val, node: NodeId) -> Option<()> {
     let key = Key::Item(Row::Top, FIRST, value.clone().ok()?);
     let again = Key::Item(Row::Top, FIRST, value.clone().ok()?);
     match counted.await_holder(key) {
@@ -62,20 +67,20 @@ fn hold(counted: &mut Counted<'_>, value: &Val, node: NodeId) -> Option<()> {
     }
 }
 
-fn text(alloc: Global, text: &str) -> Option<Raw> {
+pub(crate) fn text(alloc: Global, text: &str) -> Option<Raw> {
     Some(Raw::Text(String::from_str(alloc, text).ok()?))
 }
 
 // A row is read as it was made, also once its nodes moved, came and went.
-fn rows(alloc: Global) -> Option<bool> {
+pub(crate) fn rows(alloc: Global) -> Option<bool> {
     let mut nodes = Nodes::new(alloc);
     let mut counted = nodes.counted();
     counted.reserve_nodes(4).ok()?;
     let above = insert(&mut counted, CONTAINER, None, Row::Top, 0)?;
     hang(&mut counted, Row::Top, CONTAINER, above)?;
     let row = Row::Below(above);
-    let second = insert(&mut counted, SECOND, text(alloc, "b"), row, 0)?;
-    let first = insert(&mut counted, FIRST, text(alloc, "a"), row, 0)?;
+    let second = insert(&mut counted, SECOND, Some(text(alloc, "b")?), row, 0)?;
+    let first = insert(&mut counted, FIRST, Some(text(alloc, "a")?), row, 0)?;
     let other = insert(&mut counted, FIRST, None, row, 0)?;
     hang(&mut counted, row, SECOND, second)?;
     hang(&mut counted, row, FIRST, first)?;
@@ -102,10 +107,10 @@ fn rows(alloc: Global) -> Option<bool> {
 }
 
 // What is told is kept at its node, and a view shows it.
-fn told(alloc: Global) -> Option<bool> {
+pub(crate) fn told(alloc: Global) -> Option<bool> {
     let mut nodes = Nodes::new(alloc);
     let mut counted = nodes.counted();
-    let node = insert(&mut counted, FIRST, text(alloc, "a"), Row::Top, 0)?;
+    let node = insert(&mut counted, FIRST, Some(text(alloc, "a")?), Row::Top, 0)?;
     hang(&mut counted, Row::Top, FIRST, node)?;
     let mut play = Vec::new(alloc);
     play.push((FaultCode::V3, SECOND)).ok()?;
@@ -129,7 +134,7 @@ fn told(alloc: Global) -> Option<bool> {
 }
 
 // What holds a key, and how many instances a value has.
-fn keys(alloc: Global) -> Option<bool> {
+pub(crate) fn keys(alloc: Global) -> Option<bool> {
     let mut nodes = Nodes::new(alloc);
     let mut counted = nodes.counted();
     let value = YType::string(alloc)
