@@ -169,6 +169,18 @@ errors 3
 'check'
 ==
 yanglive help
+output 0
+  validate  
+==
+yanglive help edit
+output 0
+Example: yanglive edit 
+==
+yanglive help check
+errors 3
+'help'
+==
+yanglive help edit d.json
 errors 3
 'help'
 ==

@@ -14,7 +14,7 @@ use Rattle.clap.specs.declared.parser.matches.Found.{Found}
 use Rattle.clap.proofs.WalkLemmas.{first_value-rows}
 use Rattle.clap.proofs.OnLiterals.{clap_on_literals}
 use Rattle.ycommand.specs.Application.{IsArgument, IsCommand, yanglive}
-use Rattle.ycommand.specs.Command.{Declines, Explains, Understands, asked_by, asked_of, asks_help, is_help, value_of}
+use Rattle.ycommand.specs.Command.{Declines, Explains, Takes, asked_by, asked_of, asks_help, is_help, value_of}
 use Rattle.ycommand.specs.Running.{refused, shown, with_text}
 use Rattle.ycommand.specs.declared.command.CommandLine.{CommandLine}
 use Rattle.ycommand.specs.declared.command.NoRequest.{NoRequest}
@@ -97,9 +97,9 @@ declined kinds kind (none.Refused text) like (inl e) is = absurd (is.1 e)
 declined kinds kind (none.Refused text) like (inr among) is = (some_cause kinds kind among, said_by kind kinds like among ∙ is.0)
 declined kinds kind none.Memory like among is = tt
 
-pub declined_by_memory : (words : List Text) (r : Result CommandLine NoRequest) → IsErrAnd r (λ e. e ≡ none.Memory) → Understands words r
+pub declined_by_memory : (words : List Text) (r : Result CommandLine NoRequest) → IsErrAnd r (λ e. e ≡ none.Memory) → Takes words r
 declined_by_memory words (Ok x) e = absurd e
-declined_by_memory words (Err a) e = subst (λ b. Understands words (Err b)) (sym e) tt
+declined_by_memory words (Err a) e = subst (λ b. Takes words (Err b)) (sym e) tt
 
 -- help and refusals come of words that aren't taken, with clap's text on their side
 pub asked_help : (kinds : Kinds) → asks_help kinds ≡ true → kinds ≡ [] → ⊥

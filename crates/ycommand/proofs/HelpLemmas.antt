@@ -1,9 +1,11 @@
 -- Help that is asked for is clap's one cause: no other stands beside it.
-use Rattle.std.proofs.Common.{◌≡◌, inl, inr, ℕ, Bool, true, false, List, [], ◌∷◌, Option, Some, None, refl, sym, ap, ◌∙◌}
-use Rattle.std.specs.Prelude.{if◌then◌else◌, ◌+◌, ◌==◌, ◌&&◌, ◌||◌, min, nat_lt, not, zero, suc, is_some, drop, encode_utf8, length}
+use Rattle.std.proofs.Common.{◌≡◌, ◌<◌, inl, inr, ℕ, Bool, true, false, List, [], ◌∷◌, Option, Some, None, String, Global, codes, map, string_bytes, arith, refl, sym, subst, ap, ◌∙◌}
+use Rattle.std.proofs.lemmas.Slice.Eq.{bytes_eq-Decides}
+use Rattle.std.specs.Str.{bytes_eq}
+use Rattle.std.specs.Prelude.{Result, if◌then◌else◌, ◌+◌, ◌==◌, ◌&&◌, ◌||◌, min, nat_lt, not, zero, suc, is_some, drop, encode_utf8, length}
 use Rattle.std.specs.List.{list_any}
 use Rattle.std.specs.Option.{option_map_or}
-use Rattle.clap.specs.Words.{App, Kinds, IsAmong, Row, Rule, Shape, Text}
+use Rattle.clap.specs.Words.{App, Kinds, fault_of, IsAmong, Row, Rule, Shape, Text}
 use Rattle.clap.specs.Lexer.{short_of}
 use Rattle.clap.specs.Facts.{explicit_source, parser_of_value, unwrap_or_range}
 use Rattle.clap.specs.Matches.{count_text}
@@ -22,7 +24,9 @@ use Rattle.clap.specs.declared.builder.value_parser.ValueParser.{ValueParser}
 use Rattle.clap.specs.declared.error.kind.ErrorKind.{ErrorKind}
 use Rattle.clap.proofs.OnLiterals.{clap_on_literals}
 use Rattle.ycommand.specs.Application.{yanglive}
-use Rattle.ycommand.specs.Command.{asks_help, is_help, refusals}
+use Rattle.ycommand.specs.Command.{Takes, Understands, asks_help, commands, is_command, is_help}
+use Rattle.ycommand.specs.declared.command.CommandLine.{CommandLine}
+use Rattle.ycommand.specs.declared.command.NoRequest.{NoRequest}
 
 -- these causes are help too where this one is, and else none of them is
 AllLike : ErrorKind → Kinds → Type 0
@@ -239,5 +243,69 @@ has_no_help_command : (built yanglive).top.disable_help_subcommand ≡ true
 unfolding clap_on_literals
 has_no_help_command = refl
 
-pub refusals_alike : (words : List Text) → Alike (refusals words)
+pub refusals_alike : (words : List Text) → Alike (fault_of yanglive words)
 refusals_alike words = like_built (built yanglive) nothing_held (argument_words yanglive words) has_no_help_command
+
+-- ---- words that ask for help
+
+pub all_help : (program : Text) → asks_help (fault_of yanglive (program ∷ codes "--help" ∷ [])) ≡ true
+unfolding clap_on_literals
+all_help program = refl
+
+-- one of the commands asks for its help so
+abbrev pub HelpsOf : Text → Type 0
+HelpsOf name = (program : Text) → asks_help (fault_of yanglive (program ∷ name ∷ codes "--help" ∷ [])) ≡ true
+
+explain_help : HelpsOf (codes "explain")
+unfolding clap_on_literals
+explain_help program = refl
+
+compile_help : HelpsOf (codes "compile")
+unfolding clap_on_literals
+compile_help program = refl
+
+tree_help : HelpsOf (codes "tree")
+unfolding clap_on_literals
+tree_help program = refl
+
+validate_help : HelpsOf (codes "validate")
+unfolding clap_on_literals
+validate_help program = refl
+
+edit_help : HelpsOf (codes "edit")
+unfolding clap_on_literals
+edit_help program = refl
+
+-- each of these does
+EachHelps : List Text → Type 0
+EachHelps [] = Unit {0}
+EachHelps (name ∷ names) = HelpsOf name × EachHelps names
+
+this_or_later : (a b : Bool) (P : Type 0) → (a ≡ true → P) → (b ≡ true → P) → (a || b) ≡ true → P
+this_or_later true b P this later is = this refl
+this_or_later false b P this later is = later is
+
+among_helps : (name : Text) (names : List Text) → EachHelps names → list_any (bytes_eq name) names ≡ true → HelpsOf name
+unfolding EachHelps
+among_helps name [] each is = absurd cc
+among_helps name (other ∷ names) each is = this_or_later (bytes_eq name other) (list_any (bytes_eq name) names) (HelpsOf name)
+    (λ same. subst HelpsOf (sym ((bytes_eq-Decides name other).0 same)) each.0) (among_helps name names each.1) is
+
+pub command_help : (name : Text) → is_command name ≡ true → HelpsOf name
+unfolding EachHelps
+command_help name = among_helps name commands (explain_help, (compile_help, (tree_help, (validate_help, (edit_help, tt)))))
+
+-- fewer words than two, and more than three, mean themselves
+pub few_taken : (words : List (String Global)) (r : Result CommandLine NoRequest) → length words < 2 → Takes (map string_bytes words) r
+    → Understands (map string_bytes words) r
+few_taken [] r few takes = takes
+few_taken (program ∷ []) r few takes = takes
+few_taken (program ∷ word ∷ words) r few takes = absurd (omega (few, arith))
+
+pub many_taken : (words : List (String Global)) (r : Result CommandLine NoRequest) → (length words < 4 → ⊥) → Takes (map string_bytes words) r
+    → Understands (map string_bytes words) r
+many_taken [] r many takes = takes
+many_taken (program ∷ []) r many takes = takes
+many_taken (program ∷ word ∷ []) r many takes = absurd (many (omega arith))
+many_taken (program ∷ word ∷ name ∷ []) r many takes = absurd (many (omega arith))
+many_taken (program ∷ word ∷ name ∷ other ∷ words) r many takes = takes

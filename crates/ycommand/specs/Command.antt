@@ -1,5 +1,6 @@
 -- What the words of a command line ask for, by clap's own definition of what it takes.
-use Rattle.std.specs.Prelude.{◌≡◌, Bool, true, false, List, [], ◌∷◌, map, codes, Option, Some, None, unwrap_or, Result, Ok, Err, if◌then◌else◌}
+use Rattle.std.specs.Prelude.{◌≡◌, ◌&&◌, Bool, true, false, List, [], ◌∷◌, map, codes, Option, Some, None, unwrap_or, Result, Ok, Err, if◌then◌else◌}
+use Rattle.std.specs.List.{list_any}
 use Rattle.std.specs.Str.{bytes_eq}
 use Rattle.yprogram.specs.Output as spec
 use Rattle.yprogram.specs.Output.{explain, compile, draw, validate, edit}
@@ -13,11 +14,25 @@ use Rattle.ycommand.specs.declared.command.CommandLine.{CommandLine}
 use Rattle.ycommand.specs.declared.command.NoRequest.{NoRequest}
 use Rattle.ycommand.specs.declared.command.NoRequest.TheVariants as none
 
--- ---- what words ask for; the first is the program's name
+-- ---- words; the first is the program's name
+
+abbrev pub commands : List Text
+commands = codes "explain" ∷ codes "compile" ∷ codes "tree" ∷ codes "validate" ∷ codes "edit" ∷ []
+
+abbrev pub is_command : Text → Bool
+is_command name = list_any (bytes_eq name) commands
+
+-- `help` stands for `--help`, and `help COMMAND` for `COMMAND --help`
+abbrev pub meant : List Text → List Text
+meant (program ∷ word ∷ []) =
+    if bytes_eq word (codes "help") then program ∷ codes "--help" ∷ [] else program ∷ word ∷ []
+meant (program ∷ word ∷ name ∷ []) = if bytes_eq word (codes "help") && is_command name
+    then program ∷ name ∷ codes "--help" ∷ [] else program ∷ word ∷ name ∷ []
+meant words = words
 
 -- why clap refuses them, or answers with a text in their place: empty where it takes them
 abbrev pub refusals : List Text → Kinds
-refusals words = fault_of yanglive words
+refusals words = fault_of yanglive (meant words)
 
 abbrev pub value_of : Text → List Row → Text
 value_of name rows = unwrap_or (first_of name rows) []
@@ -59,7 +74,7 @@ asked_by (Some command) = asked_of command.0 command.1
 
 -- what taken words ask for
 abbrev pub request_of : List Text → spec.Request
-request_of words = asked_by (subcommand_of yanglive words)
+request_of words = asked_by (subcommand_of yanglive (meant words))
 
 -- whether a command's arguments ask for the reasons of what is told
 abbrev pub explained_by : Option (Text × List Row) → Bool
@@ -67,7 +82,7 @@ explained_by None = false
 explained_by (Some command) = is_given (codes "explain") command.1
 
 abbrev pub asks_reasons : List Text → Bool
-asks_reasons words = explained_by (subcommand_of yanglive words)
+asks_reasons words = explained_by (subcommand_of yanglive (meant words))
 
 -- ---- the code's values as these
 
@@ -105,7 +120,12 @@ Declines kinds (none.Refused text) = (kinds ≡ [] → ⊥) × (asks_help kinds 
 Declines kinds none.Memory = Unit {0}
 
 -- words are taken exactly where clap takes them, and then their request is the definition's
+abbrev pub Takes : List Text → Result CommandLine NoRequest → Type 0
+Takes words (Ok line) = (fault_of yanglive words ≡ [])
+    × (view line.request ≡ asked_by (subcommand_of yanglive words))
+    × (line.with_reasons ≡ explained_by (subcommand_of yanglive words))
+Takes words (Err answer) = Declines (fault_of yanglive words) answer
+
+-- so for what words mean
 abbrev pub Understands : List Text → Result CommandLine NoRequest → Type 0
-Understands words (Ok line) =
-    (refusals words ≡ []) × (view line.request ≡ request_of words) × (line.with_reasons ≡ asks_reasons words)
-Understands words (Err answer) = Declines (refusals words) answer
+Understands words result = Takes (meant words) result

@@ -1,9 +1,10 @@
 //! What the words of a command line ask for.
 
-ghost use Rattle.std.specs.Prelude.{◌≡◌, codes, map, string_bytes, IfOk};
-ghost use Rattle.clap.specs.Words.{app_of, found_of, kind_of, rows_of, subcommand_rows_of};
+ghost use Rattle.std.specs.Prelude.{◌≡◌, codes, map, string_bytes, true, IfOk};
+ghost use Rattle.clap.specs.Words.{app_of, fault_of, found_of, kind_of, rows_of, subcommand_rows_of};
 ghost use Rattle.ycommand.specs.Application.{IsArgument, IsCommand, any_number, compile_app, edit_app, explain_app, flag, over_files, tree_app, validate_app, wanted, wanted_all, yanglive};
-ghost use Rattle.ycommand.specs.Command.{Explains, Understands, asked_by, asked_of, compilation_of, drawing_of, edition_of, explained_by, explanation_of, is_given, modules_of, validation_of, view};
+ghost use Rattle.ycommand.specs.Command as spec;
+ghost use Rattle.ycommand.specs.Command.{Declines, Explains, Takes, Understands, asks_help, asked_by, asked_of, compilation_of, drawing_of, edition_of, explained_by, explanation_of, is_given, modules_of, validation_of, view};
 ghost use Rattle.ycommand.specs.declared.command.NoRequest.TheVariants.{Memory};
 
 use clap::error::ErrorKind;
@@ -432,12 +433,56 @@ fn without_request(alloc: Global, error: &clap::Error) -> NoRequest
     }
 }
 
-/// What a command line asks for. Its first word is the program's name.
-pub fn read_words<'a>(alloc: Global, words: &'a [String]) -> Result<CommandLine<'a>, NoRequest>
-    ensures { Understands (map string_bytes words.entry.now) result }
+/// What words ask for as they stand.
+fn taken_words<'a>(alloc: Global, words: &'a [String]) -> Result<CommandLine<'a>, NoRequest>
+    ensures { Takes (map string_bytes words.entry.now) result }
 {
     match application(alloc)?.try_get_matches_from(words) {
         Ok(matches) => Ok(line_in(alloc, &matches)?),
         Err(error) => Err(without_request(alloc, &error)),
+    }
+}
+
+/// The help for which words ask.
+fn help_for(alloc: Global, words: &[&str]) -> NoRequest
+    requires { asks_help (fault_of yanglive (map (λ word. word.now) words.now)) ≡ true }
+    ensures { Declines (fault_of yanglive (map (λ word. word.now) words.now)) result }
+{
+    match application(alloc) {
+        Ok(application) => match application.try_get_matches_from(words) {
+            Ok(_) => unreachable!(),
+            Err(error) => without_request(alloc, &error),
+        },
+        Err(_) => NoRequest::Memory,
+    }
+}
+
+/// Whether a command has this name.
+fn is_command(name: &str) -> bool
+    ensures { result ≡ spec.is_command name.now }
+{
+    matches!(name, "explain" | "compile" | "tree" | "validate" | "edit")
+}
+
+/// What a command line asks for. Its first word is the program's name; `help` stands for `--help`.
+pub fn read_words<'a>(alloc: Global, words: &'a [String]) -> Result<CommandLine<'a>, NoRequest>
+    ensures { Understands (map string_bytes words.entry.now) result }
+{
+    match words {
+        [program, word] => {
+            if word.as_str() == "help" {
+                Err(help_for(alloc, &[program.as_str(), "--help"]))
+            } else {
+                taken_words(alloc, words)
+            }
+        }
+        [program, word, name] => {
+            if word.as_str() == "help" && is_command(name.as_str()) {
+                Err(help_for(alloc, &[program.as_str(), name.as_str(), "--help"]))
+            } else {
+                taken_words(alloc, words)
+            }
+        }
+        _ => taken_words(alloc, words),
     }
 }

@@ -1,9 +1,10 @@
 use Rattle.std.proofs.Common.{map, string_bytes, ap, sym, ◌∙◌}
 use Rattle.clap.specs.Words.{App, fault_of, is_simple, is_simple_and_free, subcommand_of}
-use Rattle.ycommand.specs.Command.{asked_by, explained_by, refusals}
+use Rattle.ycommand.specs.Application.{yanglive}
+use Rattle.ycommand.specs.Command.{asked_by, explained_by}
 use Rattle.ycommand.proofs.CommandLemmas.{declined, declined_by_memory, is_free, is_plain}
 use Rattle.ycommand.proofs.HelpLemmas.{refusals_alike}
-use Rattle.ycommand.proofs.command.read_words.Goals as goal
+use Rattle.ycommand.proofs.command.taken_words.Goals as goal
 
 pub returns-in_err-application : goal.returns-in_err-application
 returns-in_err-application c = declined_by_memory (map string_bytes c.args.words.now) c.from_residual.result c.from_residual.ensures.1
@@ -25,5 +26,5 @@ pub returns-in-Err : goal.returns-in-Err
 returns-in-Err c =
     let app = c.in_ok-application.ensures in
     let words = map string_bytes c.args.words.now in
-    declined (refusals words) _ c.without_request.result (refusals_alike words)
+    declined (fault_of yanglive words) _ c.without_request.result (refusals_alike words)
     (rw (← ap (λ (a : App). fault_of a words) app) (c.in-Err.ensures.kinds (ap is_simple_and_free app ∙ is_free))) c.without_request.ensures

@@ -1,0 +1,20 @@
+use Rattle.std.proofs.Common.{map, ap, sym, ◌∙◌}
+use Rattle.clap.specs.Words.{App, fault_of, is_simple_and_free}
+use Rattle.ycommand.specs.Application.{yanglive}
+use Rattle.ycommand.proofs.CommandLemmas.{asked_help, declined, is_free}
+use Rattle.ycommand.proofs.HelpLemmas.{refusals_alike}
+use Rattle.ycommand.proofs.command.help_for.Goals as goal
+
+pub unreachable-requires : goal.unreachable-requires
+unreachable-requires c =
+    let app = c.in-Ok.ensures in
+    let words = map (λ word. word.now) c.args.words.now in
+    asked_help (fault_of yanglive words) c.requires (sym (ap (λ (a : App). fault_of a words) app)
+    ∙ c.in-Ok-try_get_matches_from.ensures.kinds (ap is_simple_and_free app ∙ is_free))
+
+pub returns-in-Err-try_get_matches_from : goal.returns-in-Err-try_get_matches_from
+returns-in-Err-try_get_matches_from c =
+    let app = c.in-Ok.ensures in
+    let words = map (λ word. word.now) c.args.words.now in
+    declined (fault_of yanglive words) _ c.without_request.result (refusals_alike words)
+    (rw (← ap (λ (a : App). fault_of a words) app) (c.in-Err-try_get_matches_from.ensures.kinds (ap is_simple_and_free app ∙ is_free))) c.without_request.ensures
