@@ -46,6 +46,28 @@ fn prints(alloc: Global, files: &[NamedFile<'_>], row: &str) -> Option<bool> {
     Some(is_output && is_error && shown.status == status)
 }
 
+const NET: &str = "module net {
+  yang-version 1.1; namespace \"urn:net\"; prefix n;
+  list host {
+    key name; unique port; max-elements 3;
+    leaf name { type string; }
+    leaf speed { type uint16; mandatory true; }
+    leaf port { type uint16; }
+    leaf uplink { type leafref { path /n:host/n:name; } }
+    leaf-list tag { type string; }
+  }
+  container more {
+    presence more;
+    leaf-list item { type uint8; min-elements 2; }
+    choice how {
+      mandatory true;
+      case slow { leaf rate { type uint8; } }
+      case fast { leaf up { type empty; } }
+    }
+  }
+}
+";
+
 const SCRIPT: &str = "# the others are refused
 create /p:c {\"id\":7}
 replace /p:c/id 300
@@ -110,8 +132,10 @@ bare.json: J3 /p:c
 yanglive validate --explain two.json p.yang
 1 0
 V1 invalid-value - /p:c/id -
+  /p:c/id: 256 isn't a value of uint8.
   A value isn't one that its type takes. Look at the type's range, length and names; 64-bit integers and decimal64 are strings.
 V1 invalid-value - /p:c/note -
+  /p:c/note: 5 isn't a value of string.
   A value isn't one that its type takes. Look at the type's range, length and names; 64-bit integers and decimal64 are strings.
 2 faults
 ==
@@ -134,6 +158,7 @@ line 5: E7
 line 6: E10 J3
   No node of that name may stand there. Correct the name, or give the module that defines it.
 V1 invalid-value - /p:c/id -
+  /p:c/id: 300 isn't a value of uint8.
   A value isn't one that its type takes. Look at the type's range, length and names; 64-bit integers and decimal64 are strings.
 1 faults
 ==
@@ -147,6 +172,138 @@ line 6: E10 J3
   No node of that name may stand there. Correct the name, or give the module that defines it.
 {\"p:c\":{\"id\":300}}
 ";
+
+// Each fault of a document under the module of a network, with what stands there.
+const FAULTS: &str = "yanglive validate --explain unnamed n.yang
+1 0
+V2 missing-element - /net:host[1]/name -
+  /net:host[1]: its key name is missing.
+  An entry of a list lacks a leaf of its key. Add it.
+V1 invalid-value - /net:host[1]/speed -
+  /net:host[1]/speed: \"x\" isn't a value of uint16.
+  A value isn't one that its type takes. Look at the type's range, length and names; 64-bit integers and decimal64 are strings.
+2 faults
+==
+yanglive validate --explain uplink n.yang
+1 0
+V3 data-missing - /net:host[1]/speed -
+  /net:host[name=\"it's\"]: speed is missing.
+  A leaf that must be there is missing. Add it, or take the node out around which it must be there.
+V11 data-missing instance-required /net:host[1]/uplink -
+  /net:host[name=\"it's\"]/uplink: no instance of /net:host/name is \"b\".
+  A leafref has no instance of its target with its value. Add the instance, or correct the value.
+2 faults
+==
+yanglive validate --explain one n.yang
+1 0
+V6 operation-failed too-few-elements /net:more/item -
+  /net:more/item: it has 1, and must have at least 2.
+  A list or leaf-list has fewer entries or items than it must have. Add some.
+V4 data-missing missing-choice /net:more how
+  /net:more: no case of the choice how is there.
+  A choice that must be met has no node of any case. Add a node of one of its cases.
+2 faults
+==
+yanglive validate --explain both n.yang
+1 0
+V5 bad-element - /net:more how
+  /net:more: the choice how has nodes of more than one case: slow, fast.
+  Nodes of two or more cases of a choice are there. Leave the nodes of one case.
+1 faults
+==
+yanglive validate --explain four n.yang
+1 0
+V7 operation-failed too-many-elements /net:host -
+  /net:host: it has 4, and may have at most 3.
+  A list or leaf-list has more entries or items than it may have. Take some out.
+1 faults
+==
+yanglive validate --explain twins n.yang
+1 0
+V8 operation-failed - /net:host[1] -
+  /net:host[1]: its keys are those of /net:host[3].
+  Another entry has the same key. Change the key of one, or take one out.
+V8 operation-failed - /net:host[3] -
+  /net:host[3]: its keys are those of /net:host[1].
+  Another entry has the same key. Change the key of one, or take one out.
+2 faults
+==
+yanglive validate --explain ports n.yang
+1 0
+V9 operation-failed data-not-unique /net:host[1] 1
+  /net:host[name='a']: its values of unique 1 are those of /net:host[2].
+  Another entry has the same values of a unique. Change one of these values.
+V9 operation-failed data-not-unique /net:host[2] 1
+  /net:host[name='b']: its values of unique 1 are those of /net:host[1].
+  Another entry has the same values of a unique. Change one of these values.
+2 faults
+==
+yanglive validate --explain tags n.yang
+1 0
+V10 operation-failed - /net:host[1]/tag[1] -
+  /net:host[1]/tag[1]: its value is that of /net:host[1]/tag[3].
+  Another item of a configuration leaf-list has the same value. Take one of them out.
+V10 operation-failed - /net:host[1]/tag[3] -
+  /net:host[1]/tag[3]: its value is that of /net:host[1]/tag[1].
+  Another item of a configuration leaf-list has the same value. Take one of them out.
+2 faults
+==
+yanglive validate --explain good n.yang
+0 0
+0 faults
+==
+yanglive edit --explain good adding n.yang
+1 0
+V1 invalid-value - /net:host[2]/port -
+  /net:host[name='b']/port: \"7\" isn't a value of uint16.
+  A value isn't one that its type takes. Look at the type's range, length and names; 64-bit integers and decimal64 are strings.
+1 faults
+==
+yanglive edit --dump --explain good adding n.yang
+1 0
+{\"net:host\":[{\"name\":\"a\",\"speed\":1},{\"name\":\"b\",\"port\":\"7\",\"speed\":2}]}
+";
+
+#[test]
+fn explained_faults(rt: HostRuntime) {
+    let files = [
+        file("n.yang", NET),
+        file("unnamed", "{\"net:host\":[{\"speed\":\"x\"}]}"),
+        file(
+            "uplink",
+            "{\"net:host\":[{\"name\":\"it's\",\"uplink\":\"b\"}]}",
+        ),
+        file("one", "{\"net:more\":{\"item\":[1]}}"),
+        file(
+            "both",
+            "{\"net:more\":{\"item\":[1,2],\"rate\":1,\"up\":[null]}}",
+        ),
+        file(
+            "four",
+            "{\"net:host\":[{\"name\":\"a\",\"speed\":1},{\"name\":\"b\",\"speed\":1},{\"name\":\"c\",\"speed\":1},{\"name\":\"d\",\"speed\":1}]}",
+        ),
+        file(
+            "twins",
+            "{\"net:host\":[{\"name\":\"a\",\"speed\":1},{\"name\":\"b\",\"speed\":1},{\"name\":\"a\",\"speed\":1}]}",
+        ),
+        file(
+            "ports",
+            "{\"net:host\":[{\"name\":\"a\",\"speed\":1,\"port\":5},{\"name\":\"b\",\"speed\":1,\"port\":5}]}",
+        ),
+        file(
+            "tags",
+            "{\"net:host\":[{\"name\":\"a\",\"speed\":1,\"tag\":[\"x\",\"y\",\"x\"]}]}",
+        ),
+        file("good", "{\"net:host\":[{\"name\":\"a\",\"speed\":1}]}"),
+        file(
+            "adding",
+            "create /net:host {\"name\":\"b\",\"speed\":2,\"port\":\"7\"}",
+        ),
+    ];
+    for row in FAULTS.split("==\n") {
+        assert!(rt; prints(rt.alloc(), &files, row) == Some(true), "{row}");
+    }
+}
 
 #[test]
 fn explained_runs(rt: HostRuntime) {

@@ -1,5 +1,5 @@
 -- Documents after the lines of a script, and what is told of them.
-use Rattle.std.proofs.Common.{◌≡◌, ◌≤◌, ◌<◌, ℕ, Bool, true, false, List, [], ◌∷◌, ◌++◌, Option, Some, None, Global, String, string_bytes, codes, drop, length, refl, sym, subst, ap, ap₂, ◌∙◌, arith, eqb-true}
+use Rattle.std.proofs.Common.{◌≡◌, ◌≤◌, ℕ, Bool, true, false, List, [], ◌∷◌, ◌++◌, Option, Some, None, Global, String, string_bytes, codes, length, refl, sym, subst, ap, ap₂, ◌∙◌}
 use Rattle.std.specs.Prelude.{◌==◌, ◌&&◌, Result, Ok, Err, IsErrAnd, option_map, if◌then◌else◌}
 use Rattle.std.specs.Option.{option_map_or}
 use Rattle.std.proofs.lemmas.List.{length-map}
@@ -91,10 +91,10 @@ text_shown false (Some t) written shown is = cc
 
 pub report_is : (is_dump : Bool) (s : spec.Schema) (t : Tree) (found : List Fault) (refused : List RefusedLine) (text : Option (String Global))
     → views found ≡ faults_of s t → option_map string_bytes text ≡ (if is_dump then Some (written_text s t) else None)
-    → outcome_with (option_map_or (λ t. text_parts (string_bytes t)) text (report s (views found))) (refused_parts refused) (length found == 0) (length refused == 0)
+    → outcome_with (option_map_or (λ t. text_parts (string_bytes t)) text (report s t (views found))) (refused_parts refused) (length found == 0) (length refused == 0)
     ≡ left is_dump s t (refused_parts refused)
 report_is is_dump s t found refused text same is =
-    ap (λ (b : Bool). outcome_with (option_map_or (λ t. text_parts (string_bytes t)) text (report s (views found))) (refused_parts refused) (length found == 0) b) (sym (none_refused refused))
-    ∙ (ap (λ (o : List Part). outcome_with o (refused_parts refused) (length found == 0) (length (refused_parts refused) == 0)) (text_shown is_dump text (written_text s t) (report s (views found)) is)
-    ∙ (ap (λ (n : ℕ). outcome_with (if is_dump then plain (dump s t) ∷ [] else report s (views found)) (refused_parts refused) (n == 0) (length (refused_parts refused) == 0)) (sym (length-map found view))
-    ∙ ap (λ (fs : List spec_fault.Fault). outcome_with (if is_dump then plain (dump s t) ∷ [] else report s fs) (refused_parts refused) (length fs == 0) (length (refused_parts refused) == 0)) same))
+    ap (λ (b : Bool). outcome_with (option_map_or (λ t. text_parts (string_bytes t)) text (report s t (views found))) (refused_parts refused) (length found == 0) b) (sym (none_refused refused))
+    ∙ (ap (λ (o : List Part). outcome_with o (refused_parts refused) (length found == 0) (length (refused_parts refused) == 0)) (text_shown is_dump text (written_text s t) (report s t (views found)) is)
+    ∙ (ap (λ (n : ℕ). outcome_with (if is_dump then plain (dump s t) ∷ [] else report s t (views found)) (refused_parts refused) (n == 0) (length (refused_parts refused) == 0)) (sym (length-map found view))
+    ∙ ap (λ (fs : List spec_fault.Fault). outcome_with (if is_dump then plain (dump s t) ∷ [] else report s t fs) (refused_parts refused) (length fs == 0) (length (refused_parts refused) == 0)) same))

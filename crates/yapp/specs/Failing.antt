@@ -6,7 +6,7 @@ use Rattle.ytext.specs.Told.{number_of}
 use Rattle.ylink.specs.Told.{code_number}
 use Rattle.ymodel.specs.View as schema_view
 use Rattle.ytree.specs.Told as document
-use Rattle.ytree.specs.View.{place_view}
+use Rattle.ytree.specs.View.{place_view, tree_view}
 use Rattle.ycheck.specs.View.{views}
 use Rattle.yspec.specs.schema.Diagram.{diagram}
 use Rattle.yprogram.specs.Output.{Outcome, document_part, failed, failed_with, found, refusal_part, report, unread}
@@ -37,7 +37,7 @@ outcome_of failures.Memory = without_memory
 -- a document's text in a line, or its faults and how many there are
 abbrev pub document_parts : DocumentReport → List Part
 document_parts r = option_map_or (λ text. plain (string_bytes text ++ codes "\n") ∷ []) r.text
-    (report (schema_view.view r.schema) (views r.faults.items))
+    (report (schema_view.view r.schema) (tree_view r.tree) (views r.faults.items))
 
 abbrev pub reported : Report → Outcome
 reported (reports.Explanations explanations) =

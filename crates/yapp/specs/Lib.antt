@@ -1,4 +1,5 @@
 pub mod Asked
 pub mod Edited
+pub mod Explained
 pub mod Failing
 pub mod Files

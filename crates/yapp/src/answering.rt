@@ -1,10 +1,11 @@
 //! From a request to what was found.
 
-ghost use Rattle.std.specs.Prelude.{map, position};
+ghost use Rattle.std.specs.Prelude.{IfOk, map, position};
 ghost use Rattle.yspec.specs.text.Text.{is_text};
 ghost use Rattle.yprogram.specs.Output.{compilation, drawing, drawn, edition, explanation, performed, validation};
 ghost use Rattle.ymodel.specs.View as schema_view;
 ghost use Rattle.ycommand.specs.Command.{view};
+ghost use Rattle.yapp.specs.Explained.{HasNoDocument, IsExplained};
 ghost use Rattle.yapp.specs.Failing.{LeadsTo, reported};
 ghost use Rattle.yapp.specs.Files.{IsOutcome, came_to, store};
 
@@ -21,7 +22,8 @@ use ymodel::Schema;
 
 /// What is said of codes; of all where none is named.
 fn explain<'a>(alloc: Global, codes: &[&'a str]) -> Result<Report, Failure<'a>>
-    ensures { LeadsTo (explanation (map (λ c. c.now) codes.now)) reported result }
+    ensures leads { LeadsTo (explanation (map (λ c. c.now) codes.now)) reported result }
+    ensures faultless { IfOk result HasNoDocument }
 {
     if let Some(word) = first_unknown(codes) {
         return Err(Failure::NoCode { word });
@@ -40,8 +42,9 @@ fn count_nodes<'a>(
     modules: &[&'a str],
     contents: &[Vec<u8>],
 ) -> Result<Report, Failure<'a>>
-    ensures { LeadsTo (compilation (map (λ n. n.now) modules.now) (map (λ c. c.items) contents.now))
-        reported result }
+    ensures leads { LeadsTo (compilation (map (λ n. n.now) modules.now)
+        (map (λ c. c.items) contents.now)) reported result }
+    ensures faultless { IfOk result HasNoDocument }
 {
     match compile_contents(alloc, modules, contents) {
         Ok(compiled) => Ok(Report::Nodes(compiled.value.nodes())),
@@ -51,9 +54,10 @@ fn count_nodes<'a>(
 
 /// The diagram of the module of a name.
 fn diagram_of<'a>(schema: Schema, name: &'a str) -> Result<Report, Failure<'a>>
-    ensures { let s = schema_view.view schema in
+    ensures leads { let s = schema_view.view schema in
         LeadsTo (drawn s name.entry.now (position (λ m. is_text m.name name.entry.now) s.modules))
         reported result }
+    ensures faultless { IfOk result HasNoDocument }
 {
     match schema.module(name) {
         Some(module) => Ok(Report::Diagram { schema, module }),
@@ -68,8 +72,9 @@ fn draw<'a>(
     modules: &[&'a str],
     contents: &[Vec<u8>],
 ) -> Result<Report, Failure<'a>>
-    ensures { LeadsTo (drawing name.entry.now (map (λ n. n.now) modules.now)
+    ensures leads { LeadsTo (drawing name.entry.now (map (λ n. n.now) modules.now)
         (map (λ c. c.items) contents.now)) reported result }
+    ensures faultless { IfOk result HasNoDocument }
 {
     match compile_contents(alloc, modules, contents) {
         Ok(compiled) => diagram_of(compiled.value, name),
@@ -83,12 +88,14 @@ fn validate<'a>(
     document: &'a str,
     modules: &[&'a str],
     contents: &[Vec<u8>],
+    with_reasons: bool,
 ) -> Result<Report, Failure<'a>>
-    ensures { LeadsTo (validation document.entry.now (map (λ n. n.now) modules.now)
+    ensures leads { LeadsTo (validation document.entry.now (map (λ n. n.now) modules.now)
         (map (λ c. c.items) contents.now)) reported result }
+    ensures explained { IfOk result (IsExplained with_reasons) }
 {
     match read_document(alloc, document, modules, contents) {
-        Ok(read) => Ok(report_on(alloc, read.value, false)?),
+        Ok(read) => Ok(report_on(alloc, read.value, with_reasons, false)?),
         Err(failure) => Err(failure),
     }
 }
@@ -100,53 +107,62 @@ fn edit<'a>(
     document: &'a str,
     modules: &[&'a str],
     contents: &[Vec<u8>],
+    with_reasons: bool,
 ) -> Result<Report, Failure<'a>>
-    ensures { LeadsTo (edition is_dump document.entry.now (map (λ n. n.now) modules.now)
+    ensures leads { LeadsTo (edition is_dump document.entry.now (map (λ n. n.now) modules.now)
         (map (λ c. c.items) contents.now)) reported result }
+    ensures explained { IfOk result (IsExplained with_reasons) }
 {
     match edit_document(alloc, document, modules, contents) {
-        Ok(edited) => Ok(report_on(alloc, edited, is_dump)?),
+        Ok(edited) => Ok(report_on(alloc, edited, with_reasons, is_dump)?),
         Err(failure) => Err(failure),
     }
 }
 
-/// What a request comes to, by the contents of its files.
+/// What a request comes to, by the contents of its files; where that is wanted, with what is said of faults.
 fn perform<'a>(
     alloc: Global,
     request: &Request<'a>,
     contents: &[Vec<u8>],
+    with_reasons: bool,
 ) -> Result<Report, Failure<'a>>
-    ensures { LeadsTo (performed (view request.now) (map (λ c. c.items) contents.now)) reported
-        result }
+    ensures leads { LeadsTo (performed (view request.now) (map (λ c. c.items) contents.now))
+        reported result }
+    ensures explained { IfOk result (IsExplained with_reasons) }
 {
     match request {
         Request::Explain { codes } => explain(alloc, codes),
         Request::Compile { modules } => count_nodes(alloc, modules, contents),
         Request::Tree { name, modules } => draw(alloc, *name, modules, contents),
-        Request::Validate { document, modules } => validate(alloc, *document, modules, contents),
+        Request::Validate { document, modules } => {
+            validate(alloc, *document, modules, contents, with_reasons)
+        }
         Request::Edit {
             is_dump,
             document,
             modules,
             ..
-        } => edit(alloc, *is_dump, *document, modules, contents),
+        } => edit(alloc, *is_dump, *document, modules, contents, with_reasons),
     }
 }
 
 /// What a request comes to. All files are read first: the modules in order, then the document, then the script. The first
-/// file that can't be read, and then the first text, module or document that is refused, ends it.
+/// file that can't be read, and then the first text, module or document that is refused, ends it. Where that is wanted, the
+/// report has what is said of its faults.
 pub fn answer<'a, F: Files>(
     alloc: Global,
     request: &Request<'a>,
+    with_reasons: bool,
     files: &mut F,
 ) -> Result<Report, Failure<'a>>
-    ensures { IsOutcome (store F.contents F.reads F.failures files.old)
+    ensures outcome { IsOutcome (store F.contents F.reads F.failures files.old)
         (store F.contents F.reads F.failures files.new)
         (view request.now) (came_to result) }
+    ensures explained { IfOk result (IsExplained with_reasons) }
 {
     match names_of(alloc, request) {
         Ok(names) => match read_files(alloc, &names, files) {
-            Ok(contents) => perform(alloc, request, &contents),
+            Ok(contents) => perform(alloc, request, &contents, with_reasons),
             Err(failure) => Err(failure),
         },
         Err(_) => Err(Failure::Memory),

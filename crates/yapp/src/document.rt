@@ -8,10 +8,13 @@ ghost use Rattle.yprogram.specs.Output.{Outcome, first_file, left, with_document
 ghost use Rattle.yprogram.specs.Part.{Part};
 ghost use Rattle.yprogram.specs.Script.{after_lines, lines_of, refused_lines};
 ghost use Rattle.yspec.specs.schema.Schema as schema_spec;
+ghost use Rattle.yexplain.specs.Sentences.{explained_fault};
+ghost use Rattle.ycheck.specs.View.{view, views};
 ghost use Rattle.ymodel.specs.View as schema_view;
 ghost use Rattle.ylive.specs.View as live_view;
 ghost use Rattle.yapp.specs.Asked.{edits_in, kinds_in};
 ghost use Rattle.yapp.specs.Edited.{IsEdited, IsRun, IsSound, refused_of, schema_of, tree_of};
+ghost use Rattle.yapp.specs.Explained.{IsExplained};
 ghost use Rattle.yapp.specs.Failing.{LeadsTo, reported};
 
 use crate::contents::{Taken, behind_first, first_of};
@@ -20,7 +23,8 @@ use crate::modules::compile_contents;
 use crate::report::{DocumentReport, Report};
 use crate::script::{RefusedLine, Script};
 use std::alloc::{AllocError, Global};
-use ycheck::faults;
+use ycheck::{Fault, faults};
+use yexplain::explanation_of;
 use ylive::Live;
 use ymodel::Schema;
 use ytree::{DocFault, Tree, read, write};
@@ -146,24 +150,76 @@ pub fn edit_document<'a>(
     }
 }
 
-/// What is to be told of a document: its faults, or its text where it is to be dumped.
+/// What is to be told of a document: its faults, where that is wanted with what is said of each, or its text where it is
+/// to be dumped.
 pub(crate) fn report_on(
     alloc: Global,
     document: Document,
+    with_reasons: bool,
     is_dump: bool,
 ) -> Result<Report, AllocError>
     requires { IsSound (schema_of document) (tree_of document) }
-    ensures { IfOk result (λ r. reported r
+    ensures reported { IfOk result (λ r. reported r
         ≡ left is_dump (schema_of document) (tree_of document) (refused_of document)) }
+    ensures explained { IfOk result (IsExplained with_reasons) }
 {
     let faults = faults(alloc, &document.schema, &document.tree)?;
     let text = text_of(alloc, &document, is_dump)?;
+    let explanations = explanations_of(alloc, &document, &faults, with_reasons & text.is_none())?;
     Ok(Report::Document(DocumentReport {
         schema: document.schema,
+        tree: document.tree,
         faults,
+        explanations,
         refused: document.refused,
         text,
     }))
+}
+
+/// What is said of each of some faults of a document, where that is wanted.
+fn explanations_of(
+    alloc: Global,
+    document: &Document,
+    faults: &[Fault],
+    are_wanted: bool,
+) -> Result<Option<Vec<String>>, AllocError>
+    requires { IsSound (schema_of document.now) (tree_of document.now) }
+    ensures { IfOk result (λ texts. option_map (λ ts. map string_bytes ts.items) texts
+        ≡ (if are_wanted then Some (map (explained_fault (schema_of document.now)
+        (tree_of document.now)) (views faults.now)) else None)) }
+{
+    if are_wanted {
+        Ok(Some(all_explained(alloc, document, faults)?))
+    } else {
+        Ok(None)
+    }
+}
+
+/// What is said of each of some faults of a document.
+fn all_explained(
+    alloc: Global,
+    document: &Document,
+    faults: &[Fault],
+) -> Result<Vec<String>, AllocError>
+    requires { IsSound (schema_of document.now) (tree_of document.now) }
+    ensures { IfOk result (λ texts. map string_bytes texts.items
+        ≡ map (explained_fault (schema_of document.now) (tree_of document.now))
+        (views faults.now)) }
+{
+    let mut texts = Vec::new(alloc);
+    for fault in faults {
+        texts.push(explained(alloc, document, fault)?)?;
+    }
+    Ok(texts)
+}
+
+/// What is said of a fault of a document.
+fn explained(alloc: Global, document: &Document, fault: &Fault) -> Result<String, AllocError>
+    requires { IsSound (schema_of document.now) (tree_of document.now) }
+    ensures { IfOk result (λ text. string_bytes text
+        ≡ explained_fault (schema_of document.now) (tree_of document.now) (view fault.now)) }
+{
+    explanation_of(alloc, &document.schema, &document.tree, fault)
 }
 
 /// The text of a document that is to be dumped.

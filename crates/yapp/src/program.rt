@@ -1,8 +1,9 @@
 //! A run of the program.
 
-ghost use Rattle.std.specs.Prelude.{◌≡◌, [], is_ok, if◌then◌else◌, map, string_bytes};
+ghost use Rattle.std.specs.Prelude.{◌≡◌, [], IfOk, is_ok, if◌then◌else◌, map, string_bytes};
 ghost use Rattle.yprogram.specs.Output.{Outcome, Printed, printed};
 ghost use Rattle.ycommand.specs.Command.{asks_reasons, refusals, request_of};
+ghost use Rattle.yapp.specs.Explained.{IsExplained};
 ghost use Rattle.yapp.specs.Files.{IsOutcome, came_to, store};
 ghost use Rattle.ycommand.specs.Running.{AnswersWords, Brings, Ends, memory_told, refused};
 ghost use Rattle.youtput.specs.Writing.{side};
@@ -57,6 +58,7 @@ fn tell<O: Sink, E: Sink>(
     output: &mut O,
     errors: &mut E,
 ) -> u8
+    requires { IfOk found (IsExplained with_reasons) }
     ensures { Brings (side O.taken O.failures output.old) (side O.taken O.failures output.new)
         (side E.taken E.failures errors.old) (side E.taken E.failures errors.new)
         (printed with_reasons (came_to found.entry)) result }
@@ -90,7 +92,7 @@ pub fn run<F: Files, O: Sink, E: Sink>(
 {
     match read_words(alloc, words) {
         Ok(line) => tell(
-            answer(alloc, &line.request, files),
+            answer(alloc, &line.request, line.with_reasons, files),
             line.with_reasons,
             output,
             errors,

@@ -1,9 +1,10 @@
 //! What a command found, and how it is printed.
 
-ghost use Rattle.std.specs.Prelude.{◌≡◌, ◌++◌, decimal, map};
+ghost use Rattle.std.specs.Prelude.{◌≡◌, ◌++◌, codes, decimal, length, map, string_bytes};
 ghost use Rattle.std.specs.List.{flat_map};
 ghost use Rattle.yspec.specs.schema.Diagram.{diagram};
-ghost use Rattle.yprogram.specs.Output.{fault_part, printed, report};
+ghost use Rattle.yspec.specs.document.Faults.{line_of};
+ghost use Rattle.yprogram.specs.Output.{printed};
 ghost use Rattle.yprogram.specs.Part.{spelled, spelled_part};
 ghost use Rattle.ycodes.specs.Codes.{explained};
 ghost use Rattle.ycodes.specs.View.{explanation_view};
@@ -11,6 +12,7 @@ ghost use Rattle.youtput.specs.Writing.{Writes, side};
 ghost use Rattle.ymodel.specs.View as schema_view;
 ghost use Rattle.ycheck.specs.View.{view, views};
 ghost use Rattle.yapp.specs.Asked.{refused_part, refused_parts};
+ghost use Rattle.yapp.specs.Explained.{IsExplained, explained_line, explained_lines, explanations_in, fault_lines};
 ghost use Rattle.yapp.specs.Failing.{reported};
 ghost use Rattle.ycommand.specs.Running.{WritesBoth};
 ghost use Rattle.yapp.specs.declared.report.Report.TheVariants.{Document};
@@ -20,9 +22,10 @@ use crate::script::RefusedLine;
 use crate::status::{FAULTY, GOOD};
 use itoa::Buffer;
 use ycheck::{Fault, write_line};
-use ycodes::{Explanation, write_explanation};
+use ycodes::{Explanation, write_explanation, write_reason};
 use ymodel::Schema;
 use youtput::{Sink, SinkFault, write_texts};
+use ytree::Tree;
 
 /// What a command found.
 #[derive(Drop)]
@@ -41,7 +44,10 @@ pub enum Report {
 #[derive(Drop)]
 pub struct DocumentReport {
     pub schema: Schema,
+    pub tree: Tree,
     pub faults: Vec<Fault>,
+    /// What is said of each fault, where that is to be printed.
+    pub explanations: Option<Vec<String>>,
     pub refused: Vec<RefusedLine>,
     pub text: Option<String>,
 }
@@ -64,6 +70,7 @@ impl Report {
         output: &mut O,
         errors: &mut E,
     ) -> Result<(), SinkFault>
+        requires { IsExplained with_reasons self.now }
         ensures { WritesBoth (side O.taken O.failures output.old)
             (side O.taken O.failures output.new)
             (side E.taken E.failures errors.old) (side E.taken E.failures errors.new)
@@ -95,12 +102,36 @@ impl DocumentReport {
 
     /// Writes the faults and how many there are, or the text.
     fn write_document<S: Sink>(&self, with_reasons: bool, sink: &mut S) -> Result<(), SinkFault>
+        requires { IsExplained with_reasons (Document self.now) }
         ensures { Writes (side S.taken S.failures sink.old) (side S.taken S.failures sink.new)
             (printed with_reasons (reported (Document self.now))).output result }
     {
         match &self.text {
             Some(text) => write_texts(sink, &[text.as_str(), "\n"]),
-            None => write_faults(&self.schema, &self.faults, with_reasons, sink),
+            None => self.write_faults(sink),
+        }
+    }
+
+    /// Writes a line for each fault, with what is said of it where that is to be printed, and then how many there are.
+    fn write_faults<S: Sink>(&self, sink: &mut S) -> Result<(), SinkFault>
+        ensures { let faults = views self.now.faults.items in
+            Writes (side S.taken S.failures sink.old) (side S.taken S.failures sink.new)
+            (fault_lines (schema_view.view self.now.schema) faults (explanations_in self.now)
+            ++ (decimal (length faults) ++ codes " faults\n")) result }
+    {
+        self.write_fault_lines(sink)?;
+        write_count(self.faults.as_slice().len(), " faults\n", sink)
+    }
+
+    /// Writes a line for each fault, with what is said of it where that is to be printed.
+    fn write_fault_lines<S: Sink>(&self, sink: &mut S) -> Result<(), SinkFault>
+        ensures { Writes (side S.taken S.failures sink.old) (side S.taken S.failures sink.new)
+            (fault_lines (schema_view.view self.now.schema) (views self.now.faults.items)
+            (explanations_in self.now)) result }
+    {
+        match &self.explanations {
+            Some(texts) => write_explained_lines(&self.schema, &self.faults, texts, sink),
+            None => write_lines(&self.schema, &self.faults, sink),
         }
     }
 }
@@ -130,53 +161,66 @@ fn write_explanations<S: Sink>(
     Ok(())
 }
 
-/// Writes a line for each fault, and then how many there are.
-fn write_faults<S: Sink>(
-    schema: &Schema,
-    faults: &[Fault],
-    with_reasons: bool,
-    sink: &mut S,
-) -> Result<(), SinkFault>
-    ensures { Writes (side S.taken S.failures sink.old) (side S.taken S.failures sink.new)
-        (spelled with_reasons (report (schema_view.view schema.now) (views faults.now))) result }
-{
-    write_lines(schema, faults, with_reasons, sink)?;
-    write_count(faults.len(), " faults\n", sink)
-}
-
 /// Writes a line for each fault.
-fn write_lines<S: Sink>(
-    schema: &Schema,
-    faults: &[Fault],
-    with_reasons: bool,
-    sink: &mut S,
-) -> Result<(), SinkFault>
+fn write_lines<S: Sink>(schema: &Schema, faults: &[Fault], sink: &mut S) -> Result<(), SinkFault>
     ensures { Writes (side S.taken S.failures sink.old) (side S.taken S.failures sink.new)
-        (spelled with_reasons (map (fault_part (schema_view.view schema.now)) (views faults.now)))
-        result }
+        (flat_map (line_of (schema_view.view schema.now)) (views faults.now)) result }
 {
     for fault in faults {
-        write_fault(schema, fault, with_reasons, sink)?;
+        write_fault(schema, fault, sink)?;
     }
     Ok(())
 }
 
-/// Writes the line of a fault, and why its code is told.
-fn write_fault<S: Sink>(
+/// Writes a line for each fault, with what is said of it.
+fn write_explained_lines<S: Sink>(
     schema: &Schema,
-    fault: &Fault,
-    with_reasons: bool,
+    faults: &[Fault],
+    explanations: &[String],
     sink: &mut S,
 ) -> Result<(), SinkFault>
     ensures { Writes (side S.taken S.failures sink.old) (side S.taken S.failures sink.new)
-        (spelled_part with_reasons (fault_part (schema_view.view schema.now) (view fault.now)))
-        result }
+        (explained_lines (schema_view.view schema.now) (views faults.now)
+        (map string_bytes explanations.now)) result }
+{
+    let mut rest = explanations;
+    for fault in faults {
+        match rest.split_first() {
+            Some((explanation, others)) => {
+                write_explained(schema, fault, explanation.as_str(), sink)?;
+                rest = others;
+            }
+            None => return Ok(()),
+        }
+    }
+    Ok(())
+}
+
+/// Writes the line of a fault, what is said of it, and why its code is told.
+fn write_explained<S: Sink>(
+    schema: &Schema,
+    fault: &Fault,
+    explanation: &str,
+    sink: &mut S,
+) -> Result<(), SinkFault>
+    ensures { Writes (side S.taken S.failures sink.old) (side S.taken S.failures sink.new)
+        (explained_line (schema_view.view schema.now) (view fault.now) explanation.now) result }
+{
+    write_fault(schema, fault, sink)?;
+    write_texts(sink, &[explanation])?;
+    let mut digits = Buffer::new();
+    write_reason(sink, "V", digits.format(fault.code.number()))
+}
+
+/// Writes the line of a fault.
+fn write_fault<S: Sink>(schema: &Schema, fault: &Fault, sink: &mut S) -> Result<(), SinkFault>
+    ensures { Writes (side S.taken S.failures sink.old) (side S.taken S.failures sink.new)
+        (line_of (schema_view.view schema.now) (view fault.now)) result }
 {
     match write_line(schema, fault, sink) {
-        Ok(()) => {}
-        Err(_) => return Err(SinkFault),
+        Ok(()) => Ok(()),
+        Err(_) => Err(SinkFault),
     }
-    write_reason_where(with_reasons, "V", fault.code.number(), sink)
 }
 
 /// Writes a number and what is counted.

@@ -8,7 +8,8 @@ use Rattle.yspec.specs.linking.Compiling.{schema_of}
 use Rattle.yspec.specs.document.Reading.{document_of}
 use Rattle.yspec.specs.document.Writing.{written_text}
 use Rattle.yspec.specs.edit.Examples.{module_p, module_text}
-use Rattle.yprogram.specs.Output.{Printed, compile, draw, edit, validate}
+use Rattle.ycodes.specs.Codes.{reason_of}
+use Rattle.yprogram.specs.Output.{Printed, compile, draw, edit, outcome, printed, validate}
 use Rattle.yexamples.specs.Printing.{found, printed_by}
 
 -- a mandatory leaf in a container in a container
@@ -25,6 +26,19 @@ shown module_bytes document =
 abbrev pub shown_of_two : Text → Text → Text → Printed
 shown_of_two first second document =
     printed_by (validate (codes "d.json") (codes "m.yang" ∷ codes "n.yang" ∷ [])) (Some first ∷ Some second ∷ Some document ∷ [])
+
+-- the same of one module, with the reasons of what is told
+abbrev pub shown_with_reasons : Text → Text → Printed
+shown_with_reasons module_bytes document =
+    printed true (outcome (validate (codes "d.json") (codes "m.yang" ∷ [])) (Some module_bytes ∷ Some document ∷ []))
+
+-- the line of a fault, what is said of its place, and why its code is told
+abbrev pub with_reasons : Text → Text → Text → Text
+with_reasons line said code = line ++ (codes "\n  " ++ (said ++ (codes "\n" ++ reason_of code)))
+
+-- one such fault alone
+abbrev pub one_with_reasons : Text → Text → Text → Printed
+one_with_reasons line said code = found 1 (with_reasons line said code ++ codes "1 faults\n")
 
 -- what one prints under module p
 abbrev pub shown_by_p : Text → Printed

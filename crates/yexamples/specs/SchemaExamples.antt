@@ -151,8 +151,8 @@ refused_within room schema document = option_and_then (λ d. first_refusal room 
 -- what comes of each edit that lines spell, and the lines of faults after them
 abbrev pub reported_after : Schema → List Edit → Result Tree Refusal → Option (List Decision × Text)
 reported_after schema edits (Err refusal) = None
-reported_after schema edits (Ok tree) =
-    Some (decisions schema tree edits, spelled false (report schema (faults_of schema (after schema tree edits))))
+reported_after schema edits (Ok tree) = let left = after schema tree edits in
+    Some (decisions schema tree edits, spelled false (report schema left (faults_of schema left)))
 
 abbrev pub edited_by : Schema → Text → List Text → Option (List Decision × Text)
 edited_by schema document lines =

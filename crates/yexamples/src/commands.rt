@@ -7,7 +7,7 @@ ghost use Rattle.yprogram.specs.Output.{compile, edit, explain, outcome, printed
 ghost use Rattle.yprogram.specs.Script.{lines_of};
 ghost use Rattle.yexamples.specs.SchemaExamples.{hosts, one_host};
 ghost use Rattle.yspec.specs.edit.Examples.{module_p, module_text};
-ghost use Rattle.yexamples.specs.RunExamples.{counted, drawn_as, dumped, faulty, scripted, shown, shown_of_two, without_faults};
+ghost use Rattle.yexamples.specs.RunExamples.{counted, drawn_as, dumped, faulty, scripted, shown, shown_of_two, without_faults, one_with_reasons, shown_with_reasons, with_reasons};
 
 /// How many nodes modules define.
 pub fn counts()
@@ -152,7 +152,7 @@ pub fn derived_values()
 pub fn reasons()
     ensures of_a_fault { printed true (outcome (validate (codes "d.json") (codes "m.yang" ∷ []))
         (Some module_p ∷ Some (codes "{\"p:c\":{}}") ∷ []))
-        ≡ found 1 (codes "V3 data-missing - /p:c/id -\n  A leaf that must be there is missing. Add it, or take the node out around which it must be there.\n1 faults\n") }
+        ≡ found 1 (codes "V3 data-missing - /p:c/id -\n  /p:c: id is missing.\n  A leaf that must be there is missing. Add it, or take the node out around which it must be there.\n1 faults\n") }
     ensures unasked { printed false (outcome (validate (codes "d.json") (codes "m.yang" ∷ []))
         (Some module_p ∷ Some (codes "{\"p:c\":{}}") ∷ []))
         ≡ found 1 (codes "V3 data-missing - /p:c/id -\n1 faults\n") }
@@ -167,4 +167,31 @@ pub fn reasons()
         ≡ found 0 (codes "V10: Another item of a configuration leaf-list has the same value.\n  Told: the item.\n  To do: Take one of them out.\n  Source: RFC 7950, 7.7.\n") }
     ensures of_no_code { printed true (outcome (explain (codes "V10" ∷ codes "v1" ∷ [])) [])
         ≡ failed 2 (codes "v1: no such code") }
+{}
+
+/// What is said of faults, where that is asked for: their places by keys, and what stands there.
+pub fn explained_faults()
+    ensures value { shown_with_reasons module_p (codes "{\"p:c\":{\"id\":256}}")
+        ≡ one_with_reasons (codes "V1 invalid-value - /p:c/id -") (codes "/p:c/id: 256 isn't a value of uint8.") (codes "V1") }
+    ensures missing_key { shown_with_reasons net_module (hosts (codes "{\"auto\":[null]}"))
+        ≡ one_with_reasons (codes "V2 missing-element - /ex-net:net/host[1]/name -") (codes "/ex-net:net/host[1]: its key name is missing.") (codes "V2") }
+    ensures missing_case { shown_with_reasons net_module (hosts (codes "{\"name\":\"it's\"}"))
+        ≡ one_with_reasons (codes "V4 data-missing missing-choice /ex-net:net/host[1] mode") (codes "/ex-net:net/host[name=\"it's\"]: no case of the choice mode is there.") (codes "V4") }
+    ensures several_cases { shown_with_reasons net_module
+        (hosts (codes "{\"name\":\"a\",\"auto\":[null],\"speed\":1}"))
+        ≡ one_with_reasons (codes "V5 bad-element - /ex-net:net/host[1] mode") (codes "/ex-net:net/host[name='a']: the choice mode has nodes of more than one case: auto, fixed.") (codes "V5") }
+    ensures too_few { shown_with_reasons net_module (hosts [])
+        ≡ one_with_reasons (codes "V6 operation-failed too-few-elements /ex-net:net/host -") (codes "/ex-net:net/host: it has 0, and must have at least 1.") (codes "V6") }
+    ensures same_key { shown_with_reasons net_module (hosts (codes
+        "{\"name\":\"a\",\"auto\":[null]},{\"name\":\"b\",\"auto\":[null]},{\"name\":\"a\",\"auto\":[null]}"))
+        ≡ found 1 (with_reasons (codes "V8 operation-failed - /ex-net:net/host[1] -") (codes "/ex-net:net/host[1]: its keys are those of /ex-net:net/host[3].") (codes "V8")
+        ++ (with_reasons (codes "V8 operation-failed - /ex-net:net/host[3] -") (codes "/ex-net:net/host[3]: its keys are those of /ex-net:net/host[1].") (codes "V8")
+        ++ codes "2 faults\n")) }
+    ensures no_target { shown_with_reasons net_module
+        (hosts (codes "{\"name\":\"a\",\"auto\":[null],\"uplink\":\"b\"}"))
+        ≡ one_with_reasons (codes "V11 data-missing instance-required /ex-net:net/host[1]/uplink -") (codes "/ex-net:net/host[name='a']/uplink: no instance of /ex-net:net/host/name is \"b\".") (codes "V11") }
+    ensures after_edits { printed true (outcome (edit false (codes "d.json") (codes "s.txt") (codes "m.yang" ∷ []))
+        (Some module_p ∷ Some (codes "{\"p:c\":{\"id\":1}}")
+        ∷ Some (codes "replace /p:c/id 300") ∷ []))
+        ≡ one_with_reasons (codes "V1 invalid-value - /p:c/id -") (codes "/p:c/id: 300 isn't a value of uint8.") (codes "V1") }
 {}

@@ -16,6 +16,7 @@ use Rattle.yspec.specs.document.FaultCode.{fault_number}
 use Rattle.yspec.specs.document.Faults.{faults_of, line_of}
 use Rattle.yspec.specs.document.Path.{path_text}
 use Rattle.yspec.specs.document.Writing.{written_text}
+use Rattle.yexplain.specs.Sentences.{explained_fault}
 use Rattle.yprogram.specs.Part.{Part, line_about, plain, spelled}
 use Rattle.yprogram.specs.Script.{after_lines, lines_of, refused_lines}
 
@@ -149,13 +150,16 @@ abbrev pub drawn : Schema → Text → Option ℕ → Outcome
 drawn schema name None = failed 2 (name ++ codes ": no such module")
 drawn schema name (Some shown) = found 0 (diagram schema shown)
 
--- a fault's line, by the code in it
-abbrev pub fault_part : Schema → Fault → Part
-fault_part schema f = record { text = line_of schema f; reason = reason_of (codes "V" ++ decimal (fault_number f.code)) }
+-- a fault's line; of it is said what stands at its place, and then why its code is told
+abbrev pub fault_part : Schema → Tree → Fault → Part
+fault_part schema tree f = record {
+  text = line_of schema f;
+  reason = explained_fault schema tree f ++ reason_of (codes "V" ++ decimal (fault_number f.code));
+}
 
--- a line for each fault, and then how many there are
-abbrev pub report : Schema → List Fault → List Part
-report schema faults = map (fault_part schema) faults ++ plain (decimal (length faults) ++ codes " faults\n") ∷ []
+-- a line for each fault of a document, and then how many there are
+abbrev pub report : Schema → Tree → List Fault → List Part
+report schema tree faults = map (fault_part schema tree) faults ++ plain (decimal (length faults) ++ codes " faults\n") ∷ []
 
 -- the text of a document, in a line
 abbrev pub dump : Schema → Tree → List ℕ
@@ -164,7 +168,7 @@ dump schema tree = written_text schema tree ++ codes "\n"
 -- a document after edits, of which the refused ones are told in these lines
 abbrev pub left : Bool → Schema → Tree → List Part → Outcome
 left is_dump schema tree refused = let faults = faults_of schema tree in record {
-  output = if is_dump then plain (dump schema tree) ∷ [] else report schema faults;
+  output = if is_dump then plain (dump schema tree) ∷ [] else report schema tree faults;
   errors = refused;
   status = if length faults == 0 && length refused == 0 then 0 else 1;
 }

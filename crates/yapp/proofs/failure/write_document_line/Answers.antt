@@ -1,4 +1,4 @@
-use Rattle.std.proofs.Common.{codes, decimal}
+use Rattle.std.proofs.Common.{decimal}
 use Rattle.yspec.specs.document.Path.{path_text}
 use Rattle.ymodel.specs.View.{view}
 use Rattle.ytree.specs.View.{place_view}

@@ -11,7 +11,7 @@ use Rattle.yapp.proofs.program.run.Goals as goal
 pub returns-in-Ok-clause-taken : goal.returns-in-Ok-clause-taken
 returns-in-Ok-clause-taken g c = λ taken. (
   came_to c.answer.result,
-  outcome_same _ _ _ _ _ c.in-Ok.ensures.1 c.answer.ensures,
+  outcome_same _ _ _ _ _ c.in-Ok.ensures.1 c.answer.ensures.outcome,
   reasons_same _ _ _ _ _ _ _ _ c.in-Ok.ensures.2 c.tell.ensures,
 )
 

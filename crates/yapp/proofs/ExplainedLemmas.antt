@@ -1,0 +1,102 @@
+-- The lines of faults with what is said of each, as the parts of a report.
+use Rattle.std.proofs.Common.{◌≡◌, Bool, true, false, List, [], ◌∷◌, ◌++◌, Option, Some, None, Global, String, string_bytes, length, map, codes, decimal, refl, sym, ap, ap₂, ◌∙◌, arith}
+use Rattle.std.specs.Prelude.{IfOk, Result, Ok, Err, if◌then◌else◌, ◌&&◌, not, is_none, is_some}
+use Rattle.std.specs.Option.{option_map_or}
+use Rattle.std.specs.List.{flat_map}
+use Rattle.std.proofs.lemmas.List.{append-nil}
+use Rattle.yspec.specs.text.Text.{Text}
+use Rattle.yspec.specs.schema.Schema.{Schema}
+use Rattle.yspec.specs.document.Document.{Tree}
+use Rattle.yspec.specs.document.Fault.{Fault}
+use Rattle.yspec.specs.document.Faults.{line_of}
+use Rattle.yexplain.specs.Sentences.{explained_fault}
+use Rattle.ymodel.specs.View as schema_view
+use Rattle.ytree.specs.View.{tree_view}
+use Rattle.ycheck.specs.View.{views}
+use Rattle.youtput.specs.Writing.{Side, Writes}
+use Rattle.youtput.proofs.WritingLemmas.{writes_same}
+use Rattle.yprogram.specs.Output.{fault_part, printed, report}
+use Rattle.yprogram.specs.Part.{plain, spelled}
+use Rattle.yapp.specs.Explained.{HasNoDocument, IsExplained, explained_line, explained_lines, explanations_due, explanations_in, fault_lines}
+use Rattle.yapp.specs.Failing.{reported}
+use Rattle.yapp.specs.declared.failure.Failure.{Failure}
+use Rattle.yapp.specs.declared.report.Report.{Report}
+use Rattle.yapp.specs.declared.report.Report.TheVariants as reports
+use Rattle.yapp.specs.declared.report.DocumentReport.{DocumentReport}
+use Rattle.yapp.proofs.RunningLemmas.{one_plain, parts_behind}
+
+plain_lines : (s : Schema) (t : Tree) (faults : List Fault) → flat_map (line_of s) faults ≡ spelled false (map (fault_part s t) faults)
+plain_lines s t [] = refl
+plain_lines s t (f ∷ faults) = ap₂ (λ (xs ys : Text). xs ++ ys) (sym (append-nil (line_of s f))) (plain_lines s t faults)
+
+told_lines : (s : Schema) (t : Tree) (faults : List Fault)
+    → explained_lines s faults (map (explained_fault s t) faults) ≡ spelled true (map (fault_part s t) faults)
+told_lines s t [] = refl
+told_lines s t (f ∷ faults) = ap (λ (xs : Text). explained_line s f (explained_fault s t f) ++ xs) (told_lines s t faults)
+
+abbrev pub count_of : List Fault → Text
+count_of faults = decimal (length faults) ++ codes " faults\n"
+
+counted : (with_reasons : Bool) (s : Schema) (t : Tree) (faults : List Fault) (lines : Text) → lines ≡ spelled with_reasons (map (fault_part s t) faults)
+    → lines ++ count_of faults ≡ spelled with_reasons (report s t faults)
+counted with_reasons s t faults lines is = ap₂ (λ (xs ys : Text). xs ++ ys) is (one_plain with_reasons (count_of faults))
+    ∙ sym (parts_behind with_reasons (map (fault_part s t) faults) (plain (count_of faults) ∷ []))
+
+-- where a report has what is due, its lines are those of the report
+pub lines_due : (with_reasons : Bool) (s : Schema) (t : Tree) (faults : List Fault) (said : Option (List Text))
+    → said ≡ (if with_reasons then Some (map (explained_fault s t) faults) else None)
+    → fault_lines s faults said ++ count_of faults ≡ spelled with_reasons (report s t faults)
+lines_due true s t faults said is = counted true s t faults (fault_lines s faults said) (ap (fault_lines s faults) is ∙ told_lines s t faults)
+lines_due false s t faults said is = counted false s t faults (fault_lines s faults said) (ap (fault_lines s faults) is ∙ plain_lines s t faults)
+
+-- ---- a list of faults beside what is said of each
+
+pub first_explained : (s : Schema) (f : Fault) (faults : List Fault) (text : Text) (said all : List Text) → all ≡ text ∷ said
+    → explained_lines s (f ∷ faults) all ≡ explained_line s f text ++ explained_lines s faults said
+first_explained s f faults text said all is = ap (explained_lines s (f ∷ faults)) is
+
+pub none_explained : (s : Schema) (faults : List Fault) (all : List Text) → length all ≡ 0 → explained_lines s faults all ≡ []
+none_explained s [] all none = refl
+none_explained s (f ∷ faults) [] none = refl
+none_explained s (f ∷ faults) (text ∷ all) none = absurd (omega (arith, none))
+
+-- ---- reports without faults
+
+pub nothing_due : (with_reasons : Bool) (r : Result Report Failure) → IfOk r HasNoDocument → IfOk r (IsExplained with_reasons)
+nothing_due with_reasons (Ok (reports.Document r)) other = absurd other
+nothing_due with_reasons (Ok (reports.Explanations explanations)) other = tt
+nothing_due with_reasons (Ok (reports.Nodes count)) other = tt
+nothing_due with_reasons (Ok (reports.Diagram schema shown)) other = tt
+nothing_due with_reasons (Err failure) other = tt
+
+-- ---- what is printed of a document
+
+abbrev pub document_lines : DocumentReport → Text
+document_lines r = fault_lines (schema_view.view r.schema) (views r.faults.items) (explanations_in r) ++ count_of (views r.faults.items)
+
+-- without a text the lines of its faults are what is printed
+pub report_lines : {X E : Type 0} → (with_reasons : Bool) (r : DocumentReport) (a b : Side) (result : Result X E) → r.text ≡ None
+    → IsExplained with_reasons (reports.Document r) → Writes a b (document_lines r) result
+    → Writes a b (printed with_reasons (reported (reports.Document r))).output result
+report_lines with_reasons r a b result no_text explained written =
+    let s = schema_view.view r.schema in
+    let t = tree_view r.tree in
+    let faults = views r.faults.items in
+    writes_same a b _ _ result
+    (lines_due with_reasons s t faults (explanations_in r)
+    (explained ∙ ap (λ (o : Option (String Global)). if with_reasons && is_none o then Some (explanations_due r) else None) no_text
+    ∙ ap (λ (b : Bool). if b then Some (explanations_due r) else None) (and_true with_reasons))
+    ∙ sym (ap (λ (o : Option (String Global)). spelled with_reasons (option_map_or (λ text. plain (string_bytes text ++ codes "\n") ∷ []) o (report s t faults))) no_text))
+    written
+  where
+    and_true : (b : Bool) → (b && true) ≡ b
+    and_true true = refl
+    and_true false = refl
+
+-- ---- tests of options
+
+pub none_so : {A : Type 0} → (o : Option A) (b : Bool) → is_some o ≡ not b → b ≡ is_none o
+none_so None true is = refl
+none_so None false is = is
+none_so (Some x) true is = is
+none_so (Some x) false is = refl

@@ -1,0 +1,17 @@
+use Rattle.std.proofs.Common.{refl}
+use Rattle.ycodes.specs.Codes.{explanation_of}
+use Rattle.yprogram.proofs.ProgramLiterals.{yprogram_on_literals}
+use Rattle.yexamples.proofs.commands.explained_faults.Goals as goal
+
+pub returns : goal.returns
+unfolding yprogram_on_literals explanation_of
+returns c = record {
+  value = refl;
+  missing_key = refl;
+  missing_case = refl;
+  several_cases = refl;
+  too_few = refl;
+  same_key = refl;
+  no_target = refl;
+  after_edits = refl;
+}
