@@ -1,0 +1,6 @@
+pub mod Line
+pub mod Near
+pub mod Word
+pub mod Sentence
+pub mod Labels
+pub mod Samples
