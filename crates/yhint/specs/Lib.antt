@@ -1,5 +1,6 @@
 pub mod Line
 pub mod Near
+pub mod Edits
 pub mod Word
 pub mod Sentence
 pub mod Labels

@@ -3,12 +3,14 @@
 #![tactic(auto)]
 
 mod examples;
+mod laws;
 mod line;
 mod near;
 mod sentence;
 mod word;
 
 pub use examples::{edits, lines, names, statements, words};
+pub use laws::nearness;
 pub use line::shown_line;
 pub use near::{is_near, nearest};
 pub use sentence::line_sentence;
