@@ -76,6 +76,37 @@ replace /p:c/note 5 6
 replace /p:c {\"speed\":1}
 ";
 
+const TYPED: &str = "module t {
+  yang-version 1.1; namespace urn:t; prefix t;
+  contaner c {
+    leef a { type string; }
+  }
+}
+";
+
+const UNREAD: &str = "module u {
+  yang-version 1.1; namespace urn:u; prefix u;
+  leaf a { type string {
+    pattern x;
+  } }
+}
+";
+
+const BINARY: &str = "module b { yang-version 1.1; namespace urn:b; prefix b;
+  leaf a { type binary; }
+}
+";
+
+const PLACED: &str = "module r { yang-version 1.1; namespace urn:r; prefix r;
+  range 1;
+}
+";
+
+const SEVERAL: &str = "module s { yang-version 1.1; namespace urn:s; prefix s;
+  leaf a { range 1; }
+}
+";
+
 const ROWS: &str = "yanglive explain V3
 0 0
 V3: A leaf that must be there is missing.
@@ -111,14 +142,60 @@ yanglive compile --explain p.yang
 3 nodes
 ==
 yanglive compile --explain open.yang
-2 2
+2 3
 open.yang:1: L3
+  | module \"p
   A quoted string or a comment isn't closed. Close it: a string with the quote that opens it, a comment with */.
 ==
 yanglive compile --explain p.yang bare.yang
-2 2
+2 3
 bare.yang:1: C4
+  | module q { namespace \"urn:q\"; prefix q; }
   The module has no yang-version, or another than 1.1. Write yang-version 1.1; at its beginning.
+==
+yanglive compile --explain escape.yang
+2 3
+escape.yang:3: L2
+  | leaf\\x1b[2J a;
+  The module's text has a character that YANG doesn't allow: a control character other than tab and line break, a carriage return without a line feed, or a noncharacter. Take the character out; end lines with a line feed, or a carriage return and a line feed.
+==
+yanglive compile --explain p.yang typed.yang
+2 4
+typed.yang:3: C1
+  | contaner c {
+  no statement is called contaner; near it: container.
+  A statement or a built-in type isn't known, may not stand there, or isn't read by this program. Correct its name, or move it; README says what of YANG is read.
+==
+yanglive compile typed.yang p.yang
+2 1
+typed.yang:3: C1
+==
+yanglive tree --explain u unread.yang
+2 4
+unread.yang:4: C1
+  | pattern x;
+  pattern is YANG 1.1, and this program doesn't read it.
+  A statement or a built-in type isn't known, may not stand there, or isn't read by this program. Correct its name, or move it; README says what of YANG is read.
+==
+yanglive validate --explain empty.json p.yang binary.yang
+2 4
+binary.yang:2: C1
+  | leaf a { type binary; }
+  the type binary is YANG 1.1, and this program doesn't read it.
+  A statement or a built-in type isn't known, may not stand there, or isn't read by this program. Correct its name, or move it; README says what of YANG is read.
+==
+yanglive compile --explain placed.yang
+2 4
+placed.yang:2: C1
+  | range 1;
+  range can't stand here.
+  A statement or a built-in type isn't known, may not stand there, or isn't read by this program. Correct its name, or move it; README says what of YANG is read.
+==
+yanglive compile --explain several.yang
+2 3
+several.yang:2: C1
+  | leaf a { range 1; }
+  A statement or a built-in type isn't known, may not stand there, or isn't read by this program. Correct its name, or move it; README says what of YANG is read.
 ==
 yanglive tree --explain q p.yang
 2 1
@@ -311,6 +388,15 @@ fn explained_runs(rt: HostRuntime) {
         file("p.yang", MODULE),
         file("open.yang", "module \"p"),
         file("bare.yang", "module q { namespace \"urn:q\"; prefix q; }"),
+        file(
+            "escape.yang",
+            "module e {\n  prefix e;\n  leaf\x1b[2J a;\n}\n",
+        ),
+        file("typed.yang", TYPED),
+        file("unread.yang", UNREAD),
+        file("binary.yang", BINARY),
+        file("placed.yang", PLACED),
+        file("several.yang", SEVERAL),
         file("bare.json", "{\"p:c\":{\"speed\":1}}"),
         file("two.json", "{\"p:c\":{\"id\":256,\"note\":5}}"),
         file("empty.json", "{}"),

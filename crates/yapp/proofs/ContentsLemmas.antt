@@ -94,16 +94,16 @@ unread_behind (text ∷ texts) = unread_behind texts
 
 -- ---- modules
 
-with_module_same : (name : Text) (read : Result (Forest Statement) Slip) (f g : Forest Statement → Outcome) → ((top : Forest Statement) → f top ≡ g top)
-    → with_module name read f ≡ with_module name read g
-with_module_same name (Ok top) f g same = same top
-with_module_same name (Err slip) f g same = refl
+with_module_same : (name : Text) (text : List ℕ) (read : Result (Forest Statement) Slip) (f g : Forest Statement → Outcome) → ((top : Forest Statement) → f top ≡ g top)
+    → with_module name text read f ≡ with_module name text read g
+with_module_same name text (Ok top) f g same = same top
+with_module_same name text (Err slip) f g same = refl
 
 with_modules_same : (names : List Text) (texts : List (List ℕ)) (f g : Forest Statement → List (List ℕ) → Outcome)
     → ((rest : Forest Statement) (files : List (List ℕ)) → f rest files ≡ g rest files) → with_modules names texts f ≡ with_modules names texts g
 with_modules_same [] texts f g same = same end texts
 with_modules_same (name ∷ names) [] f g same = same end []
-with_modules_same (name ∷ names) (text ∷ texts) f g same = with_module_same name (module_of text)
+with_modules_same (name ∷ names) (text ∷ texts) f g same = with_module_same name text (module_of text)
     (λ top. with_modules names texts (λ rest. f (join top rest))) (λ top. with_modules names texts (λ rest. g (join top rest)))
     (λ top. with_modules_same names texts (λ rest. f (join top rest)) (λ rest. g (join top rest)) (λ rest files. same (join top rest) files))
 
@@ -126,7 +126,7 @@ none_parsed names texts next = refl
 
 pub one_parsed : (names left_names : List Text) (texts left_texts : List (List ℕ)) (name : Text) (text : List ℕ) (ms : List Module) (m : Module)
     → ParsedSoFar names texts (name ∷ left_names) (text ∷ left_texts) (modules_view ms)
-    → ((next : Forest Statement → Outcome) → with_module name (module_of text) next ≡ next (modules_view (m ∷ [])))
+    → ((next : Forest Statement → Outcome) → with_module name text (module_of text) next ≡ next (modules_view (m ∷ [])))
     → ParsedSoFar names texts left_names left_texts (modules_view (ms ++ m ∷ []))
 one_parsed names left_names texts left_texts name text ms m so_far read next = so_far next
     ∙ read (λ top. with_modules left_names left_texts (λ rest files. next (join (modules_view ms) (join top rest)) files))
@@ -149,7 +149,7 @@ texts_parsed names left_names texts (text ∷ left_texts) name ms none so_far ne
 -- the module of which the text is refused
 pub parsing_fails : (names left_names : List Text) (texts left_texts : List (List ℕ)) (name : Text) (text : List ℕ) (ms : List Module) (f : Failure)
     → ParsedSoFar names texts (name ∷ left_names) (text ∷ left_texts) (modules_view ms)
-    → ((next : Forest Statement → Outcome) → FailsWith f (with_module name (module_of text) next))
+    → ((next : Forest Statement → Outcome) → FailsWith f (with_module name text (module_of text) next))
     → (next : Forest Statement → List (List ℕ) → Outcome) → FailsWith f (with_modules names texts next)
 parsing_fails names left_names texts left_texts name text ms f so_far refused next = subst (FailsWith f) (sym (so_far next))
     (refused (λ top. with_modules left_names left_texts (λ rest files. next (join (modules_view ms) (join top rest)) files)))
@@ -207,8 +207,8 @@ came_of_answer : (before after : Store) (request : Request) (answers : FileAnswe
     → IsOutcome before after request (came_to r)
 came_of_answer before after request answers (Ok report) read same is = inl (answers, read, sym is)
 came_of_answer before after request answers (Err (failures.Unread name)) read same is = inl (answers, read, sym is)
-came_of_answer before after request answers (Err (failures.Text name code line)) read same is = inl (answers, read, sym is)
-came_of_answer before after request answers (Err (failures.Compile name code line)) read same is = inl (answers, read, sym is)
+came_of_answer before after request answers (Err (failures.Text name code line hint)) read same is = inl (answers, read, sym is)
+came_of_answer before after request answers (Err (failures.Compile name code line hint)) read same is = inl (answers, read, sym is)
 came_of_answer before after request answers (Err (failures.Document name schema code place)) read same is = inl (answers, read, sym is)
 came_of_answer before after request answers (Err (failures.NoModule name)) read same is = inl (answers, read, sym is)
 came_of_answer before after request answers (Err (failures.NoCode word)) read same is = inl (answers, read, sym is)

@@ -3,3 +3,4 @@ pub mod ContentsLemmas
 pub mod ScriptLemmas
 pub mod DocumentLemmas
 pub mod ExplainedLemmas
+pub mod HintLemmas

@@ -53,8 +53,8 @@ refusal_parts name number path =
 
 no_output : (with_reasons : Bool) (failure : Failure) → (printed with_reasons (outcome_of failure)).output ≡ []
 no_output with_reasons (failures.Unread name) = refl
-no_output with_reasons (failures.Text name code line) = refl
-no_output with_reasons (failures.Compile name code line) = refl
+no_output with_reasons (failures.Text name code line hint) = refl
+no_output with_reasons (failures.Compile name code line hint) = refl
 no_output with_reasons (failures.Document name schema code place) = refl
 no_output with_reasons (failures.NoModule name) = refl
 no_output with_reasons (failures.NoCode word) = refl

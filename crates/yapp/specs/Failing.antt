@@ -10,6 +10,7 @@ use Rattle.ytree.specs.View.{place_view, tree_view}
 use Rattle.ycheck.specs.View.{views}
 use Rattle.yspec.specs.schema.Diagram.{diagram}
 use Rattle.yprogram.specs.Output.{Outcome, document_part, failed, failed_with, found, refusal_part, report, unread}
+use Rattle.yprogram.specs.Hint.{hinted}
 use Rattle.yprogram.specs.Part.{Part, plain}
 use Rattle.ycodes.specs.Codes.{explained}
 use Rattle.ycodes.specs.View.{explanation_view}
@@ -26,8 +27,10 @@ use Rattle.yapp.specs.declared.report.DocumentReport.{DocumentReport}
 
 abbrev pub outcome_of : Failure → Outcome
 outcome_of (failures.Unread name) = unread name.now
-outcome_of (failures.Text name code line) = failed_with 2 (refusal_part name.now line (codes "L") (number_of code))
-outcome_of (failures.Compile name code line) = failed_with 2 (refusal_part name.now line (codes "C") (code_number code))
+outcome_of (failures.Text name code line hint) =
+    failed_with 2 (hinted (string_bytes hint) (refusal_part name.now line (codes "L") (number_of code)))
+outcome_of (failures.Compile name code line hint) =
+    failed_with 2 (hinted (string_bytes hint) (refusal_part name.now line (codes "C") (code_number code)))
 outcome_of (failures.Document name schema code place) = failed_with 2 (document_part (schema_view.view schema) name.now
     (record { code = document.code_number code; place = place_view place.items }))
 outcome_of (failures.NoModule name) = failed 2 (name.now ++ codes ": no such module")
@@ -58,8 +61,8 @@ FromFile name Memory failure = failure ≡ failures.Memory
 -- a failure is the outcome; of want of memory nothing is said
 abbrev pub FailsWith : Failure → Outcome → Type 0
 FailsWith (failures.Unread name) o = o ≡ outcome_of (failures.Unread name)
-FailsWith (failures.Text name code line) o = o ≡ outcome_of (failures.Text name code line)
-FailsWith (failures.Compile name code line) o = o ≡ outcome_of (failures.Compile name code line)
+FailsWith (failures.Text name code line hint) o = o ≡ outcome_of (failures.Text name code line hint)
+FailsWith (failures.Compile name code line hint) o = o ≡ outcome_of (failures.Compile name code line hint)
 FailsWith (failures.Document name schema code place) o = o ≡ outcome_of (failures.Document name schema code place)
 FailsWith (failures.NoModule name) o = o ≡ outcome_of (failures.NoModule name)
 FailsWith (failures.NoCode word) o = o ≡ outcome_of (failures.NoCode word)

@@ -1,8 +1,10 @@
 //! Why there is no report, and the line that says so.
 
-ghost use Rattle.std.specs.Prelude.{◌≡◌, ◌++◌, codes, decimal};
+ghost use Rattle.std.specs.Prelude.{◌≡◌, ◌++◌, [], codes, decimal, if◌then◌else◌};
 ghost use Rattle.yprogram.specs.Output.{document_part, printed, refusal_part};
+ghost use Rattle.yprogram.specs.Hint.{hinted};
 ghost use Rattle.yprogram.specs.Part.{spelled_part};
+ghost use Rattle.ycodes.specs.Codes.{reason_of};
 ghost use Rattle.youtput.specs.Writing.{Writes, side};
 ghost use Rattle.ymodel.specs.View as schema_view;
 ghost use Rattle.ytree.specs.View.{place_view};
@@ -31,19 +33,21 @@ pub enum Failure<'a> {
     Unread {
         name: &'a str,
     },
-    /// A module's text is refused in a line.
+    /// A module's text is refused in a line, with what is said of it.
     #[error("{name}:{line}: {code}")]
     Text {
         name: &'a str,
         code: TextCode,
         line: u32,
+        hint: String,
     },
-    /// A module is refused in a line.
+    /// A module is refused in a line, with what is said of it.
     #[error("{name}:{line}: {code}")]
     Compile {
         name: &'a str,
         code: CompileCode,
         line: u32,
+        hint: String,
     },
     /// A document is refused at a node of a schema.
     #[error("{name}: {code}")]
@@ -121,11 +125,37 @@ impl<'a> Failure<'a> {
     {
         match self {
             Failure::Unread { name } => write_texts(sink, &["cannot read ", *name, "\n"]),
-            Failure::Text { name, code, line } => {
-                write_refusal(*name, *line, "L", code.number(), with_reasons, sink)
+            Failure::Text {
+                name,
+                code,
+                line,
+                hint,
+            } => {
+                write_refusal(
+                    *name,
+                    *line,
+                    "L",
+                    code.number(),
+                    hint.as_str(),
+                    with_reasons,
+                    sink,
+                )
             }
-            Failure::Compile { name, code, line } => {
-                write_refusal(*name, *line, "C", code.number(), with_reasons, sink)
+            Failure::Compile {
+                name,
+                code,
+                line,
+                hint,
+            } => {
+                write_refusal(
+                    *name,
+                    *line,
+                    "C",
+                    code.number(),
+                    hint.as_str(),
+                    with_reasons,
+                    sink,
+                )
             }
             Failure::Document {
                 name,
@@ -140,20 +170,48 @@ impl<'a> Failure<'a> {
     }
 }
 
-/// Writes the line of a module's refusal, by the letter of the code and its number, and why it is told.
+/// Writes, where reasons are wanted, what is said of a place, and the reason of the code that is told.
+fn write_hinted_where<S: Sink>(
+    with_reasons: bool,
+    hint: &str,
+    letter: &str,
+    code: u8,
+    sink: &mut S,
+) -> Result<(), SinkFault>
+    ensures { Writes (side S.taken S.failures sink.old) (side S.taken S.failures sink.new)
+        (if with_reasons then hint.now ++ reason_of (letter.now ++ decimal code) else []) result }
+{
+    if with_reasons {
+        write_hinted(hint, letter, code, sink)
+    } else {
+        Ok(())
+    }
+}
+
+fn write_hinted<S: Sink>(hint: &str, letter: &str, code: u8, sink: &mut S) -> Result<(), SinkFault>
+    ensures { Writes (side S.taken S.failures sink.old) (side S.taken S.failures sink.new)
+        (hint.now ++ reason_of (letter.now ++ decimal code)) result }
+{
+    write_texts(sink, &[hint])?;
+    write_reason_where(true, letter, code, sink)
+}
+
+/// Writes the line of a module's refusal, by the letter of the code and its number, what is said of it, and why it is told.
 fn write_refusal<S: Sink>(
     name: &str,
     line: u32,
     letter: &str,
     code: u8,
+    hint: &str,
     with_reasons: bool,
     sink: &mut S,
 ) -> Result<(), SinkFault>
     ensures { Writes (side S.taken S.failures sink.old) (side S.taken S.failures sink.new)
-        (spelled_part with_reasons (refusal_part name.now line letter.now code)) result }
+        (spelled_part with_reasons (hinted hint.now
+        (refusal_part name.now line letter.now code))) result }
 {
     write_refusal_line(name, line, letter, code, sink)?;
-    write_reason_where(with_reasons, letter, code, sink)
+    write_hinted_where(with_reasons, hint, letter, code, sink)
 }
 
 /// Writes the line of a module's refusal: `FILE:LINE: CODE`.

@@ -6,6 +6,7 @@ mod contents;
 mod document;
 mod failure;
 mod files;
+mod hint;
 mod modules;
 mod program;
 mod reason;

@@ -9,14 +9,18 @@ ghost use Rattle.yspec.specs.schema.Schema as schema_spec;
 ghost use Rattle.yspec.specs.text.Statement.{Statement, module_of};
 ghost use Rattle.ytext.specs.View.{modules_view};
 ghost use Rattle.ymodel.specs.View as schema_view;
-ghost use Rattle.yapp.specs.Failing.{LeadsTo};
+ghost use Rattle.ytext.specs.Told.{number_of};
+ghost use Rattle.ygrammar.specs.BreakView.{break_view};
+ghost use Rattle.yapp.specs.Failing.{FailsWith, LeadsTo};
 
 use crate::contents::Taken;
 use crate::failure::Failure;
+use crate::hint::{break_hint, line_hint};
 use std::alloc::Global;
+use ygrammar::BrokenRule;
 use ymodel::Schema;
 use yschema::{CompileFault, compile};
-use ytext::{Module, TextFault, parse};
+use ytext::{Module, TextCode, TextFault, parse};
 
 /// The statements of the modules of some names, in order, up to the first whose text is refused.
 fn parse_modules<'a, 'b>(
@@ -55,13 +59,35 @@ fn parse_modules<'a, 'b>(
 
 fn parse_module<'a>(alloc: Global, name: &'a str, text: &[u8]) -> Result<Module, Failure<'a>>
     ensures { (next : Forest Statement → Outcome)
-        → LeadsTo (spec.with_module name.entry.now (module_of text.now) next)
+        → LeadsTo (spec.with_module name.entry.now text.now (module_of text.now) next)
         (λ parsed. next (modules_view (parsed ∷ []))) result }
 {
     match parse(alloc, text) {
         Ok(module) => Ok(module),
-        Err(TextFault::Refused { code, line }) => Err(Failure::Text { name, code, line }),
+        Err(TextFault::Refused { code, line }) => Err(text_failure(alloc, name, code, line, text)),
         Err(TextFault::Memory) => Err(Failure::Memory),
+    }
+}
+
+/// The failure of a module whose text is refused in a line.
+fn text_failure<'a>(
+    alloc: Global,
+    name: &'a str,
+    code: TextCode,
+    line: u32,
+    text: &[u8],
+) -> Failure<'a>
+    ensures { FailsWith result (spec.slipped name.entry.now text.now
+        (record { code = number_of code; line = line })) }
+{
+    match line_hint(alloc, line, text) {
+        Ok(hint) => Failure::Text {
+            name,
+            code,
+            line,
+            hint,
+        },
+        Err(_) => Failure::Memory,
     }
 }
 
@@ -69,20 +95,43 @@ fn parse_module<'a>(alloc: Global, name: &'a str, text: &[u8]) -> Result<Module,
 fn compile_modules<'a>(
     alloc: Global,
     names: &[&'a str],
+    contents: &[Vec<u8>],
     modules: &[Module],
 ) -> Result<Schema, Failure<'a>>
     ensures { (next : schema_spec.Schema → Outcome)
-        → LeadsTo (with_compiled (map (λ n. n.now) names.now)
-        (compiled (modules_view modules.now)) next)
+        → LeadsTo (with_compiled (map (λ n. n.now) names.now) (map (λ c. c.items) contents.now)
+        (modules_view modules.now) (compiled (modules_view modules.now)) next)
         (λ schema. next (schema_view.view schema)) result }
 {
     match compile(alloc, modules) {
         Ok(schema) => Ok(schema),
         Err(CompileFault::Refused { code, module, line }) => {
-            let name = names.get(module).copied().unwrap_or("");
-            Err(Failure::Compile { name, code, line })
+            let rule = BrokenRule { module, line, code };
+            Err(compile_failure(alloc, names, contents, modules, rule))
         }
         Err(CompileFault::Memory) => Err(Failure::Memory),
+    }
+}
+
+/// The failure of a set of modules of which one breaks a rule.
+fn compile_failure<'a>(
+    alloc: Global,
+    names: &[&'a str],
+    contents: &[Vec<u8>],
+    modules: &[Module],
+    rule: BrokenRule,
+) -> Failure<'a>
+    ensures { FailsWith result (spec.broken (map (λ n. n.now) names.now)
+        (map (λ c. c.items) contents.now) (modules_view modules.now) (break_view rule)) }
+{
+    match break_hint(alloc, contents, modules, rule) {
+        Ok(hint) => Failure::Compile {
+            name: names.get(rule.module).copied().unwrap_or(""),
+            code: rule.code,
+            line: rule.line,
+            hint,
+        },
+        Err(_) => Failure::Memory,
     }
 }
 
@@ -99,7 +148,7 @@ pub fn compile_contents<'a, 'b>(
         result }
 {
     match parse_modules(alloc, names, contents) {
-        Ok(parsed) => match compile_modules(alloc, names, &parsed.value) {
+        Ok(parsed) => match compile_modules(alloc, names, contents, &parsed.value) {
             Ok(schema) => Ok(Taken {
                 value: schema,
                 rest: parsed.rest,

@@ -162,7 +162,22 @@ pub fn reasons()
         (codes "{\"p:c\":{\"id\":1}}\n") }
     ensures of_a_text { printed true (outcome (compile (codes "m.yang" ∷ []))
         (Some (codes "module a;}") ∷ []))
-        ≡ failed 2 (codes "m.yang:1: L6\n  The text isn't one whole module: it ends within a statement, has a } too many, no statement, or a second one at the top. Balance the braces; one file holds one module.") }
+        ≡ failed 2 (codes "m.yang:1: L6\n  | module a;}\n  The text isn't one whole module: it ends within a statement, has a } too many, no statement, or a second one at the top. Balance the braces; one file holds one module.") }
+    ensures of_a_slip { printed true (outcome (compile (codes "m.yang" ∷ []))
+        (Some (codes "module a {\n\tprefix \"\\x\";\n}") ∷ []))
+        ≡ failed 2 (codes "m.yang:2: L4\n  | prefix \"\\x\";\n  In a string in double quotes a backslash stands before another character than n, t, a double quote or a backslash. Double the backslash, or use single quotes, in which it is itself.") }
+    ensures of_a_word { printed true (outcome (compile (codes "a.yang" ∷ codes "m.yang" ∷ []))
+        (Some module_p ∷ Some (codes "module m {\n  yang-version 1.1; namespace n; prefix m;\n  contaner c;\n}\n") ∷ []))
+        ≡ failed 2 (codes "m.yang:3: C1\n  | contaner c;\n  no statement is called contaner; near it: container.\n  A statement or a built-in type isn't known, may not stand there, or isn't read by this program. Correct its name, or move it; README says what of YANG is read.") }
+    ensures of_a_keyword { printed true (outcome (compile (codes "m.yang" ∷ []))
+        (Some (codes "module m {\n  yang-version 1.1; namespace n; prefix m;\n  leaf c { type string { pattern x; } }\n}\n") ∷ []))
+        ≡ failed 2 (codes "m.yang:3: C1\n  | leaf c { type string { pattern x; } }\n  pattern is YANG 1.1, and this program doesn't read it.\n  A statement or a built-in type isn't known, may not stand there, or isn't read by this program. Correct its name, or move it; README says what of YANG is read.") }
+    ensures of_a_place { printed true (outcome (compile (codes "m.yang" ∷ []))
+        (Some (codes "module m {\n  yang-version 1.1; namespace n; prefix m;\n  key c;\n}\n") ∷ []))
+        ≡ failed 2 (codes "m.yang:3: C1\n  | key c;\n  key can't stand here.\n  A statement or a built-in type isn't known, may not stand there, or isn't read by this program. Correct its name, or move it; README says what of YANG is read.") }
+    ensures of_a_rule { printed true (outcome (compile (codes "m.yang" ∷ []))
+        (Some (codes "module m {\n  yang-version 1.1; namespace n;\n  key c;\n}\n") ∷ []))
+        ≡ failed 2 (codes "m.yang:1: C2\n  | module m {\n  A statement has too many or too few substatements of a kind. Leave one of them, or add the one that must be there: a leaf needs a type, a module its namespace and prefix.") }
     ensures of_a_code { printed false (outcome (explain (codes "V10" ∷ [])) [])
         ≡ found 0 (codes "V10: Another item of a configuration leaf-list has the same value.\n  Told: the item.\n  To do: Take one of them out.\n  Source: RFC 7950, 7.7.\n") }
     ensures of_no_code { printed true (outcome (explain (codes "V10" ∷ codes "v1" ∷ [])) [])

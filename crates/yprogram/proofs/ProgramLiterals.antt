@@ -1,8 +1,11 @@
 -- What an answer unfolds to compute the outcome of a run on literals.
 use Rattle.std.specs.Prelude.{⊤}
 use Rattle.yspec.proofs.LiteralLemmas.{yspec_on_literals}
+use Rattle.yhint.specs.Line.{shown_line}
+use Rattle.yhint.specs.Near.{is_near, nearest}
+use Rattle.yhint.specs.Sentence.{of_line}
 use Rattle.yprogram.specs.Output.{outcome}
 
 unfoldable pub yprogram_on_literals : ⊤
-unfolding yspec_on_literals outcome
+unfolding yspec_on_literals outcome shown_line of_line is_near nearest
 yprogram_on_literals = tt

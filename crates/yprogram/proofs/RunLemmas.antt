@@ -73,11 +73,11 @@ are_parsed (name ∷ names) (bytes ∷ contents) rest next count shown =
 
     by : (o : Result (Forest Statement) Slip) → module_of bytes ≡ o
         → ((top : Forest Statement) → IsReport (others next rest top) → AreParsed names contents)
-        → IsReport (with_module name o (others next rest)) → AreParsed (name ∷ names) (bytes ∷ contents)
+        → IsReport (with_module name bytes o (others next rest)) → AreParsed (name ∷ names) (bytes ∷ contents)
     by (Err slip) is inner shown = absurd (omega (arith, shown))
     by (Ok top) is inner shown = let behind = inner top shown in record {
       top = join top behind.top;
-      is = λ rest next. ap (λ (o : Result (Forest Statement) Slip). with_module name o (others next rest)) is
+      is = λ rest next. ap (λ (o : Result (Forest Statement) Slip). with_module name bytes o (others next rest)) is
           ∙ behind.is rest (λ below files. next (join top below) files);
     }
 
@@ -90,20 +90,20 @@ pub record IsCompiled (names : List Text) (contents : List (List ℕ)) : Type 0 
 pub is_compiled : (names : List Text) (contents rest : List (List ℕ)) (next : Schema → List (List ℕ) → Outcome)
     → length contents ≡ length names → IsReport (with_schema names (contents ++ rest) next) → IsCompiled names contents
 is_compiled names contents rest next count shown =
-    by (compiled parsed.top) refl (subst IsReport (parsed.is rest (λ modules files. with_compiled names (compiled modules) (λ schema. next schema files))) shown)
+    by (compiled parsed.top) refl (subst IsReport (parsed.is rest (λ modules files. with_compiled names (contents ++ rest) modules (compiled modules) (λ schema. next schema files))) shown)
   where
     parsed : AreParsed names contents
-    parsed = are_parsed names contents rest (λ modules files. with_compiled names (compiled modules) (λ schema. next schema files)) count shown
+    parsed = are_parsed names contents rest (λ modules files. with_compiled names (contents ++ rest) modules (compiled modules) (λ schema. next schema files)) count shown
 
-    by : (o : Result Schema Break) → compiled parsed.top ≡ o → IsReport (with_compiled names o (λ schema. next schema rest)) → IsCompiled names contents
+    by : (o : Result Schema Break) → compiled parsed.top ≡ o → IsReport (with_compiled names (contents ++ rest) parsed.top o (λ schema. next schema rest)) → IsCompiled names contents
     by (Err broken) is shown = absurd (omega (arith, shown))
     by (Ok schema) is shown = record {
       top = parsed.top;
       schema = schema;
       compiles = is;
       is = λ rest next.
-          parsed.is rest (λ modules files. with_compiled names (compiled modules) (λ schema. next schema files))
-          ∙ ap (λ (o : Result Schema Break). with_compiled names o (λ schema. next schema rest)) is;
+          parsed.is rest (λ modules files. with_compiled names (contents ++ rest) modules (compiled modules) (λ schema. next schema files))
+          ∙ ap (λ (o : Result Schema Break). with_compiled names (contents ++ rest) parsed.top o (λ schema. next schema rest)) is;
     }
 
 -- ---- the document

@@ -1,4 +1,5 @@
 -- What a run of the program prints.
 pub mod Part
+pub mod Hint
 pub mod Script
 pub mod Output

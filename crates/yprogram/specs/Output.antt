@@ -17,6 +17,7 @@ use Rattle.yspec.specs.document.Faults.{faults_of, line_of}
 use Rattle.yspec.specs.document.Path.{path_text}
 use Rattle.yspec.specs.document.Writing.{written_text}
 use Rattle.yexplain.specs.Sentences.{explained_fault}
+use Rattle.yprogram.specs.Hint.{break_hint, hinted, line_hint}
 use Rattle.yprogram.specs.Part.{Part, line_about, plain, spelled}
 use Rattle.yprogram.specs.Script.{after_lines, lines_of, refused_lines}
 
@@ -90,31 +91,32 @@ abbrev pub refusal_part : Text → ℕ → Text → ℕ → Part
 refusal_part name line letter number = let code = letter ++ decimal number in
     line_about code (name ++ (codes ":" ++ (decimal line ++ (codes ": " ++ code))))
 
-abbrev pub slipped : Text → Slip → Outcome
-slipped name s = failed_with 2 (refusal_part name s.line (codes "L") s.code)
+abbrev pub slipped : Text → List ℕ → Slip → Outcome
+slipped name bytes s = failed_with 2 (hinted (line_hint s.line bytes) (refusal_part name s.line (codes "L") s.code))
 
-abbrev pub broken : List Text → Break → Outcome
-broken names b = failed_with 2 (refusal_part (unwrap_or (slice_get names b.module_number) []) b.line (codes "C") b.code)
+abbrev pub broken : List Text → List (List ℕ) → Forest Statement → Break → Outcome
+broken names contents modules b = failed_with 2 (hinted (break_hint contents modules b)
+    (refusal_part (unwrap_or (slice_get names b.module_number) []) b.line (codes "C") b.code))
 
-abbrev pub with_module : Text → Result (Forest Statement) Slip → (Forest Statement → Outcome) → Outcome
-with_module name (Err s) next = slipped name s
-with_module name (Ok top) next = next top
+abbrev pub with_module : Text → List ℕ → Result (Forest Statement) Slip → (Forest Statement → Outcome) → Outcome
+with_module name bytes (Err s) next = slipped name bytes s
+with_module name bytes (Ok top) next = next top
 
 -- `next` goes on with the row of all modules' statements, and with the files that are left
 abbrev pub with_modules : List Text → List (List ℕ) → (Forest Statement → List (List ℕ) → Outcome) → Outcome
 with_modules [] files next = next end files
 with_modules (name ∷ names) [] next = next end []
 with_modules (name ∷ names) (bytes ∷ files) next =
-    with_module name (module_of bytes) (λ top. with_modules names files (λ rest. next (join top rest)))
+    with_module name bytes (module_of bytes) (λ top. with_modules names files (λ rest. next (join top rest)))
 
-abbrev pub with_compiled : List Text → Result Schema Break → (Schema → Outcome) → Outcome
-with_compiled names (Err b) next = broken names b
-with_compiled names (Ok schema) next = next schema
+abbrev pub with_compiled : List Text → List (List ℕ) → Forest Statement → Result Schema Break → (Schema → Outcome) → Outcome
+with_compiled names contents modules (Err b) next = broken names contents modules b
+with_compiled names contents modules (Ok schema) next = next schema
 
 -- `next` goes on with the schema of modules whose files have these contents, and with the files that are left
 abbrev pub with_schema : List Text → List (List ℕ) → (Schema → List (List ℕ) → Outcome) → Outcome
 with_schema names contents next = with_modules names contents (λ modules files.
-    with_compiled names (compiled modules) (λ schema. next schema files))
+    with_compiled names contents modules (compiled modules) (λ schema. next schema files))
 
 -- ---- the document
 

@@ -21,7 +21,7 @@ loop-name-preserved c =
     (one_parsed names left texts (texts_in c.in-Some.others.now) name c.in-Some.text.now.items c.loop-name.modules.items c.in-Ok.module
     (parsed_same names _ texts _ _ _ _ (at_drop_more names_in c.args.names.now c.loop-name.name-index no_name c.loop-name-test.true)
     (ap texts_in c.in-Some.ensures.cases.0) c.loop-name.invariant)
-    (λ next. ap (λ (t : List ℕ). with_module name (module_of t) next) (sym c.deref.ensures.value) ∙ c.in-Ok.ensures next))
+    (λ next. ap (λ (t : List ℕ). with_module name t (module_of t) next) (sym c.deref.ensures.value) ∙ c.in-Ok.ensures next))
 
 pub returns-in-Err : goal.returns-in-Err
 returns-in-Err c =
@@ -31,7 +31,7 @@ returns-in-Err c =
     parsing_fails names left texts (texts_in c.in-Some.others.now) name c.in-Some.text.now.items c.loop-name.modules.items c.in-Err.failure
     (parsed_same names _ texts _ _ _ _ (at_drop_more names_in c.args.names.now c.loop-name.name-index no_name c.loop-name-test.true)
     (ap texts_in c.in-Some.ensures.cases.0) c.loop-name.invariant)
-    (λ next. subst (λ (t : List ℕ). FailsWith c.in-Err.failure (with_module name (module_of t) next)) c.deref.ensures.value (c.in-Err.ensures next))
+    (λ next. subst (λ (t : List ℕ). FailsWith c.in-Err.failure (with_module name t (module_of t) next)) c.deref.ensures.value (c.in-Err.ensures next))
 
 pub returns-in-None : goal.returns-in-None
 returns-in-None c =

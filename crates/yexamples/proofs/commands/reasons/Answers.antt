@@ -10,6 +10,11 @@ returns c = record {
   unasked = refl;
   of_a_value = refl;
   of_a_text = refl;
+  of_a_slip = refl;
+  of_a_word = refl;
+  of_a_keyword = refl;
+  of_a_place = refl;
+  of_a_rule = refl;
   of_a_code = refl;
   of_no_code = refl;
 }

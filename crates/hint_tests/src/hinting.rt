@@ -1,0 +1,208 @@
+//! The lines that are told, which words are near to one another, and what is said of statements.
+
+use std::alloc::Global;
+use yhint::{is_near, is_unread, line_sentence, nearest, nearest_word, shown_line};
+use ytext::parse;
+
+// `WORD|WORD|DISTANCE`: so many edits lead from the first to the second, and no fewer; 3 stands for any more
+fn is_apart(row: &str) -> Option<bool> {
+    let (first, rest) = row.split_once('|')?;
+    let (second, distance) = rest.split_once('|')?;
+    let distance = distance.parse::<u8>().ok()?;
+    let first = first.as_bytes();
+    let second = second.as_bytes();
+    let is_enough = distance > 2
+        || is_near(distance, first, second) && is_near(distance, second, first);
+    let is_needed = distance == 0 || !is_near(distance - 1, first, second);
+    Some(is_enough && is_needed)
+}
+
+#[test]
+fn distances(rt: HostRuntime) {
+    let rows = "leaf|leaf|0
+||0
+|a|1
+|ab|2
+|abc|3
+leaf|laef|1
+leaf|lef|1
+leaf|leeaf|1
+leaf|leag|1
+leaf|eaf|1
+leaf|leafs|1
+container|contaner|1
+container|cotnainer|1
+container|conatiner|1
+container|contianer|1
+container|ontaineer|2
+container|cnotainre|2
+container|contain|2
+container|conain|3
+abcd|badc|2
+abc|cab|2
+abc|cba|2
+abc|bca|2
+ab|ba|1
+abc|xyz|3
+grouping|gruopings|2
+identity|idendity|1
+mandatory|manadatroy|2
+mandatory|madnatroy|2
+é|e|2
+é|è|1";
+    for row in rows.lines() {
+        assert!(rt; is_apart(row) == Some(true), "{row}");
+    }
+}
+
+// `WORD|NAME,NAME,..|NEAREST`, with `-` for none
+fn is_nearest(alloc: Global, row: &str) -> Option<bool> {
+    let (word, rest) = row.split_once('|')?;
+    let (names, wanted) = rest.split_once('|')?;
+    let names: Vec<&str> = names.split(',').collect(alloc).ok()?;
+    Some(nearest(word, &names).unwrap_or("-") == wanted)
+}
+
+#[test]
+fn names(rt: HostRuntime) {
+    let rows = "speed|spend,sped|spend
+speed|spond,sped|sped
+host|hosts,host|host
+host|net:host,port|port
+a|b|-
+ab|b|b
+ab|cd|-
+abc|cbd|-
+abcd|badc|badc
+uplink|host,speed|-
+iterface|interface,interfaces|interface
+iterfaces|interface,interfaces|interfaces
+x||-";
+    for row in rows.lines() {
+        assert!(rt; is_nearest(rt.alloc(), row) == Some(true), "{row}");
+    }
+}
+
+// `WORD|NEAREST`, with `-` for none, or `WORD` alone, which is a keyword that isn't read
+fn is_word(row: &str) -> bool {
+    match row.split_once('|') {
+        Some((word, near)) => !is_unread(word) && nearest_word(word).unwrap_or("-") == near,
+        None => is_unread(row) && nearest_word(row) == Some(row),
+    }
+}
+
+#[test]
+fn words(rt: HostRuntime) {
+    let rows = "contaner|container
+lief|leaf
+tpye|type
+interface|-
+leaf|leaf
+mandtory|mandatory
+patern|pattern
+uss|uses
+keys|key
+submodul|submodule
+action
+anydata
+anyxml
+argument
+base
+belongs-to
+deviate
+deviation
+feature
+identity
+if-feature
+include
+input
+modifier
+must
+notification
+output
+pattern
+rpc
+submodule
+when
+yin-element";
+    for row in rows.lines() {
+        assert!(rt; is_word(row), "{row}");
+    }
+}
+
+const MODULE: &str = "module m {
+  contaner a;
+  pattern x;
+  leaf b;
+  leaf c { type binary; }
+  interface d;
+  leaf e { type string; }
+  x:y z;
+  type identityref; leef f;
+}
+";
+
+// `LINE|SENTENCE`
+fn is_said(alloc: Global, row: &str) -> Option<bool> {
+    let (line, wanted) = row.split_once('|')?;
+    let line = line.parse::<u32>().ok()?;
+    let module = parse(alloc, MODULE.as_bytes()).ok()?;
+    Some(line_sentence(alloc, line, &module).ok()?.as_str() == wanted)
+}
+
+#[test]
+fn sentences(rt: HostRuntime) {
+    let rows = "1|module can't stand here.
+2|no statement is called contaner; near it: container.
+3|pattern is YANG 1.1, and this program doesn't read it.
+4|leaf can't stand here.
+5|the type binary is YANG 1.1, and this program doesn't read it.
+6|no statement is called interface.
+7|
+8|x:y can't stand here.
+9|no statement is called leef; near it: leaf.
+10|
+11|";
+    for row in rows.lines() {
+        assert!(rt; is_said(rt.alloc(), row) == Some(true), "{row}");
+    }
+}
+
+// Whether the line of a number is shown so.
+fn is_shown(alloc: Global, number: u32, text: &[u8], wanted: &str) -> Option<bool> {
+    Some(shown_line(alloc, number, text).ok()?.as_str() == wanted)
+}
+
+#[test]
+fn lines(rt: HostRuntime) {
+    let text = b"module m {\r\n \t leaf b;\n\n  z\x1b[31m\xff\n\xc3\xa9\tx\n\xe2\x80\xae\nend";
+    let rows = "module m {
+leaf b;
+
+z\\x1b[31m\\xff
+é\tx
+\\xe2\\x80\\xae
+end
+";
+    let mut number = 0u32;
+    for row in rows.split('\n') {
+        number = number.saturating_add(1);
+        assert!(rt;
+            is_shown(rt.alloc(), number, text, row) == Some(true),
+            "{row}"
+        );
+    }
+    assert!(rt; is_shown(rt.alloc(), 4_294_967_295, text, "") == Some(true));
+}
+
+#[test]
+fn long_lines(rt: HostRuntime) {
+    let row =
+        "0123456789012345678901234567890123456789012345678901234567890123456789012345678901234567890123456789";
+    let longer =
+        "0123456789012345678901234567890123456789012345678901234567890123456789012345678901234567890123456789é";
+    let cut =
+        "0123456789012345678901234567890123456789012345678901234567890123456789012345678901234567890123456789 ..";
+    assert!(rt; is_shown(rt.alloc(), 1, row.as_bytes(), row) == Some(true));
+    assert!(rt; is_shown(rt.alloc(), 1, longer.as_bytes(), cut) == Some(true));
+}

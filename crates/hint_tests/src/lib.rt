@@ -1,0 +1,5 @@
+//! Tests of what is said of lines, words and names.
+#![tactic(auto)]
+
+#[cfg(test)]
+mod hinting;

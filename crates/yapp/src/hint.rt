@@ -1,0 +1,87 @@
+//! What is said below a line that tells a code, above the reason of the code: what stands there, and what may have been
+//! meant.
+
+ghost use Rattle.std.specs.Prelude.{◌≡◌, ◌++◌, ◌∷◌, [], IfOk, map, slice_get, string_bytes, unwrap_or};
+ghost use Rattle.ygrammar.specs.BreakView.{break_view, code_number};
+ghost use Rattle.ytext.specs.View.{modules_view};
+ghost use Rattle.yprogram.specs.Hint as spec;
+
+use std::alloc::{AllocError, Global};
+use ygrammar::{BrokenRule, CompileCode};
+use yhint::{line_sentence, shown_line};
+use ytext::Module;
+
+/// A text as a line, behind its front; nothing of an empty one.
+fn as_line(alloc: Global, front: &str, text: &str) -> Result<String, AllocError>
+    ensures { IfOk result (λ line. string_bytes line ≡ spec.as_line front.now text.now) }
+{
+    if text.is_empty() {
+        Ok(String::new(alloc))
+    } else {
+        [front, text, "\n"].concat(alloc)
+    }
+}
+
+/// The line of a text that is told.
+pub fn line_hint(alloc: Global, line: u32, bytes: &[u8]) -> Result<String, AllocError>
+    ensures { IfOk result (λ hint. string_bytes hint ≡ spec.line_hint line bytes.now) }
+{
+    let shown = shown_line(alloc, line, bytes)?;
+    as_line(alloc, "  | ", shown.as_str())
+}
+
+/// What is said of the statements of a line of a module, of C1 alone.
+fn statement_hint(
+    alloc: Global,
+    code: CompileCode,
+    line: u32,
+    of: &Module,
+) -> Result<String, AllocError>
+    ensures { IfOk result (λ hint. string_bytes hint
+        ≡ spec.statement_hint (code_number code) line (modules_view (of.now ∷ []))) }
+{
+    if code.number() == 1 {
+        let said = line_sentence(alloc, line, of)?;
+        as_line(alloc, "  ", said.as_str())
+    } else {
+        Ok(String::new(alloc))
+    }
+}
+
+/// The same of a module of a set, by its number.
+fn module_hint(alloc: Global, modules: &[Module], rule: BrokenRule) -> Result<String, AllocError>
+    ensures { let b = break_view rule in IfOk result (λ hint. string_bytes hint
+        ≡ spec.statement_hint b.code b.line
+        (spec.module_at b.module_number (modules_view modules.now))) }
+{
+    match modules.get(rule.module) {
+        Some(of) => statement_hint(alloc, rule.code, rule.line, of),
+        None => Ok(String::new(alloc)),
+    }
+}
+
+/// The contents of a file, by its number.
+fn contents_at(contents: &[Vec<u8>], number: usize) -> &[u8]
+    ensures { result.now ≡ unwrap_or (slice_get (map (λ c. c.items) contents.entry.now) number) [] }
+{
+    match contents.get(number) {
+        Some(bytes) => bytes.as_slice(),
+        None => &[],
+    }
+}
+
+/// What is said of a rule that a module breaks, by the contents of the files and the statements of all.
+pub fn break_hint(
+    alloc: Global,
+    contents: &[Vec<u8>],
+    modules: &[Module],
+    rule: BrokenRule,
+) -> Result<String, AllocError>
+    ensures { IfOk result (λ hint. string_bytes hint ≡ spec.break_hint
+        (map (λ c. c.items) contents.now) (modules_view modules.now) (break_view rule)) }
+{
+    let mut hint = line_hint(alloc, rule.line, contents_at(contents, rule.module))?;
+    let said = module_hint(alloc, modules, rule)?;
+    hint.push_str(said.as_str())?;
+    Ok(hint)
+}

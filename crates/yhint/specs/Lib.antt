@@ -1,0 +1,7 @@
+pub mod Line
+pub mod Near
+pub mod Edits
+pub mod Word
+pub mod Sentence
+pub mod Labels
+pub mod Samples

@@ -1,0 +1,37 @@
+-- What is said below a line that tells a code, above the reason of the code: what stands there, and what may have been
+-- meant.
+use Rattle.std.specs.Prelude.{ℕ, zero, suc, ◌==◌, ◌++◌, List, [], ◌∷◌, codes, if◌then◌else◌, slice_get, unwrap_or}
+use Rattle.yspec.specs.Forest.{Forest, end, node}
+use Rattle.yspec.specs.text.Text.{Text}
+use Rattle.yspec.specs.text.Statement.{Statement}
+use Rattle.yspec.specs.schema.Breaks.{Break}
+use Rattle.yhint.specs.Line.{shown_line}
+use Rattle.yhint.specs.Sentence.{of_line}
+use Rattle.yprogram.specs.Part.{Part}
+
+abbrev pub hinted : Text → Part → Part
+hinted hint p = record { text = p.text; reason = hint ++ p.reason }
+
+-- a text as a line, behind its front; nothing of an empty one
+abbrev pub as_line : Text → Text → Text
+as_line front [] = []
+as_line front (x ∷ text) = front ++ ((x ∷ text) ++ codes "\n")
+
+-- the line of a text that is told, behind a bar
+abbrev pub line_hint : ℕ → List ℕ → Text
+line_hint line bytes = as_line (codes "  | ") (shown_line line bytes)
+
+-- what is said of the statements of a line, of C1 alone
+abbrev pub statement_hint : ℕ → ℕ → Forest Statement → Text
+statement_hint code line top = if code == 1 then as_line (codes "  ") (of_line line top) else []
+
+-- the statement of a module, by its number, among those of several
+abbrev pub module_at : ℕ → Forest Statement → Forest Statement
+module_at number end = end
+module_at zero (node s below after) = node s below end
+module_at (suc number) (node s below after) = module_at number after
+
+-- of a rule that a module breaks, by the contents of the files and the statements of all
+abbrev pub break_hint : List (List ℕ) → Forest Statement → Break → Text
+break_hint contents modules b = line_hint b.line (unwrap_or (slice_get contents b.module_number) [])
+    ++ statement_hint b.code b.line (module_at b.module_number modules)
