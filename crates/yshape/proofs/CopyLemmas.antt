@@ -17,7 +17,7 @@ use Rattle.yshape.specs.Hanging.{Numbered, Branches, stored_of, tree_of, child_o
 use Rattle.yshape.specs.Copies.{stored_at, listed_below, row_of_children}
 use Rattle.yshape.proofs.HangingLemmas as hanging
 
-label_shape : (o : Option Held) → option_map_or (λ held. held.shape.label) o None ≡ option_map_or (λ (s : Shape). s.label) (option_map (λ held. held.shape) o) None
+pub label_shape : (o : Option Held) → option_map_or (λ held. held.shape.label) o None ≡ option_map_or (λ (s : Shape). s.label) (option_map (λ held. held.shape) o) None
 label_shape (Some held) = refl
 label_shape None = refl
 

@@ -120,11 +120,11 @@ map_join : (xs ys : List Numbered) → map (λ n. n.id) (xs ++ ys) ≡ map (λ n
 map_join [] ys = refl
 map_join (x ∷ xs) ys = ap (λ is. x.id ∷ is) (map_join xs ys)
 
-append_on : (xs ys zs : List NodeId) → (xs ++ ys) ++ zs ≡ xs ++ (ys ++ zs)
+pub append_on : (xs ys zs : List NodeId) → (xs ++ ys) ++ zs ≡ xs ++ (ys ++ zs)
 append_on [] ys zs = refl
 append_on (x ∷ xs) ys zs = ap (λ is. x ∷ is) (append_on xs ys zs)
 
-append_none : (xs : List NodeId) → xs ++ [] ≡ xs
+pub append_none : (xs : List NodeId) → xs ++ [] ≡ xs
 append_none [] = refl
 append_none (x ∷ xs) = ap (λ is. x ∷ is) (append_none xs)
 

@@ -6,4 +6,5 @@ pub mod FrameLemmas
 pub mod GrowLemmas
 pub mod HangingLemmas
 pub mod OpenLemmas
+pub mod PartLemmas
 pub mod RemoveLemmas

@@ -4,6 +4,7 @@
 mod copying;
 mod inserting;
 mod laws;
+mod parts;
 mod worked;
 
 pub use copying::copy_tree;
@@ -11,4 +12,5 @@ pub use inserting::{insert_part, insert_tree, remove_nodes, store_of_tree};
 pub use laws::{
     changed_documents, changed_trees, found_children, kept_forests, kept_shapes, nodes_beside_trees,
 };
+pub use parts::copy_part;
 pub use worked::{hanging_trees, worked_trees};
