@@ -1,0 +1,10 @@
+pub mod ChangeLemmas
+pub mod CopyLemmas
+pub mod DocumentLemmas
+pub mod FoundLemmas
+pub mod FrameLemmas
+pub mod GrowLemmas
+pub mod HangingLemmas
+pub mod OpenLemmas
+pub mod PartLemmas
+pub mod RemoveLemmas

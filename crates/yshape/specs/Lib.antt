@@ -1,0 +1,7 @@
+pub mod Changes
+pub mod Copies
+pub mod Growing
+pub mod Hanging
+pub mod Parts
+pub mod Ways
+pub mod Worked
