@@ -1,0 +1,18 @@
+use Rattle.std.proofs.Common.{refl}
+use Rattle.yspec.proofs.LiteralLemmas.{yspec_on_literals}
+use Rattle.yhint.specs.Near.{is_near, nearest}
+use Rattle.ymember.specs.Member.{said_of_refusal}
+use Rattle.ymember.proofs.examples.values.Goals as goal
+
+pub returns : goal.returns
+unfolding yspec_on_literals is_near nearest said_of_refusal
+returns c = record {
+  no_object = refl;
+  no_array = refl;
+  no_entry = refl;
+  no_value = refl;
+  null_value = refl;
+  fraction = refl;
+  no_json = refl;
+  is_read = refl;
+}
