@@ -2,7 +2,6 @@
 use Rattle.std.proofs.Common.{◌≡◌, ℕ, zero, suc, Bool, true, false, List, [], ◌∷◌, Some, None, refl, ap}
 use Rattle.std.specs.Prelude.{◌==◌, if◌then◌else◌, slice_get, unwrap_or}
 use Rattle.yspec.specs.Forest.{end}
-use Rattle.yspec.specs.text.Text.{Text}
 use Rattle.ytext.specs.View.{modules_view}
 use Rattle.ytext.specs.declared.statement.Module.{Module}
 use Rattle.yhint.specs.Sentence.{of_line}

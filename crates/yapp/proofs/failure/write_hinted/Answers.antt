@@ -1,4 +1,4 @@
-use Rattle.std.proofs.Common.{List, ℕ, ◌++◌, ap, codes, decimal, sym}
+use Rattle.std.proofs.Common.{List, ℕ, ◌++◌, ap, decimal, sym}
 use Rattle.std.proofs.lemmas.List.{append-nil}
 use Rattle.ycodes.specs.Codes.{reason_of}
 use Rattle.youtput.proofs.WritingLemmas.{left_all, left_after, left_failed, left_last, left_same}
