@@ -38,6 +38,7 @@ impl Nodes {
         ensures nodes { (id : _) → store.held_at result (Below id) ≡ None }
         ensures index { (key : _) → store.entry_at result key ≡ None }
         ensures reads { store.reads result ≡ 0 }
+        ensures count { store.node_count result ≡ 0 }
     {
         Nodes {
             alloc,

@@ -1,0 +1,33 @@
+use Rattle.std.proofs.Common.{arith, ap, ◌∙◌, ◌+◌, drop}
+use Rattle.yspec.specs.Forest.{end, node, join}
+use Rattle.ytree.specs.View.{view, tree_view, row_view}
+use Rattle.ystore.specs.Views.{store_of}
+use Rattle.yshape.specs.Hanging.{tree_of}
+use Rattle.yshape.proofs.OpenLemmas.{top_more, next_stored, all_stored, tree_more}
+use Rattle.yshape.proofs.inserting.insert_tree.Goals as goal
+
+pub loop-stored-preserved : goal.loop-stored-preserved
+loop-stored-preserved c = (
+  c.add_child.ensures.same_reference ∙ (c.in_ok-reserve_child.ensures.same_reference ∙ (c.in_ok-id.ensures.same_reference ∙ c.loop-stored.invariant.0)),
+  λ before keeps.
+      let so = c.loop-stored.invariant.1 before keeps in
+      let made = c.in_ok-id.ensures.ok in
+      let s = c.stored-item.result in
+      let rows = c.roots-stored-items.result.now in
+      let i = c.loop-stored.stored-index in (
+        join so.0 (node made.root made.branches end),
+        ap (λ t. join t (row_view (drop (i + 1) rows))) (tree_more so.0 made.root made.branches (view s).0 (view s).1 made.is_label made.is_below)
+            ∙ next_stored rows i s (tree_of so.0) (tree_view c.args.tree.now) (omega arith) c.stored-item.is so.1,
+        top_more before so.0 (store_of c.loop-stored.counted) (store_of c.insert_part.new.counted) (store_of c.reserve_child.new.self) (store_of c.add_child.new.self)
+            c.in_ok-id.id c.id.result (view s).0 (view s).1 _ _ made so.2 c.in_ok-reserve_child.ensures.ok c.id.ensures c.add_child.ensures.store,
+      ),
+)
+
+pub returns-clause-trees : goal.returns-clause-trees
+returns-clause-trees c before keeps =
+    let so = c.loop-stored.invariant.1 before keeps in
+    record {
+      branches = so.0;
+      is_tree = all_stored c.roots-stored-items.result.now c.loop-stored.stored-index (tree_of so.0) (tree_view c.args.tree.now) (omega arith) so.1;
+      keeps = so.2;
+    }

@@ -1,0 +1,5 @@
+pub mod Changes
+pub mod Copies
+pub mod Growing
+pub mod Hanging
+pub mod Ways

@@ -1,0 +1,107 @@
+//! Documents put into stores, and parts of them put in and taken out beside the tree.
+
+ghost use Rattle.std.specs.Prelude.{◌≡◌, IfOk, OnOk, OnErr, option_map};
+ghost use Rattle.yspec.specs.Forest.{end};
+ghost use Rattle.yspec.specs.document.Sorting.{IsSorted};
+ghost use Rattle.ytype.specs.View.{raw_of};
+ghost use Rattle.ytree.specs.View.{view, tree_view};
+ghost use Rattle.ystore.specs.Held.{label_of};
+ghost use Rattle.ystore.specs.Views.{store_of, lent};
+ghost use Rattle.yshape.specs.Hanging.{Branches, Holds, Keeps};
+ghost use Rattle.yshape.specs.Growing.{Gets, Grows, Inserts, Removes};
+ghost use Rattle.ystore.specs.declared.row.Row.TheVariants.{Top};
+
+use crate::copying::copy_of_value;
+use std::alloc::{AllocError, Global};
+use ystore::{Counted, Judged, Label, NodeId, Nodes, Row, Told};
+use ytree::{Stored, Tree};
+
+/// A store that holds a document. Of its faults nothing is told yet.
+pub fn store_of_tree(alloc: Global, tree: &Tree) -> Result<Nodes, AllocError>
+    ensures { IsSorted (tree_view tree.now)
+        → IfOk result (λ nodes. Holds nodes (tree_view tree.now)) }
+{
+    let mut nodes = Nodes::new(alloc);
+    let mut counted = nodes.counted();
+    insert_tree(&mut counted, tree)?;
+    Ok(nodes)
+}
+
+/// Puts a document into a store that holds one, each node behind those of its schema node. Where memory runs out the store
+/// is to be given up.
+#[tactic(auto, using(ystore::proofs::CallerLemmas::room_is_there))]
+pub fn insert_tree(counted: &mut Counted<'_>, tree: &Tree) -> Result<(), AllocError>
+    ensures trees { OnOk result ((before : Branches) → Keeps (store_of counted.old) before Top end
+        → Gets before (tree_view tree.now) (store_of counted.new)) }
+    ensures same_reference { lent counted.new ≡ lent counted.old }
+{
+    let mut numbers = Vec::new(counted.alloc());
+    for stored in tree.roots() {
+        let id = insert_part(counted, Row::Top, stored, &mut numbers)?;
+        counted.reserve_child(Row::Top)?;
+        counted.add_child(Row::Top, stored.id(), id);
+        numbers.clear();
+    }
+    Ok(())
+}
+
+/// Inserts a stored node with all that stands below it, as one of a row that doesn't list it yet, and lists their numbers,
+/// in preorder. Where memory runs out some of them may be in the store, where they hang on nothing.
+#[cycle(parts)]
+pub fn insert_part(
+    counted: &mut Counted<'_>,
+    above: Row,
+    stored: &Stored,
+    numbers: &mut Vec<NodeId>,
+) -> Result<NodeId, AllocError>
+    ensures ok { IfOk result (λ id. Inserts above id (view stored.now).0 (view stored.now).1
+        (store_of counted.old) (store_of counted.new) numbers.old.items numbers.new.items) }
+    ensures grows { Grows (store_of counted.old) (store_of counted.new) }
+    ensures same_reference { lent counted.new ≡ lent counted.old }
+{
+    let rows = stored.below();
+    let label = label_at(stored, above)?;
+    let told = nothing_told(counted.alloc());
+    let id = counted.insert(label, told, 0, rows.len())?;
+    numbers.push(id)?;
+    for child in rows {
+        let node = insert_part(counted, Row::Below(id), child, numbers)?;
+        counted.add_child(Row::Below(id), child.id(), node);
+    }
+    Ok(id)
+}
+
+/// The label of a stored node in a row.
+fn label_at(stored: &Stored, above: Row) -> Result<Label, AllocError>
+    ensures label { IfOk result (λ label. label_of label ≡ record {
+      schema = label.schema;
+      value = (view stored.now).0.value;
+      parent = above;
+    }) }
+    ensures number { IfOk result (λ label. label.schema.0 ≡ (view stored.now).0.schema_number) }
+{
+    Ok(Label {
+        schema: stored.id(),
+        value: copy_of_value(stored.value())?,
+        parent: above,
+    })
+}
+
+/// Nothing is told of a node that is new.
+fn nothing_told(alloc: Global) -> Told {
+    Told {
+        judged: Judged::Right,
+        same: Vec::new(alloc),
+        play: Vec::new(alloc),
+    }
+}
+
+/// Gives nodes back, one after another.
+pub fn remove_nodes(counted: &mut Counted<'_>, numbers: &[NodeId])
+    ensures store { Removes numbers.now (store_of counted.old) (store_of counted.new) }
+    ensures same_reference { lent counted.new ≡ lent counted.old }
+{
+    for id in numbers {
+        counted.remove(*id);
+    }
+}

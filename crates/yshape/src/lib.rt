@@ -1,0 +1,10 @@
+//! What hangs in a store: the document's tree, as rows of nodes that list one another, and its changes.
+#![tactic(auto)]
+
+mod copying;
+mod inserting;
+mod laws;
+
+pub use copying::copy_tree;
+pub use inserting::{insert_part, insert_tree, remove_nodes, store_of_tree};
+pub use laws::{changed_documents, changed_trees, kept_forests, kept_shapes, nodes_beside_trees};
