@@ -1,8 +1,10 @@
 -- The ways to the rows of a forest, and the forest with what stands in such a row changed.
-use Rattle.std.specs.Prelude.{◌≡◌, List, [], ◌∷◌}
+use Rattle.std.specs.Prelude.{◌≡◌, ℕ, List, [], ◌∷◌}
 use Rattle.yspec.specs.Forest.{node, join}
 use Rattle.yspec.specs.document.Document.{Step, instances_in}
 use Rattle.yspec.specs.edit.Edit.{instance_index}
+use Rattle.ymodel.specs.declared.node.SchemaId.{SchemaId}
+use Rattle.ystore.specs.declared.row.NodeId.{NodeId}
 use Rattle.ystore.specs.declared.row.Row.{Row}
 use Rattle.ystore.specs.declared.row.Row.TheVariants.{Below}
 use Rattle.yshape.specs.Hanging.{Numbered, Branches, tree_of}
@@ -34,3 +36,12 @@ Goes [] (frame ∷ way) = ⊥
 Goes (step ∷ steps) [] = ⊥
 Goes (step ∷ steps) (frame ∷ way) = (frame.label.schema.0 ≡ step.schema_number)
     × (instances_in (tree_of frame.before) step.schema_number ≡ instance_index step) × Goes steps way
+
+-- the node of a schema node that has an index among those of that node, in a row
+pub record Found (schema : SchemaId) (index : ℕ) (id : NodeId) (f : Branches) : Type 0 where
+  pub frame : Frame
+  pub below : Branches
+  pub is_row : f ≡ join frame.before (node frame.label below frame.after)
+  pub is_schema : frame.label.schema ≡ schema
+  pub is_id : frame.label.id ≡ id
+  pub is_index : instances_in (tree_of frame.before) schema.0 ≡ index
