@@ -1,6 +1,7 @@
 pub mod ChangeLemmas
 pub mod CopyLemmas
 pub mod DocumentLemmas
+pub mod FoundLemmas
 pub mod FrameLemmas
 pub mod GrowLemmas
 pub mod HangingLemmas

@@ -3,3 +3,4 @@ pub mod Copies
 pub mod Growing
 pub mod Hanging
 pub mod Ways
+pub mod Worked

@@ -1,22 +1,23 @@
 //! Laws of what hangs in a store.
 
-ghost use Rattle.std.specs.Prelude.{◌≡◌, ◌<◌, ℕ, List, Option, Some, None, option_map};
+ghost use Rattle.std.specs.Prelude.{◌≡◌, ◌<◌, ◌++◌, ◌∷◌, [], length, slice_get, ℕ, List, Option, Some, None, option_map};
 ghost use Rattle.yspec.specs.Forest.{end, node, join};
 ghost use Rattle.yspec.specs.document.Document.{Stored, Tree, Step, instances_in};
 ghost use Rattle.yspec.specs.document.Sorting.{IsSorted};
 ghost use Rattle.yspec.specs.edit.Edit.{edit_at, instance_index};
 ghost use Rattle.yspec.specs.edit.Editing.{with_branch, with_instead, without};
-ghost use Rattle.ystore.specs.Rows.{added, put, taken, moved};
+ghost use Rattle.ymodel.specs.declared.node.SchemaId.{SchemaId};
+ghost use Rattle.ystore.specs.Rows.{added, put, taken, moved, of_schema};
 ghost use Rattle.ystore.specs.Held.{Label, Told, new_held, with_children, with_told, with_total, with_room};
 ghost use Rattle.ystore.specs.Entries.{Entry};
-ghost use Rattle.ystore.specs.Store.{held_at, ChangesRow, ChangesEntry, CountsOne, Stays};
+ghost use Rattle.ystore.specs.Store.{children_at, ChangesRow, ChangesEntry, CountsOne, Stays};
 ghost use Rattle.ystore.specs.declared.key.Key.{Key};
 ghost use Rattle.ystore.specs.declared.row.NodeId.{NodeId};
 ghost use Rattle.ystore.specs.declared.row.Row.{Row};
 ghost use Rattle.ystore.specs.declared.row.Row.TheVariants.{Top, Below};
 ghost use Rattle.ystore.specs.declared.nodes.Nodes.{Nodes};
 ghost use Rattle.yshape.specs.Hanging.{Numbered, Branches, Stands, Hangs, Keeps, Holds, shape_at, times, child_of, stored_of, tree_of};
-ghost use Rattle.yshape.specs.Ways.{Way, Goes, around, end_of};
+ghost use Rattle.yshape.specs.Ways.{Frame, Way, Goes, Found, around, end_of};
 ghost use Rattle.yshape.specs.Changes.{SameShapes, with_node, with_node_at};
 ghost use Rattle.yshape.specs.Copies.{ids_of, laid};
 ghost use Rattle.yshape.specs.Growing.{Grows, Inserts, Removes};
@@ -95,4 +96,24 @@ pub fn changed_documents()
         → without step (tree_of (join first (node m under rest))) ≡ tree_of (join first rest) }
     ensures along { (steps : List Step) (way : Way) (change : Tree → Tree) (f g : Branches) → Goes steps way
         → change (tree_of f) ≡ tree_of g → edit_at steps change (tree_of (around way f)) ≡ tree_of (around way g) }
+{}
+
+/// A child that is found by its schema node and an index is the one that the definition's steps mean, and its row is a step
+/// further; what hangs on the row at the end of a way is what stands there.
+pub fn found_children()
+    ensures found { (nodes : Nodes) (above : Row) (f : Branches) (s : SchemaId) (index : ℕ) (id : NodeId)
+        → Hangs nodes above f → slice_get (of_schema s (children_at nodes above)) index ≡ Some id
+        → Found s index id f }
+    ensures count { (nodes : Nodes) (above : Row) (f : Branches) (s : SchemaId) → Hangs nodes above f
+        → length (of_schema s (children_at nodes above)) ≡ instances_in (tree_of f) s.0 }
+    ensures row { (nodes : Nodes) (above : Row) (way : Way) (f : Branches)
+        → Hangs nodes above (around way f) → Hangs nodes (end_of above way) f }
+    ensures further { (way : Way) (frame : Frame) (f : Branches) → around (way ++ frame ∷ []) f
+        ≡ around way (join frame.before (node frame.label f frame.after)) }
+    ensures ends { (above : Row) (way : Way) (frame : Frame)
+        → end_of above (way ++ frame ∷ []) ≡ Below frame.label.id }
+    ensures steps { (steps : List Step) (way : Way) (step : Step) (frame : Frame) → Goes steps way
+        → frame.label.schema.0 ≡ step.schema_number
+        → instances_in (tree_of frame.before) step.schema_number ≡ instance_index step
+        → Goes (steps ++ step ∷ []) (way ++ frame ∷ []) }
 {}

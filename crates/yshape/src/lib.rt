@@ -4,7 +4,11 @@
 mod copying;
 mod inserting;
 mod laws;
+mod worked;
 
 pub use copying::copy_tree;
 pub use inserting::{insert_part, insert_tree, remove_nodes, store_of_tree};
-pub use laws::{changed_documents, changed_trees, kept_forests, kept_shapes, nodes_beside_trees};
+pub use laws::{
+    changed_documents, changed_trees, found_children, kept_forests, kept_shapes, nodes_beside_trees,
+};
+pub use worked::{hanging_trees, worked_trees};
