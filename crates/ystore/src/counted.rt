@@ -111,6 +111,18 @@ impl<'a> Counted<'a> {
         }
     }
 
+    /// How many nodes a row has.
+    pub fn child_count(&mut self, row: Row) -> usize
+        ensures count { result ≡ length (store.children_at (store_of self.old) row) }
+        ensures counted { IsRead self.old self.new }
+    {
+        self.nodes.count.rise();
+        match self.nodes.record(row) {
+            Some(record) => record.children.as_slice().len(),
+            None => 0,
+        }
+    }
+
     /// The node at a place of a row.
     pub fn child(&mut self, row: Row, place: usize) -> Option<NodeId>
         ensures child { result
