@@ -1,6 +1,6 @@
 -- Parts of a document in its store: put into a row, in the place of another, and taken out.
-use Rattle.std.proofs.Common.{◌≡◌, List, [], ◌∷◌, option_map, refl, sym, ap, ap₂, ◌∙◌, ◌++◌, arith, subst}
-use Rattle.std.specs.Prelude.{ℕ, ◌+◌, ◌<◌, ◌≤◌, None, Result, Ok, Err, IsErrAnd, length}
+use Rattle.std.proofs.Common.{◌≡◌, List, [], ◌∷◌, option_map, refl, sym, ap, ap₂, ◌∙◌, arith, subst}
+use Rattle.std.specs.Prelude.{◌+◌, ◌<◌, ◌≤◌, None, Result, Ok, Err, IsErrAnd, length}
 use Rattle.std.proofs.lemmas.Bool.{lt-ltb, le-ltb}
 use Rattle.std.proofs.lemmas.List.{append-nil}
 use Rattle.yspec.specs.Forest.{end, node, join, size}
@@ -21,7 +21,7 @@ use Rattle.ystore.specs.declared.row.Row.{Row}
 use Rattle.ystore.specs.declared.row.Row.TheVariants.{Top}
 use Rattle.ystore.specs.declared.nodes.Nodes.{Nodes}
 use Rattle.yshape.specs.Hanging.{Numbered, Branches, stored_of, tree_of, child_of, children_of, Keeps, Holds}
-use Rattle.yshape.specs.Ways.{Way, Goes, Found, around, end_of}
+use Rattle.yshape.specs.Ways.{Way, Goes, around, end_of}
 use Rattle.yshape.specs.Changes.{with_node}
 use Rattle.yshape.specs.Copies.{laid, ids_of}
 use Rattle.yshape.specs.Growing.{Grows, Inserts, Removes}

@@ -1,4 +1,4 @@
-use Rattle.std.proofs.Common.{[], subst, arith}
+use Rattle.std.proofs.Common.{subst, arith}
 use Rattle.ytree.specs.View.{view}
 use Rattle.ystore.specs.Views.{store_of}
 use Rattle.yshape.specs.Growing.{Inserts, Removes}
