@@ -41,7 +41,7 @@ length_on : (xs ys : List NodeId) → length (xs ++ ys) ≡ length xs + length y
 length_on [] ys = omega arith
 length_on (x ∷ xs) ys = let rest = length_on xs ys in omega (arith, rest)
 
-length_ids : (f : Branches) → length (ids_of f) ≡ size f
+pub length_ids : (f : Branches) → length (ids_of f) ≡ size f
 length_ids end = refl
 length_ids (node n below after) =
     let a = length_ids below in
