@@ -1,1 +1,4 @@
+pub mod AmendLemmas
+pub mod LocatingLemmas
+pub mod OrderLemmas
 pub mod PartLemmas

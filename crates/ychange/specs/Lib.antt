@@ -1,1 +1,3 @@
+pub mod Instances
+pub mod Locating
 pub mod Places

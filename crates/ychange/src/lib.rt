@@ -1,6 +1,10 @@
 //! Changes of the document that hangs in a store: a part is put into a row, in the place of another, or taken out.
 #![tactic(auto)]
 
+mod amending;
+mod instances;
+mod locating;
 mod parts;
 
+pub use amending::amend;
 pub use parts::{add_part, put_part, take_part};

@@ -1,0 +1,114 @@
+-- Edits of a document in a store come to what the definition gives.
+use Rattle.std.proofs.Common.{◌≡◌, ℕ, Bool, false, List, [], sym, ap, subst, ◌∙◌, ltb, arith}
+use Rattle.std.specs.Prelude.{◌≤◌, not, ◌&&◌, Option, Some, None, Result, Ok, Err, nat_lt, if◌then◌else◌}
+use Rattle.yspec.specs.Forest.{end, node, join, size}
+use Rattle.yspec.specs.text.Text.{Text}
+use Rattle.yspec.specs.schema.Schema.{Schema}
+use Rattle.yspec.specs.edit.Edit.{edit_at, instance_index}
+use Rattle.yspec.specs.Results.{Fails, ◌>>=◌}
+use Rattle.yspec.specs.document.Document.{Step, Tree}
+use Rattle.yspec.specs.edit.Editing as spec
+use Rattle.ypath.specs.Applying.{told_by}
+use Rattle.ypath.specs.declared.edit.EditFault.{EditFault}
+use Rattle.ypath.specs.declared.edit.EditFault.TheVariants.{Refused, Memory}
+use Rattle.ystore.specs.declared.row.Row.{Row}
+use Rattle.ystore.specs.declared.row.Row.TheVariants.{Top}
+use Rattle.ystore.specs.declared.nodes.Nodes.{Nodes}
+use Rattle.ymodel.specs.declared.node.SchemaId.{SchemaId}
+use Rattle.ystore.specs.Store.{node_count}
+use Rattle.ystore.specs.declared.row.NodeId.{NodeId}
+use Rattle.yshape.specs.Hanging.{Branches, Holds, Numbered, Stands}
+use Rattle.yshape.specs.Copies.{ids_of}
+use Rattle.yshape.specs.Parts.{OnlyReads}
+use Rattle.yshape.proofs.FrameLemmas.{keeps_same}
+use Rattle.yshape.proofs.HangingLemmas.{stands_second, weigh_join, weigh_around, size_weigh}
+use Rattle.yshape.specs.Ways.{Found, around}
+use Rattle.ychange.specs.Places.{Amends, IsAt, IsPart, Shows}
+use Rattle.ychange.specs.Locating.{Locates}
+use Rattle.ychange.proofs.LocatingLemmas.{hangs_at, same_shapes}
+
+pub there_is : (many kind : Bool) (count k : ℕ) → many ≡ false → many ≡ kind → count ≡ k → ltb 0 count ≡ (not kind && nat_lt 0 k)
+there_is many kind count k none is same = ap (ltb 0) same ∙ ap (λ b. not b && nat_lt 0 k) (sym none ∙ is)
+
+-- a document that stands so is held
+pub holds_at : (nodes : Nodes) (tree : Tree) (steps : List Step) (above : Row) (f : Branches) → IsAt nodes tree steps above f → Holds nodes tree
+holds_at nodes tree steps above f at = record { branches = around at.way f; is_tree = at.is_tree; keeps = at.keeps }
+
+-- and hangs there
+pub shows_at : (nodes : Nodes) (tree : Tree) (steps : List Step) (above : Row) (f : Branches) → IsAt nodes tree steps above f → Shows nodes tree
+shows_at nodes tree steps above f at =
+    let all = at.keeps.all in
+    record { branches = around at.way f; is_tree = at.is_tree; hangs = at.keeps.hangs; within = omega (arith, all) }
+
+-- a fault that tells the definition's refusal, or want of memory
+pub amends_fault : (X : Type 0) (nodes : Nodes) (tree : Tree) (answer : Result Tree spec.EditRefusal) (fault : EditFault) → Fails (told_by fault) answer → Holds nodes tree → Shows nodes tree
+    → Amends {X = X} tree answer nodes (Err fault)
+amends_fault X nodes tree answer (Refused code doc) fails holds there = (fails, holds)
+amends_fault X nodes tree answer Memory fails holds there = there
+
+pub fails_on : {A B : Type 0} (told : Option spec.EditRefusal) (answer : Result A spec.EditRefusal) (next : A → Result B spec.EditRefusal) → Fails told answer → Fails told (answer >>= next)
+fails_on (Some refusal) answer next fails = ap (λ a. a >>= next) fails
+fails_on None answer next fails = tt
+
+pub fails_same : {A : Type 0} (told : Option spec.EditRefusal) (a b : Result A spec.EditRefusal) → a ≡ b → Fails told b → Fails told a
+fails_same told a b is fails = subst (Fails told) (sym is) fails
+
+-- no path leads there
+pub amends_unplaced : (X : Type 0) (s : Schema) (nodes : Nodes) (tree : Tree) (answer : Result spec.Target spec.EditRefusal) (next : spec.Target → Result Tree spec.EditRefusal) (fault : EditFault)
+    → Locates s tree [] answer nodes (Err fault) → Holds nodes tree → Amends {X = X} tree (answer >>= next) nodes (Err fault)
+amends_unplaced X s nodes tree answer next (Refused code doc) e holds = (ap (λ a. a >>= next) e, holds)
+amends_unplaced X s nodes tree answer next Memory e holds =
+    let all = holds.keeps.all in
+    record { branches = holds.branches; is_tree = holds.is_tree; hangs = holds.keeps.hangs; within = omega (arith, all) }
+
+pub holds_read : (before after : Nodes) (tree : Tree) → OnlyReads before after → Holds before tree → Holds after tree
+holds_read before after tree only holds = record {
+  branches = holds.branches;
+  is_tree = holds.is_tree;
+  keeps = keeps_same before after (same_shapes before after only) holds.branches Top end holds.keeps;
+}
+
+-- ---- parts
+
+-- the part that a found node is, by its numbers
+pub part_at : (nodes : Nodes) (tree : Tree) (steps : List Step) (above : Row) (f : Branches) (step : Step) (schema : SchemaId) (id : NodeId) (numbers : List NodeId)
+    → IsAt nodes tree steps above f → (found : Found schema (instance_index step) id f) → schema.0 ≡ step.schema_number
+    → ((row : Row) (n : Numbered) (below : Branches) → n.id ≡ id → Stands nodes row (node n below end) → size (node n below end) ≤ node_count nodes
+    → numbers ≡ ids_of (node n below end)) → IsPart step schema id numbers f
+part_at nodes tree steps above f step schema id numbers at found same listed =
+    let n = found.frame.label in
+    let below = found.below in
+    let here = hangs_at nodes tree steps above f at in
+    let stands = stands_second nodes above found.frame.before (node n below found.frame.after) (subst (Stands nodes above) found.is_row here.stands) in
+    let whole : size f ≡ size (join found.frame.before (node n below found.frame.after)) = ap size found.is_row in
+    let parts = weigh_join (λ _. 1) found.frame.before (node n below found.frame.after) in
+    let w1 = size_weigh (join found.frame.before (node n below found.frame.after)) in
+    let w2 = size_weigh below in
+    let w3 = size_weigh (around at.way f) in
+    let w4 = size_weigh f in
+    let out = weigh_around (λ _. 1) at.way f in
+    let all = at.keeps.all in
+    record {
+      found = found;
+      is_schema = same;
+      are_numbers = listed above n below found.is_id (stands.0, stands.1, tt) (omega (arith, whole, parts, w1, w2, w3, w4, out, all));
+    }
+
+-- ---- answers
+
+pub removed_is : (s : Schema) (tree : Tree) (t : spec.Target) (step : Step) → spec.last_meant s t ≡ Ok step → spec.removed s tree t ≡ Ok (edit_at t.above (spec.without step) tree)
+removed_is s tree t step meant = ap (λ (a : Result Step spec.EditRefusal). a >>= (λ (st : Step). Ok (edit_at t.above (spec.without st) tree))) meant
+
+pub replaced_is : (s : Schema) (tree : Tree) (text : Text) (t : spec.Target) (step : Step) (b : spec.Branch) → spec.last_meant s t ≡ Ok step
+    → spec.branch_of s t.last.schema_node.number text ≡ Ok b → spec.replaced s tree text t ≡ spec.within_limit (edit_at t.above (spec.with_instead step b) tree)
+replaced_is s tree text t step b meant value =
+    ap (λ (a : Result Step spec.EditRefusal). a >>= (λ (st : Step). spec.branch_of s t.last.schema_node.number text
+    >>= (λ (c : spec.Branch). spec.within_limit (edit_at t.above (spec.with_instead st c) tree)))) meant
+    ∙ ap (λ (a : Result spec.Branch spec.EditRefusal). a >>= (λ (c : spec.Branch). spec.within_limit (edit_at t.above (spec.with_instead step c) tree))) value
+
+pub created_is : (s : Schema) (tree : Tree) (text : Text) (t : spec.Target) (b : spec.Branch) → spec.is_there t ≡ false
+    → spec.branch_of s t.last.schema_node.number text ≡ Ok b → spec.created s tree text t ≡ spec.within_limit (edit_at t.above (spec.with_branch b) tree)
+created_is s tree text t b none value =
+    ap (λ (there : Bool). if there then spec.refused 8 else (spec.branch_of s t.last.schema_node.number text
+    >>= (λ (c : spec.Branch). spec.within_limit (edit_at t.above (spec.with_branch c) tree)))) none
+    ∙ ap (λ (a : Result spec.Branch spec.EditRefusal). a >>= (λ (c : spec.Branch). spec.within_limit (edit_at t.above (spec.with_branch c) tree))) value

@@ -1,0 +1,22 @@
+use Rattle.std.proofs.Common.{[], sym, subst}
+use Rattle.yspec.specs.Results.{◌>>=◌}
+use Rattle.yspec.specs.edit.Editing as spec
+use Rattle.ymodel.specs.View as schema_view
+use Rattle.ypath.specs.Binding.{steps_view}
+use Rattle.ypath.specs.EditView.{path_view}
+use Rattle.ystore.specs.Views.{store_of}
+use Rattle.ychange.specs.Locating.{CountFromOne, Locates}
+use Rattle.ychange.proofs.OrderLemmas.{bound_from_one}
+use Rattle.ychange.proofs.amending.place_of.Goals as goal
+
+pub locate-requires : goal.locate-requires
+locate-requires c =
+    let s = schema_view.view c.args.schema.now in
+    subst (λ bs. CountFromOne (steps_view s bs)) (sym c.as_slice.ensures.value)
+    (bound_from_one s c.args.is_create (path_view c.args.path.now) (steps_view s c.in-Ok.bound.steps.items) c.in-Ok.ensures)
+
+pub returns-in-Ok-clause-place : goal.returns-in-Ok-clause-place
+returns-in-Ok-clause-place c = λ tree holds.
+    let s = schema_view.view c.args.schema.now in
+    subst (λ a. Locates s tree [] (a >>= spec.target s tree) (store_of c.locate.new.counted) c.locate.result) (sym c.in-Ok.ensures)
+    (subst (λ bs. Locates s tree [] (spec.target s tree (steps_view s bs)) (store_of c.locate.new.counted) c.locate.result) c.as_slice.ensures.value (c.locate.ensures.place tree holds))

@@ -1,0 +1,182 @@
+//! Edits of the document that a store holds.
+
+ghost use Rattle.std.specs.Prelude.{◌≡◌, ◌≤◌, [], false, List, IfOk};
+ghost use Rattle.yspec.specs.Forest.{end, node, size};
+ghost use Rattle.yspec.specs.schema.Schema as schemas;
+ghost use Rattle.yspec.specs.document.Document as document;
+ghost use Rattle.yspec.specs.document.Document.{Step};
+ghost use Rattle.yspec.specs.edit.Editing as spec;
+ghost use Rattle.ymodel.specs.View as schema_view;
+ghost use Rattle.ypath.specs.Binding.{node_of};
+ghost use Rattle.ypath.specs.EditView.{edit_view, path_view, predicate_view};
+ghost use Rattle.ystore.specs.Store.{node_count};
+ghost use Rattle.ystore.specs.Views.{store_of, lent};
+ghost use Rattle.ystore.specs.declared.row.Row as rows;
+ghost use Rattle.yshape.specs.Hanging.{Branches, Hangs, Holds, Numbered, Stands};
+ghost use Rattle.yshape.specs.Copies.{ids_of};
+ghost use Rattle.yshape.specs.Parts.{OnlyReads};
+ghost use Rattle.ychange.specs.Places.{Amends, IsAt};
+ghost use Rattle.ychange.specs.Locating.{Locates, target_at};
+
+use crate::instances::instance_meant;
+use crate::locating::{Place, locate};
+use crate::parts::{add_part, put_part, take_part};
+use std::alloc::AllocError;
+use yinst::part;
+use ymodel::{Schema, SchemaId};
+use ypath::{Edit, EditCode, EditFault, Path, bind_path, refused};
+use yshape::copy_part;
+use ystore::{Counted, NodeId};
+
+/// Does an edit of the document that a store holds, or tells the first refusal, as the definition of edits gives them. Where
+/// memory runs out the document stays as it was, perhaps with nodes beside it that hang on nothing.
+pub fn amend(counted: &mut Counted<'_>, schema: &Schema, edit: &Edit) -> Result<(), EditFault>
+    ensures amends { (tree : document.Tree) → Holds (store_of counted.old) tree
+        → Amends tree (spec.applied (schema_view.view schema.now) tree (edit_view edit.now))
+        (store_of counted.new) result }
+    ensures same_reference { lent counted.new ≡ lent counted.old }
+{
+    match edit {
+        Edit::Create { path, value } => match place_of(counted, schema, true, path) {
+            Ok(place) => create(counted, schema, place, value.as_str()),
+            Err(fault) => Err(fault),
+        },
+        Edit::Replace { path, value } => match place_of(counted, schema, false, path) {
+            Ok(place) => replace(counted, schema, place, value.as_str()),
+            Err(fault) => Err(fault),
+        },
+        Edit::Remove { path } => match place_of(counted, schema, false, path) {
+            Ok(place) => remove(counted, schema, place),
+            Err(fault) => Err(fault),
+        },
+    }
+}
+
+/// Where a path leads: E1 to E6.
+fn place_of<'e>(
+    counted: &mut Counted<'_>,
+    schema: &Schema,
+    is_create: bool,
+    path: &'e Path,
+) -> Result<Place<'e>, EditFault>
+    ensures place { let s = schema_view.view schema.now in
+        (tree : document.Tree) → Holds (store_of counted.old) tree
+        → Locates s tree [] (spec.target_of s tree is_create (path_view path.entry.now))
+        (store_of counted.new) result }
+    ensures from_one { IfOk result (λ place. spec.is_zero (predicate_view place.last.predicate.now)
+        ≡ false) }
+    ensures kept { OnlyReads (store_of counted.old) (store_of counted.new) }
+    ensures same_reference { lent counted.new ≡ lent counted.old }
+{
+    match bind_path(counted.alloc(), schema, is_create, path) {
+        Ok(bound) => locate(counted, schema, bound.steps.as_slice()),
+        Err(fault) => Err(fault),
+    }
+}
+
+/// E8 of a container or leaf that is there, E9 to E11.
+fn create(
+    counted: &mut Counted<'_>,
+    schema: &Schema,
+    place: Place<'_>,
+    value: &str,
+) -> Result<(), EditFault>
+    ensures amends { let s = schema_view.view schema.now in
+        (tree : document.Tree) (above : List Step) (f : Branches)
+        → IsAt (store_of counted.old) tree above place.entry.above f
+        → Amends tree (spec.created s tree value.now (target_at s above f place.entry.last))
+        (store_of counted.new) result }
+    ensures same_reference { lent counted.new ≡ lent counted.old }
+{
+    if is_there(counted, schema, place) {
+        return Err(refused(EditCode::E8));
+    }
+    match part(counted.alloc(), schema, place.last.id, value) {
+        Ok(part) => add_part(counted, place.above, &part),
+        Err(fault) => Err(fault),
+    }
+}
+
+/// Whether a container or leaf that is to be created is there.
+fn is_there(counted: &mut Counted<'_>, schema: &Schema, place: Place<'_>) -> bool
+    ensures there { let s = schema_view.view schema.now in
+        (above : List Step) (f : Branches) → Hangs (store_of counted.old) place.entry.above f
+        → result ≡ spec.is_there (target_at s above f place.entry.last) }
+    ensures kept { OnlyReads (store_of counted.old) (store_of counted.new) }
+    ensures same_reference { lent counted.new ≡ lent counted.old }
+{
+    let count = counted.count_of(place.above, place.last.id);
+    !is_many(schema, place.last.id) && 0 < count
+}
+
+fn is_many(schema: &Schema, id: SchemaId) -> bool
+    ensures { result ≡ schemas.is_many (node_of (schema_view.view schema.now) id.0).kind }
+{
+    match schema.kind(id) {
+        Some(node) => node.kind.is_many(),
+        None => false,
+    }
+}
+
+/// E5 to E7, and E9 to E11.
+fn replace(
+    counted: &mut Counted<'_>,
+    schema: &Schema,
+    place: Place<'_>,
+    value: &str,
+) -> Result<(), EditFault>
+    requires { spec.is_zero (predicate_view place.last.predicate.now) ≡ false }
+    ensures amends { let s = schema_view.view schema.now in
+        (tree : document.Tree) (above : List Step) (f : Branches)
+        → IsAt (store_of counted.old) tree above place.entry.above f
+        → Amends tree (spec.replaced s tree value.now (target_at s above f place.entry.last))
+        (store_of counted.new) result }
+    ensures same_reference { lent counted.new ≡ lent counted.old }
+{
+    match instance_meant(counted, schema, EditCode::E7, place.above, place.last) {
+        Ok(instance) => match part(counted.alloc(), schema, place.last.id, value) {
+            Ok(part) => {
+                let numbers = numbers_of(counted, instance.node)?;
+                put_part(counted, place.above, instance.node, &numbers, &part)
+            }
+            Err(fault) => Err(fault),
+        },
+        Err(fault) => Err(fault),
+    }
+}
+
+/// E5 to E7.
+fn remove(counted: &mut Counted<'_>, schema: &Schema, place: Place<'_>) -> Result<(), EditFault>
+    requires { spec.is_zero (predicate_view place.last.predicate.now) ≡ false }
+    ensures amends { let s = schema_view.view schema.now in
+        (tree : document.Tree) (above : List Step) (f : Branches)
+        → IsAt (store_of counted.old) tree above place.entry.above f
+        → Amends tree (spec.removed s tree (target_at s above f place.entry.last))
+        (store_of counted.new) result }
+    ensures same_reference { lent counted.new ≡ lent counted.old }
+{
+    match instance_meant(counted, schema, EditCode::E7, place.above, place.last) {
+        Ok(instance) => {
+            let numbers = numbers_of(counted, instance.node)?;
+            take_part(counted, place.above, place.last.id, instance.node, &numbers);
+            Ok(())
+        }
+        Err(fault) => Err(fault),
+    }
+}
+
+/// The numbers of a node and of all below it, in preorder.
+fn numbers_of(counted: &mut Counted<'_>, id: NodeId) -> Result<Vec<NodeId>, AllocError>
+    ensures numbers { (above : rows.Row) (n : Numbered) (below : Branches) → n.id ≡ id
+        → Stands (store_of counted.old) above (node n below end)
+        → size (node n below end) ≤ node_count (store_of counted.old)
+        → IfOk result (λ all. all.items ≡ ids_of (node n below end)) }
+    ensures kept { OnlyReads (store_of counted.old) (store_of counted.new) }
+    ensures same_reference { lent counted.new ≡ lent counted.old }
+{
+    let depth = counted.node_count();
+    let mut copy = Vec::new(counted.alloc());
+    let mut numbers = Vec::new(counted.alloc());
+    copy_part(counted, id, depth, &mut copy, &mut numbers)?;
+    Ok(numbers)
+}
