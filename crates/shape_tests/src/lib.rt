@@ -2,4 +2,6 @@
 #![tactic(auto)]
 
 #[cfg(test)]
+mod amending;
+#[cfg(test)]
 mod stores;

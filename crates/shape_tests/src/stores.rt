@@ -9,20 +9,20 @@ use ystore::{Counted, NodeId, Nodes, Row};
 use ytext::parse;
 use ytree::{Tree, read, write};
 
-fn schema_of(alloc: Global, text: &str) -> Option<Schema> {
+pub(crate) fn schema_of(alloc: Global, text: &str) -> Option<Schema> {
     let mut modules = Vec::new(alloc);
     modules.push(parse(alloc, text.as_bytes()).ok()?).ok()?;
     compile(alloc, &modules).ok()
 }
 
 // The store of a document.
-fn opened(alloc: Global, schema: &Schema, document: &str) -> Option<Nodes> {
+pub(crate) fn opened(alloc: Global, schema: &Schema, document: &str) -> Option<Nodes> {
     let tree = read(alloc, schema, document.as_bytes()).ok()?;
     store_of_tree(alloc, &tree).ok()
 }
 
 // Whether a store has this document, and so many nodes.
-fn holds(
+pub(crate) fn holds(
     alloc: Global,
     schema: &Schema,
     nodes: &Nodes,
