@@ -1,1 +1,2 @@
+pub mod InstanceLemmas
 pub mod PartLemmas
