@@ -2,6 +2,7 @@
 #![tactic(auto)]
 
 mod instances;
+mod keys;
 mod parts;
 
 pub use parts::{add_part, put_part, take_part};
