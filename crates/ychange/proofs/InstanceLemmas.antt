@@ -40,7 +40,7 @@ use Rattle.yshape.specs.Ways.{Found}
 use Rattle.yshape.proofs.FoundLemmas.{found_at, counted_at}
 use Rattle.yshape.proofs.HangingLemmas.{stands_second, at_end}
 use Rattle.yshape.proofs.PartLemmas.{children_read, stands_read, label_is}
-use Rattle.ychange.specs.Instances.{instance_view, step_of, instance_in, rows_of, passing, leaf_at}
+use Rattle.ychange.specs.Instances.{instance_view, step_of, instance_in, rows_of, leaf_at}
 use Rattle.ychange.specs.declared.instances.Instance.{Instance}
 
 -- ---- answers
@@ -164,6 +164,11 @@ row_count number (node s below after) = by (eqb s.schema_number number) refl (ro
         → length (cond b (below ∷ rows_of number after) (rows_of number after)) ≡ instances_in (node s below after) number
     by true e more = let one = one_more number s below after true e in omega (arith, one, more)
     by false e more = let other = one_more number s below after false e in omega (arith, other, more)
+
+-- the positions, from one on, of the rows that pass a test
+abbrev pub passing : (Tree → Bool) → ℕ → List Tree → List ℕ
+passing test position [] = []
+passing test position (below ∷ rows) = cond (test below) (position ∷ []) [] ++ passing test (position + 1) rows
 
 positions : (number : ℕ) (test : Tree → Bool) (p : ℕ) (t : Tree) → positions_where number test p t ≡ passing test p (rows_of number t)
 positions number test p end = refl

@@ -1,5 +1,5 @@
 -- The instance of a schema node that a step of a path means, in a row of a store.
-use Rattle.std.specs.Prelude.{ℕ, ◌+◌, ◌==◌, ◌++◌, nat_lt, Bool, List, [], ◌∷◌, Option, option_and_then, Result, Ok, if◌then◌else◌}
+use Rattle.std.specs.Prelude.{ℕ, ◌==◌, nat_lt, List, [], ◌∷◌, Option, option_and_then, Result, Ok, if◌then◌else◌}
 use Rattle.yspec.specs.Forest.{end, node}
 use Rattle.yspec.specs.types.Types.{Raw}
 use Rattle.yspec.specs.document.Document.{Stored, Tree, Step, instances_in}
@@ -29,11 +29,6 @@ instance_in missing row number position = if nat_lt (instance_index (step_of num
 abbrev pub rows_of : ℕ → Tree → List Tree
 rows_of number end = []
 rows_of number (node s below after) = if s.schema_number == number then below ∷ rows_of number after else rows_of number after
-
--- the positions, from one on, of the rows that pass a test
-abbrev pub passing : (Tree → Bool) → ℕ → List Tree → List ℕ
-passing test position [] = []
-passing test position (row ∷ rows) = (if test row then position ∷ [] else []) ++ passing test (position + 1) rows
 
 -- ---- keys
 

@@ -13,8 +13,8 @@ use Rattle.ystore.specs.declared.row.NodeId.{NodeId}
 use Rattle.yshape.specs.Hanging.{tree_of}
 use Rattle.yshape.specs.Ways.{Found}
 use Rattle.yshape.proofs.PartLemmas.{reads_on}
-use Rattle.ychange.specs.Instances.{rows_of, passing}
-use Rattle.ychange.proofs.InstanceLemmas.{told_missing, no_some, SoFar, hangs_read, next_none, next_some, second, ends_none, ends_some, is_asked, rows_are}
+use Rattle.ychange.specs.Instances.{rows_of}
+use Rattle.ychange.proofs.InstanceLemmas.{passing, told_missing, no_some, SoFar, hangs_read, next_none, next_some, second, ends_none, ends_some, is_asked, rows_are}
 use Rattle.ychange.proofs.instances.entry_meant.Goals as goal
 use Rattle.ychange.proofs.instances.entry_meant.Goals.{in-Some+else-is_some, in_default}
 

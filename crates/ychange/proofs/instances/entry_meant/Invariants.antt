@@ -10,7 +10,8 @@ use Rattle.ystore.specs.Views.{store_of, lent}
 use Rattle.yshape.specs.Hanging.{Branches, Hangs, tree_of}
 use Rattle.yshape.specs.Parts.{OnlyReads}
 use Rattle.yshape.specs.Ways.{Found}
-use Rattle.ychange.specs.Instances.{rows_of, passing}
+use Rattle.ychange.specs.Instances.{rows_of}
+use Rattle.ychange.proofs.InstanceLemmas.{passing}
 use Rattle.ychange.proofs.instances.entry_meant.Given as goal
 
 abbrev pub invariant-loop-place : goal.invariant-loop-place
