@@ -1,3 +1,4 @@
+pub mod InstanceLemmas
 pub mod AmendLemmas
 pub mod LocatingLemmas
 pub mod OrderLemmas

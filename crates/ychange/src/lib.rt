@@ -1,8 +1,9 @@
-//! Changes of the document that hangs in a store: a part is put into a row, in the place of another, or taken out.
+//! Edits of the document that hangs in a store: located, and done or refused as the definition of edits gives them.
 #![tactic(auto)]
 
 mod amending;
 mod instances;
+mod keys;
 mod locating;
 mod parts;
 
