@@ -69,13 +69,17 @@ remove /p:c => done => {} => 0
 remove /p:c/id => E4 => {} => 0
 create /p:c {} => done => {"p:c":{}} => 1"#;
 
-const HOSTS: &str = r#"{"ex-net:net":{"host":[{"auto":[null],"name":"a","uplink":"b"},{"auto":[null],"name":"b"}]}}
+const HOSTS: &str =
+    r#"{"ex-net:net":{"host":[{"auto":[null],"name":"a","uplink":"b"},{"auto":[null],"name":"b"}]}}
 replace /ex-net:net/host[2] {"name":"b","speed":7} => done => {"ex-net:net":{"host":[{"auto":[null],"name":"a","uplink":"b"},{"name":"b","speed":7}]}} => 8
 create /ex-net:net/host {"name":"c"} => done => {"ex-net:net":{"host":[{"auto":[null],"name":"a","uplink":"b"},{"name":"b","speed":7},{"name":"c"}]}} => 10
+remove /ex-net:net/host[name='d'] => E7 => {"ex-net:net":{"host":[{"auto":[null],"name":"a","uplink":"b"},{"name":"b","speed":7},{"name":"c"}]}} => 10
+create /ex-net:net/host[name='d']/speed 1 => E4 => {"ex-net:net":{"host":[{"auto":[null],"name":"a","uplink":"b"},{"name":"b","speed":7},{"name":"c"}]}} => 10
 remove /ex-net:net/host[4] => E5 => {"ex-net:net":{"host":[{"auto":[null],"name":"a","uplink":"b"},{"name":"b","speed":7},{"name":"c"}]}} => 10
-create /ex-net:net/host[3]/speed 9 => done => {"ex-net:net":{"host":[{"auto":[null],"name":"a","uplink":"b"},{"name":"b","speed":7},{"name":"c","speed":9}]}} => 11
+create /ex-net:net/host[name='c']/speed 9 => done => {"ex-net:net":{"host":[{"auto":[null],"name":"a","uplink":"b"},{"name":"b","speed":7},{"name":"c","speed":9}]}} => 11
 remove /ex-net:net/host[1] => done => {"ex-net:net":{"host":[{"name":"b","speed":7},{"name":"c","speed":9}]}} => 7
-replace /ex-net:net/host[1]/name "c" => done => {"ex-net:net":{"host":[{"name":"c","speed":7},{"name":"c","speed":9}]}} => 7"#;
+replace /ex-net:net/host[1]/name "c" => done => {"ex-net:net":{"host":[{"name":"c","speed":7},{"name":"c","speed":9}]}} => 7
+remove /ex-net:net/host[name='c'] => E6 => {"ex-net:net":{"host":[{"name":"c","speed":7},{"name":"c","speed":9}]}} => 7"#;
 
 #[test]
 fn amended_leafs(rt: HostRuntime) {
