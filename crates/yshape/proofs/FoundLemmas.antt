@@ -16,7 +16,7 @@ use Rattle.ystore.specs.declared.nodes.Nodes.{Nodes}
 use Rattle.yshape.specs.Hanging.{Numbered, Branches, stored_of, tree_of, child_of, children_of, Hangs}
 use Rattle.yshape.specs.Ways.{Frame, Way, Goes, Found, around, end_of}
 
-instances-cons : (n : Numbered) (below after : Branches) (number : ℕ) (b : Bool) → eqb n.schema.0 number ≡ b
+pub instances-cons : (n : Numbered) (below after : Branches) (number : ℕ) (b : Bool) → eqb n.schema.0 number ≡ b
     → instances_in (tree_of (node n below after)) number ≡ cond b 1 0 + instances_in (tree_of after) number
 instances-cons n below after number b e =
     sum_by-cons (λ (x : Stored). cond (eqb x.schema_number number) 1 0) (stored_of n) (row (tree_of after))

@@ -3,8 +3,10 @@ pub mod CopyLemmas
 pub mod DocumentLemmas
 pub mod FoundLemmas
 pub mod FrameLemmas
+pub mod FreshLemmas
 pub mod GrowLemmas
 pub mod HangingLemmas
 pub mod OpenLemmas
 pub mod PartLemmas
 pub mod RemoveLemmas
+pub mod SwapLemmas

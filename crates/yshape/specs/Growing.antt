@@ -1,11 +1,15 @@
 -- What is put into a store beside its tree, and what is given back.
-use Rattle.std.specs.Prelude.{◌≡◌, ℕ, ◌+◌, ◌<◌, ◌≤◌, true, List, [], ◌∷◌, ◌++◌, length, None, is_some, IfSome}
+use Rattle.std.specs.Prelude.{◌≡◌, ℕ, ◌+◌, ◌^◌, ◌<◌, ◌≤◌, Bool, true, false, List, [], ◌∷◌, ◌++◌, length, replicate, Some, None, is_some, IfSome, if◌then◌else◌}
+use Rattle.std.specs.Option.{option_map_or}
 use Rattle.yspec.specs.Forest.{end, node, size}
+use Rattle.yspec.specs.schema.Schema.{Schema, Kind, list, leaf_list, node_at}
 use Rattle.yspec.specs.document.Document.{Stored, Tree}
+use Rattle.ystore.specs.Held.{Held, Label, Told}
 use Rattle.ystore.specs.Store.{held_at, entry_at, reads, node_count, ChangesRow}
 use Rattle.ystore.specs.declared.row.NodeId.{NodeId}
 use Rattle.ystore.specs.declared.row.Row.{Row}
 use Rattle.ystore.specs.declared.row.Row.TheVariants.{Below}
+use Rattle.ystore.specs.declared.record.Judged.TheVariants.{Right}
 use Rattle.ystore.specs.declared.key.Key.{Key}
 use Rattle.ystore.specs.declared.nodes.Nodes.{Nodes}
 use Rattle.yshape.specs.Hanging.{Numbered, Branches, tree_of, stored_of, times, Stands, Keeps}
@@ -18,6 +22,37 @@ pub record Grows (before after : Nodes) : Type 0 where
   pub entries : (key : Key) → entry_at after key ≡ entry_at before key
   pub reads : reads after ≡ reads before
   pub count : node_count before ≤ node_count after
+
+-- ---- what is told of new nodes
+
+-- how many flags a node has: an entry one for its key and one for each `unique`, an item of configuration one
+abbrev pub kind_flags : Kind → Bool → ℕ
+kind_flags (list tuples amount) config = length tuples.uniques + 1
+kind_flags (leaf_list type defaults amount) config = if config then 1 else 0
+kind_flags _ config = 0
+
+abbrev pub flag_count : Schema → ℕ → ℕ
+flag_count schema number = option_map_or (λ n. kind_flags n.kind n.config) (node_at schema number) 0
+
+-- nothing is told, and so many flags say so
+abbrev pub nothing_told : ℕ → Told
+nothing_told flags = record { judged = Right; same = replicate flags false; play = [] }
+
+-- nothing is told of a node, with the flags of its schema node
+pub record IsFresh (schema : Schema) (held : Held) : Type 0 where
+  pub flags : ℕ
+  pub label : Label
+  pub is_label : held.shape.label ≡ Some label
+  pub are_flags : flags ≡ flag_count schema label.schema.0
+  pub few : flags < 2 ^ 32
+  pub told : held.told ≡ nothing_told flags
+  pub total : held.total ≡ 0
+
+-- nothing is told of nodes that weren't there
+abbrev pub Freshens : Schema → Nodes → Nodes → Type 0
+Freshens schema before after = (id : NodeId) → held_at before (Below id) ≡ None → IfSome (held_at after (Below id)) (IsFresh schema)
+
+-- ---- branches
 
 -- a branch stands in a row that doesn't list it; its nodes are new, each once, and their numbers are listed
 pub record Inserts (above : Row) (id : NodeId) (label : Stored) (below : Tree) (before after : Nodes) (had has : List NodeId) : Type 0 where

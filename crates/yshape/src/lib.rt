@@ -5,6 +5,7 @@ mod copying;
 mod inserting;
 mod laws;
 mod parts;
+mod swapping;
 mod worked;
 
 pub use copying::copy_tree;
@@ -13,4 +14,5 @@ pub use laws::{
     changed_documents, changed_trees, found_children, kept_forests, kept_shapes, nodes_beside_trees,
 };
 pub use parts::copy_part;
+pub use swapping::{Change, Swap, undone_changes};
 pub use worked::{hanging_trees, worked_trees};
