@@ -1,0 +1,2 @@
+//! What is told of the nodes of a document's rows that aren't stored, apart from what is told of those that are.
+#![tactic(auto)]
