@@ -1,2 +1,6 @@
 //! What is told of the nodes of a document's rows that aren't stored, apart from what is told of those that are.
 #![tactic(auto)]
+
+mod worked;
+
+pub use worked::{worked_list, worked_rows};
