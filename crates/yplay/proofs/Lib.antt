@@ -1,1 +1,2 @@
 pub mod AbsenceLemmas
+pub mod KnownLemmas
