@@ -1,2 +1,3 @@
 pub mod AbsenceLemmas
 pub mod KnownLemmas
+pub mod MergedLemmas
