@@ -1,3 +1,4 @@
 pub mod AbsenceLemmas
 pub mod KnownLemmas
 pub mod MergedLemmas
+pub mod TellLemmas
