@@ -2,3 +2,4 @@ pub mod AbsenceLemmas
 pub mod KnownLemmas
 pub mod MergedLemmas
 pub mod TellLemmas
+pub mod FilledLemmas
