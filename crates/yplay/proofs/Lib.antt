@@ -3,3 +3,4 @@ pub mod KnownLemmas
 pub mod MergedLemmas
 pub mod TellLemmas
 pub mod FilledLemmas
+pub mod RowLemmas
