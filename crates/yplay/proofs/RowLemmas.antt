@@ -76,9 +76,20 @@ choice_within number false [] = tt
 choice_within number is_mandatory (first ∷ []) = tt
 choice_within number is_mandatory (first ∷ second ∷ more) = (omega arith, tt)
 
-no_children : (ts : List Told) → length ts ≡ 0 → ts ≡ []
-no_children [] e = refl
-no_children (t ∷ ts) e = absurd (omega (arith, e))
+case_is_none : (kind : Kind) → is_case kind ≡ true → is_data kind ≡ false
+case_is_none (container presence) is = absurd cc
+case_is_none (leaf type absence) is = absurd cc
+case_is_none (leaf_list type defaults amount) is = absurd cc
+case_is_none (list tuples amount) is = absurd cc
+case_is_none (choice default_case is_mandatory) is = refl
+case_is_none case is = refl
+
+-- nothing is stored in a case that isn't chosen
+not_chosen : (stored : ℕ → ℕ) (chosen : List ℕ) (n : SchemaNode) (below after : Forest SchemaNode) (first : List Told) → Chosen stored chosen (node n below after)
+    → stored_among stored below ≡ length first → is_among chosen n.number ≡ false → first ≡ []
+not_chosen stored chosen n below after [] so counted other = refl
+not_chosen stored chosen n below after (t ∷ first) so counted other =
+    absurd (let no : false ≡ true = sym other ∙ chosen_here stored chosen n below after so (omega (arith, counted)) in cc)
 
 module _ (schema : Schema) (row : Option ℕ) (told : List Told) where
   abbrev fault_of : Absent → Fault
@@ -200,3 +211,77 @@ module _ (schema : Schema) (row : Option ℕ) (told : List Told) where
         (choice_tells schema row told n [] default_case is_mandatory (stored_cases stored below) tells) (choice_within n.number is_mandatory (stored_cases stored below)) all inner
     node_meets case items inside tells many counted told_here own all none within inner =
         case_meets (is_among chosen n.number) items inside xs first rest (none refl) inner
+
+  -- ---- of a row
+
+  inner_for : (stored : ℕ → ℕ) (kind : Kind) (number : ℕ) (chosen : List ℕ) (below : Forest SchemaNode) (first : List Told) (xs : List Absent) (rest : List Told)
+      → (is_data kind ≡ true → woven (items_in_play nothing chosen (step_to number ∷ []) below) told ≡ map (absence_fault schema row) (absences_in nothing chosen below))
+      → (is_data kind ≡ false → Meets (items_in_play stored chosen [] below) (absences_in stored chosen below) first xs rest)
+      → Inner kind (items_in_play (stored_inside kind stored) chosen (steps_inside kind [] number) below) (absences_in (stored_inside kind stored) chosen below) first xs rest
+  inner_for stored (container presence) number chosen below first xs rest implied here = implied refl
+  inner_for stored (leaf type absence) number chosen below first xs rest implied here = tt
+  inner_for stored (leaf_list type defaults amount) number chosen below first xs rest implied here = tt
+  inner_for stored (list tuples amount) number chosen below first xs rest implied here = tt
+  inner_for stored (choice default_case is_mandatory) number chosen below first xs rest implied here = here refl
+  inner_for stored case number chosen below first xs rest implied here = here refl
+
+  module _ (stored : ℕ → ℕ) (counts : (m : ℕ) → stored m ≡ length (told_of told m)) where
+    pub row_meets : (f : Forest SchemaNode) (k : ℕ) (way : List SchemaNode) (in_choice : Bool) (chosen : List ℕ) (ts : List Told) (xs : List Absent) (rest : List Told)
+        → IsNumbered k f → Known schema way f → Leads schema row way [] → CasesInChoices in_choice f → (in_choice ≡ true → Chosen stored chosen f)
+        → Fills f ts → Sees told k (k + size f) ts → AllAbsent (λ m. k + size f ≤ m) xs → AllTold (λ m. k + size f ≤ m) rest
+        → Meets (items_in_play stored chosen [] f) (absences_in stored chosen f) ts xs rest
+    unfolding items_in_play absences_in
+    row_meets end k way in_choice chosen ts xs rest numbered known leads cased so fills sees later behind =
+        ap (λ us. merged schema row xs (us ++ rest)) (sym fills)
+    row_meets (node n below after) k way in_choice chosen ts xs rest numbered known leads cased so fills sees later behind =
+        let first = fills.0 in
+        let others = fills.1 in
+        let middle = k + 1 + size below in
+        let limit = k + suc (size below + size after) in
+        let parts = parts_of told n below after k ts numbered fills sees in
+        let chosen_below = cases stored n.kind below in
+        let items = items_in_play (stored_inside n.kind stored) chosen_below (steps_inside n.kind [] n.number) below in
+        let inside = absences_in (stored_inside n.kind stored) chosen_below below in
+        let items_after = items_in_play stored chosen [] after in
+        let after_told = absences_in stored chosen after in
+        let node_told = node_absences stored chosen n n.kind below inside in
+        let node_play = node_items stored chosen [] n n.kind below items in
+        let ys = after_told ++ xs in
+        let us = others ++ rest in
+        let further = leads_further schema row way [] n leads in
+        let ys_later : AllAbsent (λ m. middle ≤ m) ys = all_absent_joined (λ m. middle ≤ m) after_told xs
+        (all_absent (Within middle (middle + size after)) (λ m. middle ≤ m) after_told (λ m w. w.0)
+        (between_all middle (middle + size after) after_told (absences_between after middle stored chosen numbered.2)))
+        (all_absent (λ m. limit ≤ m) (λ m. middle ≤ m) xs (λ m h. omega (arith, h)) later) in
+        let us_behind : AllTold (λ m. middle ≤ m) us = all_told_joined (λ m. middle ≤ m) others rest
+        (all_told (Within middle (middle + size after)) (λ m. middle ≤ m) others (λ m w. w.0) parts.behind)
+        (all_told (λ m. limit ≤ m) (λ m. middle ≤ m) rest (λ m h. omega (arith, h)) behind) in
+        let after_meets : Meets items_after after_told others xs rest =
+        row_meets after middle way in_choice chosen others xs rest numbered.2 known.4 leads cased.2 (λ is. chosen_later stored chosen n below after (so is))
+        fills.5 parts.later
+        (all_absent (λ m. limit ≤ m) (λ m. middle + size after ≤ m) xs (λ m h. omega (arith, h)) later)
+        (all_told (λ m. limit ≤ m) (λ m. middle + size after ≤ m) rest (λ m h. omega (arith, h)) behind) in
+        let inner = inner_for stored n.kind n.number chosen_below below first ys us
+        (λ is. implied_told schema row told below (way ++ n ∷ []) chosen_below (step_to n.number ∷ []) known.3
+        (subst (Leads schema row (way ++ n ∷ [])) (ap (λ b. cond b (step_to n.number ∷ []) []) is) further))
+        (λ is. row_meets below (k + 1) (way ++ n ∷ []) (is_choice n.kind) chosen_below first ys us numbered.1 known.3
+        (subst (Leads schema row (way ++ n ∷ [])) (ap (λ b. cond b (step_to n.number ∷ []) []) is) further)
+        cased.1 (chosen_in stored n.kind below) (fills.4 is) (parts.inner is) ys_later us_behind) in
+        let here : Meets node_play node_told first ys us =
+        node_meets stored chosen n below middle first ys us (omega (arith, numbered.0)) ys_later us_behind n.kind items inside
+        (tells_of schema row way [] n known.0 known.1 leads) (ap (λ o. option_map_or (λ n. is_many n.kind) o false) known.0)
+        (λ is. counts n.number ∙ (ap length (parts.own is) ∙ length-map first (λ (t : Told). t.faults))) parts.own fills.3
+        (all_told_joined (λ m. n.number ≤ m) first us
+        (all_told (Within k middle) (λ m. n.number ≤ m) first (λ m w. omega (arith, w.0, numbered.0)) parts.within)
+        (all_told (λ m. middle ≤ m) (λ m. n.number ≤ m) us (λ m h. omega (arith, h, numbered.0)) us_behind))
+        (λ is. not_chosen stored chosen n below after first (so (cased.0 is))
+        (among_filled told stored counts below (k + 1) first numbered.1 (fills.4 (case_is_none n.kind is)) (parts.inner (case_is_none n.kind is))))
+        (all_absent (Within (k + 1) (k + 1 + size below)) (λ m. m ≤ middle) inside (λ m w. omega (arith, w.1))
+        (between_all (k + 1) (k + 1 + size below) inside (absences_between below (k + 1) (stored_inside n.kind stored) chosen_below numbered.1)))
+        inner in
+        ap (λ fs. fs ++ merged schema row xs rest) (flat_map-append (item_faults told) node_play items_after)
+        ∙ (append_assoc (woven node_play told) (woven items_after told) (merged schema row xs rest)
+        ∙ (ap (λ fs. woven node_play told ++ fs) after_meets
+        ∙ (here
+        ∙ ap₂ (merged schema row) (sym (append_assoc node_told after_told xs))
+        (sym (append_assoc first others rest) ∙ ap (λ vs. vs ++ rest) (sym fills.2)))))

@@ -18,6 +18,10 @@ use Rattle.yplay.specs.Absences.{Absent, absent_leaf_told, amount_told, choice_t
 use Rattle.yplay.specs.Merging.{data_depth, to_node, steps_down, kind_info, info_at, absence_fault}
 use Rattle.yplay.proofs.KnownLemmas.{Known}
 
+-- of no schema node an instance is stored
+abbrev pub nothing : ℕ → ℕ
+nothing number = 0
+
 -- ---- steps
 
 module _ (schema : Schema) (row : Option ℕ) where
@@ -91,9 +95,6 @@ module _ (schema : Schema) (row : Option ℕ) where
     defaults_tell number (v ∷ vs) = refl
 
     -- ---- a container that is implied
-
-    abbrev pub nothing : ℕ → ℕ
-    nothing number = 0
 
     either_told : (b : Bool) (items : List Item) (absences : List Absent) → woven items told ≡ map (absence_fault schema row) absences
         → woven (cond b items []) told ≡ map (absence_fault schema row) (cond b absences [])

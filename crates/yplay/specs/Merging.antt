@@ -5,7 +5,7 @@ use Rattle.std.specs.Option.{option_map_or}
 use Rattle.yspec.specs.Forest.{Forest, end, node}
 use Rattle.yspec.specs.text.Text.{Text}
 use Rattle.yspec.specs.schema.Schema.{Schema, SchemaNode, Kind, choice, case, is_data, is_many, node_at, children_of, data_way_to}
-use Rattle.yspec.specs.document.Document.{Tree, Step, step_to, step_at, instances_in}
+use Rattle.yspec.specs.document.Document.{Stored, Tree, Step, step_to, step_at, instances_in}
 use Rattle.yspec.specs.document.Fault.{Info, no_info, choice_name, Fault, fault_with}
 use Rattle.yspec.specs.document.Instances.{times_in}
 use Rattle.yspec.specs.document.Faults.{Times, RowTimes, Told, under, row_times, faults_at}
@@ -90,12 +90,16 @@ unfoldable pub listed : Schema → Tree → List Fault
 listed schema tree = merged schema None (absences_below schema.nodes tree)
     (listed_in (times_in schema tree) (row_times schema tree) schema tree)
 
+-- how many there are at a stored node, those of nodes that aren't stored right below it included
+abbrev pub told_at : Times → RowTimes → Schema → Stored → Tree → ℕ
+told_at times row schema s below =
+    length (faults_at times row schema s below) + length (absences_below (children_of schema s.schema_number) below)
+
 -- how many there are at the nodes of a row and below them
 unfoldable pub told_count : Times → RowTimes → Schema → Tree → ℕ
 told_count times row schema end = 0
-told_count times row schema (node s below after) =
-    (length (faults_at times row schema s below) + length (absences_below (children_of schema s.schema_number) below)
-    + told_count times (row_times schema below) schema below) + told_count times row schema after
+told_count times row schema (node s below after) = told_at times row schema s below
+    + (told_count times (row_times schema below) schema below + told_count times row schema after)
 
 -- ---- of what rows it holds
 
