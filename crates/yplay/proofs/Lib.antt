@@ -4,3 +4,4 @@ pub mod MergedLemmas
 pub mod TellLemmas
 pub mod FilledLemmas
 pub mod RowLemmas
+pub mod ListLemmas
