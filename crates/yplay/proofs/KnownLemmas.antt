@@ -1,15 +1,14 @@
 -- A schema whose nodes are numbered in preorder knows each of them by its number: itself, the way to it, and what stands
 -- below it.
-use Rattle.std.proofs.Common.{◌≡◌, ℕ, zero, suc, ◌+◌, ◌≤◌, ◌<◌, Bool, true, false, cond, eqb, List, [], ◌∷◌, ◌++◌, length, drop, filter, map, Option, Some, None, refl, sym, ap, ap₂, ◌∙◌, subst, arith, length-append, append_assoc}
+use Rattle.std.proofs.Common.{◌≡◌, ℕ, zero, suc, ◌+◌, Bool, true, false, cond, eqb, List, [], ◌∷◌, ◌++◌, length, drop, Option, Some, None, refl, sym, ap, ap₂, ◌∙◌, subst, arith, length-append, append_assoc}
 use Rattle.std.specs.Prelude.{slice_get, unwrap_or}
 use Rattle.std.proofs.lemmas.Bool.{eqb-true}
 use Rattle.std.proofs.lemmas.List.{append-nil}
-use Rattle.yspec.specs.Forest.{Forest, end, node, size, join, find_below, joined_below}
-use Rattle.yspec.specs.schema.Schema.{Schema, SchemaNode, Kind, ways, way_to, data_way_to, node_at, children_of, is_data, data_row, child_in}
+use Rattle.yspec.specs.Forest.{Forest, end, node, size, find_below, joined_below}
+use Rattle.yspec.specs.schema.Schema.{Schema, SchemaNode, ways, way_to, node_at, children_of}
 use Rattle.yspec.specs.document.Fitting.{IsNumbered}
 use Rattle.yspec.proofs.DocumentProofs.CheckingRowLemmas.{Has}
 use Rattle.yspec.proofs.DocumentProofs.HeldNodeLemmas.{schema_has_all}
-use Rattle.yplay.specs.Merging.{CasesInChoices, is_choice, is_case, data_depth}
 
 -- ---- lists
 

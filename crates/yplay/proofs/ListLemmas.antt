@@ -1,13 +1,13 @@
 -- The list of the faults of a document by rows is the list of its faults, and how many there are.
-use Rattle.std.proofs.Common.{◌≡◌, ℕ, zero, suc, ◌+◌, ◌≤◌, ◌<◌, Bool, true, false, cond, eqb, leb, List, [], ◌∷◌, ◌++◌, map, length, drop, filter, Option, Some, None, ◌⊎◌, inl, inr, refl, sym, ap, ap₂, ◌∙◌, subst, arith, length-append}
+use Rattle.std.proofs.Common.{◌≡◌, ℕ, suc, ◌+◌, ◌≤◌, Bool, true, false, cond, eqb, leb, List, [], ◌∷◌, ◌++◌, map, length, Option, Some, None, ◌⊎◌, inl, inr, refl, sym, ap, ap₂, ◌∙◌, subst, arith, length-append}
 use Rattle.std.specs.Prelude.{unwrap_or}
 use Rattle.std.proofs.lemmas.Bool.{eqb-true}
 use Rattle.std.proofs.lemmas.List.{append-nil, length-map}
 use Rattle.std.proofs.Math.Seq.{drop-length}
 use Rattle.yspec.specs.Forest.{Forest, end, node, row, join}
 use Rattle.yspec.specs.types.Types.{Raw}
-use Rattle.yspec.specs.schema.Schema.{Schema, SchemaNode, Kind, container, leaf, leaf_list, list, choice, case, is_data, is_many, data_row, child_in, children_of, row_at, way_to, data_way_to}
-use Rattle.yspec.specs.document.Document.{Stored, Tree, instances_in}
+use Rattle.yspec.specs.schema.Schema.{Schema, SchemaNode, Kind, container, leaf, leaf_list, list, choice, case, is_data, data_row, child_in, children_of, row_at, way_to, data_way_to}
+use Rattle.yspec.specs.document.Document.{Tree, instances_in}
 use Rattle.yspec.specs.document.Fault.{Fault}
 use Rattle.yspec.specs.document.Fitting.{IsNumbered, next_after, FitsBy, Fits}
 use Rattle.yspec.specs.document.Play.{in_play}
@@ -16,8 +16,8 @@ use Rattle.yspec.specs.document.Faults.{Times, RowTimes, Told, under, told_of, w
 use Rattle.yspec.proofs.DocumentProofs.FittingLemmas.{instances-cons}
 use Rattle.yspec.proofs.DocumentProofs.SortingLemmas.{child_number, not_before}
 use Rattle.yplay.specs.Absences.{Absent, absences_in}
-use Rattle.yplay.specs.Merging.{absence_fault, up_to, behind, position_behind, step_of, merged_behind, merged, CasesInChoices, is_choice, to_node, absences_below, listed_in, listed, told_at, told_count}
-use Rattle.yplay.proofs.KnownLemmas.{Known, IsRow, schema_known, row_known}
+use Rattle.yplay.specs.Merging.{absence_fault, up_to, behind, position_behind, step_of, merged_behind, merged, CasesInChoices, is_choice, to_node, absences_below, listed_in, listed, told_count}
+use Rattle.yplay.proofs.KnownLemmas.{Known, schema_known, row_known}
 use Rattle.yplay.proofs.MergedLemmas.{AllTold, count_in, count_told}
 use Rattle.yplay.proofs.TellLemmas.{Leads}
 use Rattle.yplay.proofs.FilledLemmas.{DataIn, Rising, filled}
@@ -224,3 +224,13 @@ module _ (schema : Schema) where
   listed_counted tree =
       length-merged None 0 0 (absences_below schema.nodes tree) (listed_in (times_in schema tree) (row_times schema tree) schema tree)
       ∙ ap (λ c. length (absences_below schema.nodes tree) + c) (told_counted (times_in schema tree) (row_times schema tree) tree)
+
+-- the faults of a document that fits
+pub documents_listed : (schema : Schema) (tree : Tree) → IsNumbered 0 schema.nodes → CasesInChoices false schema.nodes → Fits schema tree
+    → faults_of schema tree ≡ listed schema tree
+unfolding faults_of listed
+documents_listed schema tree numbered cased fits =
+    let any = λ (n : SchemaNode) (value : Option Raw). Unit {0} in
+    let times = times_in schema tree in
+    row_at_law schema any None 0 tree (told_in times (row_times schema tree) schema tree) numbered cased fits (told_numbers schema any times numbered (row_times schema tree) tree)
+    ∙ ap (merged schema None (absences_below schema.nodes tree)) (rows_listed schema any times numbered None 0 (row_times schema tree) tree cased fits)

@@ -1,13 +1,13 @@
 -- What is told of nodes that aren't stored, merged with what is told of children: of nodes before all children it comes
 -- first, and children before all of it come first.
-use Rattle.std.proofs.Common.{◌≡◌, ◌≢◌, ℕ, suc, ◌+◌, ◌≤◌, ◌<◌, Bool, true, false, cond, eqb, leb, List, [], ◌∷◌, ◌++◌, map, length, filter, Option, Some, None, refl, sym, ap, ap₂, ◌∙◌, subst, arith, append_assoc, length-append}
+use Rattle.std.proofs.Common.{◌≡◌, ◌≢◌, ℕ, suc, ◌+◌, ◌≤◌, ◌<◌, Bool, true, false, cond, eqb, List, [], ◌∷◌, ◌++◌, map, length, filter, Option, refl, sym, ap, ap₂, ◌∙◌, arith, append_assoc}
 use Rattle.std.proofs.lemmas.Bool.{eq-eqb, ne_eqb, le-leb, lt-leb}
 use Rattle.std.proofs.lemmas.List.{map-append}
 use Rattle.std.proofs.lemmas.List.Elements.{filter-append}
 use Rattle.std.specs.List.{flat_map}
 use Rattle.std.specs.Option.{option_map_or}
 use Rattle.yspec.specs.schema.Schema.{Schema, is_many, node_at}
-use Rattle.yspec.specs.document.Document.{Step, step_to, step_at}
+use Rattle.yspec.specs.document.Document.{step_to, step_at}
 use Rattle.yspec.specs.document.Fault.{Fault}
 use Rattle.yspec.specs.document.Faults.{Told, under, told_of, at_positions}
 use Rattle.yplay.specs.Absences.{Absent}
@@ -156,7 +156,6 @@ module _ (schema : Schema) (above : Option ℕ) where
       → AllTold (λ m. number < m) rest → AllAbsent (λ m. number < m) xs
       → merged_behind schema above number position xs (first ++ rest)
       ≡ at_positions number (position + 1) (map (λ (t : Told). t.faults) first) ++ merged schema above xs rest
-
   many_from number position xs [] rest many all behind later = fresh number position xs rest behind
   many_from number position xs (t ∷ first) rest many all behind later =
       child_first number position t xs (first ++ rest) all.0 later
@@ -168,7 +167,6 @@ module _ (schema : Schema) (above : Option ℕ) where
       → AllTold (λ m. number < m) rest → AllAbsent (λ m. number < m) xs
       → merged_behind schema above number position xs (first ++ rest)
       ≡ flat_map (map (under (step_to number))) (map (λ (t : Told). t.faults) first) ++ merged schema above xs rest
-
   one_from number position xs [] rest many all behind later = fresh number position xs rest behind
   one_from number position xs (t ∷ first) rest many all behind later =
       child_first number position t xs (first ++ rest) all.0 later

@@ -1,5 +1,5 @@
 -- What is in play of a row, woven with what its children tell, is what is told of nodes that aren't stored, merged with it.
-use Rattle.std.proofs.Common.{◌≡◌, ◌≢◌, ℕ, zero, suc, ◌+◌, ◌≤◌, ◌<◌, Bool, true, false, cond, eqb, ltb, ◌||◌, List, [], ◌∷◌, ◌++◌, map, length, Option, refl, sym, ap, ap₂, ◌∙◌, subst, arith, append_assoc}
+use Rattle.std.proofs.Common.{◌≡◌, ℕ, suc, ◌+◌, ◌≤◌, ◌<◌, Bool, true, false, cond, eqb, ltb, ◌||◌, List, [], ◌∷◌, ◌++◌, map, length, Option, refl, sym, ap, ap₂, ◌∙◌, subst, arith, append_assoc}
 use Rattle.std.specs.List.{flat_map}
 use Rattle.std.specs.Option.{option_map_or}
 use Rattle.std.proofs.lemmas.Bool.{eq-eqb, lt-ltb}
@@ -7,8 +7,7 @@ use Rattle.std.proofs.lemmas.Grind.{flat_map-append}
 use Rattle.std.proofs.lemmas.List.{append-nil, length-map}
 use Rattle.std.proofs.lemmas.List.Folds.{list_any-append}
 use Rattle.yspec.specs.Forest.{Forest, end, node, size}
-use Rattle.yspec.specs.types.Types.{Val}
-use Rattle.yspec.specs.schema.Schema.{Schema, SchemaNode, Kind, container, leaf, leaf_list, list, choice, case, Absence, allowed, default_used, mandatory, key, Amount, is_data, is_many, node_at}
+use Rattle.yspec.specs.schema.Schema.{Schema, SchemaNode, Kind, container, leaf, leaf_list, list, choice, case, Absence, allowed, default_used, mandatory, key, Amount, is_data, is_many}
 use Rattle.yspec.specs.document.Document.{Step, step_to}
 use Rattle.yspec.specs.document.Fault.{Fault, plain_fault}
 use Rattle.yspec.specs.document.FaultCode.{FaultCode, V6, V7}
@@ -17,11 +16,11 @@ use Rattle.yspec.specs.document.Play.{Item, visit, visit_each, cases, stored_amo
 use Rattle.yspec.specs.document.Faults.{Told, under, told_of, at_positions, item_faults, woven}
 use Rattle.yplay.specs.Absences.{Absent, absent_leaf_told, amount_told, choice_told, node_absences, absences_in}
 use Rattle.yplay.specs.Merging.{absence_fault, merged, CasesInChoices, is_choice, is_case}
-use Rattle.yplay.proofs.AbsenceLemmas.{absences_between, Between}
+use Rattle.yplay.proofs.AbsenceLemmas.{absences_between}
 use Rattle.yplay.proofs.KnownLemmas.{Known}
 use Rattle.yplay.proofs.MergedLemmas.{AllTold, all_told, all_told_joined, AllAbsent, all_absent, all_absent_joined, between_all, told_first, IsMany, entries_first, instance_first}
 use Rattle.yplay.proofs.TellLemmas.{Leads, leads_further, Tells, tells_of, leaf_tells, amount_tells, choice_tells, defaults_tell, nothing, implied_told}
-use Rattle.yplay.proofs.FilledLemmas.{Fills, Within, Sees, Parts, parts_of, filled_within, among_filled}
+use Rattle.yplay.proofs.FilledLemmas.{Fills, Within, Sees, parts_of, among_filled}
 
 -- ---- chosen cases
 

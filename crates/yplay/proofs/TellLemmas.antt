@@ -1,6 +1,6 @@
 -- What is in play of nodes that aren't stored tells the faults of what is told of them, and so does a container that is
 -- implied.
-use Rattle.std.proofs.Common.{◌≡◌, ℕ, zero, suc, ◌+◌, ◌≤◌, ◌<◌, Bool, true, false, cond, ltb, List, [], ◌∷◌, ◌++◌, map, length, drop, filter, Option, Some, None, refl, sym, ap, ap₂, ◌∙◌, subst, arith, length-append}
+use Rattle.std.proofs.Common.{◌≡◌, ℕ, ◌≤◌, Bool, true, false, cond, ltb, List, [], ◌∷◌, ◌++◌, map, length, drop, filter, Option, Some, refl, sym, ap, ap₂, ◌∙◌, subst, arith, length-append}
 use Rattle.std.specs.Option.{option_map_or}
 use Rattle.std.proofs.lemmas.Grind.{flat_map-append}
 use Rattle.std.proofs.lemmas.List.{append-nil, map-append, drop-append-le}
@@ -8,14 +8,14 @@ use Rattle.std.proofs.lemmas.List.Elements.{filter-append}
 use Rattle.yspec.specs.Forest.{Forest, end, node}
 use Rattle.yspec.specs.text.Text.{Text}
 use Rattle.yspec.specs.types.Types.{Val}
-use Rattle.yspec.specs.schema.Schema.{Schema, SchemaNode, Kind, container, leaf, leaf_list, list, choice, case, Absence, allowed, default_used, mandatory, key, Amount, LeafType, is_data, node_at, way_to, data_way_to}
+use Rattle.yspec.specs.schema.Schema.{Schema, SchemaNode, Kind, container, leaf, leaf_list, list, choice, case, Absence, allowed, default_used, mandatory, key, Amount, LeafType, is_data, node_at, way_to}
 use Rattle.yspec.specs.document.Document.{Step, step_to}
 use Rattle.yspec.specs.document.Fault.{Fault, no_info, plain_fault, fault_with}
 use Rattle.yspec.specs.document.FaultCode.{FaultCode, V2, V3, V4, V5, V6, V7}
-use Rattle.yspec.specs.document.Play.{Item, tell, visit, visit_each, cases, stored_cases, choice_faults, absent_leaf, absent_items, exceeds, amount_faults, is_among, node_items, stored_inside, steps_inside, items_in_play}
+use Rattle.yspec.specs.document.Play.{Item, tell, cases, stored_cases, choice_faults, absent_leaf, absent_items, exceeds, amount_faults, is_among, node_items, stored_inside, steps_inside, items_in_play}
 use Rattle.yspec.specs.document.Faults.{Told, item_faults, woven}
 use Rattle.yplay.specs.Absences.{Absent, absent_leaf_told, amount_told, choice_told, node_absences, absences_in}
-use Rattle.yplay.specs.Merging.{data_depth, to_node, steps_down, kind_info, info_at, absence_fault}
+use Rattle.yplay.specs.Merging.{data_depth, to_node, steps_down, kind_info, absence_fault}
 use Rattle.yplay.proofs.KnownLemmas.{Known}
 
 -- of no schema node an instance is stored

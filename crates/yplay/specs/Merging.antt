@@ -2,11 +2,12 @@
 -- children.
 use Rattle.std.specs.Prelude.{◌≡◌, ◌≤◌, ℕ, suc, ◌+◌, ◌++◌, ◌==◌, Bool, true, false, List, [], ◌∷◌, map, length, drop, Option, Some, None, if◌then◌else◌, nat_le}
 use Rattle.std.specs.Option.{option_map_or}
-use Rattle.yspec.specs.Forest.{Forest, end, node}
+use Rattle.yspec.specs.Forest.{Forest, end, node, row}
 use Rattle.yspec.specs.text.Text.{Text}
-use Rattle.yspec.specs.schema.Schema.{Schema, SchemaNode, Kind, choice, case, is_data, is_many, node_at, children_of, data_way_to}
+use Rattle.yspec.specs.schema.Schema.{Schema, SchemaNode, Kind, choice, case, is_data, is_many, node_at, children_of, data_way_to, row_at}
 use Rattle.yspec.specs.document.Document.{Stored, Tree, Step, step_to, step_at, instances_in}
 use Rattle.yspec.specs.document.Fault.{Info, no_info, choice_name, Fault, fault_with}
+use Rattle.yspec.specs.document.Fitting.{FitsBy}
 use Rattle.yspec.specs.document.Instances.{times_in}
 use Rattle.yspec.specs.document.Faults.{Times, RowTimes, Told, under, row_times, faults_at}
 use Rattle.yplay.specs.Absences.{Absent, absences_in}
@@ -121,3 +122,11 @@ CasesInChoices in_choice (node n below after) = (is_case n.kind ≡ true → in_
 abbrev pub Ascends : ℕ → List Absent → Type 0
 Ascends least [] = Unit {0}
 Ascends least (a ∷ absences) = (least ≤ a.1) × Ascends (suc a.1) absences
+
+-- a row below a node, or at the top, fits the schema nodes there, whatever its leafs hold
+abbrev pub FitsRow : Schema → Option ℕ → Tree → Type 0
+FitsRow schema above t = FitsBy (λ n value. Unit {0}) (row_at schema above) 0 t
+
+-- a row's children, in its order
+abbrev pub AreChildren : List Told → Tree → Type 0
+AreChildren children t = map (λ c. c.schema_number) children ≡ map (λ s. s.schema_number) (row t)

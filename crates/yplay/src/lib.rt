@@ -4,5 +4,7 @@
 mod laws;
 mod worked;
 
-pub use laws::{absences_in_order, defaults_in_play};
+pub use laws::{
+    absences_in_order, counted_faults, defaults_in_play, listed_documents, merged_rows,
+};
 pub use worked::{worked_list, worked_rows};
