@@ -92,7 +92,7 @@ fn create(
         return Err(refused(EditCode::E8));
     }
     match part(counted.alloc(), schema, place.last.id, value) {
-        Ok(part) => add_part(counted, place.above, &part),
+        Ok(part) => add_part(counted, schema, place.above, &part),
         Err(fault) => Err(fault),
     }
 }
@@ -137,7 +137,7 @@ fn replace(
         Ok(instance) => match part(counted.alloc(), schema, place.last.id, value) {
             Ok(part) => {
                 let numbers = numbers_of(counted, instance.node)?;
-                put_part(counted, place.above, instance.node, &numbers, &part)
+                put_part(counted, schema, place.above, instance.node, &numbers, &part)
             }
             Err(fault) => Err(fault),
         },

@@ -11,7 +11,7 @@ ghost use Rattle.ystore.specs.Views.{store_of, lent};
 ghost use Rattle.yshape.specs.Hanging.{Branches, Holds};
 ghost use Rattle.ychange.specs.Places.{Amends, IsAt, IsPart, branch_of};
 
-use ymodel::SchemaId;
+use ymodel::{Schema, SchemaId};
 use ypath::{EditCode, EditFault, refused};
 use yshape::{insert_part, remove_nodes};
 use ystore::{Counted, NodeId, Row};
@@ -19,7 +19,12 @@ use ytree::{DOCUMENT_LIMIT, Stored};
 
 /// Adds a part to a row, behind the nodes of its schema node and of those before it; E11 where the document has no room for
 /// it. Where memory runs out the document stays as it was, with nodes beside it that hang on nothing.
-pub fn add_part(counted: &mut Counted<'_>, above: Row, part: &Stored) -> Result<(), EditFault>
+pub fn add_part(
+    counted: &mut Counted<'_>,
+    schema: &Schema,
+    above: Row,
+    part: &Stored,
+) -> Result<(), EditFault>
     ensures amends { (tree : document.Tree) (steps : List Step) (f : Branches)
         → IsAt (store_of counted.old) tree steps above f → IsSorted (view part.now).1
         → Amends tree (within_limit (edit_at steps (with_branch (branch_of part.now)) tree))
@@ -27,7 +32,7 @@ pub fn add_part(counted: &mut Counted<'_>, above: Row, part: &Stored) -> Result<
     ensures same_reference { lent counted.new ≡ lent counted.old }
 {
     let mut numbers = Vec::new(counted.alloc());
-    let id = insert_part(counted, above, part, &mut numbers)?;
+    let id = insert_part(counted, schema, above, part, &mut numbers)?;
     if counted.node_count() > DOCUMENT_LIMIT {
         remove_nodes(counted, &numbers);
         return Err(refused(EditCode::E11));
@@ -41,20 +46,21 @@ pub fn add_part(counted: &mut Counted<'_>, above: Row, part: &Stored) -> Result<
 /// room for it. Where memory runs out the document stays as it was, with nodes beside it that hang on nothing.
 pub fn put_part(
     counted: &mut Counted<'_>,
+    schema: &Schema,
     above: Row,
     old: NodeId,
     old_numbers: &[NodeId],
     part: &Stored,
 ) -> Result<(), EditFault>
-    ensures amends { (tree : document.Tree) (steps : List Step) (f : Branches) (step : Step) (schema : SchemaId)
-        → IsAt (store_of counted.old) tree steps above f → IsPart step schema old old_numbers.now f
-        → (view part.now).0.schema_number ≡ schema.0 → IsSorted (view part.now).1
+    ensures amends { (tree : document.Tree) (steps : List Step) (f : Branches) (step : Step) (of : SchemaId)
+        → IsAt (store_of counted.old) tree steps above f → IsPart step of old old_numbers.now f
+        → (view part.now).0.schema_number ≡ of.0 → IsSorted (view part.now).1
         → Amends tree (within_limit (edit_at steps (with_instead step (branch_of part.now)) tree))
         (store_of counted.new) result }
     ensures same_reference { lent counted.new ≡ lent counted.old }
 {
     let mut numbers = Vec::new(counted.alloc());
-    let id = insert_part(counted, above, part, &mut numbers)?;
+    let id = insert_part(counted, schema, above, part, &mut numbers)?;
     if counted.node_count().saturating_sub(old_numbers.len()) > DOCUMENT_LIMIT {
         remove_nodes(counted, &numbers);
         return Err(refused(EditCode::E11));

@@ -1,0 +1,9 @@
+pub mod AssignedLemmas
+pub mod CountLemmas
+pub mod EachLemmas
+pub mod KeptLemmas
+pub mod KeyLemmas
+pub mod OwnLemmas
+pub mod RowLemmas
+pub mod SumLemmas
+pub mod UnlikeLemmas

@@ -1,0 +1,9 @@
+pub mod Accounts
+pub mod Assigned
+pub mod Counts
+pub mod Each
+pub mod Keyed
+pub mod Own
+pub mod Standing
+pub mod Sums
+pub mod Unlike

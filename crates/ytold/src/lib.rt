@@ -1,0 +1,6 @@
+//! What a store tells of its document: the faults of each node, their number, and the indexes that they stand on.
+#![tactic(auto)]
+
+mod account;
+
+pub use account::{Account, News, enter_new_nodes, enter_node, enter_nodes, enter_row, enter_way};
