@@ -1,8 +1,9 @@
 -- What is told of the nodes of a row that aren't stored, and which defaults are in use there, as pairs with the number of
 -- the schema node: what is in play of the row, without steps (RFC 7950, 7.5.1, 7.6.1, 7.6.5, 7.7.2, 7.7.5 and 7.9).
-use Rattle.std.specs.Prelude.{ℕ, ◌++◌, Bool, List, [], ◌∷◌, map, if◌then◌else◌, nat_lt}
+use Rattle.std.specs.Prelude.{ℕ, ◌++◌, ◌==◌, ◌&&◌, Bool, List, [], ◌∷◌, map, if◌then◌else◌, nat_lt}
 use Rattle.yspec.specs.Forest.{Forest, end, node}
 use Rattle.yspec.specs.types.Types.{Val}
+use Rattle.yspec.specs.types.Order.{same_value}
 use Rattle.yspec.specs.schema.Schema.{SchemaNode, Kind, container, leaf, leaf_list, list, choice, case, Absence, allowed, default_used, mandatory, key, Amount}
 use Rattle.yspec.specs.document.FaultCode.{FaultCode, V2, V3, V4, V5, V6, V7}
 use Rattle.yspec.specs.document.Play.{cases, stored_cases, exceeds, is_among, stored_inside}
@@ -56,6 +57,10 @@ absences_in stored chosen (node n below after) = node_absences stored chosen n n
 -- the number of the schema node, and a default of it
 abbrev pub Default : Type 0
 Default = ℕ × Val
+
+-- it is of a schema node and a value
+abbrev pub is_default : ℕ → Val → Default → Bool
+is_default number v d = d.0 == number && same_value v d.1
 
 abbrev pub absent_leaf_default : ℕ → Absence → List Default
 absent_leaf_default number (default_used v) = (number, v) ∷ []

@@ -1,1 +1,3 @@
 pub mod Absences
+pub mod Merging
+pub mod Worked
