@@ -1,0 +1,5 @@
+pub mod KeyLemmas
+pub mod PlayLemmas
+pub mod RowLemmas
+pub mod SameLemmas
+pub mod TupleLemmas

@@ -1,0 +1,19 @@
+use Rattle.std.proofs.Common.{◌≡◌, ◌++◌}
+use Rattle.yspec.specs.document.Play.{stored_cases}
+use Rattle.ymodel.specs.Layout.{numbers_of}
+use Rattle.ymodel.specs.View.{row_view}
+use Rattle.ystore.specs.Views.{store_of, lent}
+use Rattle.yshape.specs.Parts.{OnlyReads}
+use Rattle.yfacts.specs.Rows.{count_in, listed_in}
+use Rattle.yfacts.proofs.cases.stored_cases.Given as goal
+
+-- those so far with those of the cases that are left
+abbrev pub invariant-loop-case : goal.invariant-loop-case
+invariant-loop-case l = record {
+  more : (goal.iterator-loop-case).can_next l.case-iterator;
+  ends : (goal.iterator-loop-case).is_finite l.case-iterator;
+  same_reference : lent l.counted ≡ lent l.fn.counted;
+  kept : OnlyReads (store_of l.fn.counted) (store_of l.counted);
+  cases : numbers_of l.found.items ++ stored_cases (count_in (listed_in (store_of l.fn.counted) l.row)) (row_view l.case-iterator)
+      ≡ stored_cases (count_in (listed_in (store_of l.fn.counted) l.row)) (row_view l.fn.cases);
+}

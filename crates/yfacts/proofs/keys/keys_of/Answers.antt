@@ -1,0 +1,39 @@
+use Rattle.std.proofs.Common.{◌+◌, ◌∙◌, ap, sym, subst, arith}
+use Rattle.std.specs.Prelude.{option_map}
+use Rattle.yspec.specs.Forest.{end, node}
+use Rattle.ymodel.specs.View as schema_view
+use Rattle.ystore.specs.Views.{store_of}
+use Rattle.yshape.specs.Hanging.{stored_of, tree_of}
+use Rattle.yshape.proofs.PartLemmas.{reads_on, stands_read}
+use Rattle.yfacts.specs.Keys.{flags_of, key_at, key_view, slots_of}
+use Rattle.yfacts.proofs.KeyLemmas.{SoFar, next_key, next_none, no_key}
+use Rattle.yfacts.proofs.RowLemmas.{schema_is}
+use Rattle.yfacts.proofs.keys.keys_of.Goals as goal
+use Rattle.yfacts.proofs.keys.keys_of.Goals.{in-Some-2+in_ok-push, in_default-2}
+
+pub loop-slot-preserved : goal.loop-slot-preserved
+loop-slot-preserved c =
+    let s = schema_view.view c.args.schema.now in
+    let start = store_of c.args.counted.now in
+    let now = store_of c.loop-slot.counted in
+    let so_far = c.loop-slot.invariant in
+    record {
+      same_reference = c.in_ok-key.ensures.same_reference ∙ so_far.same_reference;
+      kept = reads_on start now (store_of c.key_at.new.counted) so_far.kept c.in_ok-key.ensures.kept;
+      held = λ n below same stands.
+          let schema = schema_is start c.args.above n below c.args.id c.in-Some.of same stands (sym c.in-Some.is ∙ c.schema.ensures.schema) in
+          let at = key_at s c.args.above (stored_of n) (tree_of below) in
+          let slots = slots_of s n.schema.0 in
+          let count = c.flag_count-slots.ensures.count ∙ ap (λ x. flags_of s x.0) (sym schema) in
+          let key = c.in_ok-key.ensures.key n below same schema (stands_read start now c.args.above (node n below end) so_far.kept stands) in
+          elim c.match-branch-2.branch [
+            | in-Some-2+in_ok-push w ↦
+                subst (λ h. SoFar at c.args.id c.args.held.now.items slots (c.loop-slot.slot + 1) h.items) (sym w.held-is)
+                (next_key at c.args.id c.args.held.now.items slots c.loop-slot.slot c.loop-slot.held.items w.push.new.self.items w.in-Some-2.key (omega (arith, count, c.loop-slot-test.true))
+                (sym (ap (option_map key_view) w.in-Some-2.is) ∙ key) w.in_ok-push.ensures.items (so_far.held n below same stands))
+            | in_default-2 w ↦
+                subst (λ h. SoFar at c.args.id c.args.held.now.items slots (c.loop-slot.slot + 1) h.items) (sym w.held-is)
+                (next_none at c.args.id c.args.held.now.items slots c.loop-slot.slot c.loop-slot.held.items (omega (arith, count, c.loop-slot-test.true))
+                (no_key at c.loop-slot.slot c.in_ok-key.field-0 w.in_default-2.not-Some key) (so_far.held n below same stands))
+          ];
+    }

@@ -1,0 +1,19 @@
+use Rattle.std.proofs.Common.{◌≡◌, drop, map}
+use Rattle.yspec.specs.document.Instances.{tuple_at, own_path}
+use Rattle.ymodel.specs.Layout.{numbers_of}
+use Rattle.ymodel.specs.View as schema_view
+use Rattle.ystore.specs.Views.{store_of, lent}
+use Rattle.yshape.specs.Hanging.{Branches, Hangs, tree_of}
+use Rattle.yshape.specs.Parts.{OnlyReads}
+use Rattle.ycheck.proofs.ValueLemmas.{with_front}
+use Rattle.yfacts.proofs.tuples.key_of.Given as goal
+
+-- the values so far with those of the leafs that are left
+abbrev pub invariant-loop-key : goal.invariant-loop-key
+invariant-loop-key l = record {
+  same_reference : lent l.counted ≡ lent l.fn.counted;
+  kept : OnlyReads (store_of l.fn.counted) (store_of l.counted);
+  values : (f : Branches) → Hangs (store_of l.fn.counted) l.row f
+      → with_front l.values.items (tuple_at (schema_view.view l.schema) (tree_of f) (map own_path (numbers_of (drop l.key-index l.keys))))
+      ≡ tuple_at (schema_view.view l.schema) (tree_of f) (map own_path (numbers_of l.keys));
+}

@@ -1,0 +1,97 @@
+-- The keys of indexes that stored nodes hold: what a leaf or item refers to, an item's value, and an entry's tuples.
+use Rattle.std.specs.Prelude.{ℕ, zero, suc, ◌+◌, ◌==◌, ◌&&◌, ◌++◌, Bool, false, List, [], map, length, bytes_eq, Option, None, option_and_then, option_map, option_to_list, string_bytes, if◌then◌else◌}
+use Rattle.std.specs.Cmp.Lexicographic.{pointwise}
+use Rattle.std.specs.Option.{option_map_or}
+use Rattle.yspec.specs.text.Text.{Text}
+use Rattle.yspec.specs.types.Types.{Val}
+use Rattle.yspec.specs.types.Order.{same_value}
+use Rattle.yspec.specs.schema.Schema.{Schema, Kind, leaf_list, list, node_at}
+use Rattle.yspec.specs.document.Document.{Stored, Tree}
+use Rattle.yspec.specs.document.Instances.{Tuple, value_of, same_tuple, tuple_of_paths, paths_of}
+use Rattle.ycheck.specs.Targets.{required_target}
+use Rattle.ystore.specs.Store.{same_row}
+use Rattle.ystore.specs.declared.row.NodeId.{NodeId}
+use Rattle.ystore.specs.declared.row.Row.{Row}
+use Rattle.ystore.specs.declared.key.Key as rust
+use Rattle.ystore.specs.declared.key.Key.TheVariants.{Value, Item, Tuple as TupleKey, Texts}
+
+-- ---- keys
+
+-- a key by what it holds, schema nodes by their numbers
+pub data Key : Type 0 where
+  value_key : ℕ → Val → Key
+  item_key : Row → ℕ → Val → Key
+  tuple_key : Row → ℕ → ℕ → Tuple → Key
+  texts_key : Row → ℕ → List Text → Key
+
+abbrev pub key_view : rust.Key → Key
+key_view (Value schema v) = value_key schema.0 v
+key_view (Item row schema v) = item_key row schema.0 v
+key_view (TupleKey row schema u vs) = tuple_key row schema.0 u vs.items
+key_view (Texts row schema texts) = texts_key row schema.0 (map string_bytes texts.items)
+
+-- whether two are the same
+abbrev pub same : Key → Key → Bool
+same (value_key m v) (value_key n w) = m == n && same_value v w
+same (item_key r m v) (item_key s n w) = same_row r s && (m == n && same_value v w)
+same (tuple_key r m t vs) (tuple_key s n u ws) = same_row r s && (m == n && (t == u && same_tuple vs ws))
+same (texts_key r m texts) (texts_key s n others) = same_row r s && (m == n && pointwise bytes_eq texts others)
+same _ _ = false
+
+-- a key with a node that holds it
+abbrev pub Holding : Type 0
+Holding = Key × NodeId
+
+abbrev pub holdings : List (rust.Key × NodeId) → List Holding
+holdings = map (λ p. (key_view p.0, p.1))
+
+abbrev pub held_with : NodeId → List Key → List Holding
+held_with id = map (λ key. (key, id))
+
+-- ---- which keys a node holds
+
+-- how many flags a node has: whether another has its value, or its tuple of the key (0) or of a `unique` (from 1)
+abbrev pub kind_flags : Bool → Kind → ℕ
+kind_flags config (list tuples amount) = 1 + length tuples.uniques
+kind_flags config (leaf_list type defaults amount) = if config then 1 else 0
+kind_flags config _ = 0
+
+abbrev pub flags_of : Schema → ℕ → ℕ
+flags_of schema number = option_map_or (λ n. kind_flags n.config n.kind) (node_at schema number) 0
+
+-- what a leaf or item refers to, where an instance of it is required
+abbrev pub reference_key : Schema → Stored → Option Key
+reference_key schema s = option_and_then (λ n. option_and_then (λ target. option_map (value_key target) (value_of schema s)) (required_target n.kind)) (node_at schema s.schema_number)
+
+-- the value of an item, which has one flag
+abbrev pub item_key_at : Schema → Bool → Row → Stored → ℕ → Option Key
+item_key_at schema config above s zero =
+    if config then option_map (item_key above s.schema_number) (value_of schema s) else None
+item_key_at schema config above s (suc u) = None
+
+-- what is flagged at a number: an item's value, or a tuple of an entry
+abbrev pub kind_key : Schema → Bool → Kind → Row → Stored → Tree → ℕ → Option Key
+kind_key schema config (list tuples amount) above s below u =
+    option_map (tuple_key above s.schema_number u) (tuple_of_paths schema below (paths_of tuples u))
+kind_key schema config (leaf_list type defaults amount) above s below u = item_key_at schema config above s u
+kind_key schema config _ above s below u = None
+
+abbrev pub flagged_key : Schema → Row → Stored → Tree → ℕ → Option Key
+flagged_key schema above s below u = option_and_then (λ n. kind_key schema n.config n.kind above s below u) (node_at schema s.schema_number)
+
+-- the key that a node of a row holds at a slot: first what it refers to, then what is flagged
+abbrev pub key_at : Schema → Row → Stored → Tree → ℕ → Option Key
+key_at schema above s below zero = reference_key schema s
+key_at schema above s below (suc u) = flagged_key schema above s below u
+
+abbrev pub slots_of : Schema → ℕ → ℕ
+slots_of schema number = 1 + flags_of schema number
+
+-- the keys at so many slots, from one on
+abbrev pub keys_from : (ℕ → Option Key) → ℕ → ℕ → List Key
+keys_from at slot zero = []
+keys_from at slot (suc more) = option_to_list (at slot) ++ keys_from at (slot + 1) more
+
+-- all of them
+abbrev pub held_by : Schema → Row → Stored → Tree → List Key
+held_by schema above s below = keys_from (key_at schema above s below) 0 (slots_of schema s.schema_number)

@@ -1,0 +1,5 @@
+pub mod Given
+pub mod InPlay
+pub mod Judging
+pub mod Keys
+pub mod Rows

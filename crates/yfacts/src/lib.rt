@@ -1,0 +1,20 @@
+//! What the nodes and rows of a store hold, by counted reads: values, keys of indexes, and what is in play.
+#![tactic(auto)]
+
+mod cases;
+mod given;
+mod judging;
+mod keys;
+mod laws;
+mod play;
+mod rows;
+mod tuples;
+mod values;
+
+pub use given::own_value_of;
+pub use judging::judged_of;
+pub use keys::{flag_count, key_at, keys_of};
+pub use laws::viewed_keys;
+pub use play::{InPlay, in_play};
+pub use tuples::tuple_of;
+pub use values::{leaf_value, value_at, value_of};
