@@ -1,3 +1,4 @@
+pub mod AccountLemmas
 pub mod AssignedLemmas
 pub mod CountLemmas
 pub mod EachLemmas

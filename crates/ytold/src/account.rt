@@ -76,7 +76,8 @@ pub fn enter_node(
     enter_above(counted, schema, id, &mut account.keys)?;
     own_value_of(counted, schema, id, &mut account.values)?;
     let of = counted.schema(id);
-    enter_row(counted, schema, Row::Below(id), of, account)
+    let told = enter_row(counted, schema, Row::Below(id), of, account)?;
+    Ok(told)
 }
 
 /// Enters the defaults in use in a row, and answers what is told of what isn't stored in it.

@@ -1,0 +1,15 @@
+use Rattle.std.proofs.Common.{Some, sym, ◌∙◌}
+use Rattle.std.proofs.lemmas.Option.{same_Some}
+use Rattle.ymodel.specs.View as schema_view
+use Rattle.ystore.specs.Views.{store_of}
+use Rattle.yshape.proofs.PartLemmas.{one_read}
+use Rattle.yfacts.specs.Keys.{holdings}
+use Rattle.ytold.proofs.AccountLemmas.{keys_are, parent_is, there_read}
+use Rattle.ytold.proofs.account.enter_above.Goals as goal
+
+pub returns-clause-held : goal.returns-clause-held
+returns-clause-held c s there =
+    keys_are (schema_view.view c.args.schema.now) (store_of c.parent.new.self) c.in-Some.above c.args.id s (holdings c.args.keys.now.items) (holdings c.keys_of.new.held.items)
+    (there_read (store_of c.args.counted.now) (store_of c.parent.new.self) c.args.id s (one_read (store_of c.args.counted.now) (store_of c.parent.new.self) c.in-Some.ensures.counted.store) there)
+    (same_Some c.in-Some.above s.row (c.in-Some.ensures.parent ∙ parent_is (store_of c.args.counted.now) c.args.id s there))
+    c.in_ok-keys_of.ensures.held

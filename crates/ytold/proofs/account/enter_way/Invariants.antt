@@ -1,0 +1,25 @@
+use Rattle.std.proofs.Common.{◌≡◌, ◌≤◌, ◌-◌, ◌++◌}
+use Rattle.yspec.specs.Forest.{size}
+use Rattle.ymodel.specs.View as schema_view
+use Rattle.ystore.specs.Store.{node_count}
+use Rattle.ystore.specs.Views.{store_of, lent}
+use Rattle.ystore.specs.declared.row.Row.TheVariants.{Top}
+use Rattle.yshape.specs.Hanging.{Branches, Hangs}
+use Rattle.yshape.specs.Parts.{OnlyReads}
+use Rattle.yshape.specs.Ways.{Way, around, end_of}
+use Rattle.yfacts.specs.Keys.{holdings}
+use Rattle.ytold.specs.Standing.{way_held}
+use Rattle.ytold.proofs.AccountLemmas.{Halfway}
+use Rattle.ytold.proofs.account.enter_way.Given as goal
+
+-- what the nodes so far hold is entered
+abbrev pub invariant-loop-level : goal.invariant-loop-level
+invariant-loop-level l =
+    record {
+      same_reference : lent l.counted ≡ lent l.fn.counted;
+      kept : OnlyReads (store_of l.fn.counted) (store_of l.counted);
+      entered : (way : Way) (f : Branches) → Hangs (store_of l.fn.counted) Top (around way f) → end_of Top way ≡ l.fn.row
+          → size (around way f) ≤ node_count (store_of l.fn.counted)
+          → (h : Halfway way l.here (l.levels - l._level))
+          × (holdings l.keys.items ≡ holdings l.fn.keys.items ++ way_held (schema_view.view l.schema) (end_of Top h.up) h.down f);
+    }
