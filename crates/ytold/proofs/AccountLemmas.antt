@@ -216,7 +216,7 @@ is_top : Row → Bool
 is_top Top = true
 is_top (Below id) = false
 
-top_not : (id : NodeId) → Below id ≡ Top → ⊥
+pub top_not : (id : NodeId) → Below id ≡ Top → ⊥
 unfolding is_top
 top_not id e = false≢true (ap is_top e)
 
@@ -224,7 +224,7 @@ id_of : NodeId → Row → NodeId
 id_of d Top = d
 id_of d (Below id) = id
 
-below_same : (a b : NodeId) → Below a ≡ Below b → a ≡ b
+pub below_same : (a b : NodeId) → Below a ≡ Below b → a ≡ b
 unfolding id_of
 below_same a b e = ap (id_of a) e
 

@@ -5,6 +5,7 @@ pub mod EachLemmas
 pub mod KeptLemmas
 pub mod KeyLemmas
 pub mod OwnLemmas
+pub mod PlanLemmas
 pub mod RowLemmas
 pub mod SumLemmas
 pub mod UnlikeLemmas

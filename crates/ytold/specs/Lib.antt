@@ -4,6 +4,7 @@ pub mod Counts
 pub mod Each
 pub mod Keyed
 pub mod Own
+pub mod Plans
 pub mod Standing
 pub mod Sums
 pub mod Unlike

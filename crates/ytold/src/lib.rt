@@ -2,5 +2,7 @@
 #![tactic(auto)]
 
 mod account;
+mod planning;
 
 pub use account::{Account, News, enter_new_nodes, enter_node, enter_nodes, enter_row, enter_way};
+pub use planning::{Plan, plan_of};

@@ -1,0 +1,132 @@
+//! What a change of a row changes of what is told.
+
+ghost use Rattle.std.specs.Prelude.{◌≡◌, ◌≤◌, ◌++◌, None, IfOk};
+ghost use Rattle.yspec.specs.Forest.{size};
+ghost use Rattle.ymodel.specs.Layout.{number_of};
+ghost use Rattle.ymodel.specs.View as schema_view;
+ghost use Rattle.ystore.specs.Store.{node_count};
+ghost use Rattle.ystore.specs.Views.{store_of, lent};
+ghost use Rattle.ystore.specs.declared.row.Row.TheVariants.{Top};
+ghost use Rattle.yshape.specs.Hanging.{Branches, Hangs, tree_of};
+ghost use Rattle.yshape.specs.Parts.{OnlyReads};
+ghost use Rattle.yshape.specs.Ways.{Way, around, end_of};
+ghost use Rattle.yfacts.specs.InPlay.{absence_views};
+ghost use Rattle.ytold.specs.Standing as words;
+ghost use Rattle.ytold.specs.Accounts.{Enters};
+ghost use Rattle.ytold.specs.Plans.{IsReady, Prepared, Plans, row_schema};
+
+use crate::account::{Account, News, enter_new_nodes, enter_nodes, enter_row, enter_way};
+use std::alloc::AllocError;
+use ymodel::{Schema, SchemaId};
+use yshape::Swap;
+use ystore::{Absence, Counted, Key, NodeId, Row};
+use ytype::Val;
+
+/// What is to be told of a document once a row of it is changed.
+#[derive(Debug, Drop)]
+pub struct Plan {
+    /// The keys that are left, each by a node that goes or that stands above the row.
+    pub leaves: Vec<(Key, NodeId)>,
+    /// The keys that are joined then, by nodes that come and those above the row.
+    pub joins: Vec<(Key, NodeId)>,
+    /// The values of instances that go, and of defaults in use in the row before.
+    pub goes: Vec<(SchemaId, Val)>,
+    /// The values of instances that come, and of defaults in use in the row then.
+    pub comes: Vec<(SchemaId, Val)>,
+    /// What is told then of what isn't stored in the row.
+    pub absences: Vec<Absence>,
+    /// What is told of the nodes that come.
+    pub news: Vec<News>,
+}
+
+/// The plan of a change of a row, given the numbers of the nodes that go and of those that come. The row is changed for a
+/// while, and is as it was then.
+pub fn plan_of(
+    counted: &mut Counted<'_>,
+    schema: &Schema,
+    swap: Swap,
+    old: &[NodeId],
+    new: &[NodeId],
+) -> Result<Plan, AllocError>
+    requires { Prepared swap (store_of counted.old) old.now new.now }
+    ensures plan { (p : Prepared swap (store_of counted.old) old.now new.now)
+        → IfOk result (Plans (schema_view.view schema.now) p.ready.way p.ready.f p.ready.loose p.ready.g p.ready.left) }
+    ensures kept { OnlyReads (store_of counted.old) (store_of counted.new) }
+    ensures same_reference { lent counted.new ≡ lent counted.old }
+{
+    let mut before = Account::new(counted.alloc());
+    let mut after = Account::new(counted.alloc());
+    let of = schema_above(counted, swap.above);
+    enter_nodes(counted, schema, old, &mut before)?;
+    enter_place(counted, schema, swap.above, of, &mut before)?;
+    let news = enter_new_nodes(counted, schema, new, &mut after)?;
+    let absences = enter_changed(counted, schema, swap, of, &mut after)?;
+    Ok(Plan {
+        leaves: before.keys,
+        joins: after.keys,
+        goes: before.values,
+        comes: after.values,
+        absences,
+        news,
+    })
+}
+
+/// The schema node above a row; none above the top.
+fn schema_above(counted: &mut Counted<'_>, row: Row) -> Option<SchemaId>
+    ensures schema { (way : Way) (f : Branches) → Hangs (store_of counted.old) Top (around way f)
+        → end_of Top way ≡ row → number_of result ≡ row_schema None way }
+    ensures kept { OnlyReads (store_of counted.old) (store_of counted.new) }
+    ensures same_reference { lent counted.new ≡ lent counted.old }
+{
+    match row {
+        Row::Top => None,
+        Row::Below(id) => counted.schema(id),
+    }
+}
+
+/// Enters the defaults in use in a row and the keys of the nodes above it, and answers what is told of what isn't stored in it.
+fn enter_place(
+    counted: &mut Counted<'_>,
+    schema: &Schema,
+    row: Row,
+    of: Option<SchemaId>,
+    account: &mut Account,
+) -> Result<Vec<Absence>, AllocError>
+    ensures place { let s = schema_view.view schema.now in
+        IfOk result (λ told. (way : Way) (f : Branches) → Hangs (store_of counted.old) Top (around way f)
+        → end_of Top way ≡ row → size (around way f) ≤ node_count (store_of counted.old)
+        → Enters account.old account.new (words.way_held s Top way f) (words.defaults_in_row s (number_of of) (tree_of f))) }
+    ensures absences { let s = schema_view.view schema.now in
+        IfOk result (λ told. (f : Branches) → Hangs (store_of counted.old) row f
+        → absence_views told.items ≡ words.absences_in_row s (number_of of) (tree_of f)) }
+    ensures kept { OnlyReads (store_of counted.old) (store_of counted.new) }
+    ensures same_reference { lent counted.new ≡ lent counted.old }
+{
+    let absences = enter_row(counted, schema, row, of, account)?;
+    enter_way(counted, schema, row, &mut account.keys)?;
+    Ok(absences)
+}
+
+/// The same of a row that is changed for a while.
+fn enter_changed(
+    counted: &mut Counted<'_>,
+    schema: &Schema,
+    swap: Swap,
+    of: Option<SchemaId>,
+    account: &mut Account,
+) -> Result<Vec<Absence>, AllocError>
+    requires { IsReady swap (store_of counted.old) }
+    ensures place { let s = schema_view.view schema.now in
+        (r : IsReady swap (store_of counted.old)) → IfOk result (λ told.
+        Enters account.old account.new (words.way_held s Top r.way r.g) (words.defaults_in_row s (number_of of) (tree_of r.g))) }
+    ensures absences { let s = schema_view.view schema.now in
+        (r : IsReady swap (store_of counted.old)) → IfOk result (λ told.
+        absence_views told.items ≡ words.absences_in_row s (number_of of) (tree_of r.g)) }
+    ensures kept { OnlyReads (store_of counted.old) (store_of counted.new) }
+    ensures same_reference { lent counted.new ≡ lent counted.old }
+{
+    swap.make(counted);
+    let told = enter_place(counted, schema, swap.above, of, account);
+    swap.undo(counted);
+    told
+}
