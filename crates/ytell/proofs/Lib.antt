@@ -1,0 +1,5 @@
+pub mod ClimbLemmas
+pub mod LawLemmas
+pub mod TellLemmas
+pub mod TotalLemmas
+pub mod WayLemmas

@@ -1,0 +1,10 @@
+//! What is told at the nodes of a store: its totals, and the keys that tell.
+#![tactic(auto)]
+
+mod laws;
+mod telling;
+mod totals;
+
+pub use laws::{changed_totals, kept_totals, kept_trees, same_faults, silent_branches};
+pub use telling::{tell_judged, tell_play, tell_same};
+pub use totals::climb;
