@@ -1,4 +1,5 @@
 pub mod ClimbLemmas
+pub mod KeyLemmas
 pub mod LawLemmas
 pub mod TellLemmas
 pub mod TotalLemmas
