@@ -10,6 +10,11 @@ use Rattle.ystore.specs.declared.key.Key.{Key}
 use Rattle.ystore.specs.declared.key.Key.TheVariants.{Value, Item, Tuple, Texts}
 use Rattle.ytell.specs.Keys.{slot_of}
 
+pub equal_is : (r : Ordering) → is_eq r ≡ true → r ≡ Equal
+equal_is Less e = absurd (false≢true e)
+equal_is Equal e = refl
+equal_is Greater e = absurd (false≢true e)
+
 -- where a third comparison counts, it says equal of what is the same
 third : (A B C D : Ordering) → is_eq (ordering_then A (ordering_then B (ordering_then C D))) ≡ true → C ≡ Equal
 third Equal Equal Equal D e = refl

@@ -1,4 +1,6 @@
 pub mod ClimbLemmas
+pub mod FellowLemmas
+pub mod IndexLemmas
 pub mod KeyLemmas
 pub mod LawLemmas
 pub mod TellLemmas

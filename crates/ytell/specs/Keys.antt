@@ -1,5 +1,5 @@
 -- Which keys nodes hold, as an index has them, and what is told by them.
-use Rattle.std.specs.Prelude.{◌≡◌, ℕ, suc, ◌+◌, ◌<◌, ◌&&◌, Bool, true, false, List, ◌++◌, [], ◌∷◌, length, Option, Some, None, is_some, option_map, if◌then◌else◌, eqb, ltb, slice_get, unwrap_or}
+use Rattle.std.specs.Prelude.{◌≡◌, ℕ, suc, ◌+◌, ◌<◌, ◌&&◌, ◌||◌, Bool, true, false, List, ◌++◌, [], ◌∷◌, length, Option, Some, None, is_some, option_map, if◌then◌else◌, eqb, ltb, slice_get, unwrap_or}
 use Rattle.std.specs.List.{sum_by}
 use Rattle.std.specs.Option.{option_map_or}
 use Rattle.std.specs.String.{string_bytes}
@@ -8,7 +8,7 @@ use Rattle.ycheck.specs.declared.fault.FaultCode.{FaultCode}
 use Rattle.ymodel.specs.declared.node.SchemaId.{SchemaId}
 use Rattle.ystore.specs.Held.{Told}
 use Rattle.ystore.specs.Entries.{Entry}
-use Rattle.ystore.specs.Store.{entry_at, same_at, holders_at, instances_at, node_count, same_key}
+use Rattle.ystore.specs.Store.{entry_at, same_at, holders_at, instances_at, node_count, same_key, same_row}
 use Rattle.ystore.specs.declared.row.NodeId.{NodeId}
 use Rattle.ystore.specs.declared.row.Row.{Row}
 use Rattle.ystore.specs.declared.row.Row.TheVariants.{Top, Below}
@@ -52,6 +52,7 @@ has_key keys number key = option_map_or (same_key key) (keys number (slot_of key
 pub record AreKeys : Type 0 where
   pub itself : (key : Key) → same_key key key ≡ true
   pub turned : (key other : Key) → same_key key other ≡ true → same_key other key ≡ true
+  pub alike : (key other third : Key) → same_key key other ≡ true → same_key key third ≡ same_key other third
   pub found : (nodes : Nodes) (key other : Key) → same_key key other ≡ true → entry_at nodes key ≡ entry_at nodes other
   pub slots : (key other : Key) → same_key key other ≡ true → slot_of key ≡ slot_of other
 
@@ -107,6 +108,17 @@ pub record Agrees (nodes : Nodes) (keys : Keys) (f : Branches) : Type 0 where
 abbrev pub CanHold : Nodes → NodeId → Option ℕ → Type 0
 CanHold nodes id (Some u) = u < length (same_at nodes id)
 CanHold nodes id None = judged_at nodes id ≡ Some Right
+
+-- whether the flag of a row changes where a node comes to so many fellows, or goes from them: its own, and that of a single
+-- fellow
+abbrev pub is_touched : NodeId → Option NodeId → ℕ → Row → Bool
+is_touched id fellow fellows row =
+    (ltb 0 fellows && same_row (Below id) row) || (eqb fellows 1 && option_map_or (λ other. same_row (Below other) row) fellow false)
+
+-- what is told at some rows is changed, and at no other
+abbrev pub ChangesAt : (Row → Bool) → (Told → Told) → Nodes → Nodes → Type 0
+ChangesAt touched change before after =
+    (row : Row) → told_at after row ≡ (if touched row then option_map change (told_at before row) else told_at before row)
 
 abbrev pub wrong_of : Judged → Option (Option Text)
 wrong_of Right = None

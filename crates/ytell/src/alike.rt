@@ -14,7 +14,9 @@ pub fn keys_alike()
     turned::<Key>();
 }
 
-/// Of keys that are the same each is the same as the other.
+/// Of keys that are the same each is the same as the other, and as what the other is.
 fn turned<K: Ord>()
-    ensures { (key : K) → (other : K) → is_eq (K.cmp key other) ≡ true → is_eq (K.cmp other key) ≡ true }
+    ensures turned { (key : K) → (other : K) → is_eq (K.cmp key other) ≡ true → is_eq (K.cmp other key) ≡ true }
+    ensures alike { (key : K) → (other : K) → (third : K) → is_eq (K.cmp key other) ≡ true
+        → is_eq (K.cmp key third) ≡ is_eq (K.cmp other third) }
 {}

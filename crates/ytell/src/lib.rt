@@ -2,6 +2,7 @@
 #![tactic(auto)]
 
 mod alike;
+mod keys;
 mod laws;
 mod telling;
 mod totals;

@@ -1,0 +1,1 @@
+use Rattle.ytell.proofs.FellowLemmas.{told_where}
