@@ -15,10 +15,11 @@ use Rattle.ystore.specs.declared.record.Judged.{Judged}
 use Rattle.ystore.specs.declared.nodes.Nodes.{Nodes}
 use Rattle.yshape.specs.Hanging.{Branches, times}
 use Rattle.yshape.proofs.FrameLemmas.{same_rows}
-use Rattle.ytell.specs.Totals.{ChangesTold, judged_at, told_at}
+use Rattle.ytell.specs.Totals.{ChangesTold, IsTree, OnlyFaults, StandsIn, Totals, judged_at, told_at}
 use Rattle.ytell.specs.Keys.{AreKeys, Agrees, ChangesAt, Indexes, IsJudged, Keys, Tells, among, flag_at, flag_of, has_key, is_missing, is_shared, is_touched, judged_by, own_at, own_of, slot_for, slot_of, with_key}
 use Rattle.ytell.proofs.WayLemmas.{not_both, itself}
-use Rattle.ytell.proofs.TotalLemmas.{mark}
+use Rattle.ytell.proofs.LawLemmas.{faults_shapes}
+use Rattle.ytell.proofs.TotalLemmas.{mark, tree_same}
 use Rattle.ytell.proofs.TellLemmas.{flags_seen, set_long}
 use Rattle.ytell.proofs.IndexLemmas.{among_less, among_long, among_more, first_among, in_slot, held, held_slot, holds, long_less, only_first, with_here, with_other_number, with_other_slot}
 
@@ -457,3 +458,75 @@ module _ (laws : AreKeys) (key : Key) (id : NodeId) (u : ℕ) (keys : Keys) (f :
             let was = agrees.tells.wide x u k (sym (beside laws key id u keys f before after agrees is_flag else instances None x d) ∙ (ap (λ w. with_key id.0 (slot_of key) None keys x.0 (suc w)) same ∙ is)) in
             let long = flags_long left u false before after told x in
             omega (arith, same, was, long)
+
+-- ---- two flags, one after the other
+
+same_twice : (number : ℕ) (b : Bool) (o : Option Told) → option_map (with_same number b) (option_map (with_same number b) o) ≡ option_map (with_same number b) o
+same_twice number b (Some t) = ap (λ bs. Some (record t { same = bs })) (set_twice t.same number b)
+same_twice number b None = refl
+
+module _ (id other : NodeId) (number : ℕ) (b : Bool) (first second third : Nodes)
+    (one : ChangesTold (Below id) (with_same number b) first second) (two : ChangesTold (Below other) (with_same number b) second third) where
+  both_one : ChangesAt (is_touched id (Some other) 1) (with_same number b) first third
+  both_one row =
+      told_where (Below other) (with_same number b) second third two row
+      ∙ (ap (λ o. cond (same_row (Below other) row) (option_map (with_same number b) o) o) (told_where (Below id) (with_same number b) first second one row)
+      ∙ by (same_row (Below id) row) (same_row (Below other) row) (told_at first row))
+    where
+      by : (a c : Bool) (o : Option Told) → cond c (option_map (with_same number b) (cond a (option_map (with_same number b) o) o)) (cond a (option_map (with_same number b) o) o)
+          ≡ cond (a || c) (option_map (with_same number b) o) o
+      by true true o = same_twice number b o
+      by true false o = refl
+      by false true o = refl
+      by false false o = refl
+
+  pub both_told : (fellow : Option NodeId) (fellows : ℕ) → fellow ≡ Some other → fellows ≡ 1 → ChangesAt (is_touched id fellow fellows) (with_same number b) first third
+  both_told fellow fellows e n =
+      subst (λ (o : Option NodeId). ChangesAt (is_touched id o fellows) (with_same number b) first third) (sym e)
+      (subst (λ (k : ℕ). ChangesAt (is_touched id (Some other) k) (with_same number b) first third) (sym n) both_one)
+
+  pub both_totals : (fellow : Option NodeId) (fellows : ℕ) → fellow ≡ Some other → fellows ≡ 1 → (f : Branches) → IsTree first f → Totals first f
+      → (StandsIn (Below id) f → slice_get (same_at first id) number ≡ Some (not b) → Totals second f)
+      → (IsTree second f → Totals second f → StandsIn (Below other) f → slice_get (same_at second other) number ≡ Some (not b) → Totals third f)
+      → ((x : NodeId) → is_touched id fellow fellows (Below x) ≡ true → StandsIn (Below x) f × (slice_get (same_at first x) number ≡ Some (not b)))
+      → option_map_or (λ (o : NodeId). eqb id.0 o.0) fellow false ≡ false → Totals third f
+  both_totals fellow fellows e n f tree all tell_one tell_two touches differ =
+      tell_two (tree_same first second (faults_shapes first second one.kept) f tree)
+      (tell_one at_id.0 at_id.1) at_other.0 (ap (λ bs. slice_get bs number) same_other ∙ at_other.1)
+    where
+      touched_is : (x : NodeId) → is_touched id (Some other) 1 (Below x) ≡ true → is_touched id fellow fellows (Below x) ≡ true
+      touched_is x t = ap (λ o. is_touched id o fellows (Below x)) e ∙ (ap (λ k. is_touched id (Some other) k (Below x)) n ∙ t)
+
+      or_true : (a : Bool) → (a || true) ≡ true
+      or_true true = refl
+      or_true false = refl
+
+      at_id : StandsIn (Below id) f × (slice_get (same_at first id) number ≡ Some (not b))
+      at_id = touches id (touched_is id (ap (λ c. c || same_row (Below other) (Below id)) (itself (Below id))))
+
+      at_other : StandsIn (Below other) f × (slice_get (same_at first other) number ≡ Some (not b))
+      at_other = touches other (touched_is other (ap (λ c. same_row (Below id) (Below other) || c) (itself (Below other)) ∙ or_true (same_row (Below id) (Below other))))
+
+      apart : same_row (Below id) (Below other) ≡ false
+      apart = sym (ap (λ o. option_map_or (λ (o : NodeId). eqb id.0 o.0) o false) e) ∙ differ
+
+      same_other : same_at second other ≡ same_at first other
+      same_other =
+          flags_seen (held_at second (Below other)) ∙ (ap (λ o. option_map_or (λ t. t.same) o []) (one.others (Below other) apart) ∙ sym (flags_seen (held_at first (Below other))))
+
+-- ---- why a row is touched
+
+pub touched_why : (id : NodeId) (xs : List NodeId) (x : NodeId) → is_touched id (slice_get xs 0) (length xs) (Below x) ≡ true → eqb id.0 x.0 ≡ false
+    → (1 ≤ among x.0 xs) × (length xs ≡ 1)
+touched_why id xs x touched apart = by (among x.0 xs) refl
+  where
+    by : (k : ℕ) → among x.0 xs ≡ k → (1 ≤ among x.0 xs) × (length xs ≡ 1)
+    by zero e = absurd (false≢true (sym (touched_none id xs x apart (λ some. omega (arith, e, some))) ∙ touched))
+    by (suc k) e =
+        let some : 1 ≤ among x.0 xs = omega (arith, e) in
+        (some, eqb-true (length xs) 1 (sym (touched_fellow id xs x apart some) ∙ touched))
+
+pub some_flag : (bs : List Bool) (u : ℕ) (b : Bool) → u < length bs → unwrap_or (slice_get bs u) false ≡ b → slice_get bs u ≡ Some b
+some_flag [] u b less e = absurd (omega (arith, less))
+some_flag (x ∷ bs) zero b less e = ap Some e
+some_flag (x ∷ bs) (suc u) b less e = some_flag bs u b (omega (arith, less)) e

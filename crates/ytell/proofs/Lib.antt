@@ -1,6 +1,7 @@
 pub mod ClimbLemmas
 pub mod FellowLemmas
 pub mod IndexLemmas
+pub mod JoinLemmas
 pub mod KeyLemmas
 pub mod LawLemmas
 pub mod TellLemmas

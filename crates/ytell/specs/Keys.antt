@@ -137,17 +137,18 @@ own_of told = record { wrong = wrong_of told.judged; play = told.play; flags = l
 abbrev pub own_at : Nodes → Row → Option Own
 own_at nodes row = option_map own_of (told_at nodes row)
 
--- what is held at one key is changed, and what is told by keys; all else stays
-pub record ChangesKey (key : Key) (change : Option Entry → Option Entry) (before after : Nodes) : Type 0 where
-  pub changed : entry_at after key ≡ change (entry_at before key)
+-- what is held at one key is changed, and what is told; all else stays
+pub record ChangesKey (key : Key) (change : Entry → Entry) (before after : Nodes) : Type 0 where
+  pub changed : entry_at after key ≡ option_map change (entry_at before key)
   pub others : (other : Key) → same_key key other ≡ false → entry_at after other ≡ entry_at before other
   pub shapes : (row : Row) → shape_at after row ≡ shape_at before row
   pub rooms : (row : Row) → room_at after row ≡ room_at before row
-  pub own : (row : Row) → own_at after row ≡ own_at before row
   pub node_count : node_count after ≡ node_count before
 
--- what is told agrees again with an index, the totals are right, and of nodes beside the forest the same is told
+-- What is told agrees with an index again, and the totals are right; what no key tells stays, and all that is told of nodes
+-- beside the forest.
 pub record Follows (keys : Keys) (f : Branches) (before after : Nodes) : Type 0 where
   pub agrees : Agrees after keys f
   pub totals : Totals after f
+  pub own : (row : Row) → own_at after row ≡ own_at before row
   pub beside : (id : NodeId) → times id.0 f ≡ 0 → told_at after (Below id) ≡ told_at before (Below id)
