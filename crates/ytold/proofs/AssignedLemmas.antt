@@ -16,7 +16,7 @@ module _ {K : Type 0} (slot_of : K → ℕ) where
 
   -- a pair that is of another node or slot
   turned : (p q : K × NodeId) → is_at slot_of p.1.0 (slot_of p.0) q ≡ is_at slot_of q.1.0 (slot_of q.0) p
-  turned p q = ap₂ (λ (a b : Bool). a && b) (flip q.1.0 p.1.0) (flip (slot_of q.0) (slot_of p.0))
+  turned p q = ap₂ (λ (a b : Bool). a && b) (flip p.1.0 q.1.0) (flip (slot_of p.0) (slot_of q.0))
     where
       flip : (a b : ℕ) → eqb a b ≡ eqb b a
       flip a b = grind arith
@@ -50,9 +50,9 @@ module _ {K : Type 0} (slot_of : K → ℕ) where
       by : (b : Bool) → is_at slot_of number slot p ≡ b
           → option_or (key_in slot_of ps number slot) (with_key slot_of p held number slot) ≡ option_or (key_in slot_of (p ∷ ps) number slot) (held number slot)
       by true e =
-          let both = parts (eqb p.1.0 number) (eqb (slot_of p.0) slot) e in
+          let both = parts (eqb number p.1.0) (eqb slot (slot_of p.0)) e in
           let none : key_in slot_of ps number slot ≡ None =
-          none_in ps (ap₂ (λ (n s : ℕ). has_at slot_of ps n s) (sym (eqb-true p.1.0 number both.0)) (sym (eqb-true (slot_of p.0) slot both.1)) ∙ distinct.0) in
+          none_in ps (ap₂ (λ (n s : ℕ). has_at slot_of ps n s) (eqb-true number p.1.0 both.0) (eqb-true slot (slot_of p.0) both.1) ∙ distinct.0) in
           ap₂ (λ (o q : Option K). option_or o q) none (ap (λ b. cond b (Some p.0) (held number slot)) e)
           ∙ ap (λ b. option_or (cond b (Some p.0) (key_in slot_of ps number slot)) (held number slot)) (sym e)
       by false e =

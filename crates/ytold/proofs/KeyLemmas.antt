@@ -109,8 +109,8 @@ module _ (id : NodeId) (at : ℕ → Option Key) (stands : (slot : ℕ) (key : K
   off : (first number slot : ℕ) (key : Key) (rest : Option Key) → at first ≡ Some key → (first ≡ slot → ⊥)
       → cond (is_at slot_in number slot (key, id)) (Some key) rest ≡ rest
   off first number slot key rest is differ =
-      ap (λ b. cond (eqb id.0 number && b) (Some key) rest) (ne_eqb (slot_in key) slot (λ e. differ (sym (stands first key is) ∙ e)))
-      ∙ ap (λ b. cond b (Some key) rest) (and_false (eqb id.0 number))
+      ap (λ b. cond (eqb number id.0 && b) (Some key) rest) (ne_eqb slot (slot_in key) (λ e. differ (sym (stands first key is) ∙ sym e)))
+      ∙ ap (λ b. cond b (Some key) rest) (and_false (eqb number id.0))
 
   pub below_first : (first more number slot : ℕ) → slot < first → key_in slot_in (held_with id (keys_from at first more)) number slot ≡ None
   below_first first zero number slot less = refl
@@ -138,8 +138,8 @@ module _ (id : NodeId) (at : ℕ → Option Key) (stands : (slot : ℕ) (key : K
           below_first (first + 1) more id.0 slot (let same = eqb-true first slot e in omega (arith, same)) ∙ (sym is ∙ ap at (eqb-true first slot e))
       by behind None is false e = behind (beyond (not_same e))
       by behind (Some key) is true e =
-          ap (λ b. cond (b && eqb (slot_in key) slot) (Some key) (key_in slot_in (held_with id (keys_from at (first + 1) more)) id.0 slot)) (eq-eqb id.0 id.0 refl)
-          ∙ (ap (λ b. cond b (Some key) (key_in slot_in (held_with id (keys_from at (first + 1) more)) id.0 slot)) (eq-eqb (slot_in key) slot (stands first key is ∙ eqb-true first slot e))
+          ap (λ b. cond (b && eqb slot (slot_in key)) (Some key) (key_in slot_in (held_with id (keys_from at (first + 1) more)) id.0 slot)) (eq-eqb id.0 id.0 refl)
+          ∙ (ap (λ b. cond b (Some key) (key_in slot_in (held_with id (keys_from at (first + 1) more)) id.0 slot)) (eq-eqb slot (slot_in key) (sym (stands first key is ∙ eqb-true first slot e)))
           ∙ (sym is ∙ ap at (eqb-true first slot e)))
       by behind (Some key) is false e = off first id.0 slot key (key_in slot_in (held_with id (keys_from at (first + 1) more)) id.0 slot) is (not_same e) ∙ behind (beyond (not_same e))
 
@@ -152,7 +152,7 @@ module _ (id : NodeId) (at : ℕ → Option Key) (stands : (slot : ℕ) (key : K
       by rest None is = rest
       by rest (Some key) is = off first number slot key (key_in slot_in (held_with id (keys_from at (first + 1) more)) number slot) is (λ e. omega (arith, least, e)) ∙ rest
 
-  other_node : (first more number slot : ℕ) → eqb id.0 number ≡ false → key_in slot_in (held_with id (keys_from at first more)) number slot ≡ None
+  other_node : (first more number slot : ℕ) → eqb number id.0 ≡ false → key_in slot_in (held_with id (keys_from at first more)) number slot ≡ None
   other_node first zero number slot other = refl
   other_node first (suc more) number slot other = by (other_node (first + 1) more number slot other) (at first)
     where
@@ -160,7 +160,7 @@ module _ (id : NodeId) (at : ℕ → Option Key) (stands : (slot : ℕ) (key : K
           → (o : Option Key) → key_in slot_in (held_with id (option_to_list o ++ keys_from at (first + 1) more)) number slot ≡ None
       by rest None = rest
       by rest (Some key) =
-          ap (λ b. cond (b && eqb (slot_in key) slot) (Some key) (key_in slot_in (held_with id (keys_from at (first + 1) more)) number slot)) other ∙ rest
+          ap (λ b. cond (b && eqb slot (slot_in key)) (Some key) (key_in slot_in (held_with id (keys_from at (first + 1) more)) number slot)) other ∙ rest
 
 -- ---- the keys of nodes
 
@@ -199,7 +199,7 @@ module _ (schema : Schema) where
           (let less = ltb-true slot (slots_of schema s.label.schema.0) e in omega (arith, less))
       by false e = more slot (ltb-false slot (slots_of schema s.label.schema.0) e)
 
-  other_keys : (s : Standing) (number slot : ℕ) → eqb s.label.id.0 number ≡ false → key_in slot_in (keys_held schema s) number slot ≡ None
+  other_keys : (s : Standing) (number slot : ℕ) → eqb number s.label.id.0 ≡ false → key_in slot_in (keys_held schema s) number slot ≡ None
   other_keys s number slot other =
       other_node s.label.id (at_of s) (slot_is schema s.row (stored_of s.label) (tree_of s.below)) 0 (slots_of schema s.label.schema.0) number slot other
 
@@ -222,7 +222,7 @@ module _ (schema : Schema) where
     found_behind s held ts none.1 found.1,
   )
     where
-      flip : eqb t.label.id.0 s.label.id.0 ≡ false → eqb s.label.id.0 t.label.id.0 ≡ false
+      flip : eqb s.label.id.0 t.label.id.0 ≡ false → eqb t.label.id.0 s.label.id.0 ≡ false
       flip e = grind (arith, e)
 
   pub all_found : (ss : List Standing) → Unlike ss → Every (Found (flat_map (keys_held schema) ss)) ss

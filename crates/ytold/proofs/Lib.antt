@@ -1,10 +1,8 @@
 pub mod AccountLemmas
 pub mod AssignedLemmas
-pub mod CountLemmas
 pub mod EachLemmas
 pub mod KeptLemmas
 pub mod KeyLemmas
-pub mod OwnLemmas
 pub mod PlanLemmas
 pub mod RowLemmas
 pub mod SumLemmas

@@ -35,11 +35,11 @@ unlike-append [] ys first second apart = second
 unlike-append (x ∷ xs) ys first second apart =
     (not_in-append x.label.id.0 xs ys first.0 apart.0, unlike-append xs ys first.1 second apart.1)
 
-differs : (k : ℕ) (n : Numbered) → is_number k n ≡ 0 → eqb n.id.0 k ≡ false
-differs k n none = ne_eqb n.id.0 k other
+differs : (k : ℕ) (n : Numbered) → is_number k n ≡ 0 → eqb k n.id.0 ≡ false
+differs k n none = ne_eqb k n.id.0 other
   where
-    other : n.id.0 ≡ k → ⊥
-    other same = let here : is_number k n ≡ 1 = ap (λ b. cond b 1 0) (eq-eqb n.id.0 k same) in omega (arith, none, here)
+    other : k ≡ n.id.0 → ⊥
+    other same = let here : is_number k n ≡ 1 = ap (λ b. cond b 1 0) (eq-eqb n.id.0 k (sym same)) in omega (arith, none, here)
 
 -- ---- what hangs on a row
 

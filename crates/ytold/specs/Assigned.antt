@@ -11,7 +11,7 @@ Assignment K = ℕ → ℕ → Option K
 module _ {K : Type 0} (slot_of : K → ℕ) where
   -- whether a pair is of a node and a slot
   abbrev pub is_at : ℕ → ℕ → K × NodeId → Bool
-  is_at number slot p = p.1.0 == number && slot_of p.0 == slot
+  is_at number slot p = number == p.1.0 && slot == slot_of p.0
 
   abbrev pub with_key : K × NodeId → Assignment K → Assignment K
   with_key p held number slot = if is_at number slot p then Some p.0 else held number slot

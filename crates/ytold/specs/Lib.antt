@@ -1,9 +1,7 @@
 pub mod Accounts
 pub mod Assigned
-pub mod Counts
 pub mod Each
 pub mod Keyed
-pub mod Own
 pub mod Plans
 pub mod Standing
 pub mod Sums

@@ -6,7 +6,7 @@ use Rattle.ytold.specs.Standing.{Standing}
 -- none of them has a number
 abbrev pub NotIn : ℕ → List Standing → Type 0
 NotIn number [] = Unit {0}
-NotIn number (s ∷ ss) = ((s.label.id.0 == number) ≡ false) × NotIn number ss
+NotIn number (s ∷ ss) = ((number == s.label.id.0) ≡ false) × NotIn number ss
 
 -- no two have one number
 abbrev pub Unlike : List Standing → Type 0

@@ -1,0 +1,9 @@
+pub mod ClimbLemmas
+pub mod FellowLemmas
+pub mod IndexLemmas
+pub mod JoinLemmas
+pub mod KeyLemmas
+pub mod LawLemmas
+pub mod TellLemmas
+pub mod TotalLemmas
+pub mod WayLemmas

@@ -1,0 +1,1 @@
+use Rattle.ytell.proofs.JoinLemmas.{joined_fellows}

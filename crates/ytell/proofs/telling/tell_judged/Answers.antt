@@ -1,0 +1,18 @@
+use Rattle.std.proofs.Common.{◌∙◌, ap}
+use Rattle.ystore.specs.Held.{with_judged}
+use Rattle.ystore.specs.Views.{store_of}
+use Rattle.ystore.specs.declared.row.Row.TheVariants.{Below}
+use Rattle.ytell.proofs.TotalLemmas.{mark}
+use Rattle.ytell.proofs.TellLemmas.{told_so, judged_totals}
+use Rattle.ytell.proofs.telling.tell_judged.Goals as goal
+
+pub returns-clause-told : goal.returns-clause-told
+returns-clause-told c =
+    told_so (Below c.args.id) (with_judged c.args.judged) (store_of c.args.counted.now) (store_of c.set_judged.new.self) (store_of c.climb.new.counted)
+    c.set_judged.ensures.store c.climb.ensures.told c.climb.ensures.kept
+
+pub returns-clause-totals : goal.returns-clause-totals
+returns-clause-totals c f tree all stands was =
+    judged_totals (store_of c.args.counted.now) (store_of c.set_judged.new.self) (store_of c.climb.new.counted) f tree all
+    c.args.id c.args.judged c.args.was _ _ stands c.set_judged.ensures.store was
+    (c.count_of-more.ensures ∙ ap mark c.is_fault.ensures) c.count_of.ensures c.climb.ensures.climbs

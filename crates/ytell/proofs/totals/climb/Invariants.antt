@@ -1,0 +1,18 @@
+use Rattle.std.proofs.Common.{◌≡◌}
+use Rattle.yshape.specs.Hanging.{Branches}
+use Rattle.yshape.specs.Ways.{Way, around, end_of}
+use Rattle.ystore.specs.Views.{store_of, lent}
+use Rattle.ystore.specs.declared.row.Row.TheVariants.{Top}
+use Rattle.ytell.specs.Totals.{IsTree, OnlyFaults, SameTold, moved}
+use Rattle.ytell.proofs.ClimbLemmas.{SoFar}
+use Rattle.ytell.proofs.totals.climb.Given as goal
+
+abbrev pub invariant-loop-round : goal.invariant-loop-round
+invariant-loop-round l =
+    record {
+      same_reference : lent l.counted ≡ lent l.fn.counted;
+      told : SameTold (store_of l.fn.counted) (store_of l.counted);
+      kept : OnlyFaults (store_of l.fn.counted) (store_of l.counted);
+      so_far : (way : Way) (f : Branches) → IsTree (store_of l.fn.counted) (around way f) → end_of Top way ≡ l.fn.row
+          → SoFar way l.here l.round (moved l.more l.less) (store_of l.fn.counted) (store_of l.counted);
+    }

@@ -1,0 +1,13 @@
+//! What is told at the nodes of a store: its totals, and the keys that tell.
+#![tactic(auto)]
+
+mod alike;
+mod keys;
+mod laws;
+mod telling;
+mod totals;
+
+pub use alike::keys_alike;
+pub use laws::{changed_totals, kept_totals, kept_trees, same_faults, silent_branches};
+pub use telling::{tell_judged, tell_play, tell_same};
+pub use totals::climb;
