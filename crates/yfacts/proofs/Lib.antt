@@ -1,3 +1,5 @@
+pub mod GivenLemmas
+pub mod HeldLemmas
 pub mod KeyLemmas
 pub mod PlayLemmas
 pub mod RowLemmas

@@ -100,7 +100,7 @@ rows_same Top (Below n) e = absurd (false≢true e)
 rows_same (Below m) Top e = absurd (false≢true e)
 rows_same (Below m) (Below n) e = ap (λ (i : ℕ). Below (record { 0 = i })) (eqb-true m.0 n.0 e)
 
-row_itself : (r : Row) → same_row r r ≡ true
+pub row_itself : (r : Row) → same_row r r ≡ true
 row_itself Top = refl
 row_itself (Below m) = eq-eqb m.0 m.0 refl
 
