@@ -4,4 +4,5 @@ pub mod KeyLemmas
 pub mod PlayLemmas
 pub mod RowLemmas
 pub mod SameLemmas
+pub mod TellingLemmas
 pub mod TupleLemmas

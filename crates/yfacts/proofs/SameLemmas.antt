@@ -159,3 +159,9 @@ same_keys k l = (
   λ e. same_is (key_view k) (key_view l) (sym (same_views k l) ∙ e),
   λ e. same_views k l ∙ (ap (same (key_view k)) (sym e) ∙ same_itself (key_view k)),
 )
+
+pub turned : (k l : rust.Key) → same_key k l ≡ true → same_key l k ≡ true
+turned k l e = (same_keys l k).1 (sym ((same_keys k l).0 e))
+
+pub alike : (k l other : rust.Key) → same_key k l ≡ true → same_key k other ≡ same_key l other
+alike k l other e = same_views k other ∙ (ap (λ v. same v (key_view other)) ((same_keys k l).0 e) ∙ sym (same_views l other))

@@ -1,21 +1,26 @@
 //! Keys that are the same, and how often values are given.
 
 ghost use Rattle.std.specs.Prelude.{◌≡◌, ◌↔◌, ◌==◌, ℕ, suc, ◌≤◌, [], Some, None, true, count_by, IsTrue, if◌then◌else◌};
+ghost use Rattle.std.specs.Option.{option_map_or};
 ghost use Rattle.yspec.specs.Forest.{Forest};
 ghost use Rattle.yspec.specs.types.Types.{Val};
-ghost use Rattle.yspec.specs.schema.Schema.{Schema, SchemaNode};
+ghost use Rattle.yspec.specs.schema.Schema.{Schema, SchemaNode, node_at};
 ghost use Rattle.yspec.specs.document.Document.{Stored, Tree, instances_in};
 ghost use Rattle.yspec.specs.document.Instances.{Tuple, value_of, is_value, times_below, tuples_in, items_in};
+ghost use Rattle.yspec.specs.document.Faults.{Times, RowTimes, faults_at};
 ghost use Rattle.yplay.specs.Absences.{defaults_in, is_default};
 ghost use Rattle.ystore.specs.Store.{same_key};
 ghost use Rattle.ystore.specs.declared.row.Row.{Row};
 ghost use Rattle.yfacts.specs.Given.{is_referred, own_values, referred};
 ghost use Rattle.yfacts.specs.Keys as words;
+ghost use Rattle.yfacts.specs.Telling as telling;
 
 /// Keys are the same where all that they hold is the same: then a view shows them as one.
 pub fn viewed_keys()
     ensures same { (k : _) → (l : _) → same_key k l ≡ words.same (words.key_view k) (words.key_view l) }
     ensures told_apart { (k : _) → (l : _) → IsTrue (same_key k l) ↔ (words.key_view k ≡ words.key_view l) }
+    ensures turned { (k : _) → (l : _) → same_key k l ≡ true → same_key l k ≡ true }
+    ensures alike { (k : _) → (l : _) → (other : _) → same_key k l ≡ true → same_key k other ≡ same_key l other }
 {}
 
 /// A value of a schema node that is referred to is given as often as instances have it: by a stored node, and by the
@@ -40,4 +45,13 @@ pub fn held_keys()
         → words.times_held schema above t (suc u) (words.tuple_key above number u vs) ≡ tuples_in schema t number u vs }
     ensures items { (schema : Schema) (above : Row) (t : Tree) (number : ℕ) (v : Val) → words.is_item schema number ≡ true
         → words.times_held schema above t 1 (words.item_key above number v) ≡ items_in schema t number v }
+{}
+
+/// The faults at a node are what its type says of its value, what it refers to, and a flag for each key that another node of
+/// its row has too.
+pub fn told_nodes()
+    ensures { (times : Times) (row : RowTimes) (schema : Schema) (above : Row) (s : Stored) (below : Tree)
+        → faults_at times row schema s below
+        ≡ option_map_or (λ n. telling.told_faults n (telling.judged_at (telling.times_of times row) schema above s below)
+        (telling.flags_at (telling.times_of times row) schema above s below)) (node_at schema s.schema_number) [] }
 {}

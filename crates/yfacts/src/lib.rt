@@ -14,7 +14,7 @@ mod values;
 pub use given::own_value_of;
 pub use judging::judged_of;
 pub use keys::{flag_count, key_at, keys_of};
-pub use laws::{given_values, held_keys, viewed_keys};
+pub use laws::{given_values, held_keys, told_nodes, viewed_keys};
 pub use play::{InPlay, absences_of, defaults_of, in_play};
 pub use tuples::tuple_of;
 pub use values::{leaf_value, value_at, value_of};
