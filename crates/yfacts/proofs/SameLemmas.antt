@@ -100,7 +100,7 @@ rows_same Top (Below n) e = absurd (false≢true e)
 rows_same (Below m) Top e = absurd (false≢true e)
 rows_same (Below m) (Below n) e = ap (λ (i : ℕ). Below (record { 0 = i })) (eqb-true m.0 n.0 e)
 
-row_itself : (r : Row) → same_row r r ≡ true
+pub row_itself : (r : Row) → same_row r r ≡ true
 row_itself Top = refl
 row_itself (Below m) = eq-eqb m.0 m.0 refl
 
@@ -159,3 +159,9 @@ same_keys k l = (
   λ e. same_is (key_view k) (key_view l) (sym (same_views k l) ∙ e),
   λ e. same_views k l ∙ (ap (same (key_view k)) (sym e) ∙ same_itself (key_view k)),
 )
+
+pub turned : (k l : rust.Key) → same_key k l ≡ true → same_key l k ≡ true
+turned k l e = (same_keys l k).1 (sym ((same_keys k l).0 e))
+
+pub alike : (k l other : rust.Key) → same_key k l ≡ true → same_key k other ≡ same_key l other
+alike k l other e = same_views k other ∙ (ap (λ v. same v (key_view other)) ((same_keys k l).0 e) ∙ sym (same_views l other))

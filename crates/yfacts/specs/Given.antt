@@ -1,7 +1,6 @@
 -- The values that instances of schema nodes have, of those to which leafrefs refer.
-use Rattle.std.specs.Prelude.{ℕ, ◌==◌, ◌&&◌, Bool, List, map, filter, length, nat_lt, count_by, option_to_list}
+use Rattle.std.specs.Prelude.{ℕ, Bool, List, map, filter, length, nat_lt, option_to_list}
 use Rattle.yspec.specs.types.Types.{Val}
-use Rattle.yspec.specs.types.Order.{same_value}
 use Rattle.yspec.specs.schema.Schema.{Schema}
 use Rattle.yspec.specs.schema.References.{references_to}
 use Rattle.yspec.specs.document.Document.{Stored}
@@ -24,7 +23,3 @@ referred schema = filter (λ g. is_referred schema g.0)
 -- the valid value of a stored node
 abbrev pub own_values : Schema → Stored → List Default
 own_values schema s = map (λ v. (s.schema_number, v)) (option_to_list (value_of schema s))
-
--- how often a value of a schema node is among them
-abbrev pub times_given : ℕ → Val → List Default → ℕ
-times_given number v = count_by (λ g. g.0 == number && same_value v g.1)

@@ -1,7 +1,8 @@
 -- The keys of indexes that stored nodes hold: what a leaf or item refers to, an item's value, and an entry's tuples.
-use Rattle.std.specs.Prelude.{ℕ, zero, suc, ◌+◌, ◌==◌, ◌&&◌, ◌++◌, Bool, false, List, [], map, length, bytes_eq, Option, None, option_and_then, option_map, option_to_list, string_bytes, if◌then◌else◌}
+use Rattle.std.specs.Prelude.{ℕ, zero, suc, ◌+◌, ◌==◌, ◌&&◌, ◌++◌, Bool, false, List, [], map, length, bytes_eq, Option, Some, None, option_and_then, option_map, option_to_list, string_bytes, if◌then◌else◌}
 use Rattle.std.specs.Cmp.Lexicographic.{pointwise}
 use Rattle.std.specs.Option.{option_map_or}
+use Rattle.yspec.specs.Forest.{weigh_row}
 use Rattle.yspec.specs.text.Text.{Text}
 use Rattle.yspec.specs.types.Types.{Val}
 use Rattle.yspec.specs.types.Order.{same_value}
@@ -59,6 +60,14 @@ kind_flags config _ = 0
 abbrev pub flags_of : Schema → ℕ → ℕ
 flags_of schema number = option_map_or (λ n. kind_flags n.config n.kind) (node_at schema number) 0
 
+-- whether a node is an item of configuration
+abbrev pub is_kind_item : Bool → Kind → Bool
+is_kind_item config (leaf_list type defaults amount) = config
+is_kind_item config _ = false
+
+abbrev pub is_item : Schema → ℕ → Bool
+is_item schema number = option_map_or (λ n. is_kind_item n.config n.kind) (node_at schema number) false
+
 -- what a leaf or item refers to, where an instance of it is required
 abbrev pub reference_key : Schema → Stored → Option Key
 reference_key schema s = option_and_then (λ n. option_and_then (λ target. option_map (value_key target) (value_of schema s)) (required_target n.kind)) (node_at schema s.schema_number)
@@ -95,3 +104,21 @@ keys_from at slot (suc more) = option_to_list (at slot) ++ keys_from at (slot + 
 -- all of them
 abbrev pub held_by : Schema → Row → Stored → Tree → List Key
 held_by schema above s below = keys_from (key_at schema above s below) 0 (slots_of schema s.schema_number)
+
+-- ---- what a key says of the nodes that hold it
+
+-- the slot at which they do
+abbrev pub slot_of : Key → Option ℕ
+slot_of (value_key target v) = Some 0
+slot_of (item_key row number v) = Some 1
+slot_of (tuple_key row number u vs) = Some (suc u)
+slot_of (texts_key row number texts) = None
+
+-- whether a node has it, which has one at that slot, or none
+abbrev pub is_held : Key → Option Key → Bool
+is_held key held = option_map_or (same key) held false
+
+-- how many nodes of a row have a key at a slot
+abbrev pub times_held : Schema → Row → Tree → ℕ → Key → ℕ
+times_held schema above t slot key =
+    weigh_row (λ s below. if is_held key (key_at schema above s below slot) then 1 else 0) t

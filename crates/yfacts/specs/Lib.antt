@@ -3,3 +3,4 @@ pub mod InPlay
 pub mod Judging
 pub mod Keys
 pub mod Rows
+pub mod Telling

@@ -1,11 +1,57 @@
-//! Keys that are the same.
+//! Keys that are the same, and how often values are given.
 
-ghost use Rattle.std.specs.Prelude.{◌≡◌, ◌↔◌, IsTrue};
+ghost use Rattle.std.specs.Prelude.{◌≡◌, ◌↔◌, ◌==◌, ℕ, suc, ◌≤◌, [], Some, None, true, count_by, IsTrue, if◌then◌else◌};
+ghost use Rattle.std.specs.Option.{option_map_or};
+ghost use Rattle.yspec.specs.Forest.{Forest};
+ghost use Rattle.yspec.specs.types.Types.{Val};
+ghost use Rattle.yspec.specs.schema.Schema.{Schema, SchemaNode, node_at};
+ghost use Rattle.yspec.specs.document.Document.{Stored, Tree, instances_in};
+ghost use Rattle.yspec.specs.document.Instances.{Tuple, value_of, is_value, times_below, tuples_in, items_in};
+ghost use Rattle.yspec.specs.document.Faults.{Times, RowTimes, faults_at};
+ghost use Rattle.yplay.specs.Absences.{defaults_in, is_default};
 ghost use Rattle.ystore.specs.Store.{same_key};
+ghost use Rattle.ystore.specs.declared.row.Row.{Row};
+ghost use Rattle.yfacts.specs.Given.{is_referred, own_values, referred};
 ghost use Rattle.yfacts.specs.Keys as words;
+ghost use Rattle.yfacts.specs.Telling as telling;
 
 /// Keys are the same where all that they hold is the same: then a view shows them as one.
 pub fn viewed_keys()
     ensures same { (k : _) → (l : _) → same_key k l ≡ words.same (words.key_view k) (words.key_view l) }
     ensures told_apart { (k : _) → (l : _) → IsTrue (same_key k l) ↔ (words.key_view k ≡ words.key_view l) }
+    ensures turned { (k : _) → (l : _) → same_key k l ≡ true → same_key l k ≡ true }
+    ensures alike { (k : _) → (l : _) → (other : _) → same_key k l ≡ true → same_key k other ≡ same_key l other }
+{}
+
+/// A value of a schema node that is referred to is given as often as instances have it: by a stored node, and by the
+/// defaults in use in a row.
+pub fn given_values()
+    ensures own { (schema : Schema) (number : ℕ) (v : Val) (s : Stored) → is_referred schema number ≡ true
+        → count_by (is_default number v) (referred schema (own_values schema s))
+        ≡ (if s.schema_number == number then (if is_value v (value_of schema s) then 1 else 0) else 0) }
+    ensures below { (schema : Schema) (number : ℕ) (v : Val) (children : Forest SchemaNode) (below : Tree) → is_referred schema number ≡ true
+        → count_by (is_default number v) (referred schema (defaults_in (instances_in below) [] children))
+        ≡ times_below schema number v children below }
+{}
+
+/// A node has the keys of a slot at that slot, and none behind its flags; as many nodes of a row have a tuple, or an item's
+/// value, as are counted of the row.
+pub fn held_keys()
+    ensures slots { (schema : Schema) (above : Row) (s : Stored) (below : Tree) (slot : ℕ) (key : words.Key)
+        → words.key_at schema above s below slot ≡ Some key → words.slot_of key ≡ Some slot }
+    ensures few { (schema : Schema) (above : Row) (s : Stored) (below : Tree) (slot : ℕ) → words.slots_of schema s.schema_number ≤ slot
+        → words.key_at schema above s below slot ≡ None }
+    ensures tuples { (schema : Schema) (above : Row) (t : Tree) (number u : ℕ) (vs : Tuple)
+        → words.times_held schema above t (suc u) (words.tuple_key above number u vs) ≡ tuples_in schema t number u vs }
+    ensures items { (schema : Schema) (above : Row) (t : Tree) (number : ℕ) (v : Val) → words.is_item schema number ≡ true
+        → words.times_held schema above t 1 (words.item_key above number v) ≡ items_in schema t number v }
+{}
+
+/// The faults at a node are what its type says of its value, what it refers to, and a flag for each key that another node of
+/// its row has too.
+pub fn told_nodes()
+    ensures { (times : Times) (row : RowTimes) (schema : Schema) (above : Row) (s : Stored) (below : Tree)
+        → faults_at times row schema s below
+        ≡ option_map_or (λ n. telling.told_faults n (telling.judged_at (telling.times_of times row) schema above s below)
+        (telling.flags_at (telling.times_of times row) schema above s below)) (node_at schema s.schema_number) [] }
 {}
