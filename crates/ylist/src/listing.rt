@@ -12,7 +12,7 @@ ghost use Rattle.yplay.specs.Merging.{merged, position_behind, step_of};
 ghost use Rattle.ystore.specs.Viewed.{viewed};
 ghost use Rattle.ylist.specs.Found.{Adds};
 ghost use Rattle.ylist.specs.Listed as spec;
-ghost use Rattle.ylist.specs.Listed.{absences_of, child_told, children_told, judged_told, list_told, own_told, row_told, told_below};
+ghost use Rattle.ylist.specs.Listed.{absences_of, child_told, children_told, judged_told, list_told, own_told, row_told, told_below, told_from};
 ghost use Rattle.ystore.specs.declared.row.Row.TheVariants.{Below};
 
 use crate::absent::{list_absences, list_up_to};
@@ -102,7 +102,7 @@ fn position_behind(last: SchemaId, position: usize, id: SchemaId) -> usize
     if id.0 == last.0 { position + 1 } else { 1 }
 }
 
-/// Lists what is told at a child and below it.
+/// Lists what is told at a child and below it; one that has no fault in total is passed over.
 #[cycle(listing)]
 fn list_child(
     schema: &Schema,
@@ -116,6 +116,26 @@ fn list_child(
         OnOk result (Adds findings.old findings.new
         (map (under (step_of schema' child.0.0 position))
         (child_told schema' nodes (told_below levels schema' nodes (Below child.1)) child).faults)) }
+{
+    if view.total(Row::Below(child.1)) == 0 {
+        return Ok(());
+    }
+    list_branch(schema, view, child, position, levels, findings)
+}
+
+#[cycle(listing)]
+fn list_branch(
+    schema: &Schema,
+    view: View<'_>,
+    child: (SchemaId, NodeId),
+    position: usize,
+    levels: usize,
+    findings: &mut Findings,
+) -> Result<(), AllocError>
+    ensures { let schema' = schema_view.view schema.now in let nodes = viewed view.entry in
+        OnOk result (Adds findings.old findings.new
+        (map (under (step_of schema' child.0.0 position))
+        (told_from schema' nodes (told_below levels schema' nodes (Below child.1)) child))) }
 {
     findings.enter(step_of(schema, child.0, position))?;
     list_own(schema, view, child, findings)?;

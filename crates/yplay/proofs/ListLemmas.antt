@@ -234,3 +234,9 @@ documents_listed schema tree numbered cased fits =
     let times = times_in schema tree in
     row_at_law schema any None 0 tree (told_in times (row_times schema tree) schema tree) numbered cased fits (told_numbers schema any times numbered (row_times schema tree) tree)
     ∙ ap (merged schema None (absences_below schema.nodes tree)) (rows_listed schema any times numbered None 0 (row_times schema tree) tree cased fits)
+
+-- how many are told in a row and below it
+pub merged_counted : (schema : Schema) (above : Option ℕ) (times : Times) (row : RowTimes) (xs : List Absent) (t : Tree)
+    → length (merged schema above xs (listed_in times row schema t)) ≡ length xs + told_count times row schema t
+merged_counted schema above times row xs t = length-merged schema above 0 0 xs (listed_in times row schema t)
+    ∙ ap (λ c. length xs + c) (told_counted schema times row t)
