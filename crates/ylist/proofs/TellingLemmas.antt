@@ -1,26 +1,31 @@
 -- What a store lists, where it holds of each node what is told there, are the faults of its document.
-use Rattle.std.proofs.Common.{◌≡◌, ℕ, zero, suc, ◌+◌, ◌≤◌, Bool, true, false, cond, eqb, ltb, List, [], ◌∷◌, ◌++◌, length, Option, Some, None, refl, sym, ap, ap₂, ◌∙◌, arith, length-append}
+use Rattle.std.proofs.Common.{◌≡◌, ℕ, zero, suc, ◌+◌, ◌≤◌, Bool, true, false, cond, eqb, ltb, List, [], ◌∷◌, ◌++◌, length, Option, Some, None, Result, Ok, Err, IfOk, refl, sym, ap, ap₂, ◌∙◌, arith, length-append}
 use Rattle.std.proofs.lemmas.Bool.{eqb-true}
 use Rattle.std.proofs.lemmas.List.{append-nil}
 use Rattle.std.specs.Option.{option_map_or}
 use Rattle.yspec.specs.Forest.{end, node, size, levels}
 use Rattle.yspec.specs.types.Types.{Raw, Val, taken}
-use Rattle.yspec.specs.schema.Schema.{Schema, SchemaNode, Kind, container, leaf, leaf_list, list, choice, case, LeafPath, has_value, children_of}
+use Rattle.yspec.specs.schema.Schema.{Schema, SchemaNode, Kind, container, leaf, leaf_list, list, choice, case, LeafPath, has_value, children_of, node_at}
 use Rattle.yspec.specs.document.Fault.{Fault, fault_with, plain_fault}
 use Rattle.yspec.specs.document.FaultCode.{V10}
-use Rattle.yspec.specs.document.Instances.{Tuple, times_in}
-use Rattle.yspec.specs.document.Faults.{Times, RowTimes, Told, row_times, own_faults, faults_at, value_faults, tuple_info, tuple_code, tuple_fault, tuple_faults}
+use Rattle.yspec.specs.document.Instances.{Tuple, tuple, times_in}
+use Rattle.yspec.specs.document.Faults.{Times, RowTimes, Told, row_times, own_faults, faults_at, faults_of, value_faults, tuple_info, tuple_code, tuple_fault, tuple_faults}
+use Rattle.yspec.specs.document.Fitting.{IsNumbered, Fits}
+use Rattle.ymodel.specs.View as schema_view
+use Rattle.ymodel.specs.declared.schema.Schema as rust
+use Rattle.ymodel.proofs.CallerLemmas.{numbered}
 use Rattle.ycheck.specs.Walk.{value_told, marks_told, repetition}
-use Rattle.yplay.specs.Merging.{merged, absences_below, listed_in, listed}
-use Rattle.yplay.proofs.ListLemmas.{merged_counted}
-use Rattle.ystore.specs.Store.{total_at, node_count}
+use Rattle.yplay.specs.Merging.{CasesInChoices, merged, absences_below, listed_in, listed}
+use Rattle.yplay.proofs.ListLemmas.{documents_listed, merged_counted}
+use Rattle.yplay.proofs.PlacedLemmas.{cases_of}
+use Rattle.ystore.specs.Store.{same_at, total_at, node_count}
 use Rattle.ystore.specs.declared.row.Row.{Row}
 use Rattle.ystore.specs.declared.row.Row.TheVariants.{Top, Below}
 use Rattle.ystore.specs.declared.nodes.Nodes.{Nodes}
-use Rattle.yshape.specs.Hanging.{Branches, child_of, children_of as children_in, stored_of, tree_of, Stands, Hangs}
+use Rattle.yshape.specs.Hanging.{Numbered, Branches, child_of, children_of as children_in, stored_of, tree_of, Stands, Hangs}
 use Rattle.yshape.proofs.HangingLemmas as hanging
 use Rattle.yshape.proofs.CopyLemmas.{levels_within}
-use Rattle.ylist.specs.Listed.{told_from, told_below, children_told, list_told}
+use Rattle.ylist.specs.Listed.{judged_at, judged_told, own_told, told_from, told_below, children_told, list_told}
 use Rattle.ylist.specs.Telling.{is_twice, are_twice, same_of, TellsBelow, Tells}
 
 -- ---- a child that has no fault
@@ -74,6 +79,19 @@ list_is schema nodes f hangs within tells =
     ap₂ (merged schema None) tells.play
     (told_is schema nodes (times_in schema (tree_of f)) (node_count nodes) Top (row_times schema (tree_of f)) f hangs (let deep = levels_within f in omega (arith, deep, within)) tells.below)
 
+-- so where its document fits
+pub faults_are : (schema : Schema) (nodes : Nodes) (f : Branches) → Hangs nodes Top f → size f ≤ node_count nodes → Tells schema nodes f
+    → IsNumbered 0 schema.nodes → CasesInChoices false schema.nodes → Fits schema (tree_of f) → list_told schema nodes ≡ faults_of schema (tree_of f)
+faults_are schema nodes f hangs within tells numbered cased fits =
+    list_is schema nodes f hangs within tells ∙ sym (documents_listed schema (tree_of f) numbered cased fits)
+
+pub found_are_faults : {X E : Type 0} (s : rust.Schema) (r : Result X E) (see : X → List Fault) (nodes : Nodes) (f : Branches) → Hangs nodes Top f → size f ≤ node_count nodes
+    → Tells (schema_view.view s) nodes f → Fits (schema_view.view s) (tree_of f) → IfOk r (λ x. see x ≡ list_told (schema_view.view s) nodes)
+    → IfOk r (λ x. see x ≡ faults_of (schema_view.view s) (tree_of f))
+found_are_faults s (Ok x) see nodes f hangs within tells fits is =
+    is ∙ faults_are (schema_view.view s) nodes f hangs within tells (numbered s) (cases_of (schema_view.view s) s.compiled) fits
+found_are_faults s (Err e) see nodes f hangs within tells fits is = tt
+
 -- ---- what is told at a node
 
 tuple_told : (row : RowTimes) (number u v : ℕ) (vs : Option Tuple) → u ≡ v
@@ -110,3 +128,14 @@ own_is times row n (list shape amount) value tuples =
     ap₂ ◌++◌ (tuple_told row n.number 0 0 (tuples 0) refl) (tuples_told row n.number tuples 1 1 shape.uniques refl)
 own_is times row n (choice default_case is_mandatory) value tuples = refl
 own_is times row n case value tuples = refl
+
+pub told_at_node : (times : Times) (row : RowTimes) (schema : Schema) (nodes : Nodes) (n : Numbered) (below : Branches) (m : SchemaNode) → node_at schema n.schema.0 ≡ Some m
+    → option_map_or judged_told (judged_at nodes n.id) [] ≡ value_told times m.kind n.value
+    → same_at nodes n.id ≡ same_of row m m.kind n.value (tuple schema (stored_of n) (tree_of below))
+    → own_told schema nodes (child_of n) ≡ faults_at times row schema (stored_of n) (tree_of below)
+told_at_node times row schema nodes n below m is value same =
+    let n' = n in
+    let tuples = tuple schema (stored_of n) (tree_of below) in
+    ap₂ ◌++◌ value (ap₂ (λ b ms. marks_told b 0 ms) (ap (λ o. option_map_or (λ (n : SchemaNode). has_value n.kind) o false) is) same)
+    ∙ (sym (own_is times row m m.kind n.value tuples)
+    ∙ sym (ap (λ o. option_map_or (λ (n : SchemaNode). own_faults times row n n.kind n'.value tuples) o []) is))

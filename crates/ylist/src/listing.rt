@@ -2,18 +2,23 @@
 
 ghost use Rattle.std.specs.Prelude.{◌≡◌, ◌≤◌, ◌<◌, ◌^◌, ◌∷◌, [], map, option_map, string_bytes, IfOk, OnOk};
 ghost use Rattle.std.specs.Option.{option_map_or};
-ghost use Rattle.yspec.specs.document.Faults.{under};
+ghost use Rattle.yspec.specs.Forest.{size};
+ghost use Rattle.yspec.specs.document.Faults.{faults_of, under};
+ghost use Rattle.yspec.specs.document.Fitting.{Fits};
 ghost use Rattle.ymodel.specs.Layout.{number_of};
 ghost use Rattle.ymodel.specs.View as schema_view;
 ghost use Rattle.ytree.specs.View.{step_view};
 ghost use Rattle.ycheck.specs.View.{views};
 ghost use Rattle.ycheck.specs.Walk.{marks_told, repetition};
 ghost use Rattle.yplay.specs.Merging.{merged, position_behind, step_of};
+ghost use Rattle.ystore.specs.Store.{node_count};
 ghost use Rattle.ystore.specs.Viewed.{viewed};
+ghost use Rattle.yshape.specs.Hanging.{Branches, Hangs, tree_of};
 ghost use Rattle.ylist.specs.Found.{Adds};
 ghost use Rattle.ylist.specs.Listed as spec;
 ghost use Rattle.ylist.specs.Listed.{absences_of, child_told, children_told, judged_told, list_told, own_told, row_told, told_below, told_from};
-ghost use Rattle.ystore.specs.declared.row.Row.TheVariants.{Below};
+ghost use Rattle.ylist.specs.Telling.{Tells};
+ghost use Rattle.ystore.specs.declared.row.Row.TheVariants.{Below, Top};
 
 use crate::absent::{list_absences, list_up_to};
 use crate::findings::{Findings, tell};
@@ -25,6 +30,20 @@ use ytree::Step;
 
 /// The faults that a store holds, in order of definition. Its reads aren't counted.
 pub fn list(alloc: Global, schema: &Schema, view: View<'_>) -> Result<Vec<Fault>, AllocError>
+    ensures listed { IfOk result (λ found. views found.items
+        ≡ list_told (schema_view.view schema.now) (viewed view.entry)) }
+    // where it holds of each node what is told there
+    ensures faults { (f : Branches) → Hangs (viewed view.entry) Top f
+        → size f ≤ node_count (viewed view.entry)
+        → Tells (schema_view.view schema.now) (viewed view.entry) f
+        → Fits (schema_view.view schema.now) (tree_of f)
+        → IfOk result (λ found. views found.items
+        ≡ faults_of (schema_view.view schema.now) (tree_of f)) }
+{
+    list_all(alloc, schema, view)
+}
+
+fn list_all(alloc: Global, schema: &Schema, view: View<'_>) -> Result<Vec<Fault>, AllocError>
     ensures { IfOk result (λ found. views found.items
         ≡ list_told (schema_view.view schema.now) (viewed view.entry)) }
 {

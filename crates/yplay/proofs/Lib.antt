@@ -6,3 +6,4 @@ pub mod FilledLemmas
 pub mod RowLemmas
 pub mod ListLemmas
 pub mod PlacedLemmas
+pub mod BelowDataLemmas

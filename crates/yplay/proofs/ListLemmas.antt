@@ -68,7 +68,7 @@ joined_child (node n below after) g m x e = by (eqb n.number m) e (joined_child 
     by true e rest = inl e
     by false e rest = rest e
 
-data_is_no_choice : (kind : Kind) → is_data kind ≡ true → is_choice kind ≡ false
+pub data_is_no_choice : (kind : Kind) → is_data kind ≡ true → is_choice kind ≡ false
 data_is_no_choice (container presence) is = refl
 data_is_no_choice (leaf type absence) is = refl
 data_is_no_choice (leaf_list type defaults amount) is = refl

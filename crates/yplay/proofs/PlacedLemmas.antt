@@ -1,9 +1,9 @@
 -- In the schema of linked modules a case stands right below a choice.
-use Rattle.std.proofs.Common.{◌≡◌, ℕ, zero, suc, ◌+◌, Bool, true, false, not, cond, ◌&&◌, ◌||◌, List, [], ◌∷◌, ◌++◌, length, Option, Some, None, Ok, refl, sym, ap, ◌∙◌, subst}
+use Rattle.std.proofs.Common.{◌≡◌, ℕ, zero, suc, ◌+◌, Bool, true, false, not, cond, ◌||◌, List, [], ◌∷◌, ◌++◌, length, Option, Some, None, Ok, refl, sym, ap, ◌∙◌, subst}
 use Rattle.std.specs.Prelude.{find, is_some, option_map, option_and_then, ◌==◌}
 use Rattle.std.specs.List.{filter_map, cons_option}
 use Rattle.std.specs.Option.{option_map_or}
-use Rattle.std.specs.Coded.{Coded-set, coded_bool, ×_prop, →_prop, Unit-prop}
+use Rattle.std.specs.Coded.{Coded-set, coded_bool, →_prop, Unit-prop}
 use Rattle.std.proofs.lemmas.Bool.{and_parts}
 use mathlib.Core.Logic.{∥∥₁_elim}
 use mathlib.Core.HLevel.{×₃_prop}
@@ -27,7 +27,7 @@ use Rattle.yspec.proofs.LinkingProofs.KeywordLemmas.{of_each, same_is, by_defini
 use Rattle.yspec.proofs.LinkingProofs.LegalLemmas.{IsLegal, AreModules, AreAt, are_modules, are_at}
 use Rattle.yspec.proofs.LinkingProofs.ExpansionLemmas.{Nodes, SameNodes, same_itself, same_refined}
 use Rattle.yspec.proofs.LinkingProofs.RightPartLemmas.{AreRight}
-use Rattle.yspec.proofs.LinkingProofs.LinkedLemmas.{BreaksNothing, compiles, plan_in, parts_in, right_plan}
+use Rattle.yspec.proofs.LinkingProofs.LinkedLemmas.{compiles, plan_in, parts_in, right_plan}
 use Rattle.yplay.specs.Merging.{CasesInChoices, is_choice, is_case}
 
 false_true : {A : Type 0} (b : Bool) → b ≡ false → b ≡ true → A
