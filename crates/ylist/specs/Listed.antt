@@ -1,6 +1,6 @@
 -- The faults that a store tells, as a list: what is told of each row's nodes that aren't stored, merged with what is told
 -- of its children.
-use Rattle.std.specs.Prelude.{ℕ, zero, suc, ◌++◌, Bool, false, List, [], ◌∷◌, map, Option, Some, None, option_map, string_bytes}
+use Rattle.std.specs.Prelude.{ℕ, zero, suc, ◌++◌, ◌==◌, Bool, false, List, [], ◌∷◌, map, Option, Some, None, option_map, string_bytes, if◌then◌else◌}
 use Rattle.std.specs.Option.{option_map_or}
 use Rattle.yspec.specs.schema.Schema.{Schema, SchemaNode, has_value, node_at, data_way_to}
 use Rattle.yspec.specs.document.Fault.{Fault, fault, plain_fault}
@@ -13,7 +13,7 @@ use Rattle.ycheck.specs.declared.fault.FaultCode.{FaultCode}
 use Rattle.yplay.specs.Absences.{Absent}
 use Rattle.yplay.specs.Merging.{merged}
 use Rattle.ystore.specs.Rows.{Child}
-use Rattle.ystore.specs.Store.{held_at, children_at, play_at, same_at, node_count}
+use Rattle.ystore.specs.Store.{held_at, children_at, play_at, same_at, total_at, node_count}
 use Rattle.ystore.specs.declared.row.NodeId.{NodeId}
 use Rattle.ystore.specs.declared.row.Row.{Row}
 use Rattle.ystore.specs.declared.row.Row.TheVariants.{Top, Below}
@@ -48,11 +48,16 @@ absence_of a = (code_view a.0, a.1.0)
 abbrev pub absences_of : List (FaultCode × SchemaId) → List Absent
 absences_of = map absence_of
 
--- a child with what is told at it and below it, given what is told of its children
+-- what is told at a child and below it, given what is told of its children
+abbrev pub told_from : Schema → Nodes → List Told → Child → List Fault
+told_from schema nodes below child = own_told schema nodes child
+    ++ merged schema (Some child.0.0) (absences_of (play_at nodes (Below child.1))) below
+
+-- a child that has no fault in total is passed over
 abbrev pub child_told : Schema → Nodes → List Told → Child → Told
 child_told schema nodes below child = record {
   schema_number = child.0.0;
-  faults = own_told schema nodes child ++ merged schema (Some child.0.0) (absences_of (play_at nodes (Below child.1))) below;
+  faults = if total_at nodes (Below child.1) == 0 then [] else told_from schema nodes below child;
 }
 
 -- what is told of the children of a row, down to so many levels

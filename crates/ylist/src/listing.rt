@@ -2,18 +2,23 @@
 
 ghost use Rattle.std.specs.Prelude.{◌≡◌, ◌≤◌, ◌<◌, ◌^◌, ◌∷◌, [], map, option_map, string_bytes, IfOk, OnOk};
 ghost use Rattle.std.specs.Option.{option_map_or};
-ghost use Rattle.yspec.specs.document.Faults.{under};
+ghost use Rattle.yspec.specs.Forest.{size};
+ghost use Rattle.yspec.specs.document.Faults.{faults_of, under};
+ghost use Rattle.yspec.specs.document.Fitting.{Fits};
 ghost use Rattle.ymodel.specs.Layout.{number_of};
 ghost use Rattle.ymodel.specs.View as schema_view;
 ghost use Rattle.ytree.specs.View.{step_view};
 ghost use Rattle.ycheck.specs.View.{views};
 ghost use Rattle.ycheck.specs.Walk.{marks_told, repetition};
 ghost use Rattle.yplay.specs.Merging.{merged, position_behind, step_of};
+ghost use Rattle.ystore.specs.Store.{node_count};
 ghost use Rattle.ystore.specs.Viewed.{viewed};
+ghost use Rattle.yshape.specs.Hanging.{Branches, Hangs, tree_of};
 ghost use Rattle.ylist.specs.Found.{Adds};
 ghost use Rattle.ylist.specs.Listed as spec;
-ghost use Rattle.ylist.specs.Listed.{absences_of, child_told, children_told, judged_told, list_told, own_told, row_told, told_below};
-ghost use Rattle.ystore.specs.declared.row.Row.TheVariants.{Below};
+ghost use Rattle.ylist.specs.Listed.{absences_of, child_told, children_told, judged_told, list_told, own_told, row_told, told_below, told_from};
+ghost use Rattle.ylist.specs.Telling.{Tells};
+ghost use Rattle.ystore.specs.declared.row.Row.TheVariants.{Below, Top};
 
 use crate::absent::{list_absences, list_up_to};
 use crate::findings::{Findings, tell};
@@ -25,6 +30,20 @@ use ytree::Step;
 
 /// The faults that a store holds, in order of definition. Its reads aren't counted.
 pub fn list(alloc: Global, schema: &Schema, view: View<'_>) -> Result<Vec<Fault>, AllocError>
+    ensures listed { IfOk result (λ found. views found.items
+        ≡ list_told (schema_view.view schema.now) (viewed view.entry)) }
+    // where it holds of each node what is told there
+    ensures faults { (f : Branches) → Hangs (viewed view.entry) Top f
+        → size f ≤ node_count (viewed view.entry)
+        → Tells (schema_view.view schema.now) (viewed view.entry) f
+        → Fits (schema_view.view schema.now) (tree_of f)
+        → IfOk result (λ found. views found.items
+        ≡ faults_of (schema_view.view schema.now) (tree_of f)) }
+{
+    list_all(alloc, schema, view)
+}
+
+fn list_all(alloc: Global, schema: &Schema, view: View<'_>) -> Result<Vec<Fault>, AllocError>
     ensures { IfOk result (λ found. views found.items
         ≡ list_told (schema_view.view schema.now) (viewed view.entry)) }
 {
@@ -102,7 +121,7 @@ fn position_behind(last: SchemaId, position: usize, id: SchemaId) -> usize
     if id.0 == last.0 { position + 1 } else { 1 }
 }
 
-/// Lists what is told at a child and below it.
+/// Lists what is told at a child and below it; one that has no fault in total is passed over.
 #[cycle(listing)]
 fn list_child(
     schema: &Schema,
@@ -116,6 +135,26 @@ fn list_child(
         OnOk result (Adds findings.old findings.new
         (map (under (step_of schema' child.0.0 position))
         (child_told schema' nodes (told_below levels schema' nodes (Below child.1)) child).faults)) }
+{
+    if view.total(Row::Below(child.1)) == 0 {
+        return Ok(());
+    }
+    list_branch(schema, view, child, position, levels, findings)
+}
+
+#[cycle(listing)]
+fn list_branch(
+    schema: &Schema,
+    view: View<'_>,
+    child: (SchemaId, NodeId),
+    position: usize,
+    levels: usize,
+    findings: &mut Findings,
+) -> Result<(), AllocError>
+    ensures { let schema' = schema_view.view schema.now in let nodes = viewed view.entry in
+        OnOk result (Adds findings.old findings.new
+        (map (under (step_of schema' child.0.0 position))
+        (told_from schema' nodes (told_below levels schema' nodes (Below child.1)) child))) }
 {
     findings.enter(step_of(schema, child.0, position))?;
     list_own(schema, view, child, findings)?;

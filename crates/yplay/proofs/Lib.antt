@@ -5,3 +5,5 @@ pub mod TellLemmas
 pub mod FilledLemmas
 pub mod RowLemmas
 pub mod ListLemmas
+pub mod PlacedLemmas
+pub mod BelowDataLemmas

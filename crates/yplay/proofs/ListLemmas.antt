@@ -68,7 +68,7 @@ joined_child (node n below after) g m x e = by (eqb n.number m) e (joined_child 
     by true e rest = inl e
     by false e rest = rest e
 
-data_is_no_choice : (kind : Kind) → is_data kind ≡ true → is_choice kind ≡ false
+pub data_is_no_choice : (kind : Kind) → is_data kind ≡ true → is_choice kind ≡ false
 data_is_no_choice (container presence) is = refl
 data_is_no_choice (leaf type absence) is = refl
 data_is_no_choice (leaf_list type defaults amount) is = refl
@@ -234,3 +234,9 @@ documents_listed schema tree numbered cased fits =
     let times = times_in schema tree in
     row_at_law schema any None 0 tree (told_in times (row_times schema tree) schema tree) numbered cased fits (told_numbers schema any times numbered (row_times schema tree) tree)
     ∙ ap (merged schema None (absences_below schema.nodes tree)) (rows_listed schema any times numbered None 0 (row_times schema tree) tree cased fits)
+
+-- how many are told in a row and below it
+pub merged_counted : (schema : Schema) (above : Option ℕ) (times : Times) (row : RowTimes) (xs : List Absent) (t : Tree)
+    → length (merged schema above xs (listed_in times row schema t)) ≡ length xs + told_count times row schema t
+merged_counted schema above times row xs t = length-merged schema above 0 0 xs (listed_in times row schema t)
+    ∙ ap (λ c. length xs + c) (told_counted schema times row t)

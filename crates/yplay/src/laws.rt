@@ -1,14 +1,16 @@
 //! Laws of what is told of nodes that aren't stored, and of the list of faults.
 
-ghost use Rattle.std.specs.Prelude.{◌≡◌, ◌≤◌, ◌+◌, ℕ, List, [], Option, false, length, count_by};
+ghost use Rattle.std.specs.Prelude.{◌≡◌, ◌≤◌, ◌+◌, ℕ, List, [], Option, Some, Ok, true, false, length, count_by};
 ghost use Rattle.yspec.specs.Forest.{Forest, size};
+ghost use Rattle.yspec.specs.text.Statement.{Statement};
 ghost use Rattle.yspec.specs.types.Types.{Val};
-ghost use Rattle.yspec.specs.schema.Schema.{Schema, SchemaNode, row_at};
+ghost use Rattle.yspec.specs.schema.Schema.{Schema, SchemaNode, is_data, node_at, row_at};
 ghost use Rattle.yspec.specs.document.Document.{Tree, instances_in};
 ghost use Rattle.yspec.specs.document.Fitting.{Fits, IsNumbered};
 ghost use Rattle.yspec.specs.document.Play.{in_play};
 ghost use Rattle.yspec.specs.document.Instances.{times_below, times_in};
 ghost use Rattle.yspec.specs.document.Faults.{Times, RowTimes, Told, faults_of, row_times, told_in, woven};
+ghost use Rattle.yspec.specs.linking.Compiling.{compiled};
 ghost use Rattle.yplay.specs.Absences.{absences_in, defaults_in, is_default};
 ghost use Rattle.yplay.specs.Merging.{Ascends, AreChildren, CasesInChoices, FitsRow, absences_below, listed, listed_in, merged, told_count};
 
@@ -54,4 +56,13 @@ pub fn counted_faults()
         → Fits schema tree → length (faults_of schema tree)
         ≡ length (absences_below schema.nodes tree)
         + told_count (times_in schema tree) (row_times schema tree) schema tree }
+{}
+
+/// In a schema of linked modules each case stands right below a choice, and so none stands right below a data node.
+pub fn cases_in_choices()
+    ensures linked { (modules : Forest Statement) (schema : Schema) → compiled modules ≡ Ok schema
+        → CasesInChoices false schema.nodes }
+    ensures below { (schema : Schema) (number : ℕ) (n : SchemaNode) → CasesInChoices false schema.nodes
+        → node_at schema number ≡ Some n → is_data n.kind ≡ true
+        → CasesInChoices false (row_at schema (Some number)) }
 {}

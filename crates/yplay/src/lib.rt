@@ -5,6 +5,7 @@ mod laws;
 mod worked;
 
 pub use laws::{
-    absences_in_order, counted_faults, defaults_in_play, listed_documents, merged_rows,
+    absences_in_order, cases_in_choices, counted_faults, defaults_in_play, listed_documents,
+    merged_rows,
 };
 pub use worked::{worked_list, worked_rows};

@@ -9,13 +9,16 @@ use Rattle.ylist.proofs.listing.+listing.Given as goal
 
 -- a row below is listed with one level less
 abbrev pub decreases-list_row : goal.decreases-list_row
-decreases-list_row l = 3 * l.levels
+decreases-list_row l = 4 * l.levels
 
 abbrev pub decreases-list_children : goal.decreases-list_children
-decreases-list_children l = 3 * l.levels + 2
+decreases-list_children l = 4 * l.levels + 3
 
 abbrev pub decreases-list_child : goal.decreases-list_child
-decreases-list_child l = 3 * l.levels + 1
+decreases-list_child l = 4 * l.levels + 2
+
+abbrev pub decreases-list_branch : goal.decreases-list_branch
+decreases-list_branch l = 4 * l.levels + 1
 
 -- with what is told of the nodes that are left, all is told
 abbrev pub invariant-list_children-loop-index : goal.invariant-list_children-loop-index

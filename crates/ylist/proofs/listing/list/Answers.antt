@@ -1,11 +1,7 @@
-use Rattle.std.proofs.Common.{None, ap, ◌∙◌}
-use Rattle.ymodel.specs.View as schema_view
-use Rattle.ystore.specs.Viewed.{viewed}
-use Rattle.ystore.specs.declared.row.Row.TheVariants.{Top}
-use Rattle.ylist.specs.Listed.{row_told}
-use Rattle.ylist.proofs.FoundLemmas.{all_found}
+use Rattle.ycheck.specs.View.{views}
+use Rattle.ylist.proofs.TellingLemmas.{found_are_faults}
 use Rattle.ylist.proofs.listing.list.Goals as goal
 
-pub returns : goal.returns
-returns c = all_found _ _ _ c.new.ensures.items c.new-2.ensures.items c.in_ok-list_row.ensures
-    ∙ ap (λ levels. row_told levels (schema_view.view c.args.schema.now) (viewed c.args.view) None Top) c.node_count.ensures
+pub returns-clause-faults : goal.returns-clause-faults
+returns-clause-faults c f hangs within tells fits =
+    found_are_faults c.args.schema.now c.list_all.result (λ v. views v.items) _ f hangs within tells fits c.list_all.ensures

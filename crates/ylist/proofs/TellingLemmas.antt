@@ -1,0 +1,141 @@
+-- What a store lists, where it holds of each node what is told there, are the faults of its document.
+use Rattle.std.proofs.Common.{◌≡◌, ℕ, zero, suc, ◌+◌, ◌≤◌, Bool, true, false, cond, eqb, ltb, List, [], ◌∷◌, ◌++◌, length, Option, Some, None, Result, Ok, Err, IfOk, refl, sym, ap, ap₂, ◌∙◌, arith, length-append}
+use Rattle.std.proofs.lemmas.Bool.{eqb-true}
+use Rattle.std.proofs.lemmas.List.{append-nil}
+use Rattle.std.specs.Option.{option_map_or}
+use Rattle.yspec.specs.Forest.{end, node, size, levels}
+use Rattle.yspec.specs.types.Types.{Raw, Val, taken}
+use Rattle.yspec.specs.schema.Schema.{Schema, SchemaNode, Kind, container, leaf, leaf_list, list, choice, case, LeafPath, has_value, children_of, node_at}
+use Rattle.yspec.specs.document.Fault.{Fault, fault_with, plain_fault}
+use Rattle.yspec.specs.document.FaultCode.{V10}
+use Rattle.yspec.specs.document.Instances.{Tuple, tuple, times_in}
+use Rattle.yspec.specs.document.Faults.{Times, RowTimes, Told, row_times, own_faults, faults_at, faults_of, value_faults, tuple_info, tuple_code, tuple_fault, tuple_faults}
+use Rattle.yspec.specs.document.Fitting.{IsNumbered, Fits}
+use Rattle.ymodel.specs.View as schema_view
+use Rattle.ymodel.specs.declared.schema.Schema as rust
+use Rattle.ymodel.proofs.CallerLemmas.{numbered}
+use Rattle.ycheck.specs.Walk.{value_told, marks_told, repetition}
+use Rattle.yplay.specs.Merging.{CasesInChoices, merged, absences_below, listed_in, listed}
+use Rattle.yplay.proofs.ListLemmas.{documents_listed, merged_counted}
+use Rattle.yplay.proofs.PlacedLemmas.{cases_of}
+use Rattle.ystore.specs.Store.{same_at, total_at, node_count}
+use Rattle.ystore.specs.declared.row.Row.{Row}
+use Rattle.ystore.specs.declared.row.Row.TheVariants.{Top, Below}
+use Rattle.ystore.specs.declared.nodes.Nodes.{Nodes}
+use Rattle.yshape.specs.Hanging.{Numbered, Branches, child_of, children_of as children_in, stored_of, tree_of, Stands, Hangs}
+use Rattle.yshape.proofs.HangingLemmas as hanging
+use Rattle.yshape.proofs.CopyLemmas.{levels_within}
+use Rattle.ylist.specs.Listed.{judged_at, judged_told, own_told, told_from, told_below, children_told, list_told}
+use Rattle.ylist.specs.Telling.{is_twice, are_twice, same_of, TellsBelow, Tells}
+
+-- ---- a child that has no fault
+
+nothing_told : (fs : List Fault) (total : ℕ) (b : Bool) → eqb total 0 ≡ b → total ≡ length fs → cond b [] fs ≡ fs
+nothing_told [] total true none counted = refl
+nothing_told (f ∷ fs) total true none counted = let zero = eqb-true total 0 none in absurd (omega (arith, zero, counted))
+nothing_told fs total false some counted = refl
+
+-- ---- a document
+
+module _ (schema : Schema) (nodes : Nodes) (times : Times) where
+  row_told_is : (k : ℕ)
+      → ((above : Row) (row : RowTimes) (f : Branches) → Hangs nodes above f → levels f ≤ k → TellsBelow times row schema nodes f
+      → told_below k schema nodes above ≡ listed_in times row schema (tree_of f))
+      → (above : Row) (row : RowTimes) (f : Branches) → Stands nodes above f → levels f ≤ suc k → TellsBelow times row schema nodes f
+      → children_told k schema nodes (children_in f) ≡ listed_in times row schema (tree_of f)
+  unfolding listed_in
+  row_told_is k deeper above row end stands within tells = refl
+  row_told_is k deeper above row (node n below after) stands within tells =
+      let t = tree_of below in
+      let here = tells.0 in
+      let later = row_told_is k deeper above row after stands.2 (omega (arith, within)) tells.2 in
+      let under = deeper (Below n.id) (row_times schema t) below (record { listed = hanging.listed_below nodes above n below stands.0; stands = stands.1 }) (omega (arith, within)) tells.1 in
+      let fs = faults_at times row schema (stored_of n) t in
+      let rest = merged schema (Some n.schema.0) (absences_below (children_of schema n.schema.0) t) (listed_in times (row_times schema t) schema t) in
+      let told : told_from schema nodes (told_below k schema nodes (Below n.id)) (child_of n) ≡ fs ++ rest =
+      ap₂ ◌++◌ here.own (ap₂ (merged schema (Some n.schema.0)) here.play under) in
+      let counted : total_at nodes (Below n.id) ≡ length (fs ++ rest) =
+      (let both = length-append fs rest in
+      let inner = merged_counted schema (Some n.schema.0) times (row_times schema t) (absences_below (children_of schema n.schema.0) t) t in
+      omega (arith, here.total, both, inner)) in
+      ap₂ (λ (xs : List Fault) (ts : List Told). record { schema_number = n.schema.0; faults = xs } ∷ ts)
+      (ap (λ (xs : List Fault). cond (eqb (total_at nodes (Below n.id)) 0) [] xs) told
+      ∙ nothing_told (fs ++ rest) (total_at nodes (Below n.id)) (eqb (total_at nodes (Below n.id)) 0) refl counted)
+      later
+
+  told_is : (k : ℕ) (above : Row) (row : RowTimes) (f : Branches) → Hangs nodes above f → levels f ≤ k → TellsBelow times row schema nodes f
+      → told_below k schema nodes above ≡ listed_in times row schema (tree_of f)
+  unfolding listed_in
+  told_is zero above row end hangs within tells = refl
+  told_is zero above row (node n below after) hangs within tells = absurd (omega (arith, within))
+  told_is (suc k) above row f hangs within tells =
+      ap (children_told k schema nodes) hangs.listed
+      ∙ row_told_is k (λ a r g. told_is k a r g) above row f hangs.stands within tells
+
+pub list_is : (schema : Schema) (nodes : Nodes) (f : Branches) → Hangs nodes Top f → size f ≤ node_count nodes → Tells schema nodes f
+    → list_told schema nodes ≡ listed schema (tree_of f)
+unfolding listed
+list_is schema nodes f hangs within tells =
+    ap₂ (merged schema None) tells.play
+    (told_is schema nodes (times_in schema (tree_of f)) (node_count nodes) Top (row_times schema (tree_of f)) f hangs (let deep = levels_within f in omega (arith, deep, within)) tells.below)
+
+-- so where its document fits
+pub faults_are : (schema : Schema) (nodes : Nodes) (f : Branches) → Hangs nodes Top f → size f ≤ node_count nodes → Tells schema nodes f
+    → IsNumbered 0 schema.nodes → CasesInChoices false schema.nodes → Fits schema (tree_of f) → list_told schema nodes ≡ faults_of schema (tree_of f)
+faults_are schema nodes f hangs within tells numbered cased fits =
+    list_is schema nodes f hangs within tells ∙ sym (documents_listed schema (tree_of f) numbered cased fits)
+
+pub found_are_faults : {X E : Type 0} (s : rust.Schema) (r : Result X E) (see : X → List Fault) (nodes : Nodes) (f : Branches) → Hangs nodes Top f → size f ≤ node_count nodes
+    → Tells (schema_view.view s) nodes f → Fits (schema_view.view s) (tree_of f) → IfOk r (λ x. see x ≡ list_told (schema_view.view s) nodes)
+    → IfOk r (λ x. see x ≡ faults_of (schema_view.view s) (tree_of f))
+found_are_faults s (Ok x) see nodes f hangs within tells fits is =
+    is ∙ faults_are (schema_view.view s) nodes f hangs within tells (numbered s) (cases_of (schema_view.view s) s.compiled) fits
+found_are_faults s (Err e) see nodes f hangs within tells fits is = tt
+
+-- ---- what is told at a node
+
+tuple_told : (row : RowTimes) (number u v : ℕ) (vs : Option Tuple) → u ≡ v
+    → tuple_fault row number u vs ≡ cond (is_twice row number u vs) (repetition false v ∷ []) []
+tuple_told row number u v None same = refl
+tuple_told row number u v (Some vs) same =
+    ap (λ w. cond (ltb 1 (row.tuples number u vs)) (fault_with (tuple_info w) (tuple_code w) [] ∷ []) []) same
+
+tuples_told : (row : RowTimes) (number : ℕ) (tuples : ℕ → Option Tuple) (u v : ℕ) (uniques : List (List LeafPath)) → u ≡ v
+    → tuple_faults row number tuples u uniques ≡ marks_told false v (are_twice row number tuples u uniques)
+tuples_told row number tuples u v [] same = refl
+tuples_told row number tuples u v (x ∷ xs) same =
+    ap₂ ◌++◌ (tuple_told row number u v (tuples u) same) (tuples_told row number tuples (suc u) (v + 1) xs (omega (arith, same)))
+
+item_by : (b : Bool) (twice : Val → Bool) (o : Option Val)
+    → cond b (option_map_or (λ v. cond (twice v) (plain_fault V10 [] ∷ []) []) o []) [] ≡ marks_told true 0 (cond b (option_map_or twice o false ∷ []) [])
+item_by false twice o = refl
+item_by true twice None = refl
+item_by true twice (Some v) = sym (append-nil (cond (twice v) (plain_fault V10 [] ∷ []) []))
+
+no_item : (b : Bool) → [] ≡ marks_told true 0 (cond b (false ∷ []) [])
+no_item true = refl
+no_item false = refl
+
+-- the faults at a node are those of its value, and those of what others have too
+pub own_is : (times : Times) (row : RowTimes) (n : SchemaNode) (kind : Kind) (value : Option Raw) (tuples : ℕ → Option Tuple)
+    → own_faults times row n kind value tuples ≡ value_told times kind value ++ marks_told (has_value kind) 0 (same_of row n kind value tuples)
+own_is times row n (container presence) value tuples = refl
+own_is times row n (leaf type absence) value tuples = sym (append-nil (option_map_or (value_faults times type) value []))
+own_is times row n (leaf_list type defaults amount) None tuples = no_item n.config
+own_is times row n (leaf_list type defaults amount) (Some raw) tuples =
+    ap (λ fs. value_faults times type raw ++ fs) (item_by n.config (λ v. ltb 1 (row.items n.number v)) (taken type.type raw))
+own_is times row n (list shape amount) value tuples =
+    ap₂ ◌++◌ (tuple_told row n.number 0 0 (tuples 0) refl) (tuples_told row n.number tuples 1 1 shape.uniques refl)
+own_is times row n (choice default_case is_mandatory) value tuples = refl
+own_is times row n case value tuples = refl
+
+pub told_at_node : (times : Times) (row : RowTimes) (schema : Schema) (nodes : Nodes) (n : Numbered) (below : Branches) (m : SchemaNode) → node_at schema n.schema.0 ≡ Some m
+    → option_map_or judged_told (judged_at nodes n.id) [] ≡ value_told times m.kind n.value
+    → same_at nodes n.id ≡ same_of row m m.kind n.value (tuple schema (stored_of n) (tree_of below))
+    → own_told schema nodes (child_of n) ≡ faults_at times row schema (stored_of n) (tree_of below)
+told_at_node times row schema nodes n below m is value same =
+    let n' = n in
+    let tuples = tuple schema (stored_of n) (tree_of below) in
+    ap₂ ◌++◌ value (ap₂ (λ b ms. marks_told b 0 ms) (ap (λ o. option_map_or (λ (n : SchemaNode). has_value n.kind) o false) is) same)
+    ∙ (sym (own_is times row m m.kind n.value tuples)
+    ∙ sym (ap (λ o. option_map_or (λ (n : SchemaNode). own_faults times row n n.kind n'.value tuples) o []) is))

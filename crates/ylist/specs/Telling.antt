@@ -1,0 +1,53 @@
+-- Stores that hold of each node what is told there.
+use Rattle.std.specs.Prelude.{◌≡◌, ◌+◌, ℕ, suc, Bool, false, List, [], ◌∷◌, Option, if◌then◌else◌, option_and_then, nat_lt}
+use Rattle.std.specs.Option.{option_map_or}
+use Rattle.yspec.specs.Forest.{end, node}
+use Rattle.yspec.specs.types.Types.{Raw, taken}
+use Rattle.yspec.specs.schema.Schema.{Schema, SchemaNode, Kind, leaf_list, list, LeafPath, children_of}
+use Rattle.yspec.specs.document.Instances.{Tuple, times_in}
+use Rattle.yspec.specs.document.Faults.{Times, RowTimes, row_times, faults_at}
+use Rattle.yplay.specs.Merging.{absences_below, told_at, told_count}
+use Rattle.ystore.specs.Store.{play_at, total_at}
+use Rattle.ystore.specs.declared.row.Row.TheVariants.{Top, Below}
+use Rattle.ystore.specs.declared.nodes.Nodes.{Nodes}
+use Rattle.yshape.specs.Hanging.{Numbered, Branches, child_of, stored_of, tree_of}
+use Rattle.ylist.specs.Listed.{absences_of, own_told}
+
+-- ---- what others have too
+
+abbrev pub is_twice : RowTimes → ℕ → ℕ → Option Tuple → Bool
+is_twice row number u vs = option_map_or (λ vs. nat_lt 1 (row.tuples number u vs)) vs false
+
+-- of the key (0) or a `unique`, from one on
+abbrev pub are_twice : RowTimes → ℕ → (ℕ → Option Tuple) → ℕ → List (List LeafPath) → List Bool
+are_twice row number tuples u [] = []
+are_twice row number tuples u (x ∷ xs) = is_twice row number u (tuples u) ∷ are_twice row number tuples (suc u) xs
+
+-- of an entry, for the key and each `unique`, whether another has its tuple; of an item of configuration, whether another
+-- has its value
+abbrev pub same_of : RowTimes → SchemaNode → Kind → Option Raw → (ℕ → Option Tuple) → List Bool
+same_of row n (list shape amount) value tuples =
+    is_twice row n.number 0 (tuples 0) ∷ are_twice row n.number tuples 1 shape.uniques
+same_of row n (leaf_list type defaults amount) value tuples = if n.config
+    then option_map_or (λ v. nat_lt 1 (row.items n.number v)) (option_and_then (taken type.type) value) false ∷ [] else []
+same_of row n _ value tuples = []
+
+-- ---- a document
+
+-- a store holds of a node what is told there
+pub record TellsAt (times : Times) (row : RowTimes) (schema : Schema) (nodes : Nodes) (n : Numbered) (below : Branches) : Type 0 where
+  pub own : own_told schema nodes (child_of n) ≡ faults_at times row schema (stored_of n) (tree_of below)
+  pub play : absences_of (play_at nodes (Below n.id)) ≡ absences_below (children_of schema n.schema.0) (tree_of below)
+  pub total : total_at nodes (Below n.id) ≡ told_at times row schema (stored_of n) (tree_of below)
+      + told_count times (row_times schema (tree_of below)) schema (tree_of below)
+
+-- and of each node of a row and below it
+abbrev pub TellsBelow : Times → RowTimes → Schema → Nodes → Branches → Type 0
+TellsBelow times row schema nodes end = Unit {0}
+TellsBelow times row schema nodes (node n below after) = TellsAt times row schema nodes n below
+    × TellsBelow times (row_times schema (tree_of below)) schema nodes below × TellsBelow times row schema nodes after
+
+-- it tells of a document that hangs on its top what is told of that
+pub record Tells (schema : Schema) (nodes : Nodes) (f : Branches) : Type 0 where
+  pub play : absences_of (play_at nodes Top) ≡ absences_below schema.nodes (tree_of f)
+  pub below : TellsBelow (times_in schema (tree_of f)) (row_times schema (tree_of f)) schema nodes f
