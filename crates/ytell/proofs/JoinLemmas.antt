@@ -20,6 +20,7 @@ use Rattle.yshape.proofs.FrameLemmas.{same_rows}
 use Rattle.yshape.specs.Parts.{OnlyReads}
 use Rattle.ytell.specs.Totals.{IsTree, OnlyFaults, StandsIn, Totals, is_told, judged_at, told_at}
 use Rattle.ytell.specs.Keys.{AreKeys, Agrees, ChangesAt, ChangesKey, Follows, Indexes, IsJudged, Keys, Tells, among, flag_at, flag_of, has_key, is_missing, is_shared, is_touched, judged_by, own_at, own_of, slot_for, slot_of, with_key, wrong_of}
+pub use Rattle.yshape.proofs.PartLemmas.{reads_on}
 use Rattle.ytell.proofs.WayLemmas.{not_both, itself}
 use Rattle.ytell.proofs.TotalLemmas.{mark, totals_same, tree_same}
 use Rattle.ytell.proofs.LawLemmas.{held_faults}
@@ -500,3 +501,13 @@ module _ (laws : AreKeys) (key : Key) (id : NodeId) (keys : Keys) (f : Branches)
               wide = λ x v k e. let was = agrees.tells.wide x v k (sym (other_flags x v) ∙ e) in let long = ap length (same_still (left_if b) Right first third since x) in omega (arith, was, long);
               judged = λ x there. judged x there (eqb id.0 x.0) refl;
             }
+
+pub holders_read : (before after : Nodes) (key : Key) → OnlyReads before after → holders_at after key ≡ holders_at before key
+holders_read before after key reads = ap (λ o. option_map_or (λ e. e.nodes) o []) (reads.entries key)
+
+pub instances_read : (before after : Nodes) (key : Key) → OnlyReads before after → instances_at after key ≡ instances_at before key
+instances_read before after key reads = ap (λ o. option_map_or (λ e. e.instances) o 0) (reads.entries key)
+
+pub entered_instances : (laws : AreKeys) (key : Key) (change : Entry → Entry) (before after : Nodes) → Enters key change before after
+    → ((e : Entry) → (change e).instances ≡ e.instances) → instances_at after key ≡ instances_at before key
+entered_instances laws key change before after e leaves = instances_same laws key change before after e.changed e.others leaves key

@@ -8,6 +8,7 @@ mod telling;
 mod totals;
 
 pub use alike::keys_alike;
+pub use keys::{join, leave};
 pub use laws::{changed_totals, kept_totals, kept_trees, same_faults, silent_branches};
 pub use telling::{tell_judged, tell_play, tell_same};
 pub use totals::climb;
