@@ -1,0 +1,97 @@
+-- Nodes that leave keys and join them, one after another.
+use Rattle.std.proofs.Common.{◌≡◌, ℕ, ◌+◌, ◌<◌, ◌≤◌, Bool, true, false, List, [], ◌∷◌, length, drop, get_or, Option, Some, None, option_map, refl, sym, ap, ◌∙◌, arith, subst}
+use Rattle.std.specs.Option.{option_map_or}
+use Rattle.std.proofs.lemmas.List.{at_drop_more, at_drop_all}
+use Rattle.ystore.specs.Entries.{Entry, with_node, without_node}
+use Rattle.ystore.specs.Store.{entry_at, instances_at, same_key}
+use Rattle.ystore.specs.declared.row.NodeId.{NodeId}
+use Rattle.ystore.specs.declared.row.Row.{Row}
+use Rattle.ystore.specs.declared.row.Row.TheVariants.{Top}
+use Rattle.ystore.specs.declared.key.Key.{Key}
+use Rattle.ystore.specs.declared.nodes.Nodes.{Nodes}
+use Rattle.yshape.specs.Hanging.{Branches}
+use Rattle.yshape.specs.Changes.{SameShapes}
+use Rattle.yshape.proofs.FrameLemmas.{hangs_same}
+use Rattle.ytell.specs.Keys.{AreKeys, Agrees, ChangesKey, Follows, Keys, has_key, slot_of, with_key}
+use Rattle.ytold.specs.Assigned.{CanLeave, left, without_key}
+use Rattle.ytell.specs.Totals.{IsTree, Totals}
+use Rattle.ytold.specs.Joins.{KeepsRows}
+
+-- ---- rows
+
+pub keeps_itself : (nodes : Nodes) → KeepsRows nodes nodes
+keeps_itself nodes = record { shapes = λ row. refl; rooms = λ row. refl; instances = λ key. refl; node_count = refl }
+
+pub keeps_on : (first second third : Nodes) → KeepsRows first second → KeepsRows second third → KeepsRows first third
+keeps_on first second third a b =
+    record {
+      shapes = λ row. b.shapes row ∙ a.shapes row;
+      rooms = λ row. b.rooms row ∙ a.rooms row;
+      instances = λ key. b.instances key ∙ a.instances key;
+      node_count = b.node_count ∙ a.node_count;
+    }
+
+pub shapes_of : (before after : Nodes) → KeepsRows before after → SameShapes before after
+shapes_of before after keeps = record { shapes = keeps.shapes; all = keeps.node_count }
+
+pub tree_on : (before after : Nodes) (f : Branches) → SameShapes before after → IsTree before f → IsTree after f
+tree_on before after f same tree =
+    record {
+      hangs = hangs_same before after same Top f tree.hangs;
+      once = tree.once;
+      within = let all = same.all in let few = tree.within in omega (arith, all, few);
+    }
+
+-- a change of who holds a key leaves how many instances there are
+pub key_keeps : (laws : AreKeys) (key : Key) (change : Entry → Entry) (before after : Nodes) → ((e : Entry) → (change e).instances ≡ e.instances)
+    → ChangesKey key change before after → KeepsRows before after
+key_keeps laws key change before after same changes =
+    record { shapes = changes.shapes; rooms = changes.rooms; instances = λ other. by other (same_key key other) refl; node_count = changes.node_count }
+  where
+    counts : (o : Option Entry) → option_map_or (λ (e : Entry). e.instances) (option_map change o) 0 ≡ option_map_or (λ (e : Entry). e.instances) o 0
+    counts None = refl
+    counts (Some e) = same e
+
+    by : (other : Key) (b : Bool) → same_key key other ≡ b → instances_at after other ≡ instances_at before other
+    by other true e =
+        ap (λ (o : Option Entry). option_map_or (λ (x : Entry). x.instances) o 0) (sym (laws.found after key other e) ∙ changes.changed)
+        ∙ (counts (entry_at before key) ∙ ap (λ (o : Option Entry). option_map_or (λ (x : Entry). x.instances) o 0) (laws.found before key other e))
+    by other false e = ap (λ (o : Option Entry). option_map_or (λ (x : Entry). x.instances) o 0) (changes.others other e)
+
+pub leave_keeps : (laws : AreKeys) (key : Key) (id : NodeId) (before after : Nodes) → ChangesKey key (without_node id) before after → KeepsRows before after
+leave_keeps laws key id before after = key_keeps laws key (without_node id) before after (λ e. refl)
+
+pub join_keeps : (laws : AreKeys) (key : Key) (id : NodeId) (before after : Nodes) → ChangesKey key (with_node id) before after → KeepsRows before after
+join_keeps laws key id before after = key_keeps laws key (with_node id) before after (λ e. refl)
+
+-- ---- what is told
+
+pub follows_itself : (nodes : Nodes) (held : Keys) (f : Branches) → Agrees nodes held f → Totals nodes f → Follows held f nodes nodes
+follows_itself nodes held f agrees totals = record { agrees = agrees; totals = totals; own = λ row. refl; beside = λ id none. refl }
+
+pub follows_on : (held now : Keys) (f : Branches) (first second third : Nodes) → Follows held f first second → Follows now f second third → Follows now f first third
+follows_on held now f first second third a b =
+    record { agrees = b.agrees; totals = b.totals; own = λ row. b.own row ∙ a.own row; beside = λ id none. b.beside id none ∙ a.beside id none }
+
+-- ---- one step
+
+pub drop_more : {A : Type 0} (xs : List A) (i : ℕ) (x : A) → i < length xs → x ≡ get_or xs i x → drop i xs ≡ x ∷ drop (i + 1) xs
+drop_more xs i x within is = at_drop_more (λ ys. ys) xs i x within ∙ ap (λ y. y ∷ drop (i + 1) xs) (sym is)
+
+-- one leaves, and the others can
+pub one_left : (keys : List (Key × NodeId)) (i : ℕ) (p : Key × NodeId) (held now : Keys) (f : Branches) (first before after : Nodes) → drop i keys ≡ p ∷ drop (i + 1) keys
+    → Follows now f first before → CanLeave slot_of same_key now (drop i keys) → left slot_of (drop i keys) now ≡ left slot_of keys held
+    → (has_key now p.1.0 p.0 ≡ true → Follows (with_key p.1.0 (slot_of p.0) None now) f before after)
+    → (then : Keys) × Follows then f first after × CanLeave slot_of same_key then (drop (i + 1) keys) × (left slot_of (drop (i + 1) keys) then ≡ left slot_of keys held)
+one_left keys i p held now f first before after drops follows can is leaves =
+    let here = subst (CanLeave slot_of same_key now) drops can in (
+      without_key slot_of p now,
+      follows_on now (without_key slot_of p now) f first before after follows (leaves here.0),
+      here.1,
+      sym (ap (λ ps. left slot_of ps now) drops) ∙ is,
+    )
+
+pub all_left : (keys : List (Key × NodeId)) (i : ℕ) (held now : Keys) (f : Branches) (first last : Nodes) → length keys ≤ i → Follows now f first last
+    → left slot_of (drop i keys) now ≡ left slot_of keys held → Follows (left slot_of keys held) f first last
+all_left keys i held now f first last over follows is =
+    subst (λ (k : Keys). Follows k f first last) (sym (at_drop_all (λ ps. left slot_of ps now) keys i over) ∙ is) follows
