@@ -6,4 +6,5 @@ pub mod KeyLemmas
 pub mod LawLemmas
 pub mod TellLemmas
 pub mod TotalLemmas
+pub mod ValueLemmas
 pub mod WayLemmas

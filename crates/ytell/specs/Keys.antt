@@ -1,5 +1,5 @@
 -- Which keys nodes hold, as an index has them, and what is told by them.
-use Rattle.std.specs.Prelude.{◌≡◌, ℕ, suc, ◌+◌, ◌<◌, ◌&&◌, ◌||◌, Bool, true, false, List, ◌++◌, [], ◌∷◌, length, Option, Some, None, is_some, option_map, if◌then◌else◌, eqb, ltb, slice_get, unwrap_or}
+use Rattle.std.specs.Prelude.{◌≡◌, ℕ, suc, ◌<◌, ◌&&◌, ◌||◌, Bool, true, false, List, length, Option, Some, None, option_map, if◌then◌else◌, eqb, ltb, slice_get, unwrap_or}
 use Rattle.std.specs.List.{sum_by}
 use Rattle.std.specs.Option.{option_map_or}
 use Rattle.std.specs.String.{string_bytes}
@@ -114,6 +114,11 @@ CanHold nodes id None = judged_at nodes id ≡ Some Right
 abbrev pub is_touched : NodeId → Option NodeId → ℕ → Row → Bool
 is_touched id fellow fellows row =
     (ltb 0 fellows && same_row (Below id) row) || (eqb fellows 1 && option_map_or (λ other. same_row (Below other) row) fellow false)
+
+-- whether a row is below one of these nodes
+abbrev pub is_holder : List NodeId → Row → Bool
+is_holder ids Top = false
+is_holder ids (Below id) = ltb 0 (among id.0 ids)
 
 -- what is told at some rows is changed, and at no other
 abbrev pub ChangesAt : (Row → Bool) → (Told → Told) → Nodes → Nodes → Type 0
