@@ -1,3 +1,4 @@
+pub mod AgreeLemmas
 pub mod ClimbLemmas
 pub mod FellowLemmas
 pub mod IndexLemmas

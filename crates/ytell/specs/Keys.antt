@@ -102,7 +102,17 @@ pub record Agrees (nodes : Nodes) (keys : Keys) (f : Branches) : Type 0 where
   pub index : Indexes nodes keys f
   pub tells : Tells nodes keys f
 
+-- nothing is told of a node that a key tells
+pub record TellsNoKey (nodes : Nodes) (id : NodeId) : Type 0 where
+  pub flags : (u : ℕ) → flag_at nodes id u ≡ false
+  pub judged : option_map_or is_missing (judged_at nodes id) false ≡ false
+
 -- ---- changes
+
+-- all keys have the instances and the nodes that they had
+pub record SameKeys (before after : Nodes) : Type 0 where
+  pub holders : (key : Key) → holders_at after key ≡ holders_at before key
+  pub instances : (key : Key) → instances_at after key ≡ instances_at before key
 
 -- a node can hold a key that sets a flag, or one of a value: it has the flag, or nothing is told of its value
 abbrev pub CanHold : Nodes → NodeId → Option ℕ → Type 0
