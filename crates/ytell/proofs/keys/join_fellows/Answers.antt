@@ -1,4 +1,4 @@
-use Rattle.std.proofs.Common.{◌∙◌, ap, length, slice_get, sym}
+use Rattle.std.proofs.Common.{◌∙◌, ap, slice_get}
 use Rattle.ystore.specs.Entries.{with_node}
 use Rattle.ystore.specs.Views.{store_of}
 use Rattle.ytell.proofs.TellLemmas.{one_read}
