@@ -6,4 +6,5 @@ pub mod Keyed
 pub mod Plans
 pub mod Standing
 pub mod Sums
+pub mod Telling
 pub mod Unlike
