@@ -4,6 +4,7 @@ pub mod EachLemmas
 pub mod JoiningLemmas
 pub mod KeptLemmas
 pub mod KeyLemmas
+pub mod NewsLemmas
 pub mod PlanLemmas
 pub mod RowLemmas
 pub mod SumLemmas
