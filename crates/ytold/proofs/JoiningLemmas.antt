@@ -15,19 +15,18 @@ use Rattle.yshape.proofs.FrameLemmas.{hangs_same}
 use Rattle.ytell.specs.Keys.{AreKeys, Agrees, ChangesKey, Follows, Keys, has_key, slot_of, with_key}
 use Rattle.ytold.specs.Assigned.{CanLeave, left, without_key}
 use Rattle.ytell.specs.Totals.{IsTree, Totals}
-use Rattle.ytold.specs.Joins.{KeepsRows}
+use Rattle.ytold.specs.Joins.{KeepsRows, KeepsInstances, KeepsAwaited}
 
 -- ---- rows
 
 pub keeps_itself : (nodes : Nodes) → KeepsRows nodes nodes
-keeps_itself nodes = record { shapes = λ row. refl; rooms = λ row. refl; instances = λ key. refl; node_count = refl }
+keeps_itself nodes = record { shapes = λ row. refl; rooms = λ row. refl; node_count = refl }
 
 pub keeps_on : (first second third : Nodes) → KeepsRows first second → KeepsRows second third → KeepsRows first third
 keeps_on first second third a b =
     record {
       shapes = λ row. b.shapes row ∙ a.shapes row;
       rooms = λ row. b.rooms row ∙ a.rooms row;
-      instances = λ key. b.instances key ∙ a.instances key;
       node_count = b.node_count ∙ a.node_count;
     }
 
@@ -42,27 +41,32 @@ tree_on before after f same tree =
       within = let all = same.all in let few = tree.within in omega (arith, all, few);
     }
 
--- a change of who holds a key leaves how many instances there are
-pub key_keeps : (laws : AreKeys) (key : Key) (change : Entry → Entry) (before after : Nodes) → ((e : Entry) → (change e).instances ≡ e.instances)
-    → ChangesKey key change before after → KeepsRows before after
-key_keeps laws key change before after same changes =
-    record { shapes = changes.shapes; rooms = changes.rooms; instances = λ other. by other (same_key key other) refl; node_count = changes.node_count }
+-- a change of an entry that leaves one of its numbers
+abbrev pub number_at : (Entry → ℕ) → Nodes → Key → ℕ
+number_at p nodes key = option_map_or p (entry_at nodes key) 0
+
+pub number_kept : (laws : AreKeys) (p : Entry → ℕ) (key : Key) (change : Entry → Entry) (before after : Nodes) → ((e : Entry) → p (change e) ≡ p e)
+    → ChangesKey key change before after → (other : Key) → number_at p after other ≡ number_at p before other
+number_kept laws p key change before after same changes other = by (same_key key other) refl
   where
-    counts : (o : Option Entry) → option_map_or (λ (e : Entry). e.instances) (option_map change o) 0 ≡ option_map_or (λ (e : Entry). e.instances) o 0
+    counts : (o : Option Entry) → option_map_or p (option_map change o) 0 ≡ option_map_or p o 0
     counts None = refl
     counts (Some e) = same e
 
-    by : (other : Key) (b : Bool) → same_key key other ≡ b → instances_at after other ≡ instances_at before other
-    by other true e =
-        ap (λ (o : Option Entry). option_map_or (λ (x : Entry). x.instances) o 0) (sym (laws.found after key other e) ∙ changes.changed)
-        ∙ (counts (entry_at before key) ∙ ap (λ (o : Option Entry). option_map_or (λ (x : Entry). x.instances) o 0) (laws.found before key other e))
-    by other false e = ap (λ (o : Option Entry). option_map_or (λ (x : Entry). x.instances) o 0) (changes.others other e)
+    by : (b : Bool) → same_key key other ≡ b → number_at p after other ≡ number_at p before other
+    by true e =
+        ap (λ (o : Option Entry). option_map_or p o 0) (sym (laws.found after key other e) ∙ changes.changed)
+        ∙ (counts (entry_at before key) ∙ ap (λ (o : Option Entry). option_map_or p o 0) (laws.found before key other e))
+    by false e = ap (λ (o : Option Entry). option_map_or p o 0) (changes.others other e)
 
-pub leave_keeps : (laws : AreKeys) (key : Key) (id : NodeId) (before after : Nodes) → ChangesKey key (without_node id) before after → KeepsRows before after
-leave_keeps laws key id before after = key_keeps laws key (without_node id) before after (λ e. refl)
+pub rows_of : (key : Key) (change : Entry → Entry) (before after : Nodes) → ChangesKey key change before after → KeepsRows before after
+rows_of key change before after changes = record { shapes = changes.shapes; rooms = changes.rooms; node_count = changes.node_count }
 
-pub join_keeps : (laws : AreKeys) (key : Key) (id : NodeId) (before after : Nodes) → ChangesKey key (with_node id) before after → KeepsRows before after
-join_keeps laws key id before after = key_keeps laws key (with_node id) before after (λ e. refl)
+pub instances_on : (first second third : Nodes) → KeepsInstances first second → KeepsInstances second third → KeepsInstances first third
+instances_on first second third a b key = b key ∙ a key
+
+pub awaited_on : (first second third : Nodes) → KeepsAwaited first second → KeepsAwaited second third → KeepsAwaited first third
+awaited_on first second third a b key = b key ∙ a key
 
 -- ---- what is told
 

@@ -7,7 +7,7 @@ ghost use Rattle.yshape.specs.Hanging.{Branches};
 ghost use Rattle.ytell.specs.Keys.{Agrees, Follows, Keys, slot_of};
 ghost use Rattle.ytell.specs.Totals.{IsTree, Totals};
 ghost use Rattle.ytold.specs.Assigned.{CanLeave, left};
-ghost use Rattle.ytold.specs.Joins.{KeepsRows};
+ghost use Rattle.ytold.specs.Joins.{KeepsRows, KeepsInstances, KeepsAwaited};
 
 use ystore::{Counted, Key, NodeId};
 use ytell::{keys_alike, leave};
@@ -19,6 +19,8 @@ pub fn leave_all(counted: &mut Counted<'_>, keys: &[(Key, NodeId)])
         → CanLeave slot_of same_key held keys.now
         → Follows (left slot_of keys.now held) f (store_of counted.old) (store_of counted.new) }
     ensures kept { KeepsRows (store_of counted.old) (store_of counted.new) }
+    ensures instances { KeepsInstances (store_of counted.old) (store_of counted.new) }
+    ensures awaited { KeepsAwaited (store_of counted.old) (store_of counted.new) }
     ensures same_reference { lent counted.new ≡ lent counted.old }
 {
     keys_alike();
