@@ -7,3 +7,4 @@ pub mod PlanLemmas
 pub mod RowLemmas
 pub mod SumLemmas
 pub mod UnlikeLemmas
+pub mod ValueLemmas
