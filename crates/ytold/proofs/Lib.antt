@@ -1,6 +1,7 @@
 pub mod AccountLemmas
 pub mod AssignedLemmas
 pub mod EachLemmas
+pub mod GrowingLemmas
 pub mod KeptLemmas
 pub mod KeyLemmas
 pub mod PlanLemmas

@@ -1,6 +1,7 @@
 pub mod Accounts
 pub mod Assigned
 pub mod Each
+pub mod Growing
 pub mod Keyed
 pub mod Plans
 pub mod Standing

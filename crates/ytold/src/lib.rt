@@ -2,7 +2,9 @@
 #![tactic(auto)]
 
 mod account;
+mod growing;
 mod planning;
 
 pub use account::{Account, News, enter_new_nodes, enter_node, enter_nodes, enter_row, enter_way};
+pub use growing::grow;
 pub use planning::{Plan, plan_of};
