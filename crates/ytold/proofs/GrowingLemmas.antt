@@ -1,16 +1,15 @@
 -- Growths of an index one after another, and what becomes of the nodes that are awaited where entries change.
-use Rattle.std.proofs.Common.{◌≡◌, ℕ, zero, suc, ◌+◌, ◌-◌, ◌<◌, ◌≤◌, Bool, true, false, List, [], ◌∷◌, ◌++◌, length, map, get_or, take, drop, Option, Some, None, is_some, option_map, refl, sym, ap, ap₂, ◌∙◌, arith, subst, cond, String, Global}
-use Rattle.std.specs.Prelude.{string_bytes, unwrap_or, IfSome}
-use Rattle.std.specs.List.{AllZip, count_by}
+use Rattle.std.proofs.Common.{◌≡◌, ℕ, ◌+◌, ◌-◌, ◌<◌, ◌≤◌, Bool, true, false, List, [], ◌∷◌, length, map, get_or, take, drop, Option, Some, None, is_some, option_map, refl, sym, ap, ap₂, ◌∙◌, arith, subst, cond, String, Global}
+use Rattle.std.specs.Prelude.{string_bytes, IfSome}
+use Rattle.std.specs.List.{AllZip}
 use Rattle.std.specs.Option.{option_map_or}
-use Rattle.std.proofs.lemmas.Bool.{false≢true}
 use Rattle.std.proofs.lemmas.List.{take_more, take_all, drop_all}
 use Rattle.std.proofs.lemmas.List.Sums.{sum_by-cons, sum_by-drop_more}
 use Rattle.yspec.specs.types.Types.{Val}
 use Rattle.ymodel.specs.declared.node.SchemaId.{SchemaId}
 use Rattle.ystore.specs.Entries.{Entry, none, with_awaited, with_node}
 use Rattle.ystore.specs.Index.{made_ready}
-use Rattle.ystore.specs.Store.{ChangesEntry, Stays, entry_at, instances_at, holders_at, is_awaited, same_key}
+use Rattle.ystore.specs.Store.{ChangesEntry, Stays, entry_at, is_awaited, same_key}
 use Rattle.ystore.specs.declared.row.NodeId.{NodeId}
 use Rattle.ystore.specs.declared.key.Key.{Key}
 use Rattle.ystore.specs.declared.key.Key.TheVariants.{Value}
@@ -18,7 +17,6 @@ use Rattle.ystore.specs.declared.nodes.Nodes.{Nodes}
 use Rattle.yfacts.specs.Keys.{key_view, value_key, same}
 use Rattle.yfacts.proofs.SameLemmas.{same_views, same_itself}
 use Rattle.ytold.specs.Growing.{AreAwaited, AreThere, Grows, IsThere, awaited_at, awaited_of, times_joined}
-use Rattle.ytold.specs.Standing.{Every}
 use Rattle.ytold.proofs.EachLemmas.{every_join}
 
 -- ---- copies
@@ -272,3 +270,7 @@ module _ (found : Found) (before after : Nodes) where
 pub first_there : Found → (nodes : Nodes) (p : SchemaId × Val) (ps : List (SchemaId × Val)) (key : Key) → AreThere nodes (p ∷ ps) → key_view key ≡ value_key p.0.0 p.1
     → is_some (entry_at nodes key) ≡ true
 first_there found nodes p ps key there is = ap is_some (found nodes key (Value p.0 p.1) (views_same key (Value p.0 p.1) is)) ∙ there.0
+
+pub awaited_same : (before after : Nodes) (pairs : List (Key × NodeId)) → ((key : Key) → entry_at after key ≡ entry_at before key)
+    → AreAwaited before pairs → AreAwaited after pairs
+awaited_same before after pairs stays awaited key = let same = ap awaited_of (stays key) in let room = awaited key in omega (arith, same, room)

@@ -1,5 +1,5 @@
 -- Growths of an index: entries that are there for instances that come, and room for nodes that join keys.
-use Rattle.std.specs.Prelude.{◌≡◌, ℕ, ◌≤◌, true, List, Option, is_some}
+use Rattle.std.specs.Prelude.{◌≡◌, ℕ, ◌≤◌, true, false, List, Option, is_some}
 use Rattle.std.specs.List.{count_by}
 use Rattle.std.specs.Option.{option_map_or}
 use Rattle.ymodel.specs.declared.node.SchemaId.{SchemaId}
@@ -34,6 +34,11 @@ IsThere nodes p = is_some (entry_at nodes (Value p.0 p.1)) ≡ true
 
 abbrev pub AreThere : Nodes → List (SchemaId × Val) → Type 0
 AreThere nodes pairs = Every (IsThere nodes) pairs
+
+-- what is held at one key is changed, and at no key that isn't the same
+pub record Changes (key : Key) (change : Option Entry → Option Entry) (before after : Nodes) : Type 0 where
+  pub changed : entry_at after key ≡ change (entry_at before key)
+  pub others : (other : Key) → same_key key other ≡ false → entry_at after other ≡ entry_at before other
 
 -- entries that hold nothing may come, and room; all else stays
 pub record Grows (before after : Nodes) : Type 0 where

@@ -1,10 +1,16 @@
 //! Growths that a plan needs, before anything is changed.
 
-ghost use Rattle.std.specs.Prelude.{◌≡◌, ◌+◌, IfOk, OnOk};
+ghost use Rattle.std.specs.Prelude.{◌≡◌, ◌+◌, ◌∷◌, ℕ, List, Option, true, false, is_some, option_map, IfOk, OnOk};
+ghost use Rattle.yspec.specs.types.Types as types;
+ghost use Rattle.ymodel.specs.declared.node.SchemaId as schema_id;
+ghost use Rattle.ystore.specs.Entries.{Entry, with_node};
+ghost use Rattle.ystore.specs.Store.{entry_at, is_awaited, same_key};
 ghost use Rattle.ystore.specs.Views.{store_of, lent};
+ghost use Rattle.ystore.specs.declared.row.NodeId as node_id;
 ghost use Rattle.ystore.specs.declared.key.Key as rust;
-ghost use Rattle.yfacts.specs.Keys.{key_view};
-ghost use Rattle.ytold.specs.Growing.{AreThere, Grows, awaited_at, times_joined};
+ghost use Rattle.ystore.specs.declared.nodes.Nodes.{Nodes};
+ghost use Rattle.yfacts.specs.Keys.{key_view, value_key};
+ghost use Rattle.ytold.specs.Growing.{AreAwaited, AreThere, Changes, Grows, awaited_at, awaited_of, times_joined};
 
 use crate::planning::Plan;
 use std::alloc::AllocError;
@@ -67,4 +73,36 @@ fn copy_of_key(key: &Key) -> Result<Key, AllocError>
         }
         Key::Texts(row, id, texts) => Ok(Key::Texts(*row, *id, texts.clone()?)),
     }
+}
+
+/// Nodes are awaited at their keys once there is room for each. The first of them can join its key, and then the others are
+/// awaited; changes of entries that leave how many are awaited leave all of them so.
+pub fn awaited_nodes()
+    ensures grown { (before after : Nodes) (pairs : List (rust.Key × node_id.NodeId))
+        → ((key : rust.Key) → awaited_at after key ≡ awaited_at before key + times_joined key pairs) → AreAwaited after pairs }
+    ensures first { (nodes : Nodes) (p : rust.Key × node_id.NodeId) (ps : List (rust.Key × node_id.NodeId)) (key : rust.Key)
+        → AreAwaited nodes (p ∷ ps) → key_view key ≡ key_view p.0 → is_awaited nodes key × (is_some (entry_at nodes key) ≡ true) }
+    ensures rest { (before after : Nodes) (p : rust.Key × node_id.NodeId) (ps : List (rust.Key × node_id.NodeId)) (key : rust.Key) (id : node_id.NodeId)
+        → key_view key ≡ key_view p.0 → Changes key (option_map (with_node id)) before after
+        → AreAwaited before (p ∷ ps) → AreAwaited after ps }
+    ensures kept { (before after : Nodes) (pairs : List (rust.Key × node_id.NodeId)) (key : rust.Key) (change : Option Entry → Option Entry)
+        → Changes key change before after → ((e : Option Entry) → awaited_of (change e) ≡ awaited_of e)
+        → AreAwaited before pairs → AreAwaited after pairs }
+    ensures same { (before after : Nodes) (pairs : List (rust.Key × node_id.NodeId)) → ((key : rust.Key) → entry_at after key ≡ entry_at before key)
+        → AreAwaited before pairs → AreAwaited after pairs }
+{
+    same_keys();
+}
+
+/// The entry of a value is there, and stays there as long as no change takes it away.
+pub fn entries_there()
+    ensures first { (nodes : Nodes) (p : schema_id.SchemaId × types.Val) (ps : List (schema_id.SchemaId × types.Val)) (key : rust.Key)
+        → AreThere nodes (p ∷ ps) → key_view key ≡ value_key p.0.0 p.1 → is_some (entry_at nodes key) ≡ true }
+    ensures kept { (before after : Nodes) (pairs : List (schema_id.SchemaId × types.Val)) (key : rust.Key) (change : Option Entry → Option Entry)
+        → Changes key change before after → ((e : Option Entry) → is_some e ≡ true → is_some (change e) ≡ true)
+        → AreThere before pairs → AreThere after pairs }
+    ensures same { (before after : Nodes) (pairs : List (schema_id.SchemaId × types.Val)) → ((key : rust.Key) → entry_at after key ≡ entry_at before key)
+        → AreThere before pairs → AreThere after pairs }
+{
+    same_keys();
 }

@@ -6,5 +6,5 @@ mod growing;
 mod planning;
 
 pub use account::{Account, News, enter_new_nodes, enter_node, enter_nodes, enter_row, enter_way};
-pub use growing::grow;
+pub use growing::{awaited_nodes, entries_there, grow};
 pub use planning::{Plan, plan_of};

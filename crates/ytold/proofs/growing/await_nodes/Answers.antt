@@ -1,4 +1,4 @@
-use Rattle.std.proofs.Common.{◌∙◌, ◌+◌, ap, sym, subst, arith, get_or, length}
+use Rattle.std.proofs.Common.{◌∙◌, ap, arith}
 use Rattle.ystore.specs.Views.{store_of}
 use Rattle.ystore.specs.declared.row.NodeId.{NodeId}
 use Rattle.ystore.specs.declared.key.Key.{Key}

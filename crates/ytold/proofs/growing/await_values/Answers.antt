@@ -1,4 +1,4 @@
-use Rattle.std.proofs.Common.{◌≡◌, ◌∙◌, ◌+◌, Some, true, is_some, ap, sym, subst, arith}
+use Rattle.std.proofs.Common.{◌∙◌, is_some, ap, sym, subst, arith}
 use Rattle.yspec.specs.types.Types.{Val}
 use Rattle.ystore.specs.Store.{entry_at}
 use Rattle.ystore.specs.Views.{store_of}
