@@ -3,6 +3,7 @@ pub mod AssignedLemmas
 pub mod CountingLemmas
 pub mod EachLemmas
 pub mod JoiningLemmas
+pub mod GrowingLemmas
 pub mod KeptLemmas
 pub mod KeyLemmas
 pub mod NewsLemmas
