@@ -1,21 +1,28 @@
 -- Nodes that leave keys and join them, one after another.
 use Rattle.std.proofs.Common.{◌≡◌, ℕ, ◌+◌, ◌<◌, ◌≤◌, Bool, true, false, List, [], ◌∷◌, length, drop, get_or, Option, Some, None, option_map, refl, sym, ap, ◌∙◌, arith, subst}
 use Rattle.std.specs.Option.{option_map_or}
+use Rattle.std.specs.Prelude.{string_bytes}
+use Rattle.std.proofs.lemmas.Bool.{false≢true}
+use Rattle.std.proofs.lemmas.Option.{none-some, same_Some}
 use Rattle.std.proofs.lemmas.List.{at_drop_more, at_drop_all}
 use Rattle.ystore.specs.Entries.{Entry, with_node, without_node}
-use Rattle.ystore.specs.Store.{entry_at, instances_at, same_key}
+use Rattle.ystore.specs.Held.{Held, Told}
+use Rattle.ystore.specs.Store.{held_at, same_at, entry_at, instances_at, same_key}
+use Rattle.ystore.specs.declared.record.Judged.{Judged}
+use Rattle.ystore.specs.declared.record.Judged.TheVariants.{Right, Wrong, Missing}
 use Rattle.ystore.specs.declared.row.NodeId.{NodeId}
 use Rattle.ystore.specs.declared.row.Row.{Row}
-use Rattle.ystore.specs.declared.row.Row.TheVariants.{Top}
+use Rattle.ystore.specs.declared.row.Row.TheVariants.{Top, Below}
 use Rattle.ystore.specs.declared.key.Key.{Key}
 use Rattle.ystore.specs.declared.nodes.Nodes.{Nodes}
-use Rattle.yshape.specs.Hanging.{Branches}
+use Rattle.yshape.specs.Hanging.{Branches, times}
 use Rattle.yshape.specs.Changes.{SameShapes}
 use Rattle.yshape.proofs.FrameLemmas.{hangs_same}
-use Rattle.ytell.specs.Keys.{AreKeys, Agrees, ChangesKey, Follows, Keys, has_key, slot_of, with_key}
-use Rattle.ytold.specs.Assigned.{CanLeave, left, without_key}
-use Rattle.ytell.specs.Totals.{IsTree, Totals}
-use Rattle.ytold.specs.Joins.{KeepsRows, KeepsInstances, KeepsAwaited}
+use Rattle.ytell.specs.Keys.{AreKeys, Agrees, ChangesKey, CanHold, Follows, IsJudged, Keys, Own, flag_of, has_key, is_missing, own_at, own_of, slot_for, slot_of, with_key, wrong_of}
+use Rattle.ytold.specs.Assigned as assigned
+use Rattle.ytold.specs.Assigned.{CanJoin, CanLeave, joined, left, without_key}
+use Rattle.ytell.specs.Totals.{IsTree, Totals, told_at, judged_at}
+use Rattle.ytold.specs.Joins.{KeepsRows, KeepsInstances, KeepsAwaited, HasOwn, CanHoldAll, fits_flag}
 
 -- ---- rows
 
@@ -99,3 +106,58 @@ pub all_left : (keys : List (Key × NodeId)) (i : ℕ) (held now : Keys) (f : Br
     → left slot_of (drop i keys) now ≡ left slot_of keys held → Follows (left slot_of keys held) f first last
 all_left keys i held now f first last over follows is =
     subst (λ (k : Keys). Follows k f first last) (sym (at_drop_all (λ ps. left slot_of ps now) keys i over) ∙ is) follows
+
+-- a node of a forest can hold the key that it joins
+pub can_hold : (nodes : Nodes) (held : Keys) (f : Branches) (p : Key × NodeId) → Agrees nodes held f → 0 < times p.1.0 f → held p.1.0 (slot_of p.0) ≡ None
+    → HasOwn (own_at nodes (Below p.1)) (fits_flag (flag_of p.0)) → CanHold nodes p.1 (flag_of p.0)
+can_hold nodes held f p agrees stands none has = by (flag_of p.0) (told_at nodes (Below p.1)) (held_at nodes (Below p.1)) refl refl none has
+  where
+    right : (j : Judged) → is_missing j ≡ false → wrong_of j ≡ None → j ≡ Right
+    right Right m w = refl
+    right Missing m w = absurd (false≢true (sym m))
+    right (Wrong tag) m w = absurd (none-some (option_map string_bytes tag) (sym w))
+
+    by : (flag : Option ℕ) (t : Option Told) (h : Option Held) → told_at nodes (Below p.1) ≡ t → held_at nodes (Below p.1) ≡ h → held p.1.0 (slot_for flag) ≡ None
+        → HasOwn (option_map own_of t) (fits_flag flag) → CanHold nodes p.1 flag
+    by flag None h is held_is none has = absurd has
+    by (Some u) (Some t) None is held_is none has = absurd (none-some t (sym (ap (option_map (λ (x : Held). x.told)) held_is) ∙ is))
+    by (Some u) (Some t) (Some x) is held_is none has =
+        let same : x.told ≡ t = same_Some x.told t (sym (ap (option_map (λ (x : Held). x.told)) held_is) ∙ is) in
+        let flags : length (same_at nodes p.1) ≡ length t.same =
+        ap (λ (o : Option Held). length (option_map_or (λ (y : Held). y.told.same) o [])) held_is ∙ ap (λ (y : Told). length y.same) same in
+        omega (arith, has, flags)
+    by None (Some t) h is held_is none has =
+        let judged : judged_at nodes p.1 ≡ Some t.judged = ap (option_map (λ (x : Told). x.judged)) is in
+        judged ∙ ap Some (right t.judged (missing_of (agrees.tells.judged p.1 stands) t.judged judged none) has)
+      where
+        missing_of : IsJudged nodes (held p.1.0 0) (judged_at nodes p.1) → (j : Judged) → judged_at nodes p.1 ≡ Some j → held p.1.0 0 ≡ None → is_missing j ≡ false
+        missing_of told j judged none =
+            sym (ap (λ (o : Option Judged). option_map_or is_missing o false) judged) ∙ subst (λ (k : Option Key). IsJudged nodes k (judged_at nodes p.1)) none told
+
+pub own_still : (before after : Nodes) (f : Branches) (ps : List (Key × NodeId)) → ((row : Row) → own_at after row ≡ own_at before row)
+    → CanHoldAll before f ps → CanHoldAll after f ps
+own_still before after f [] own can = tt
+own_still before after f (p ∷ ps) own can =
+    ((can.0.0, subst (λ (o : Option Own). HasOwn o (fits_flag (flag_of p.0))) (sym (own (Below p.1))) can.0.1), own_still before after f ps own can.1)
+
+-- one joins, and the others can
+pub one_joined : (keys : List (Key × NodeId)) (i : ℕ) (p : Key × NodeId) (held now : Keys) (f : Branches) (first before after : Nodes) → drop i keys ≡ p ∷ drop (i + 1) keys
+    → Follows now f first before → CanJoin slot_of now (drop i keys) → CanHoldAll before f (drop i keys) → joined slot_of (drop i keys) now ≡ joined slot_of keys held
+    → (0 < times p.1.0 f → now p.1.0 (slot_of p.0) ≡ None → CanHold before p.1 (flag_of p.0) → Follows (with_key p.1.0 (slot_of p.0) (Some p.0) now) f before after)
+    → (then : Keys) × Follows then f first after × CanJoin slot_of then (drop (i + 1) keys) × CanHoldAll after f (drop (i + 1) keys)
+    × (joined slot_of (drop (i + 1) keys) then ≡ joined slot_of keys held)
+one_joined keys i p held now f first before after drops follows can hold is joins =
+    let here = subst (CanJoin slot_of now) drops can in
+    let holds = subst (CanHoldAll before f) drops hold in
+    let next = joins holds.0.0 here.0 (can_hold before now f p follows.agrees holds.0.0 here.0 holds.0.1) in (
+      assigned.with_key slot_of p now,
+      follows_on now (assigned.with_key slot_of p now) f first before after follows next,
+      here.1,
+      own_still before after f (drop (i + 1) keys) next.own holds.1,
+      sym (ap (λ ps. joined slot_of ps now) drops) ∙ is,
+    )
+
+pub all_joined : (keys : List (Key × NodeId)) (i : ℕ) (held now : Keys) (f : Branches) (first last : Nodes) → length keys ≤ i → Follows now f first last
+    → joined slot_of (drop i keys) now ≡ joined slot_of keys held → Follows (joined slot_of keys held) f first last
+all_joined keys i held now f first last over follows is =
+    subst (λ (k : Keys). Follows k f first last) (sym (at_drop_all (λ ps. joined slot_of ps now) keys i over) ∙ is) follows

@@ -9,7 +9,7 @@ mod telling;
 mod values;
 
 pub use account::{Account, News, enter_new_nodes, enter_node, enter_nodes, enter_row, enter_way};
-pub use joining::leave_all;
+pub use joining::{join_all, leave_all};
 pub use growing::{awaited_nodes, entries_there, grow};
 pub use planning::{Plan, plan_of};
 pub use telling::tell_all;
