@@ -12,3 +12,4 @@ pub mod RowLemmas
 pub mod SumLemmas
 pub mod UnlikeLemmas
 pub mod ValueLemmas
+pub mod TidyLemmas

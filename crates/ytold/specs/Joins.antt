@@ -1,7 +1,7 @@
 -- What stays while nodes leave keys and join them, and while instances come and go.
 use Rattle.std.specs.Prelude.{◌≡◌, ℕ, ◌+◌, ◌<◌, List, Option, Some, None}
 use Rattle.std.specs.List.{count_by}
-use Rattle.ystore.specs.Store.{instances_at, holders_at, node_count, same_key}
+use Rattle.ystore.specs.Store.{held_at, instances_at, node_count, same_key}
 use Rattle.ystore.specs.declared.row.NodeId.{NodeId}
 use Rattle.ystore.specs.declared.row.Row.{Row}
 use Rattle.ystore.specs.declared.row.Row.TheVariants.{Below}
@@ -12,7 +12,7 @@ use Rattle.ymodel.specs.declared.node.SchemaId.{SchemaId}
 use Rattle.yspec.specs.types.Types.{Val}
 use Rattle.yshape.specs.Hanging.{Branches, shape_at}
 use Rattle.ytell.specs.Totals.{room_at, StandsIn}
-use Rattle.ytell.specs.Keys.{Own, own_at, flag_of}
+use Rattle.ytell.specs.Keys.{Own, SameKeys, own_at, flag_of}
 use Rattle.ytold.specs.Standing.{Every}
 use Rattle.ytold.specs.Growing.{awaited_at}
 
@@ -47,3 +47,10 @@ HasOwn (Some own) P = P own
 -- nodes of a forest, which can hold the keys that they join
 abbrev pub CanHoldAll : Nodes → Branches → List (Key × NodeId) → Type 0
 CanHoldAll nodes f pairs = Every (λ p. StandsIn (Below p.1) f × HasOwn (own_at nodes (Below p.1)) (fits_flag (flag_of p.0))) pairs
+
+-- what is held of all rows stays, and keys have what they had; entries that hold nothing may be gone
+pub record Tidies (before after : Nodes) : Type 0 where
+  pub held : (row : Row) → held_at after row ≡ held_at before row
+  pub keys : SameKeys before after
+  pub awaited : KeepsAwaited before after
+  pub node_count : node_count after ≡ node_count before

@@ -6,6 +6,7 @@ mod joining;
 mod growing;
 mod planning;
 mod telling;
+mod tidying;
 mod values;
 
 pub use account::{Account, News, enter_new_nodes, enter_node, enter_nodes, enter_row, enter_way};
@@ -13,4 +14,5 @@ pub use joining::{join_all, leave_all};
 pub use growing::{awaited_nodes, entries_there, grow};
 pub use planning::{Plan, plan_of};
 pub use telling::tell_all;
+pub use tidying::tidy_all;
 pub use values::{add_all, take_all};

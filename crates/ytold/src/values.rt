@@ -4,14 +4,16 @@ ghost use Rattle.std.specs.Prelude.{◌≡◌, ◌≤◌, ◌+◌, ◌-◌, ◌^
 ghost use Rattle.ystore.specs.Store.{instances_at};
 ghost use Rattle.ystore.specs.Views.{store_of, lent};
 ghost use Rattle.ystore.specs.declared.key.Key as rust;
+ghost use Rattle.ystore.specs.declared.nodes.Nodes.{Nodes};
 ghost use Rattle.yshape.specs.Hanging.{Branches};
 ghost use Rattle.ystore.specs.Entries.{with_instance, without_instance};
 ghost use Rattle.ystore.specs.declared.key.Key.TheVariants.{Value};
 ghost use Rattle.ytell.specs.Keys.{Agrees, ChangesKey, Follows, Keys};
 ghost use Rattle.ytell.specs.Totals.{IsTree, Totals};
 ghost use Rattle.ytold.specs.Growing.{AreThere};
-ghost use Rattle.ytold.specs.Joins.{KeepsRows, KeepsAwaited, times_valued};
+ghost use Rattle.ytold.specs.Joins.{KeepsRows, KeepsAwaited, Tidies, times_valued};
 
+use crate::tidying::tidy;
 use ymodel::SchemaId;
 use ystore::{Counted, Key};
 use ytell::{add_value, keys_alike, take_value};
@@ -71,9 +73,11 @@ fn take_pair(counted: &mut Counted<'_>, pair: (SchemaId, Val))
         → Agrees (store_of counted.old) held f → Totals (store_of counted.old) f
         → 1 ≤ instances_at (store_of counted.old) (Value pair.0 pair.1)
         → Follows held f (store_of counted.old) (store_of counted.new) }
-    ensures kept { ChangesKey (Value pair.0 pair.1) without_instance (store_of counted.old) (store_of counted.new) }
+    ensures kept { (mid : Nodes) × ChangesKey (Value pair.0 pair.1) without_instance (store_of counted.old) mid
+        × Tidies mid (store_of counted.new) }
     ensures same_reference { lent counted.new ≡ lent counted.old }
 {
     let key = Key::Value(pair.0, pair.1);
     take_value(counted, &key);
+    tidy(counted, &key);
 }

@@ -5,6 +5,7 @@ use Rattle.ystore.specs.Views.{store_of}
 use Rattle.ystore.specs.declared.key.Key.TheVariants.{Value}
 use Rattle.ytold.specs.Joins.{times_valued}
 use Rattle.ytold.proofs.JoiningLemmas.{keeps_itself, keeps_on, shapes_of, tree_on, rows_of, number_kept, follows_itself, follows_on}
+use Rattle.ytold.proofs.TidyLemmas.{tidied_rows}
 use Rattle.ytold.proofs.CountingLemmas.{one_taken, one_is_there, none_left}
 use Rattle.ytold.proofs.values.take_all.Goals as goal
 
@@ -30,17 +31,21 @@ loop-pair-preserved c =
     let rest = c.next.new.self.rest.items in
     let whole = c.loop-pair.pair-iterator.rest.items in
     let key = Value p.0 p.1 in
+    let mid = c.take_pair.ensures.kept.0 in
+    let changes = c.take_pair.ensures.kept.1 in
+    let tidies = c.take_pair.ensures.kept.2 in
     record {
       same_reference = c.take_pair.ensures.same_reference ∙ c.loop-pair.invariant.same_reference;
-      kept = keeps_on first before after c.loop-pair.invariant.kept (rows_of key without_instance before after c.take_pair.ensures.kept);
-      awaited = λ k. number_kept laws (λ e. e.awaited) key without_instance before after (λ e. refl) c.take_pair.ensures.kept k ∙ c.loop-pair.invariant.awaited k;
+      kept = keeps_on first before after c.loop-pair.invariant.kept (keeps_on before mid after (rows_of key without_instance before mid changes) (tidied_rows mid after tidies));
+      awaited = λ k. tidies.awaited k ∙ (number_kept laws (λ e. e.awaited) key without_instance before mid (λ e. refl) changes k ∙ c.loop-pair.invariant.awaited k);
       follows = λ held f tree agrees totals few.
           let so = c.loop-pair.invariant.follows held f tree agrees totals few in
           follows_on held held f first before after so
           (c.take_pair.ensures.follows held f (tree_on first before f (shapes_of first before c.loop-pair.invariant.kept) tree) so.agrees so.totals
           (one_is_there laws c.args.values.items p rest whole first before c.in-Some.ensures.steps.0 few (c.loop-pair.invariant.instances few)));
-      instances = λ few.
-          one_taken laws c.args.values.items p rest whole first before after c.in-Some.ensures.steps.0 few (c.loop-pair.invariant.instances few) c.take_pair.ensures.kept;
+      instances = λ few k.
+          ap (λ n. n + times_valued k c.args.values.items) (tidies.keys.instances k)
+          ∙ one_taken laws c.args.values.items p rest whole first before mid c.in-Some.ensures.steps.0 few (c.loop-pair.invariant.instances few) changes k;
     }
 
 pub returns-clause-follows : goal.returns-clause-follows
