@@ -8,9 +8,11 @@ pub mod GrowingLemmas
 pub mod KeptLemmas
 pub mod KeyLemmas
 pub mod NewsLemmas
+pub mod OwnKeptLemmas
 pub mod PlanLemmas
 pub mod RowLemmas
 pub mod SumLemmas
 pub mod UnlikeLemmas
 pub mod ValueLemmas
 pub mod TidyLemmas
+pub mod TransferLemmas
