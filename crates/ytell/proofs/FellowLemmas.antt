@@ -1,27 +1,27 @@
 -- Flags of a node and of its fellows.
-use Rattle.std.proofs.Common.{◌≡◌, ℕ, zero, suc, ◌+◌, ◌<◌, ◌≤◌, Bool, true, false, ◌&&◌, ◌||◌, not, List, [], ◌∷◌, ◌++◌, length, slice_get, Option, Some, None, is_some, option_map, refl, sym, ap, ◌∙◌, arith, subst, cond, eqb, ltb, ◌≢◌, length-append}
+use Rattle.std.proofs.Common.{◌≡◌, ℕ, zero, suc, ◌+◌, ◌<◌, ◌≤◌, Bool, true, false, ◌&&◌, ◌||◌, not, List, [], ◌∷◌, ◌++◌, length, slice_get, Option, Some, None, option_map, refl, sym, ap, ◌∙◌, arith, subst, cond, eqb, ltb, ◌≢◌, length-append}
 use Rattle.std.specs.Prelude.{slice_set, unwrap_or}
 use Rattle.std.specs.Option.{option_map_or}
-use Rattle.std.proofs.lemmas.Bool.{eq-eqb, eqb-true, eqb-false, ne_eqb, lt-ltb, le-ltb, ltb-false, false≢true}
-use Rattle.std.proofs.lemmas.Option.{same_Some, none-some}
-use Rattle.ystore.specs.Held.{Held, Told, with_same, with_judged}
+use Rattle.std.proofs.lemmas.Bool.{eqb-true, eqb-false, ne_eqb, lt-ltb, le-ltb, false≢true}
+use Rattle.std.proofs.lemmas.Option.{none-some}
+use Rattle.ystore.specs.Held.{Told, with_same}
 use Rattle.ystore.specs.Entries.{without}
 use Rattle.ystore.specs.Store.{held_at, same_at, holders_at, instances_at, same_row, same_key}
 use Rattle.ystore.specs.declared.row.NodeId.{NodeId}
 use Rattle.ystore.specs.declared.row.Row.{Row}
-use Rattle.ystore.specs.declared.row.Row.TheVariants.{Top, Below}
+use Rattle.ystore.specs.declared.row.Row.TheVariants.{Below}
 use Rattle.ystore.specs.declared.key.Key.{Key}
 use Rattle.ystore.specs.declared.record.Judged.{Judged}
 use Rattle.ystore.specs.declared.nodes.Nodes.{Nodes}
 use Rattle.yshape.specs.Hanging.{Branches, times}
 use Rattle.yshape.proofs.FrameLemmas.{same_rows}
-use Rattle.ytell.specs.Totals.{ChangesTold, IsTree, OnlyFaults, StandsIn, Totals, judged_at, told_at}
-use Rattle.ytell.specs.Keys.{AreKeys, Agrees, ChangesAt, Indexes, IsJudged, Keys, Tells, among, flag_at, flag_of, has_key, is_missing, is_shared, is_touched, judged_by, own_at, own_of, slot_for, slot_of, with_key}
+use Rattle.ytell.specs.Totals.{ChangesTold, IsTree, StandsIn, Totals, judged_at, told_at}
+use Rattle.ytell.specs.Keys.{AreKeys, Agrees, ChangesAt, IsJudged, Keys, Tells, among, flag_at, flag_of, has_key, is_missing, is_shared, is_touched, judged_by, own_at, own_of, slot_for, slot_of, with_key}
 use Rattle.ytell.proofs.WayLemmas.{not_both, itself}
 use Rattle.ytell.proofs.LawLemmas.{faults_shapes}
 use Rattle.ytell.proofs.TotalLemmas.{mark, tree_same}
 use Rattle.ytell.proofs.TellLemmas.{flags_seen, set_long}
-use Rattle.ytell.proofs.IndexLemmas.{among_less, among_long, among_more, first_among, in_slot, held, held_slot, holds, long_less, only_first, with_here, with_other_number, with_other_slot}
+use Rattle.ytell.proofs.IndexLemmas.{among_less, among_long, first_among, in_slot, held, held_slot, holds, long_less, only_first, with_here, with_other_number, with_other_slot}
 
 -- ---- one row
 

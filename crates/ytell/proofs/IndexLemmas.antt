@@ -1,11 +1,10 @@
 -- The nodes that hold a key, where one joins them or leaves them.
-use Rattle.std.proofs.Common.{◌≡◌, ℕ, zero, suc, ◌+◌, ◌<◌, ◌≤◌, Bool, true, false, ◌&&◌, not, List, [], ◌∷◌, ◌++◌, length, get_or, slice_get, Option, Some, None, is_some, option_map, refl, sym, ap, ◌∙◌, arith, subst, cond, eqb, ltb}
+use Rattle.std.proofs.Common.{◌≡◌, ℕ, zero, suc, ◌+◌, ◌<◌, ◌≤◌, Bool, true, false, ◌&&◌, not, List, [], ◌∷◌, ◌++◌, length, get_or, slice_get, Option, Some, None, option_map, refl, sym, ap, ◌∙◌, arith, cond, eqb}
 use Rattle.std.specs.List.{sum_by, swap_remove}
 use Rattle.std.specs.Option.{option_map_or}
 use Rattle.std.proofs.lemmas.Bool.{eq-eqb, eqb-true, eqb-false, ne_eqb, lt-ltb, false≢true}
 use Rattle.std.proofs.lemmas.Option.{same_Some, none-some}
 use Rattle.std.proofs.lemmas.List.Sums.{sum_by-cons, sum_by-append, sum_by-swap_remove}
-use Rattle.yspec.specs.Forest.{end, node}
 use Rattle.ystore.specs.Entries.{Entry, place_of, without}
 use Rattle.ystore.specs.Store.{entry_at, holders_at, instances_at, same_key}
 use Rattle.ystore.specs.declared.row.NodeId.{NodeId}
@@ -30,7 +29,7 @@ among_more k xs id =
     plain : (m : ℕ) → m + 0 ≡ m
     plain m = omega arith
 
-among-cons : (k : ℕ) (x : NodeId) (xs : List NodeId) → among k (x ∷ xs) ≡ mark (eqb x.0 k) + among k xs
+pub among-cons : (k : ℕ) (x : NodeId) (xs : List NodeId) → among k (x ∷ xs) ≡ mark (eqb x.0 k) + among k xs
 among-cons k x xs = sum_by-cons (λ (n : NodeId). cond (eqb n.0 k) 1 0) x xs
 
 found_place : (id : NodeId) (xs : List NodeId) → 1 ≤ among id.0 xs → (place_of id xs < length xs) × (eqb (get_or xs (place_of id xs) id).0 id.0 ≡ true)

@@ -1,31 +1,31 @@
 -- A node joins those that hold a key, or leaves them.
-use Rattle.std.proofs.Common.{◌≡◌, ℕ, zero, suc, ◌+◌, ◌<◌, ◌≤◌, Bool, true, false, ◌&&◌, not, List, [], ◌∷◌, ◌++◌, length, slice_get, Option, Some, None, is_some, option_map, refl, sym, ap, ◌∙◌, arith, subst, cond, eqb, ltb}
+use Rattle.std.proofs.Common.{◌≡◌, ℕ, zero, suc, ◌+◌, ◌<◌, ◌≤◌, Bool, true, false, ◌&&◌, [], ◌∷◌, ◌++◌, length, slice_get, Option, Some, None, is_some, option_map, refl, sym, ap, ◌∙◌, arith, subst, cond, eqb, ltb}
 use Rattle.std.specs.Prelude.{unwrap_or}
 use Rattle.std.specs.Option.{option_map_or}
-use Rattle.std.proofs.lemmas.Bool.{eq-eqb, eqb-true, eqb-false, ne_eqb, lt-ltb, le-ltb, false≢true}
+use Rattle.std.proofs.lemmas.Bool.{eqb-true, eqb-false, ne_eqb, lt-ltb, false≢true}
 use Rattle.std.proofs.lemmas.Option.{same_Some, none-some}
-use Rattle.ystore.specs.Held.{Held, Told, with_same, with_judged}
+use Rattle.ystore.specs.Held.{Told, with_same, with_judged}
 use Rattle.ystore.specs.Entries.{Entry, with_node, without_node, without}
 use Rattle.ystore.specs.Store.{held_at, entry_at, same_at, holders_at, instances_at, node_count, same_row, same_key, ChangesEntry}
 use Rattle.ystore.specs.declared.row.NodeId.{NodeId}
 use Rattle.ystore.specs.declared.row.Row.{Row}
-use Rattle.ystore.specs.declared.row.Row.TheVariants.{Top, Below}
+use Rattle.ystore.specs.declared.row.Row.TheVariants.{Below}
 use Rattle.ystore.specs.declared.key.Key.{Key}
 use Rattle.ystore.specs.declared.record.Judged.{Judged}
-use Rattle.ystore.specs.declared.record.Judged.TheVariants.{Right, Wrong, Missing}
+use Rattle.ystore.specs.declared.record.Judged.TheVariants.{Right, Missing}
 use Rattle.ystore.specs.declared.nodes.Nodes.{Nodes}
 use Rattle.yshape.specs.Hanging.{Branches, times}
-use Rattle.yshape.specs.Changes.{SameShapes}
 use Rattle.yshape.proofs.FrameLemmas.{same_rows}
 use Rattle.yshape.specs.Parts.{OnlyReads}
 use Rattle.ytell.specs.Totals.{IsTree, OnlyFaults, StandsIn, Totals, is_told, judged_at, told_at}
-use Rattle.ytell.specs.Keys.{AreKeys, Agrees, ChangesAt, ChangesKey, Follows, Indexes, IsJudged, Keys, Tells, among, flag_at, flag_of, has_key, is_missing, is_shared, is_touched, judged_by, own_at, own_of, slot_for, slot_of, with_key, wrong_of}
+use Rattle.ytell.specs.Keys.{AreKeys, Agrees, ChangesAt, ChangesKey, Follows, Indexes, IsJudged, Keys, Tells, among, flag_of, has_key, is_missing, is_shared, is_touched, judged_by, own_at, own_of, slot_for, slot_of, with_key, wrong_of}
+pub use Rattle.yshape.proofs.PartLemmas.{reads_on}
 use Rattle.ytell.proofs.WayLemmas.{not_both, itself}
 use Rattle.ytell.proofs.TotalLemmas.{mark, totals_same, tree_same}
 use Rattle.ytell.proofs.LawLemmas.{held_faults}
 use Rattle.ytell.proofs.TellLemmas.{flags_seen}
-use Rattle.ytell.proofs.IndexLemmas.{among_less, held, held_slot, holders_else, holders_here, holds, in_slot, instances_same, joined, key_stands, left, long_less, first_among, stands, with_here, with_other_number, with_other_slot}
-use Rattle.ytell.proofs.FellowLemmas.{judged_kept, judged_same, own_kept, shared_same, some_flag, tells_joined, tells_left, touched_itself, touched_why}
+use Rattle.ytell.proofs.IndexLemmas.{among_less, held, holders_else, holders_here, holds, in_slot, instances_same, joined, key_stands, left, long_less, first_among, with_here, with_other_number, with_other_slot}
+use Rattle.ytell.proofs.FellowLemmas.{judged_same, own_kept, shared_same, some_flag, tells_joined, tells_left, touched_itself, touched_why}
 
 -- ---- an entry that changes
 
@@ -202,12 +202,13 @@ module _ (laws : AreKeys) (key : Key) (id : NodeId) (keys : Keys) (f : Branches)
                 let so = touched_why id (holders_at first key) x t e in
                 let has = holds first keys f agrees.index key x.0 so.0 in
                 let slot = in_slot (keys x.0 (slot_of key)) key has in
-                let at : keys x.0 (suc u) ≡ Some slot.0 = ap (keys x.0) (sym (ap slot_for is_flag)) ∙ slot.1 in
-                (key_stands first keys f agrees.index x.0 key has,
-                some_flag (same_at first x) u false (agrees.tells.wide x u slot.0 at)
-                (agrees.tells.flags x u (key_stands first keys f agrees.index x.0 key has)
-                ∙ (ap (is_shared first) at ∙ (ap (λ o. ltb 1 (length (option_map_or (λ e. e.nodes) o []))) (sym (laws.found first key slot.0 slot.2))
-                ∙ ap (ltb 1) so.1))))
+                let at : keys x.0 (suc u) ≡ Some slot.0 = ap (keys x.0) (sym (ap slot_for is_flag)) ∙ slot.1 in (
+                  key_stands first keys f agrees.index x.0 key has,
+                  some_flag (same_at first x) u false (agrees.tells.wide x u slot.0 at)
+                      (agrees.tells.flags x u (key_stands first keys f agrees.index x.0 key has)
+                      ∙ (ap (is_shared first) at ∙ (ap (λ o. ltb 1 (length (option_map_or (λ e. e.nodes) o []))) (sym (laws.found first key slot.0 slot.2))
+                      ∙ ap (ltb 1) so.1))),
+                )
 
         touches : (x : NodeId) → is_touched id fellow n (Below x) ≡ true → StandsIn (Below x) f × (slice_get (same_at second x) u ≡ Some false)
         touches x t =
@@ -500,3 +501,13 @@ module _ (laws : AreKeys) (key : Key) (id : NodeId) (keys : Keys) (f : Branches)
               wide = λ x v k e. let was = agrees.tells.wide x v k (sym (other_flags x v) ∙ e) in let long = ap length (same_still (left_if b) Right first third since x) in omega (arith, was, long);
               judged = λ x there. judged x there (eqb id.0 x.0) refl;
             }
+
+pub holders_read : (before after : Nodes) (key : Key) → OnlyReads before after → holders_at after key ≡ holders_at before key
+holders_read before after key reads = ap (λ o. option_map_or (λ e. e.nodes) o []) (reads.entries key)
+
+pub instances_read : (before after : Nodes) (key : Key) → OnlyReads before after → instances_at after key ≡ instances_at before key
+instances_read before after key reads = ap (λ o. option_map_or (λ e. e.instances) o 0) (reads.entries key)
+
+pub entered_instances : (laws : AreKeys) (key : Key) (change : Entry → Entry) (before after : Nodes) → Enters key change before after
+    → ((e : Entry) → (change e).instances ≡ e.instances) → instances_at after key ≡ instances_at before key
+entered_instances laws key change before after e leaves = instances_same laws key change before after e.changed e.others leaves key

@@ -1,11 +1,11 @@
 -- Keys that are the same, and the nodes that hold them.
-use Rattle.std.proofs.Common.{◌≡◌, ℕ, zero, suc, ◌+◌, ◌<◌, ◌≤◌, Bool, true, false, List, [], ◌∷◌, ◌++◌, length, Option, Some, None, option_map, refl, sym, ap, ◌∙◌, arith, subst, cond, eqb, is_eq, Ordering, Less, Equal, Greater}
-use Rattle.std.proofs.lemmas.Bool.{eq-eqb, eqb-true, false≢true}
+use Rattle.std.proofs.Common.{◌≡◌, suc, true, refl, ap, is_eq, Ordering, Less, Equal, Greater}
+use Rattle.std.proofs.lemmas.Bool.{false≢true}
 use Rattle.std.specs.Ordering.{ordering_then, nat_cmp}
 use Rattle.std.proofs.lemmas.Map.Lookups.{exact_unsigned}
 use Rattle.ystore.specs.contracts.row.RowOrd.TheImpl as row_ord
 use Rattle.ymodel.specs.contracts.node.SchemaIdOrd.TheImpl as schema_ord
-use Rattle.ystore.specs.Store.{same_key, key_cmp}
+use Rattle.ystore.specs.Store.{same_key}
 use Rattle.ystore.specs.declared.key.Key.{Key}
 use Rattle.ystore.specs.declared.key.Key.TheVariants.{Value, Item, Tuple, Texts}
 use Rattle.ytell.specs.Keys.{slot_of}

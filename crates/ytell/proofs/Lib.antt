@@ -1,3 +1,4 @@
+pub mod AgreeLemmas
 pub mod ClimbLemmas
 pub mod FellowLemmas
 pub mod IndexLemmas
@@ -6,4 +7,5 @@ pub mod KeyLemmas
 pub mod LawLemmas
 pub mod TellLemmas
 pub mod TotalLemmas
+pub mod ValueLemmas
 pub mod WayLemmas

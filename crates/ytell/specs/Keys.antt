@@ -1,5 +1,5 @@
 -- Which keys nodes hold, as an index has them, and what is told by them.
-use Rattle.std.specs.Prelude.{◌≡◌, ℕ, suc, ◌+◌, ◌<◌, ◌&&◌, ◌||◌, Bool, true, false, List, ◌++◌, [], ◌∷◌, length, Option, Some, None, is_some, option_map, if◌then◌else◌, eqb, ltb, slice_get, unwrap_or}
+use Rattle.std.specs.Prelude.{◌≡◌, ℕ, suc, ◌<◌, ◌&&◌, ◌||◌, Bool, true, false, List, length, Option, Some, None, option_map, if◌then◌else◌, eqb, ltb, slice_get, unwrap_or}
 use Rattle.std.specs.List.{sum_by}
 use Rattle.std.specs.Option.{option_map_or}
 use Rattle.std.specs.String.{string_bytes}
@@ -102,7 +102,17 @@ pub record Agrees (nodes : Nodes) (keys : Keys) (f : Branches) : Type 0 where
   pub index : Indexes nodes keys f
   pub tells : Tells nodes keys f
 
+-- nothing is told of a node that a key tells
+pub record TellsNoKey (nodes : Nodes) (id : NodeId) : Type 0 where
+  pub flags : (u : ℕ) → flag_at nodes id u ≡ false
+  pub judged : option_map_or is_missing (judged_at nodes id) false ≡ false
+
 -- ---- changes
+
+-- all keys have the instances and the nodes that they had
+pub record SameKeys (before after : Nodes) : Type 0 where
+  pub holders : (key : Key) → holders_at after key ≡ holders_at before key
+  pub instances : (key : Key) → instances_at after key ≡ instances_at before key
 
 -- a node can hold a key that sets a flag, or one of a value: it has the flag, or nothing is told of its value
 abbrev pub CanHold : Nodes → NodeId → Option ℕ → Type 0
@@ -114,6 +124,11 @@ CanHold nodes id None = judged_at nodes id ≡ Some Right
 abbrev pub is_touched : NodeId → Option NodeId → ℕ → Row → Bool
 is_touched id fellow fellows row =
     (ltb 0 fellows && same_row (Below id) row) || (eqb fellows 1 && option_map_or (λ other. same_row (Below other) row) fellow false)
+
+-- whether a row is below one of these nodes
+abbrev pub is_holder : List NodeId → Row → Bool
+is_holder ids Top = false
+is_holder ids (Below id) = ltb 0 (among id.0 ids)
 
 -- what is told at some rows is changed, and at no other
 abbrev pub ChangesAt : (Row → Bool) → (Told → Told) → Nodes → Nodes → Type 0

@@ -1,11 +1,15 @@
 pub mod AccountLemmas
 pub mod AssignedLemmas
+pub mod CountingLemmas
 pub mod EachLemmas
+pub mod JoiningLemmas
 pub mod GrowingLemmas
 pub mod KeptLemmas
 pub mod KeyLemmas
+pub mod NewsLemmas
 pub mod PlanLemmas
 pub mod RowLemmas
 pub mod SumLemmas
 pub mod UnlikeLemmas
 pub mod ValueLemmas
+pub mod TidyLemmas

@@ -2,8 +2,10 @@ pub mod Accounts
 pub mod Assigned
 pub mod Each
 pub mod Growing
+pub mod Joins
 pub mod Keyed
 pub mod Plans
 pub mod Standing
 pub mod Sums
+pub mod Telling
 pub mod Unlike

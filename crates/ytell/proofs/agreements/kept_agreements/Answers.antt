@@ -1,0 +1,13 @@
+use Rattle.ytell.proofs.AgreeLemmas.{agrees_told, agrees_play, agrees_judged, agrees_forest, agrees_alike, agrees_empty}
+use Rattle.ytell.proofs.agreements.kept_agreements.Goals as goal
+
+pub returns : goal.returns
+returns c =
+    record {
+      told = agrees_told;
+      play = agrees_play;
+      judged = agrees_judged;
+      forest = agrees_forest;
+      alike = agrees_alike;
+      empty = agrees_empty;
+    }

@@ -1,1 +1,0 @@
-use Rattle.ytell.proofs.JoinLemmas.{joined_fellows}

@@ -1,0 +1,23 @@
+use Rattle.std.proofs.Common.{◌≡◌, drop}
+use Rattle.ystore.specs.Views.{store_of, lent}
+use Rattle.yshape.specs.Hanging.{Branches}
+use Rattle.ytell.specs.Keys.{Agrees, Follows, Keys, slot_of}
+use Rattle.ytell.specs.Totals.{IsTree, Totals}
+use Rattle.ytold.specs.Assigned.{CanJoin, joined}
+use Rattle.ytold.specs.Growing.{AreAwaited}
+use Rattle.ytold.specs.Joins.{CanHoldAll, KeepsRows, KeepsInstances}
+use Rattle.ytold.proofs.joining.join_all.Given as goal
+
+-- those so far have joined, and the others are awaited and can
+abbrev pub invariant-loop-at : goal.invariant-loop-at
+invariant-loop-at l =
+    record {
+      same_reference : lent l.counted ≡ lent l.fn.counted;
+      kept : KeepsRows (store_of l.fn.counted) (store_of l.counted);
+      instances : KeepsInstances (store_of l.fn.counted) (store_of l.counted);
+      awaited : AreAwaited (store_of l.counted) (drop l.at l.keys);
+      follows : (held : Keys) (f : Branches) → IsTree (store_of l.fn.counted) f → Agrees (store_of l.fn.counted) held f → Totals (store_of l.fn.counted) f
+          → CanJoin slot_of held l.keys → CanHoldAll (store_of l.fn.counted) f l.keys
+          → (now : Keys) × Follows now f (store_of l.fn.counted) (store_of l.counted) × CanJoin slot_of now (drop l.at l.keys)
+          × CanHoldAll (store_of l.counted) f (drop l.at l.keys) × (joined slot_of (drop l.at l.keys) now ≡ joined slot_of l.keys held);
+    }

@@ -1,0 +1,7 @@
+use Rattle.std.proofs.Common.{◌≡◌}
+use Rattle.ystore.specs.Views.{store_of, lent}
+use Rattle.ytold.specs.Joins.{Tidies}
+use Rattle.ytold.proofs.tidying.tidy_all.Given as goal
+
+abbrev pub invariant-loop-at : goal.invariant-loop-at
+invariant-loop-at l = (lent l.counted ≡ lent l.fn.counted) × Tidies (store_of l.fn.counted) (store_of l.counted)

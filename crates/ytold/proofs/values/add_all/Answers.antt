@@ -1,0 +1,61 @@
+use Rattle.std.proofs.Common.{◌∙◌, ◌+◌, ap, refl, sym, subst, arith}
+use Rattle.ystore.specs.Entries.{with_instance}
+use Rattle.ystore.specs.Store.{instances_at}
+use Rattle.ystore.specs.Views.{store_of}
+use Rattle.ystore.specs.declared.key.Key.TheVariants.{Value}
+use Rattle.ytold.specs.Growing.{AreThere}
+use Rattle.ytold.specs.Joins.{times_valued}
+use Rattle.ytold.proofs.JoiningLemmas.{keeps_itself, keeps_on, shapes_of, tree_on, rows_of, number_kept, follows_itself, follows_on}
+use Rattle.ytold.proofs.CountingLemmas.{one_added, none_left}
+use Rattle.ytold.proofs.values.add_all.Goals as goal
+
+pub loop-pair-init : goal.loop-pair-init
+loop-pair-init c =
+    let same = c.into_iter-pair-iterator.ensures.into_iter_gives.0 in
+    let first = store_of c.args.counted.now in
+    record {
+      same_reference = refl;
+      kept = keeps_itself first;
+      awaited = λ key. refl;
+      follows = λ held f tree agrees totals. follows_itself first held f agrees totals;
+      instances = λ there few. (subst (AreThere first) (sym same) there, λ key. ap (λ vs. instances_at first key + times_valued key vs) same);
+    }
+
+pub loop-pair-preserved : goal.loop-pair-preserved
+loop-pair-preserved c =
+    let first = store_of c.args.counted.now in
+    let before = store_of c.loop-pair.counted in
+    let after = store_of c.add_pair.new.counted in
+    let laws = c.keys_alike.ensures in
+    let key = Value c.in-Some.pair.0 c.in-Some.pair.1 in
+    record {
+      same_reference = c.add_pair.ensures.same_reference ∙ c.loop-pair.invariant.same_reference;
+      kept = keeps_on first before after c.loop-pair.invariant.kept (rows_of key with_instance before after c.add_pair.ensures.kept);
+      awaited = λ k. number_kept laws (λ e. e.awaited) key with_instance before after (λ e. refl) c.add_pair.ensures.kept k ∙ c.loop-pair.invariant.awaited k;
+      follows = λ held f tree agrees totals.
+          let so = c.loop-pair.invariant.follows held f tree agrees totals in
+          follows_on held held f first before after so
+          (c.add_pair.ensures.follows held f (tree_on first before f (shapes_of first before c.loop-pair.invariant.kept) tree) so.agrees so.totals);
+      instances = λ there few.
+          let so = c.loop-pair.invariant.instances there few in
+          one_added laws c.args.values.items c.in-Some.pair c.next.new.self.rest.items c.loop-pair.pair-iterator.rest.items first before after
+          c.in-Some.ensures.steps.0 few so.0 so.1 c.add_pair.ensures.kept;
+    }
+
+pub returns-clause-follows : goal.returns-clause-follows
+returns-clause-follows c = c.loop-pair.invariant.follows
+
+pub returns-clause-instances : goal.returns-clause-instances
+returns-clause-instances c there few key =
+    let so = (c.loop-pair.invariant.instances there few).1 key in
+    let none = ap (times_valued key) (none_left c.loop-pair.pair-iterator.rest.items (sym c.loop-pair.pair-iterator.rest.ok.0 ∙ c.in-None.ensures.steps.0)) in
+    omega (arith, so, none)
+
+pub returns-clause-kept : goal.returns-clause-kept
+returns-clause-kept c = c.loop-pair.invariant.kept
+
+pub returns-clause-awaited : goal.returns-clause-awaited
+returns-clause-awaited c = c.loop-pair.invariant.awaited
+
+pub returns-clause-same_reference : goal.returns-clause-same_reference
+returns-clause-same_reference c = c.loop-pair.invariant.same_reference

@@ -1,0 +1,24 @@
+use Rattle.std.proofs.Common.{◌≡◌, ◌≤◌, ◌+◌}
+use Rattle.ystore.specs.Store.{instances_at}
+use Rattle.ystore.specs.Views.{store_of, lent}
+use Rattle.ystore.specs.declared.key.Key as rust
+use Rattle.yshape.specs.Hanging.{Branches}
+use Rattle.ytell.specs.Keys.{Agrees, Follows, Keys}
+use Rattle.ytell.specs.Totals.{IsTree, Totals}
+use Rattle.ytold.specs.Joins.{KeepsRows, KeepsAwaited, times_valued}
+use Rattle.ytold.proofs.values.take_all.Given as goal
+
+-- those so far are gone, and the others are there
+abbrev pub invariant-loop-pair : goal.invariant-loop-pair
+invariant-loop-pair l =
+    record {
+      same_reference : lent l.counted ≡ lent l.fn.counted;
+      kept : KeepsRows (store_of l.fn.counted) (store_of l.counted);
+      awaited : KeepsAwaited (store_of l.fn.counted) (store_of l.counted);
+      follows : (held : Keys) (f : Branches) → IsTree (store_of l.fn.counted) f → Agrees (store_of l.fn.counted) held f → Totals (store_of l.fn.counted) f
+          → ((key : rust.Key) → times_valued key l.fn.values.items ≤ instances_at (store_of l.fn.counted) key)
+          → Follows held f (store_of l.fn.counted) (store_of l.counted);
+      instances : ((key : rust.Key) → times_valued key l.fn.values.items ≤ instances_at (store_of l.fn.counted) key)
+          → (key : rust.Key) → instances_at (store_of l.counted) key + times_valued key l.fn.values.items
+          ≡ instances_at (store_of l.fn.counted) key + times_valued key l.pair-iterator.rest.items;
+    }

@@ -1,0 +1,56 @@
+-- What stays while nodes leave keys and join them, and while instances come and go.
+use Rattle.std.specs.Prelude.{◌≡◌, ℕ, ◌+◌, ◌<◌, List, Option, Some, None}
+use Rattle.std.specs.List.{count_by}
+use Rattle.ystore.specs.Store.{held_at, instances_at, node_count, same_key}
+use Rattle.ystore.specs.declared.row.NodeId.{NodeId}
+use Rattle.ystore.specs.declared.row.Row.{Row}
+use Rattle.ystore.specs.declared.row.Row.TheVariants.{Below}
+use Rattle.ystore.specs.declared.key.Key.{Key}
+use Rattle.ystore.specs.declared.key.Key.TheVariants.{Value}
+use Rattle.ystore.specs.declared.nodes.Nodes.{Nodes}
+use Rattle.ymodel.specs.declared.node.SchemaId.{SchemaId}
+use Rattle.yspec.specs.types.Types.{Val}
+use Rattle.yshape.specs.Hanging.{Branches, shape_at}
+use Rattle.ytell.specs.Totals.{room_at, StandsIn}
+use Rattle.ytell.specs.Keys.{Own, SameKeys, own_at, flag_of}
+use Rattle.ytold.specs.Standing.{Every}
+use Rattle.ytold.specs.Growing.{awaited_at}
+
+-- shapes of rows and their room, and the number of nodes
+pub record KeepsRows (before after : Nodes) : Type 0 where
+  pub shapes : (row : Row) → shape_at after row ≡ shape_at before row
+  pub rooms : (row : Row) → room_at after row ≡ room_at before row
+  pub node_count : node_count after ≡ node_count before
+
+-- how many nodes are awaited at each key
+abbrev pub KeepsAwaited : Nodes → Nodes → Type 0
+KeepsAwaited before after = (key : Key) → awaited_at after key ≡ awaited_at before key
+
+-- how many instances each value has
+abbrev pub KeepsInstances : Nodes → Nodes → Type 0
+KeepsInstances before after = (key : Key) → instances_at after key ≡ instances_at before key
+
+-- how many of some values a key is of
+abbrev pub times_valued : Key → List (SchemaId × Val) → ℕ
+times_valued key values = count_by (λ p. same_key (Value p.0 p.1) key) values
+
+-- a node can hold a key that sets a flag, if it has the flag, or one of a value, if its own is taken by its type
+abbrev pub fits_flag : Option ℕ → Own → Type 0
+fits_flag (Some u) own = u < own.flags
+fits_flag None own = own.wrong ≡ None
+
+-- what is so of what is told at a node by no key
+abbrev pub HasOwn : Option Own → (Own → Type 0) → Type 0
+HasOwn None P = ⊥
+HasOwn (Some own) P = P own
+
+-- nodes of a forest, which can hold the keys that they join
+abbrev pub CanHoldAll : Nodes → Branches → List (Key × NodeId) → Type 0
+CanHoldAll nodes f pairs = Every (λ p. StandsIn (Below p.1) f × HasOwn (own_at nodes (Below p.1)) (fits_flag (flag_of p.0))) pairs
+
+-- what is held of all rows stays, and keys have what they had; entries that hold nothing may be gone
+pub record Tidies (before after : Nodes) : Type 0 where
+  pub held : (row : Row) → held_at after row ≡ held_at before row
+  pub keys : SameKeys before after
+  pub awaited : KeepsAwaited before after
+  pub node_count : node_count after ≡ node_count before

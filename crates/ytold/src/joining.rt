@@ -1,0 +1,50 @@
+//! Keys that many nodes leave, or join.
+
+ghost use Rattle.std.specs.Prelude.{◌≡◌};
+ghost use Rattle.ystore.specs.Store.{same_key};
+ghost use Rattle.ystore.specs.Views.{store_of, lent};
+ghost use Rattle.yshape.specs.Hanging.{Branches};
+ghost use Rattle.ytell.specs.Keys.{Agrees, Follows, Keys, slot_of};
+ghost use Rattle.ytell.specs.Totals.{IsTree, Totals};
+ghost use Rattle.ytold.specs.Assigned.{CanJoin, CanLeave, joined, left};
+ghost use Rattle.ytold.specs.Growing.{AreAwaited};
+ghost use Rattle.ytold.specs.Joins.{CanHoldAll, KeepsRows, KeepsInstances, KeepsAwaited};
+
+use ystore::{Counted, Key, NodeId};
+use ytell::{join, keys_alike, leave};
+
+/// Nodes leave their keys, one after another.
+pub fn leave_all(counted: &mut Counted<'_>, keys: &[(Key, NodeId)])
+    ensures follows { (held : Keys) (f : Branches) → IsTree (store_of counted.old) f
+        → Agrees (store_of counted.old) held f → Totals (store_of counted.old) f
+        → CanLeave slot_of same_key held keys.now
+        → Follows (left slot_of keys.now held) f (store_of counted.old) (store_of counted.new) }
+    ensures kept { KeepsRows (store_of counted.old) (store_of counted.new) }
+    ensures instances { KeepsInstances (store_of counted.old) (store_of counted.new) }
+    ensures awaited { KeepsAwaited (store_of counted.old) (store_of counted.new) }
+    ensures same_reference { lent counted.new ≡ lent counted.old }
+{
+    keys_alike();
+    for at in 0..keys.len() {
+        let pair = &keys[at];
+        leave(counted, &pair.0, pair.1);
+    }
+}
+
+/// Nodes join keys, one after another. They are awaited there.
+pub fn join_all(counted: &mut Counted<'_>, keys: &[(Key, NodeId)])
+    requires { AreAwaited (store_of counted.old) keys.now }
+    ensures follows { (held : Keys) (f : Branches) → IsTree (store_of counted.old) f
+        → Agrees (store_of counted.old) held f → Totals (store_of counted.old) f
+        → CanJoin slot_of held keys.now → CanHoldAll (store_of counted.old) f keys.now
+        → Follows (joined slot_of keys.now held) f (store_of counted.old) (store_of counted.new) }
+    ensures kept { KeepsRows (store_of counted.old) (store_of counted.new) }
+    ensures instances { KeepsInstances (store_of counted.old) (store_of counted.new) }
+    ensures same_reference { lent counted.new ≡ lent counted.old }
+{
+    keys_alike();
+    for at in 0..keys.len() {
+        let pair = &keys[at];
+        join(counted, &pair.0, pair.1);
+    }
+}

@@ -1,0 +1,30 @@
+//! Entries of an index that hold nothing any more.
+
+ghost use Rattle.std.specs.Prelude.{◌≡◌};
+ghost use Rattle.ystore.specs.Views.{store_of, lent};
+ghost use Rattle.ytold.specs.Joins.{Tidies};
+
+use ystore::{Counted, Key, NodeId};
+use ytell::{keys_alike, same_entries};
+
+/// Gives back the entry of a key, if it holds and awaits nothing.
+pub fn tidy(counted: &mut Counted<'_>, key: &Key)
+    ensures tidies { Tidies (store_of counted.old) (store_of counted.new) }
+    ensures same_reference { lent counted.new ≡ lent counted.old }
+{
+    keys_alike();
+    same_entries();
+    counted.tidy(key);
+}
+
+/// The same of each of some keys.
+pub fn tidy_all(counted: &mut Counted<'_>, keys: &[(Key, NodeId)])
+    ensures tidies { Tidies (store_of counted.old) (store_of counted.new) }
+    ensures same_reference { lent counted.new ≡ lent counted.old }
+{
+    same_entries();
+    for at in 0..keys.len() {
+        let pair = &keys[at];
+        tidy(counted, &pair.0);
+    }
+}

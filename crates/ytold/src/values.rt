@@ -1,0 +1,83 @@
+//! Instances of values that come, and that go.
+
+ghost use Rattle.std.specs.Prelude.{◌≡◌, ◌≤◌, ◌+◌, ◌-◌, ◌^◌};
+ghost use Rattle.ystore.specs.Store.{instances_at};
+ghost use Rattle.ystore.specs.Views.{store_of, lent};
+ghost use Rattle.ystore.specs.declared.key.Key as rust;
+ghost use Rattle.ystore.specs.declared.nodes.Nodes.{Nodes};
+ghost use Rattle.yshape.specs.Hanging.{Branches};
+ghost use Rattle.ystore.specs.Entries.{with_instance, without_instance};
+ghost use Rattle.ystore.specs.declared.key.Key.TheVariants.{Value};
+ghost use Rattle.ytell.specs.Keys.{Agrees, ChangesKey, Follows, Keys};
+ghost use Rattle.ytell.specs.Totals.{IsTree, Totals};
+ghost use Rattle.ytold.specs.Growing.{AreThere};
+ghost use Rattle.ytold.specs.Joins.{KeepsRows, KeepsAwaited, Tidies, times_valued};
+
+use crate::tidying::tidy;
+use ymodel::SchemaId;
+use ystore::{Counted, Key};
+use ytell::{add_value, keys_alike, take_value};
+use ytype::Val;
+
+/// Counts one instance more of each value, one after another. There is an entry for each.
+pub fn add_all(counted: &mut Counted<'_>, values: Vec<(SchemaId, Val)>)
+    ensures follows { (held : Keys) (f : Branches) → IsTree (store_of counted.old) f
+        → Agrees (store_of counted.old) held f → Totals (store_of counted.old) f
+        → Follows held f (store_of counted.old) (store_of counted.new) }
+    ensures instances { AreThere (store_of counted.old) values.items
+        → ((key : rust.Key) → instances_at (store_of counted.old) key + times_valued key values.items ≤ 2 ^ 64 - 1)
+        → (key : rust.Key) → instances_at (store_of counted.new) key ≡ instances_at (store_of counted.old) key + times_valued key values.items }
+    ensures kept { KeepsRows (store_of counted.old) (store_of counted.new) }
+    ensures awaited { KeepsAwaited (store_of counted.old) (store_of counted.new) }
+    ensures same_reference { lent counted.new ≡ lent counted.old }
+{
+    keys_alike();
+    for pair in values {
+        add_pair(counted, pair);
+    }
+}
+
+/// Counts one instance more of a value.
+fn add_pair(counted: &mut Counted<'_>, pair: (SchemaId, Val))
+    ensures follows { (held : Keys) (f : Branches) → IsTree (store_of counted.old) f
+        → Agrees (store_of counted.old) held f → Totals (store_of counted.old) f
+        → Follows held f (store_of counted.old) (store_of counted.new) }
+    ensures kept { ChangesKey (Value pair.0 pair.1) with_instance (store_of counted.old) (store_of counted.new) }
+    ensures same_reference { lent counted.new ≡ lent counted.old }
+{
+    let key = Key::Value(pair.0, pair.1);
+    add_value(counted, &key);
+}
+
+/// Counts one instance less of each value, one after another. No more go than are there.
+pub fn take_all(counted: &mut Counted<'_>, values: Vec<(SchemaId, Val)>)
+    ensures follows { (held : Keys) (f : Branches) → IsTree (store_of counted.old) f
+        → Agrees (store_of counted.old) held f → Totals (store_of counted.old) f
+        → ((key : rust.Key) → times_valued key values.items ≤ instances_at (store_of counted.old) key)
+        → Follows held f (store_of counted.old) (store_of counted.new) }
+    ensures instances { ((key : rust.Key) → times_valued key values.items ≤ instances_at (store_of counted.old) key)
+        → (key : rust.Key) → instances_at (store_of counted.new) key + times_valued key values.items ≡ instances_at (store_of counted.old) key }
+    ensures kept { KeepsRows (store_of counted.old) (store_of counted.new) }
+    ensures awaited { KeepsAwaited (store_of counted.old) (store_of counted.new) }
+    ensures same_reference { lent counted.new ≡ lent counted.old }
+{
+    keys_alike();
+    for pair in values {
+        take_pair(counted, pair);
+    }
+}
+
+/// Counts one instance less of a value.
+fn take_pair(counted: &mut Counted<'_>, pair: (SchemaId, Val))
+    ensures follows { (held : Keys) (f : Branches) → IsTree (store_of counted.old) f
+        → Agrees (store_of counted.old) held f → Totals (store_of counted.old) f
+        → 1 ≤ instances_at (store_of counted.old) (Value pair.0 pair.1)
+        → Follows held f (store_of counted.old) (store_of counted.new) }
+    ensures kept { (mid : Nodes) × ChangesKey (Value pair.0 pair.1) without_instance (store_of counted.old) mid
+        × Tidies mid (store_of counted.new) }
+    ensures same_reference { lent counted.new ≡ lent counted.old }
+{
+    let key = Key::Value(pair.0, pair.1);
+    take_value(counted, &key);
+    tidy(counted, &key);
+}
