@@ -4,13 +4,17 @@ ghost use Rattle.std.specs.Prelude.{◌≡◌, ◌+◌, ◌∷◌, List, true, f
 ghost use Rattle.yspec.specs.types.Types as types;
 ghost use Rattle.ymodel.specs.declared.node.SchemaId as schema_id;
 ghost use Rattle.ystore.specs.Entries.{Entry, with_node};
-ghost use Rattle.ystore.specs.Store.{entry_at, is_awaited, same_key};
+ghost use Rattle.ystore.specs.Store.{entry_at, has_room, is_awaited};
 ghost use Rattle.ystore.specs.Views.{store_of, lent};
 ghost use Rattle.ystore.specs.declared.row.NodeId as node_id;
+ghost use Rattle.ystore.specs.declared.row.Row.{Row};
 ghost use Rattle.ystore.specs.declared.key.Key as rust;
 ghost use Rattle.ystore.specs.declared.nodes.Nodes.{Nodes};
+ghost use Rattle.yshape.specs.Hanging.{Branches, Keeps};
+ghost use Rattle.ytell.specs.Keys.{Agrees, Keys};
+ghost use Rattle.ytell.specs.Totals.{IsTree, Totals};
 ghost use Rattle.yfacts.specs.Keys.{key_view, value_key};
-ghost use Rattle.ytold.specs.Growing.{AreAwaited, AreThere, Changes, Grows, awaited_at, times_given, times_joined};
+ghost use Rattle.ytold.specs.Growing.{AreAwaited, AreThere, Changes, Grows, awaited_at, times_joined, times_valued};
 
 use crate::planning::Plan;
 use std::alloc::AllocError;
@@ -24,7 +28,7 @@ pub fn grow(counted: &mut Counted<'_>, plan: &Plan) -> Result<(), AllocError>
     ensures there { OnOk result (AreThere (store_of counted.new) plan.now.comes.items) }
     ensures awaited { OnOk result ((key : rust.Key) → awaited_at (store_of counted.new) key
         ≡ awaited_at (store_of counted.old) key + times_joined key plan.now.joins.items) }
-    ensures others { OnOk result ((key : rust.Key) → times_given key plan.now.comes.items ≡ 0 → times_joined key plan.now.joins.items ≡ 0
+    ensures others { OnOk result ((key : rust.Key) → times_valued key plan.now.comes.items ≡ 0 → times_joined key plan.now.joins.items ≡ 0
         → entry_at (store_of counted.new) key ≡ entry_at (store_of counted.old) key) }
     ensures grows { Grows (store_of counted.old) (store_of counted.new) }
     ensures same_reference { lent counted.new ≡ lent counted.old }
@@ -37,7 +41,7 @@ pub fn grow(counted: &mut Counted<'_>, plan: &Plan) -> Result<(), AllocError>
 fn await_values(counted: &mut Counted<'_>, values: &[(SchemaId, Val)]) -> Result<(), AllocError>
     ensures there { OnOk result (AreThere (store_of counted.new) values.now) }
     ensures awaited { (key : rust.Key) → awaited_at (store_of counted.new) key ≡ awaited_at (store_of counted.old) key }
-    ensures others { OnOk result ((key : rust.Key) → times_given key values.now ≡ 0
+    ensures others { OnOk result ((key : rust.Key) → times_valued key values.now ≡ 0
         → entry_at (store_of counted.new) key ≡ entry_at (store_of counted.old) key) }
     ensures grows { Grows (store_of counted.old) (store_of counted.new) }
     ensures same_reference { lent counted.new ≡ lent counted.old }
@@ -111,3 +115,13 @@ pub fn entries_there()
 {
     same_keys();
 }
+
+/// A growth leaves trees and room for children, what is told, and what agrees with an index.
+pub fn grown_stores()
+    ensures keeps { (before after : Nodes) (tree : Branches) (above : Row) (loose : Branches) → Grows before after
+        → Keeps before tree above loose → Keeps after tree above loose }
+    ensures room { (before after : Nodes) (row : Row) → Grows before after → has_room before row → has_room after row }
+    ensures trees { (before after : Nodes) (f : Branches) → Grows before after → IsTree before f → IsTree after f }
+    ensures totals { (before after : Nodes) (f : Branches) → Grows before after → Totals before f → Totals after f }
+    ensures agrees { (before after : Nodes) (keys : Keys) (f : Branches) → Grows before after → Agrees before keys f → Agrees after keys f }
+{}

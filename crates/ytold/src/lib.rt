@@ -2,16 +2,16 @@
 #![tactic(auto)]
 
 mod account;
-mod joining;
 mod growing;
+mod joining;
 mod planning;
 mod telling;
 mod tidying;
 mod values;
 
 pub use account::{Account, News, enter_new_nodes, enter_node, enter_nodes, enter_row, enter_way};
+pub use growing::{awaited_nodes, entries_there, grow, grown_stores};
 pub use joining::{join_all, leave_all};
-pub use growing::{awaited_nodes, entries_there, grow};
 pub use planning::{Plan, plan_of};
 pub use telling::tell_all;
 pub use tidying::tidy_all;
