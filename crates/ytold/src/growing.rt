@@ -1,6 +1,6 @@
 //! Growths that a plan needs, before anything is changed.
 
-ghost use Rattle.std.specs.Prelude.{◌≡◌, ◌+◌, ◌∷◌, List, true, false, is_some, option_map, IfOk, OnOk};
+ghost use Rattle.std.specs.Prelude.{◌≡◌, ◌+◌, ◌∷◌, List, true, is_some, option_map, IfOk, OnOk};
 ghost use Rattle.yspec.specs.types.Types as types;
 ghost use Rattle.ymodel.specs.declared.node.SchemaId as schema_id;
 ghost use Rattle.ystore.specs.Entries.{Entry, with_node};
