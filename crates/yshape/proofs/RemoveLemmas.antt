@@ -21,7 +21,7 @@ removes_next ids i d now next last within changes rest =
     subst (λ (xs : List NodeId). Removes xs now last) (sym (at_drop_more (λ (xs : List NodeId). xs) ids i d within)) (next, changes, rest)
 
 -- how often a number stands in a list
-abbrev count_of : ℕ → List NodeId → ℕ
+abbrev pub count_of : ℕ → List NodeId → ℕ
 count_of k [] = 0
 count_of k (id ∷ ids) = cond (eqb id.0 k) 1 0 + count_of k ids
 
@@ -29,7 +29,7 @@ count_on : (k : ℕ) (xs ys : List NodeId) → count_of k (xs ++ ys) ≡ count_o
 count_on k [] ys = omega arith
 count_on k (x ∷ xs) ys = let rest = count_on k xs ys in omega (arith, rest)
 
-count_ids : (k : ℕ) (f : Branches) → count_of k (ids_of f) ≡ times k f
+pub count_ids : (k : ℕ) (f : Branches) → count_of k (ids_of f) ≡ times k f
 count_ids k end = refl
 count_ids k (node n below after) =
     let a = count_ids k below in

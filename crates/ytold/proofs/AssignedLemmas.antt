@@ -66,8 +66,7 @@ module _ {K : Type 0} (slot_of : K → ℕ) where
         → AllHeld slot_of same held ps → AllHeld slot_of same (without_key slot_of p held) ps
     all_without p held [] other all = tt
     all_without p held (q ∷ qs) other all =
-        let both = either (is_at slot_of p.1.0 (slot_of p.0) q) (has_at slot_of qs p.1.0 (slot_of p.0)) other in
-        (
+        let both = either (is_at slot_of p.1.0 (slot_of p.0) q) (has_at slot_of qs p.1.0 (slot_of p.0)) other in (
           ap (λ b. option_map_or (same q.0) (cond b None (held q.1.0 (slot_of q.0))) false) (sym (turned p q) ∙ both.0) ∙ all.0,
           all_without p held qs both.1 all.1,
         )

@@ -87,9 +87,11 @@ module _ (Q : Row → Numbered → Branches → Type 0) where
   pub way_each : (above : Row) (way : Way) (f : Branches) → Every OfStanding (on_the_way above way f) → OnWay Q above way f
   way_each above [] f all = tt
   way_each above (frame ∷ way) f all =
-      let last = every_second OfStanding (on_the_way (Below frame.label.id) way f) (record { row = above; label = frame.label; below = around way f } ∷ []) all in
-      (last.0, way_each (Below frame.label.id) way f
-      (every_first OfStanding (on_the_way (Below frame.label.id) way f) (record { row = above; label = frame.label; below = around way f } ∷ []) all))
+      let last = every_second OfStanding (on_the_way (Below frame.label.id) way f) (record { row = above; label = frame.label; below = around way f } ∷ []) all in (
+        last.0,
+        way_each (Below frame.label.id) way f
+            (every_first OfStanding (on_the_way (Below frame.label.id) way f) (record { row = above; label = frame.label; below = around way f } ∷ []) all),
+      )
 
   pub each_way : (above : Row) (way : Way) (f : Branches) → Around Q above way f → Every OfStanding (on_the_way above way f)
   each_way above [] f all = tt

@@ -53,9 +53,9 @@ module _ (Q R : Row → Numbered → Branches → Type 0) (above : Row) (f loose
       counts : (k : ℕ) → (times k f ≡ times k before + (times k left + times k after)) × (times k f ≤ 1)
       counts k = (
         (let whole = weigh_join (is_number k) before (node from under after) in
-        let is = ap (times k) was in
-        let out = ap (times k) goes in
-        omega (arith, whole, is, out)),
+            let is = ap (times k) was in
+            let out = ap (times k) goes in
+            omega (arith, whole, is, out)),
         once k,
       )
 

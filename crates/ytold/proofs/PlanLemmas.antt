@@ -72,7 +72,14 @@ keeps_read before after tree above loose only keeps =
 abbrev pub ready_read : (swap : Swap) (before after : Nodes) → OnlyReads before after → IsReady swap before → IsReady swap after
 ready_read swap before after only r =
     record {
-      way = r.way; f = r.f; loose = r.loose; g = r.g; left = r.left; at = r.at; swaps = r.swaps; sorted = r.sorted;
+      way = r.way;
+      f = r.f;
+      loose = r.loose;
+      g = r.g;
+      left = r.left;
+      at = r.at;
+      swaps = r.swaps;
+      sorted = r.sorted;
       keeps = keeps_read before after (around r.way r.f) swap.above r.loose only r.keeps;
       room = subst (λ o. IfSome o (λ held. length held.shape.children < held.room)) (sym (only.held swap.above)) r.room;
     }

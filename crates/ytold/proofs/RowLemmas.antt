@@ -29,7 +29,7 @@ parts (Below id) n below after none = (omega (arith, none), omega (arith, none),
     differ e = let one : is_number id.0 n ≡ 1 = ap (λ b. cond b 1 0) (eq-eqb n.id.0 id.0 (sym e)) in omega (arith, none, one)
 
 -- the node above the row at the end of a way stands on it
-above_there : (frame : Frame) (way : Way) (f : Branches) → 1 ≤ above_in (end_of (Below frame.label.id) way) (node frame.label (around way f) end)
+pub above_there : (frame : Frame) (way : Way) (f : Branches) → 1 ≤ above_in (end_of (Below frame.label.id) way) (node frame.label (around way f) end)
 above_there frame [] f = let one = is_itself frame.label in omega (arith, one)
 above_there frame (next ∷ way) f = by (end_of (Below next.label.id) way) (above_there next way f)
   where

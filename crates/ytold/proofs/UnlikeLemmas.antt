@@ -94,9 +94,11 @@ all_on above (frame ∷ way) f =
     every_join (In (around (frame ∷ way) f)) (on_the_way (Below frame.label.id) way f) (record { row = above; label = frame.label; below = around way f } ∷ [])
     (every_map (In (around way f)) (In (around (frame ∷ way) f))
     (λ s more. let whole = weigh_join (is_number s.label.id.0) frame.before (node frame.label (around way f) frame.after) in omega (arith, whole, more))
-    (on_the_way (Below frame.label.id) way f) (all_on (Below frame.label.id) way f))
-    ((let whole = weigh_join (is_number frame.label.id.0) frame.before (node frame.label (around way f) frame.after) in
-    let here = is_itself frame.label in omega (arith, whole, here)), tt)
+    (on_the_way (Below frame.label.id) way f) (all_on (Below frame.label.id) way f)) (
+      (let whole = weigh_join (is_number frame.label.id.0) frame.before (node frame.label (around way f) frame.after) in
+          let here = is_itself frame.label in omega (arith, whole, here)),
+      tt,
+    )
 
 pub unlike_way : (above : Row) (way : Way) (f : Branches) → ((k : ℕ) → times k (around way f) ≤ 1) → Unlike (on_the_way above way f)
 unlike_way above [] f once = tt
@@ -106,10 +108,13 @@ unlike_way above (frame ∷ way) f once =
     (λ k. let most = once k in let whole = weigh_join (is_number k) frame.before (node frame.label (around way f) frame.after) in omega (arith, most, whole)))
     (tt, tt)
     (every_map (In (around way f)) (λ s. NotIn s.label.id.0 (record { row = above; label = frame.label; below = around way f } ∷ []))
-    (λ s more. (differs s.label.id.0 frame.label
-    (let most = once s.label.id.0 in
-    let whole = weigh_join (is_number s.label.id.0) frame.before (node frame.label (around way f) frame.after) in
-    omega (arith, most, whole, more)), tt))
+    (λ s more. (
+      differs s.label.id.0 frame.label
+          (let most = once s.label.id.0 in
+          let whole = weigh_join (is_number s.label.id.0) frame.before (node frame.label (around way f) frame.after) in
+          omega (arith, most, whole, more)),
+      tt,
+    ))
     (on_the_way (Below frame.label.id) way f) (all_on (Below frame.label.id) way f))
 
 -- nodes that stand beside a way, and those on it

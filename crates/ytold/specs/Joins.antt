@@ -1,6 +1,6 @@
 -- What stays while nodes leave keys and join them, and while instances come and go.
-use Rattle.std.specs.Prelude.{◌≡◌, ℕ, ◌<◌, List, Option, Some, None}
-use Rattle.ystore.specs.Store.{held_at, instances_at, node_count}
+use Rattle.std.specs.Prelude.{◌≡◌, ℕ, ◌<◌, true, List, Option, Some, None, is_some}
+use Rattle.ystore.specs.Store.{held_at, entry_at, instances_at, node_count}
 use Rattle.ystore.specs.declared.row.NodeId.{NodeId}
 use Rattle.ystore.specs.declared.row.Row.{Row}
 use Rattle.ystore.specs.declared.row.Row.TheVariants.{Below}
@@ -22,6 +22,10 @@ pub record KeepsRows (before after : Nodes) : Type 0 where
 -- how many nodes are awaited at each key
 abbrev pub KeepsAwaited : Nodes → Nodes → Type 0
 KeepsAwaited before after = (key : Key) → awaited_at after key ≡ awaited_at before key
+
+-- entries that are there
+abbrev pub KeepsThere : Nodes → Nodes → Type 0
+KeepsThere before after = (key : Key) → is_some (entry_at before key) ≡ true → is_some (entry_at after key) ≡ true
 
 -- how many instances each value has
 abbrev pub KeepsInstances : Nodes → Nodes → Type 0

@@ -1,7 +1,9 @@
 pub mod Accounts
 pub mod Assigned
+pub mod Changed
 pub mod Each
 pub mod Growing
+pub mod IsTold
 pub mod Joins
 pub mod Keyed
 pub mod Plans

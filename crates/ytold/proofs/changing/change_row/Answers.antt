@@ -1,0 +1,56 @@
+use Rattle.std.proofs.Common.{◌∙◌}
+use Rattle.ystore.specs.Views.{store_of}
+use Rattle.yshape.specs.Swaps.{swapped}
+use Rattle.yshape.specs.Ways.{around}
+use Rattle.ytell.proofs.LawLemmas.{tree_kept}
+use Rattle.ytold.proofs.ChangeLemmas.{entries_kept, keeps_last, told_then, totals_last}
+use Rattle.ytold.proofs.PlanLemmas.{ready_read}
+use Rattle.ytold.proofs.changing.change_row.Goals as goal
+
+pub returns-clause-keeps : goal.returns-clause-keeps
+returns-clause-keeps c r are_old =
+    let start = store_of c.args.counted.now in
+    let read = store_of c.total_of_gone-less.new.counted in
+    let made = store_of c.make.new.counted in
+    let ready = ready_read c.args.swap start read c.total_of_gone-less.ensures.kept r in
+    let keeps = c.make.ensures.tree r.way r.f r.loose r.g r.left r.at r.swaps ready.keeps in
+    let climbs = c.climb.ensures.climbs r.way r.g (tree_kept made (around r.way r.g) c.args.swap.above r.left keeps) r.at in
+    keeps_last r.way r.f r.loose r.g r.left c.args.swap.schema c.args.swap.change r.swaps c.args.swap.above r.at
+    start read made (store_of c.climb.new.counted) (store_of c.tell_play.new.counted) (store_of c.remove_nodes.new.counted) c.args.old.now c.args.absences.items c.total_of_gone-less.result
+    r.keeps c.total_of_gone-less.ensures.kept (swapped c.args.swap.schema c.args.swap.change) c.make.ensures.store keeps
+    climbs c.climb.ensures.kept c.tell_play.ensures.told c.remove_nodes.ensures.store are_old
+
+pub returns-clause-told : goal.returns-clause-told
+returns-clause-told c r are_old =
+    let start = store_of c.args.counted.now in
+    let read = store_of c.total_of_gone-less.new.counted in
+    let made = store_of c.make.new.counted in
+    let ready = ready_read c.args.swap start read c.total_of_gone-less.ensures.kept r in
+    let keeps = c.make.ensures.tree r.way r.f r.loose r.g r.left r.at r.swaps ready.keeps in
+    let climbs = c.climb.ensures.climbs r.way r.g (tree_kept made (around r.way r.g) c.args.swap.above r.left keeps) r.at in
+    told_then r.way r.f r.loose r.g r.left c.args.swap.schema c.args.swap.change r.swaps c.args.swap.above r.at
+    start read made (store_of c.climb.new.counted) (store_of c.tell_play.new.counted) (store_of c.remove_nodes.new.counted) c.args.old.now c.args.absences.items c.total_of_gone-less.result
+    r.keeps c.total_of_gone-less.ensures.kept (swapped c.args.swap.schema c.args.swap.change) c.make.ensures.store keeps
+    climbs c.climb.ensures.kept c.tell_play.ensures.told c.remove_nodes.ensures.store are_old
+
+pub returns-clause-totals : goal.returns-clause-totals
+returns-clause-totals c r are_old totals nothing few short =
+    let start = store_of c.args.counted.now in
+    let read = store_of c.total_of_gone-less.new.counted in
+    let made = store_of c.make.new.counted in
+    let ready = ready_read c.args.swap start read c.total_of_gone-less.ensures.kept r in
+    let keeps = c.make.ensures.tree r.way r.f r.loose r.g r.left r.at r.swaps ready.keeps in
+    let climbs = c.climb.ensures.climbs r.way r.g (tree_kept made (around r.way r.g) c.args.swap.above r.left keeps) r.at in
+    totals_last r.way r.f r.loose r.g r.left c.args.swap.schema c.args.swap.change r.swaps c.args.swap.above r.at
+    start read made (store_of c.climb.new.counted) (store_of c.tell_play.new.counted) (store_of c.remove_nodes.new.counted) c.args.old.now c.args.absences.items c.total_of_gone-less.result
+    r.keeps c.total_of_gone-less.ensures.kept (swapped c.args.swap.schema c.args.swap.change) c.make.ensures.store keeps
+    climbs c.climb.ensures.kept c.tell_play.ensures.told c.remove_nodes.ensures.store are_old
+    totals nothing c.total_of_gone-less.ensures.total few
+    (λ tree all stands. c.tell_play.ensures.totals (around r.way r.g) tree all stands short)
+
+pub returns-clause-entries : goal.returns-clause-entries
+returns-clause-entries c k =
+    entries_kept c.args.old.now (store_of c.tell_play.new.counted) (store_of c.remove_nodes.new.counted) c.remove_nodes.ensures.store k
+    ∙ (c.tell_play.ensures.told.kept.entries k
+    ∙ (c.climb.ensures.kept.entries k
+    ∙ (c.make.ensures.store.entries k ∙ c.total_of_gone-less.ensures.kept.entries k)))
