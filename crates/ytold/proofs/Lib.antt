@@ -5,6 +5,7 @@ pub mod CountingLemmas
 pub mod EachLemmas
 pub mod JoiningLemmas
 pub mod GrowingLemmas
+pub mod GrownLemmas
 pub mod KeptLemmas
 pub mod KeyLemmas
 pub mod NewsLemmas

@@ -1,20 +1,17 @@
 -- What stays while nodes leave keys and join them, and while instances come and go.
-use Rattle.std.specs.Prelude.{◌≡◌, ℕ, ◌+◌, ◌<◌, true, List, Option, Some, None, is_some}
-use Rattle.std.specs.List.{count_by}
-use Rattle.ystore.specs.Store.{held_at, entry_at, instances_at, node_count, same_key}
+use Rattle.std.specs.Prelude.{◌≡◌, ℕ, ◌<◌, true, List, Option, Some, None, is_some}
+use Rattle.ystore.specs.Store.{held_at, entry_at, instances_at, node_count}
 use Rattle.ystore.specs.declared.row.NodeId.{NodeId}
 use Rattle.ystore.specs.declared.row.Row.{Row}
 use Rattle.ystore.specs.declared.row.Row.TheVariants.{Below}
 use Rattle.ystore.specs.declared.key.Key.{Key}
-use Rattle.ystore.specs.declared.key.Key.TheVariants.{Value}
 use Rattle.ystore.specs.declared.nodes.Nodes.{Nodes}
-use Rattle.ymodel.specs.declared.node.SchemaId.{SchemaId}
-use Rattle.yspec.specs.types.Types.{Val}
 use Rattle.yshape.specs.Hanging.{Branches, shape_at}
 use Rattle.ytell.specs.Totals.{room_at, StandsIn}
 use Rattle.ytell.specs.Keys.{Own, SameKeys, own_at, flag_of}
 use Rattle.ytold.specs.Standing.{Every}
 use Rattle.ytold.specs.Growing.{awaited_at}
+pub use Rattle.ytold.specs.Growing.{times_valued}
 
 -- shapes of rows and their room, and the number of nodes
 pub record KeepsRows (before after : Nodes) : Type 0 where
@@ -33,10 +30,6 @@ KeepsThere before after = (key : Key) → is_some (entry_at before key) ≡ true
 -- how many instances each value has
 abbrev pub KeepsInstances : Nodes → Nodes → Type 0
 KeepsInstances before after = (key : Key) → instances_at after key ≡ instances_at before key
-
--- how many of some values a key is of
-abbrev pub times_valued : Key → List (SchemaId × Val) → ℕ
-times_valued key values = count_by (λ p. same_key (Value p.0 p.1) key) values
 
 -- a node can hold a key that sets a flag, if it has the flag, or one of a value, if its own is taken by its type
 abbrev pub fits_flag : Option ℕ → Own → Type 0
