@@ -1,5 +1,5 @@
 -- What agrees with an index, where neither changes.
-use Rattle.std.proofs.Common.{◌≡◌, ℕ, zero, suc, ◌+◌, ◌<◌, ◌≤◌, Bool, true, false, ◌&&◌, List, [], ◌∷◌, length, Option, Some, None, option_map, slice_get, refl, sym, ap, ◌∙◌, arith, subst, cond, eqb}
+use Rattle.std.proofs.Common.{◌≡◌, ℕ, zero, suc, ◌+◌, ◌<◌, ◌≤◌, Bool, true, false, ◌&&◌, List, [], ◌∷◌, length, Option, Some, None, option_map, slice_get, refl, sym, ap, ◌∙◌, arith, subst, cond, eqb, min, ◌-◌, ◌^◌, is_some}
 use Rattle.std.specs.Prelude.{unwrap_or, IfSome}
 use Rattle.std.specs.Option.{option_map_or}
 use Rattle.std.proofs.lemmas.Bool.{eq-eqb, eqb-true, eqb-false, ne_eqb, false≢true}
@@ -9,7 +9,7 @@ use Rattle.ycheck.specs.declared.fault.FaultCode.{FaultCode}
 use Rattle.ymodel.specs.declared.node.SchemaId.{SchemaId}
 use Rattle.ystore.specs.Held.{Told, with_judged, with_play}
 use Rattle.ystore.specs.Entries as entries
-use Rattle.ystore.specs.Entries.{Entry, with_awaited}
+use Rattle.ystore.specs.Entries.{Entry, with_awaited, with_instance, without_instance}
 use Rattle.ystore.specs.Index.{made_ready, tidied}
 use Rattle.ystore.specs.Store.{held_at, entry_at, same_at, total_at, holders_at, instances_at, same_row, same_key, ChangesEntry}
 use Rattle.ystore.specs.declared.row.NodeId.{NodeId}
@@ -19,11 +19,12 @@ use Rattle.ystore.specs.declared.key.Key.{Key}
 use Rattle.ystore.specs.declared.record.Judged.{Judged}
 use Rattle.ystore.specs.declared.nodes.Nodes.{Nodes}
 use Rattle.yshape.specs.Hanging.{Numbered, Branches, is_number, times}
+use Rattle.yshape.specs.Changes.{SameShapes}
 use Rattle.ytell.specs.Totals.{ChangesTold, IsFew, StandsIn, Totals, judged_at, number_of, told_at}
-use Rattle.ytell.specs.Keys.{AreKeys, Agrees, Indexes, IsJudged, Keys, SameKeys, TellsNoKey, among, flag_at, has_key, is_missing, is_shared, slot_of}
+use Rattle.ytell.specs.Keys.{AreKeys, Agrees, ChangesKey, Indexes, IsJudged, Keys, SameKeys, TellsNoKey, among, flag_at, has_key, is_missing, is_shared, slot_of}
 use Rattle.ytell.proofs.TotalLemmas.{are_same, mark, told_same}
 use Rattle.ytell.proofs.TellLemmas.{flags_seen}
-use Rattle.ytell.proofs.IndexLemmas.{among-cons, holds, key_stands, stands}
+use Rattle.ytell.proofs.IndexLemmas.{among-cons, holds, instances_same, key_stands, stands}
 use Rattle.ytell.proofs.FellowLemmas.{judged_same, shared_same, told_where}
 
 -- ---- keys
@@ -295,3 +296,62 @@ totals_there before after f told totals few all =
       below = are_same before after f (λ id some. ap (λ o. option_map_or number_of o 0) (told (Below id) some)) (λ id some. totals (Below id) some) all.below;
       small = record { few = all.small.few; each = few };
     }
+
+-- ---- instances that come and go
+
+module _ (laws : AreKeys) (key : Key) (before after : Nodes) where
+  module _ (change : Entry → Entry) (changes : ChangesKey key change before after) where
+    pub key_shapes : SameShapes before after
+    key_shapes = record { shapes = changes.shapes; all = changes.node_count }
+
+    pub still_instances : ((e : Entry) → (change e).instances ≡ e.instances) → (other : Key) → instances_at after other ≡ instances_at before other
+    still_instances leaves = instances_same laws key change before after changes.changed changes.others leaves
+
+    step_instances : (step : ℕ → ℕ) → ((e : Entry) → (change e).instances ≡ step e.instances) → is_some (entry_at before key) ≡ true
+        → (other : Key) (b : Bool) → same_key key other ≡ b → instances_at after other ≡ cond b (step (instances_at before other)) (instances_at before other)
+    step_instances step steps there other true e =
+        ap (λ o. option_map_or (λ e. e.instances) o 0) (sym (laws.found after key other e) ∙ (changes.changed ∙ ap (option_map change) (laws.found before key other e)))
+        ∙ by (entry_at before other) (ap is_some (sym (laws.found before key other e)) ∙ there)
+      where
+        by : (o : Option Entry) → is_some o ≡ true → option_map_or (λ e. e.instances) (option_map change o) 0 ≡ step (option_map_or (λ e. e.instances) o 0)
+        by (Some e) there = steps e
+        by None there = absurd (false≢true there)
+    step_instances step steps there other false e = ap (λ o. option_map_or (λ e. e.instances) o 0) (changes.others other e)
+
+  pub more_instances : ChangesKey key with_instance before after → is_some (entry_at before key) ≡ true → instances_at before key < 2 ^ 64 - 1
+      → (other : Key) → instances_at after other ≡ instances_at before other + cond (same_key key other) 1 0
+  more_instances changes there less other = by (same_key key other) refl
+    where
+      by : (b : Bool) → same_key key other ≡ b → instances_at after other ≡ instances_at before other + cond (same_key key other) 1 0
+      by true e =
+          let now : instances_at after other ≡ min (instances_at before other + 1) (2 ^ 64 - 1) =
+          step_instances with_instance changes (λ n. min (n + 1) (2 ^ 64 - 1)) (λ e. refl) there other true e in
+          let same = ap (λ o. option_map_or (λ e. e.instances) o 0) (laws.found before key other e) in
+          let one : cond (same_key key other) 1 0 ≡ 1 = ap mark e in
+          omega (arith, now, same, one, less)
+      by false e =
+          let now = step_instances with_instance changes (λ n. min (n + 1) (2 ^ 64 - 1)) (λ e. refl) there other false e in
+          let none : cond (same_key key other) 1 0 ≡ 0 = ap mark e in
+          omega (arith, now, none)
+
+  pub fewer_instances : ChangesKey key without_instance before after → 1 ≤ instances_at before key
+      → (other : Key) → instances_at after other + cond (same_key key other) 1 0 ≡ instances_at before other
+  fewer_instances changes some other = by (same_key key other) refl
+    where
+      there : is_some (entry_at before key) ≡ true
+      there = from (entry_at before key) some
+        where
+          from : (o : Option Entry) → 1 ≤ option_map_or (λ e. e.instances) o 0 → is_some o ≡ true
+          from (Some e) some = refl
+          from None some = absurd (omega (arith, some))
+
+      by : (b : Bool) → same_key key other ≡ b → instances_at after other + cond (same_key key other) 1 0 ≡ instances_at before other
+      by true e =
+          let now : instances_at after other ≡ instances_at before other - 1 = step_instances without_instance changes (λ n. n - 1) (λ e. refl) there other true e in
+          let same = ap (λ o. option_map_or (λ e. e.instances) o 0) (laws.found before key other e) in
+          let one : cond (same_key key other) 1 0 ≡ 1 = ap mark e in
+          omega (arith, now, same, one, some)
+      by false e =
+          let now = step_instances without_instance changes (λ n. n - 1) (λ e. refl) there other false e in
+          let none : cond (same_key key other) 1 0 ≡ 0 = ap mark e in
+          omega (arith, now, none)
