@@ -1,14 +1,15 @@
 -- Which keys nodes hold, as an index has them, and what is told by them.
-use Rattle.std.specs.Prelude.{◌≡◌, ℕ, suc, ◌<◌, ◌&&◌, ◌||◌, Bool, true, false, List, length, Option, Some, None, option_map, if◌then◌else◌, eqb, ltb, slice_get, unwrap_or}
+use Rattle.std.specs.Prelude.{◌≡◌, ℕ, suc, ◌<◌, ◌&&◌, ◌||◌, Bool, true, false, List, length, Option, Some, None, option_map, if◌then◌else◌, eqb, ltb, slice_get, unwrap_or, ◌+◌, ◌*◌, ◌≤◌}
 use Rattle.std.specs.List.{sum_by}
 use Rattle.std.specs.Option.{option_map_or}
 use Rattle.std.specs.String.{string_bytes}
 use Rattle.yspec.specs.text.Text.{Text}
+use Rattle.yspec.specs.Forest.{levels}
 use Rattle.ycheck.specs.declared.fault.FaultCode.{FaultCode}
 use Rattle.ymodel.specs.declared.node.SchemaId.{SchemaId}
 use Rattle.ystore.specs.Held.{Told}
 use Rattle.ystore.specs.Entries.{Entry}
-use Rattle.ystore.specs.Store.{entry_at, same_at, holders_at, instances_at, node_count, same_key, same_row}
+use Rattle.ystore.specs.Store.{reads, entry_at, same_at, holders_at, instances_at, node_count, same_key, same_row}
 use Rattle.ystore.specs.declared.row.NodeId.{NodeId}
 use Rattle.ystore.specs.declared.row.Row.{Row}
 use Rattle.ystore.specs.declared.row.Row.TheVariants.{Top, Below}
@@ -161,9 +162,18 @@ pub record ChangesKey (key : Key) (change : Entry → Entry) (before after : Nod
   pub node_count : node_count after ≡ node_count before
 
 -- What is told agrees with an index again, and the totals are right; what no key tells stays, and all that is told of nodes
--- beside the forest.
-pub record Follows (keys : Keys) (f : Branches) (before after : Nodes) : Type 0 where
+-- beside the forest. There are so many reads at most.
+pub record Follows (cost : ℕ) (keys : Keys) (f : Branches) (before after : Nodes) : Type 0 where
   pub agrees : Agrees after keys f
   pub totals : Totals after f
   pub own : (row : Row) → own_at after row ≡ own_at before row
   pub beside : (id : NodeId) → times id.0 f ≡ 0 → told_at after (Below id) ≡ told_at before (Below id)
+  pub reads : reads after ≤ reads before + cost
+
+-- as many as two climbs take
+abbrev pub two_climbs : Branches → ℕ
+two_climbs f = 2 + 2 * levels f
+
+-- as many as it takes to judge each node that refers to a value, where it does
+abbrev pub judging : Bool → List NodeId → Branches → ℕ
+judging judges ids f = 2 + (if judges then length ids * (1 + levels f) else 0)
