@@ -7,7 +7,7 @@ use Rattle.std.proofs.lemmas.Option.{none-some}
 use Rattle.yspec.specs.Forest.{levels}
 use Rattle.ystore.specs.Held.{Told, with_same}
 use Rattle.ystore.specs.Entries.{without}
-use Rattle.ystore.specs.Store.{held_at, reads, same_at, holders_at, instances_at, same_row, same_key}
+use Rattle.ystore.specs.Store.{held_at, reads, same_at, holders_at, instances_at, same_row, same_key, total_at}
 use Rattle.ystore.specs.declared.row.NodeId.{NodeId}
 use Rattle.ystore.specs.declared.row.Row.{Row}
 use Rattle.ystore.specs.declared.row.Row.TheVariants.{Below}
@@ -527,6 +527,25 @@ both_reads id other number b first second third fellow fellows e n only f tree t
     let c = two (tree_same first second (faults_shapes first second only) f tree)
     (touches other (is_one other (ap (λ c. same_row (Below id) (Below other) || c) (itself (Below other)) ∙ or_true (same_row (Below id) (Below other))))) in
     omega (arith, a, c)
+  where
+    or_true : (a : Bool) → (a || true) ≡ true
+    or_true true = refl
+    or_true false = refl
+
+    is_one : (x : NodeId) → is_touched id (Some other) 1 (Below x) ≡ true → is_touched id fellow fellows (Below x) ≡ true
+    is_one x t = ap (λ o. is_touched id o fellows (Below x)) e ∙ (ap (λ k. is_touched id (Some other) k (Below x)) n ∙ t)
+
+-- and totals beside the forest
+pub both_beside : (id other : NodeId) (first second third : Nodes) (fellow : Option NodeId) (fellows : ℕ) → fellow ≡ Some other → fellows ≡ 1
+    → OnlyFaults first second → (f : Branches) → IsTree first f
+    → ((x : NodeId) → is_touched id fellow fellows (Below x) ≡ true → StandsIn (Below x) f)
+    → (x : NodeId) → (IsTree first f → StandsIn (Below id) f → total_at second (Below x) ≡ total_at first (Below x))
+    → (IsTree second f → StandsIn (Below other) f → total_at third (Below x) ≡ total_at second (Below x))
+    → total_at third (Below x) ≡ total_at first (Below x)
+both_beside id other first second third fellow fellows e n only f tree touches x one two =
+    two (tree_same first second (faults_shapes first second only) f tree)
+    (touches other (is_one other (ap (λ c. same_row (Below id) (Below other) || c) (itself (Below other)) ∙ or_true (same_row (Below id) (Below other)))))
+    ∙ one tree (touches id (is_one id (ap (λ c. c || same_row (Below other) (Below id)) (itself (Below id)))))
   where
     or_true : (a : Bool) → (a || true) ≡ true
     or_true true = refl

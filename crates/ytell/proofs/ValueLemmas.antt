@@ -6,7 +6,7 @@ use Rattle.std.proofs.lemmas.Bool.{eqb-true, eqb-false, eq-eqb, ne_eqb, lt-ltb, 
 use Rattle.std.proofs.lemmas.Option.{same_Some, none-some}
 use Rattle.ystore.specs.Held.{Told, with_judged}
 use Rattle.ystore.specs.Entries.{Entry, without_instance}
-use Rattle.ystore.specs.Store.{entry_at, holders_at, instances_at, same_row, same_key, reads}
+use Rattle.ystore.specs.Store.{entry_at, holders_at, instances_at, same_row, same_key, reads, total_at}
 use Rattle.ystore.specs.declared.row.NodeId.{NodeId}
 use Rattle.ystore.specs.declared.row.Row.{Row}
 use Rattle.ystore.specs.declared.row.Row.TheVariants.{Top, Below}
@@ -189,7 +189,7 @@ module _ (laws : AreKeys) (key : Key) (change : Entry → Entry) (step : ℕ →
   pub valued : (b : Bool) (j : Judged) → cond b j (judged_by (instances_at first key)) ≡ judged_by (step (instances_at first key)) → wrong_of j ≡ None
       → ChangesAt (λ row. b && is_holder (holders_at second key) row) (with_judged j) second third
       → (IsTree second f → Totals second f → Totals third f) → reads second ≤ reads first + 1
-      → (IsTree second f → ((x : NodeId) → 1 ≤ among x.0 (holders_at second key) → StandsIn (Below x) f) → reads third + 1 ≤ reads second + judging b (holders_at second key) f)
+      → (IsTree second f → ((x : NodeId) → 1 ≤ among x.0 (holders_at second key) → StandsIn (Below x) f) → (reads third + 1 ≤ reads second + judging b (holders_at second key) f) × ((y : NodeId) → times y.0 f ≡ 0 → total_at third (Below y) ≡ total_at second (Below y)))
       → Follows (judging b (holders_at first key) f) keys f first third
   valued b j good not_wrong told totals few climbs =
       record {
@@ -198,8 +198,9 @@ module _ (laws : AreKeys) (key : Key) (change : Entry → Entry) (step : ℕ →
         own = own_judged (touched_if b) j first third since not_wrong own_right;
         reads =
             let more = subst (λ (ids : List NodeId). reads third + 1 ≤ reads second + judging b ids f) holders_second
-            (climbs (entered_tree key change first second entered f tree) (λ x some. (holder_is x (judged_by (instances_at first key)) refl some).0)) in
+            (climbs (entered_tree key change first second entered f tree) (λ x some. (holder_is x (judged_by (instances_at first key)) refl some).0)).0 in
             omega (arith, few, more);
+        totals_beside = λ y none. (climbs (entered_tree key change first second entered f tree) (λ x some. (holder_is x (judged_by (instances_at first key)) refl some).0)).1 y none ∙ ap (λ o. option_map_or (λ h. h.total) o 0) (entered.held (Below y));
         beside = λ x none. untouched (touched_if b) (with_judged j) first third since (Below x) (not_both (touched_if b (Below x)) (λ t.
             absurd (let there = key_stands first keys f agrees.index x.0 key (touched_holds x t) in omega (arith, there, none))));
       }

@@ -9,7 +9,7 @@ use Rattle.ycheck.specs.declared.fault.FaultCode.{FaultCode}
 use Rattle.ymodel.specs.declared.node.SchemaId.{SchemaId}
 use Rattle.ystore.specs.Held.{Told}
 use Rattle.ystore.specs.Entries.{Entry}
-use Rattle.ystore.specs.Store.{reads, entry_at, same_at, holders_at, instances_at, node_count, same_key, same_row}
+use Rattle.ystore.specs.Store.{reads, entry_at, same_at, holders_at, instances_at, node_count, same_key, same_row, total_at}
 use Rattle.ystore.specs.declared.row.NodeId.{NodeId}
 use Rattle.ystore.specs.declared.row.Row.{Row}
 use Rattle.ystore.specs.declared.row.Row.TheVariants.{Top, Below}
@@ -161,13 +161,14 @@ pub record ChangesKey (key : Key) (change : Entry → Entry) (before after : Nod
   pub rooms : (row : Row) → room_at after row ≡ room_at before row
   pub node_count : node_count after ≡ node_count before
 
--- What is told agrees with an index again, and the totals are right; what no key tells stays, and all that is told of nodes
--- beside the forest. There are so many reads at most.
+-- What is told agrees with an index again, and the totals are right; what no key tells stays, and of nodes beside the
+-- forest all that is told, and their totals. There are so many reads at most.
 pub record Follows (cost : ℕ) (keys : Keys) (f : Branches) (before after : Nodes) : Type 0 where
   pub agrees : Agrees after keys f
   pub totals : Totals after f
   pub own : (row : Row) → own_at after row ≡ own_at before row
   pub beside : (id : NodeId) → times id.0 f ≡ 0 → told_at after (Below id) ≡ told_at before (Below id)
+  pub totals_beside : (id : NodeId) → times id.0 f ≡ 0 → total_at after (Below id) ≡ total_at before (Below id)
   pub reads : reads after ≤ reads before + cost
 
 -- as many as two climbs take

@@ -5,7 +5,7 @@ ghost use Rattle.std.specs.Option.{option_map_or};
 ghost use Rattle.yspec.specs.Forest.{levels};
 ghost use Rattle.ystore.specs.Entries.{with_node, without_node};
 ghost use Rattle.ystore.specs.Held.{with_same};
-ghost use Rattle.ystore.specs.Store.{entry_at, is_awaited, reads, same_at};
+ghost use Rattle.ystore.specs.Store.{entry_at, is_awaited, reads, same_at, total_at};
 ghost use Rattle.ystore.specs.Views.{store_of, lent};
 ghost use Rattle.ystore.specs.declared.row.NodeId as rust;
 ghost use Rattle.ystore.specs.declared.row.Row.TheVariants.{Below};
@@ -145,6 +145,10 @@ fn tell_fellows(
     ensures reads { (f : Branches) → IsTree (store_of counted.old) f
         → ((x : rust.NodeId) → is_touched id fellow fellows (Below x) ≡ true → StandsIn (Below x) f)
         → reads (store_of counted.new) ≤ reads (store_of counted.old) + 2 * levels f }
+    ensures beside { (f : Branches) → IsTree (store_of counted.old) f
+        → ((x : rust.NodeId) → is_touched id fellow fellows (Below x) ≡ true → StandsIn (Below x) f)
+        → (x : rust.NodeId) → times x.0 f ≡ 0
+        → total_at (store_of counted.new) (Below x) ≡ total_at (store_of counted.old) (Below x) }
     ensures same_reference { lent counted.new ≡ lent counted.old }
 {
     if fellows == 0 {

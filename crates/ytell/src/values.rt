@@ -4,7 +4,7 @@ ghost use Rattle.std.specs.Prelude.{◌≡◌, ◌+◌, ◌*◌, ◌≤◌, Some
 ghost use Rattle.yspec.specs.Forest.{levels};
 ghost use Rattle.ystore.specs.Entries.{with_instance, without_instance};
 ghost use Rattle.ystore.specs.Held.{with_judged};
-ghost use Rattle.ystore.specs.Store.{holders_at, instances_at, reads};
+ghost use Rattle.ystore.specs.Store.{holders_at, instances_at, reads, total_at};
 ghost use Rattle.ystore.specs.Views.{store_of, lent};
 ghost use Rattle.ystore.specs.declared.row.NodeId as rust;
 ghost use Rattle.ystore.specs.declared.row.Row.TheVariants.{Below};
@@ -66,6 +66,10 @@ fn judge_holders(counted: &mut Counted<'_>, key: &Key, is_found: bool)
     ensures reads { (f : Branches) → IsTree (store_of counted.old) f
         → ((x : rust.NodeId) → 1 ≤ among x.0 (holders_at (store_of counted.old) key.now) → StandsIn (Below x) f)
         → reads (store_of counted.new) ≤ reads (store_of counted.old) + (1 + length (holders_at (store_of counted.old) key.now) * (1 + levels f)) }
+    ensures beside { (f : Branches) → IsTree (store_of counted.old) f
+        → ((x : rust.NodeId) → 1 ≤ among x.0 (holders_at (store_of counted.old) key.now) → StandsIn (Below x) f)
+        → (x : rust.NodeId) → times x.0 f ≡ 0
+        → total_at (store_of counted.new) (Below x) ≡ total_at (store_of counted.old) (Below x) }
     ensures same_reference { lent counted.new ≡ lent counted.old }
 {
     for place in 0..counted.holder_count(key) {

@@ -32,4 +32,4 @@ returns-clause-follows c is_flag keys f tree agrees all stands free can there =
     c.holder_count-fellows.ensures.count c.tell_fellows.ensures.told (λ t a touches differ. c.tell_fellows.ensures.totals f t a touches differ)
     (let a = c.holder_count-fellows.ensures.counted.store.counted in let b = c.holder-fellow.ensures.counted.store.counted in
     let e = c.add_holder.ensures.store.reads in omega (arith, a, b, e))
-    (λ t touches. c.tell_fellows.ensures.reads f t touches)
+    (λ t touches. (c.tell_fellows.ensures.reads f t touches, c.tell_fellows.ensures.beside f t touches))

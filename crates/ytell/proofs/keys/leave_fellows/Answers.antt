@@ -34,4 +34,4 @@ returns-clause-follows c is_flag keys f tree agrees all has =
     c.tell_fellows.ensures.told (λ t a touches differ. c.tell_fellows.ensures.totals f t a touches differ)
     (let a = c.holder_count-fellows.ensures.counted.store.counted in let b = c.holder-fellow.ensures.counted.store.counted in
     let e = c.take_holder.ensures.store.reads in omega (arith, a, b, e))
-    (λ t touches. c.tell_fellows.ensures.reads f t touches)
+    (λ t touches. (c.tell_fellows.ensures.reads f t touches, c.tell_fellows.ensures.beside f t touches))

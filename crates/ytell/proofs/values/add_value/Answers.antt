@@ -23,7 +23,7 @@ returns-then-instances-gt0-clause-follows c keys f tree agrees all is_value =
     valued c.keys_alike.ensures key with_instance (λ n. min (n + 1) (2 ^ 64 - 1)) keys f first second second (no_faults second) entered tree agrees all (λ e. refl) (λ e. refl) is_value false Right
     (sym (ap (λ b. cond b Right (judged_by (instances_at first key))) test) ∙ first_one (instances_at first key)) refl
     (λ row. refl) (λ t a. a)
-    (let a = c.instance_count-instances.ensures.counted.store.counted in let b = c.add_instance.ensures.store.reads in omega (arith, a, b)) (λ t h. omega arith))
+    (let a = c.instance_count-instances.ensures.counted.store.counted in let b = c.add_instance.ensures.store.reads in omega (arith, a, b)) (λ t h. (omega arith, λ y none. refl)))
 
 pub returns-clause-follows : goal.returns-clause-follows
 returns-clause-follows c keys f tree agrees all is_value =
@@ -39,4 +39,4 @@ returns-clause-follows c keys f tree agrees all is_value =
     (sym (ap (λ b. cond b Right (judged_by (instances_at first key))) test) ∙ first_one (instances_at first key)) refl
     c.judge_holders.ensures.told (λ t a. c.judge_holders.ensures.totals f t a (λ x some. holder_is c.keys_alike.ensures key with_instance (λ n. min (n + 1) (2 ^ 64 - 1)) keys f first second (store_of c.judge_holders.new.counted) c.judge_holders.ensures.kept entered tree agrees all (λ e. refl) (λ e. refl) is_value x Missing (ap (λ c. cond c Missing Right) test) some))
     (let a = c.instance_count-instances.ensures.counted.store.counted in let b = c.add_instance.ensures.store.reads in omega (arith, a, b))
-    (λ t h. let more = c.judge_holders.ensures.reads f t h in omega (arith, more)))
+    (λ t h. (let more = c.judge_holders.ensures.reads f t h in omega (arith, more), c.judge_holders.ensures.beside f t h)))

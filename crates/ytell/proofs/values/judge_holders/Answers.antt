@@ -25,6 +25,7 @@ loop-place-init c =
       kept = read_only first now reads;
       told = none_told (cond c.args.is_found Right Missing) first (holders_at first c.args.key.now) now reads;
       reads = λ f tree there. let one = c.holder_count-place-end.ensures.counted.store.counted in omega (arith, one);
+      beside = λ f tree there x none. (read_faults first now reads).totals (Below x);
       totals = λ f tree all each. totals_same first now (read_faults first now reads) f all;
     }
 
@@ -67,6 +68,11 @@ loop-place-preserved c =
           (c.tell_judged.ensures.reads f
           (tree_same first read (faults_shapes first read (only_on first now read c.loop-place.invariant.kept (read_only now read reads))) f tree)
           (there c.in-Some.id (there_is j first xs c.loop-place.place c.in-Some.id is)));
+      beside = λ f tree there x none.
+          c.tell_judged.ensures.beside f x
+          (tree_same first read (faults_shapes first read (only_on first now read c.loop-place.invariant.kept (read_only now read reads))) f tree)
+          (there c.in-Some.id (there_is j first xs c.loop-place.place c.in-Some.id is)) none
+          ∙ ((read_faults now read reads).totals (Below x) ∙ c.loop-place.invariant.beside f tree there x none);
       totals = λ f tree all each.
           let at = each c.in-Some.id (there_is j first xs c.loop-place.place c.in-Some.id is) in
           let was = not_yet j first xs c.loop-place.place c.in-Some.id now is at.1 c.loop-place.invariant.told in
@@ -94,3 +100,9 @@ returns-clause-reads c f tree there =
     let within = c.loop-place.auto.place-end in
     let all : c.loop-place.place ≡ length (holders_at (store_of c.args.counted.now) c.args.key.now) = omega (arith, count, past, within) in
     subst (λ (n : ℕ). store.reads (store_of c.loop-place.counted) ≤ store.reads (store_of c.args.counted.now) + (1 + n * (1 + levels f))) all (c.loop-place.invariant.reads f tree there)
+
+pub returns-in_default-clause-beside : goal.returns-in_default-clause-beside
+returns-in_default-clause-beside c f tree there x none =
+    let now = store_of c.loop-place.counted in
+    let read = store_of c.holder.new.self in
+    (read_faults now read (one_read now read c.holder.ensures.counted.store)).totals (Below x) ∙ c.loop-place.invariant.beside f tree there x none

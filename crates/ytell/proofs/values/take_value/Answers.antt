@@ -25,7 +25,7 @@ returns-then-instance_count-gt0-clause-follows c keys f tree agrees all is_value
     valued c.keys_alike.ensures key without_instance (λ n. n - 1) keys f first second second (no_faults second) entered tree agrees all (λ e. refl) (λ e. refl) is_value false Missing
     (sym (ap (λ b. cond b Missing (judged_by (instances_at first key))) test) ∙ last_one (instances_at first key) some_left) refl
     (λ row. refl) (λ t a. a)
-    (let a = c.take_instance.ensures.store.reads in let b = c.instance_count.ensures.counted.store.counted in omega (arith, a, b)) (λ t h. omega arith))
+    (let a = c.take_instance.ensures.store.reads in let b = c.instance_count.ensures.counted.store.counted in omega (arith, a, b)) (λ t h. (omega arith, λ y none. refl)))
 
 pub returns-clause-follows : goal.returns-clause-follows
 returns-clause-follows c keys f tree agrees all is_value some_left =
@@ -43,4 +43,4 @@ returns-clause-follows c keys f tree agrees all is_value some_left =
     (sym (ap (λ b. cond b Missing (judged_by (instances_at first key))) test) ∙ last_one (instances_at first key) some_left) refl
     c.judge_holders.ensures.told (λ t a. c.judge_holders.ensures.totals f t a (λ x some. holder_is c.keys_alike.ensures key without_instance (λ n. n - 1) keys f first second (store_of c.judge_holders.new.counted) c.judge_holders.ensures.kept entered tree agrees all (λ e. refl) (λ e. refl) is_value x Right (ap (λ c. cond c Missing Right) (ne_eqb (instances_at first key) 0 (λ none. absurd (omega (arith, none, some_left))))) some))
     (let a = c.take_instance.ensures.store.reads in let b = c.instance_count.ensures.counted.store.counted in omega (arith, a, b))
-    (λ t h. let more = c.judge_holders.ensures.reads f t h in omega (arith, more)))
+    (λ t h. (let more = c.judge_holders.ensures.reads f t h in omega (arith, more), c.judge_holders.ensures.beside f t h)))
