@@ -1,4 +1,7 @@
 -- What agrees with an index, where neither changes.
+use Rattle.std.proofs.lemmas.List.Sums.{sum_by-cons}
+use Rattle.std.specs.List.{sum_by}
+use Rattle.ystore.specs.declared.record.Judged.TheVariants.{Right, Wrong, Missing}
 use Rattle.std.proofs.Common.{◌≡◌, ℕ, zero, suc, ◌+◌, ◌<◌, ◌≤◌, Bool, true, false, ◌&&◌, List, [], ◌∷◌, length, Option, Some, None, option_map, slice_get, refl, sym, ap, ◌∙◌, arith, subst, cond, eqb, min, ◌-◌, ◌^◌, is_some}
 use Rattle.std.specs.Prelude.{unwrap_or, IfSome}
 use Rattle.std.specs.Option.{option_map_or}
@@ -20,7 +23,7 @@ use Rattle.ystore.specs.declared.record.Judged.{Judged}
 use Rattle.ystore.specs.declared.nodes.Nodes.{Nodes}
 use Rattle.yshape.specs.Hanging.{Numbered, Branches, is_number, times}
 use Rattle.yshape.specs.Changes.{SameShapes}
-use Rattle.ytell.specs.Totals.{ChangesTold, IsFew, StandsIn, Totals, judged_at, number_of, told_at}
+use Rattle.ytell.specs.Totals.{ChangesTold, IsFew, StandsIn, Totals, judged_at, number_of, told_at, TellsNothing, is_told}
 use Rattle.ytell.specs.Keys.{AreKeys, Agrees, ChangesKey, Indexes, IsJudged, Keys, SameKeys, TellsNoKey, among, flag_at, has_key, is_missing, is_shared, slot_of}
 use Rattle.ytell.proofs.TotalLemmas.{are_same, mark, told_same}
 use Rattle.ytell.proofs.TellLemmas.{flags_seen}
@@ -355,3 +358,34 @@ module _ (laws : AreKeys) (key : Key) (before after : Nodes) where
           let now = step_instances without_instance changes (λ n. n - 1) (λ e. refl) there other false e in
           let none : cond (same_key key other) 1 0 ≡ 0 = ap mark e in
           omega (arith, now, none)
+
+-- ---- where nothing is told, no key tells anything
+
+no_flags : (bs : List Bool) → sum_by (λ b. cond b 1 0) bs ≡ 0 → (u : ℕ) → unwrap_or (slice_get bs u) false ≡ false
+no_flags [] none u = refl
+no_flags (true ∷ bs) none u = absurd (let e = sum_by-cons (λ b. mark b) true bs in omega (arith, e, none))
+no_flags (false ∷ bs) none zero = refl
+no_flags (false ∷ bs) none (suc u) = no_flags bs (let e = sum_by-cons (λ b. mark b) false bs in omega (arith, e, none)) u
+
+first_none : (a b c : ℕ) → a + (b + c) ≡ 0 → (a ≡ 0) × (b ≡ 0)
+first_none a b c none = (omega (arith, none), omega (arith, none))
+
+no_missing : (j : Judged) → mark (is_told j) ≡ 0 → is_missing j ≡ false
+no_missing Right none = refl
+no_missing (Wrong tag) none = refl
+no_missing Missing none = absurd (omega (arith, none))
+
+pub silent_keys : (nodes : Nodes) (f : Branches) → TellsNothing nodes f → (id : NodeId) → 0 < times id.0 f → TellsNoKey nodes id
+silent_keys nodes f nothing id there =
+    record {
+      flags = λ u. ap (λ bs. unwrap_or (slice_get bs u) false) (flags_seen (held_at nodes (Below id))) ∙ flags (told_at nodes (Below id)) (nothing id there).0 u;
+      judged = judged (told_at nodes (Below id)) (nothing id there).0;
+    }
+  where
+    flags : (o : Option Told) → option_map_or number_of o 0 ≡ 0 → (u : ℕ) → unwrap_or (slice_get (option_map_or (λ t. t.same) o []) u) false ≡ false
+    flags None none u = refl
+    flags (Some t) none u = no_flags t.same (first_none (mark (is_told t.judged)) (sum_by (λ b. cond b 1 0) t.same) (length t.play) none).1 u
+
+    judged : (o : Option Told) → option_map_or number_of o 0 ≡ 0 → option_map_or is_missing (option_map (λ t. t.judged) o) false ≡ false
+    judged None none = refl
+    judged (Some t) none = no_missing t.judged (first_none (mark (is_told t.judged)) (sum_by (λ b. cond b 1 0) t.same) (length t.play) none).0

@@ -1,19 +1,22 @@
 -- Totals where a branch comes into a row or is taken out of it.
-use Rattle.std.proofs.Common.{◌≡◌, ℕ, zero, suc, ◌-◌, ◌^◌, ◌≤◌, List, option_map, refl, sym, ap, ◌∙◌, arith, subst, cond, Bool, true, false}
+use Rattle.std.specs.Option.{option_map_or}
+use Rattle.ytell.proofs.WayLemmas.{not_both}
+use Rattle.std.proofs.Common.{◌<◌, ◌≡◌, ℕ, zero, suc, ◌-◌, ◌^◌, ◌≤◌, List, option_map, refl, sym, ap, ◌∙◌, arith, subst, cond, Bool, true, false}
 use Rattle.yspec.specs.Forest.{end, node, join, size}
 use Rattle.ystore.specs.Rows.{Child, end_place}
 use Rattle.ystore.specs.Held.{with_children, with_room}
 use Rattle.ystore.specs.Store.{held_at, total_at, ChangesRow}
+use Rattle.ystore.specs.declared.row.NodeId.{NodeId}
 use Rattle.ystore.specs.declared.row.Row.{Row}
 use Rattle.ystore.specs.declared.row.Row.TheVariants.{Top, Below}
 use Rattle.ystore.specs.declared.nodes.Nodes.{Nodes}
-use Rattle.yshape.specs.Hanging.{Numbered, Branches, Keeps, children_of, times}
+use Rattle.yshape.specs.Hanging.{Numbered, Branches, Keeps, children_of, times, is_number}
 use Rattle.yshape.specs.Ways.{Way, around}
 use Rattle.yshape.specs.Changes.{SameShapes, put_at, with_node}
 use Rattle.yshape.proofs.HangingLemmas.{is_itself, size_weigh, weigh_around, weigh_join}
-use Rattle.ytell.specs.Totals.{all_told, AreTotals, Climbs, IsTree, OnlyFaults, SameFaults, TellsNothing, Totals, on_way, moved}
+use Rattle.ytell.specs.Totals.{all_told, AreTotals, Climbs, IsTree, OnlyFaults, SameFaults, TellsNothing, Totals, on_way, moved, IsSmall, number_of, is_below, told_count, told_at}
 use Rattle.ytell.proofs.ClimbLemmas.{left_alone, same_total}
-use Rattle.ytell.proofs.TotalLemmas.{moved_exact, replaced, are_second, are_end}
+use Rattle.ytell.proofs.TotalLemmas.{moved_exact, replaced, are_second, are_end, below_outside}
 
 -- ---- what leaves faults
 
@@ -162,3 +165,24 @@ silent nodes (node n below after) nothing =
 
 pub root_silent : (nodes : Nodes) (n : Numbered) (below : Branches) → TellsNothing nodes (node n below end) → total_at nodes (Below n.id) ≡ 0
 root_silent nodes n below nothing = (nothing n.id (let one = is_itself n in omega (arith, one))).1
+
+pub silent_document : (nodes : Nodes) (f : Branches) → TellsNothing nodes f → told_count nodes Top ≡ 0 → total_at nodes Top ≡ 0 → IsSmall nodes f → Totals nodes f
+silent_document nodes f nothing told total small =
+    let all = silent nodes f nothing in
+    record { top = let none = all.0 in omega (arith, told, total, none); below = all.1; small = small }
+
+pub silent_kept : (before after : Nodes) (f : Branches)
+    → ((id : NodeId) → 0 < times id.0 f → (told_at after (Below id) ≡ told_at before (Below id)) × (total_at after (Below id) ≡ total_at before (Below id)))
+    → TellsNothing before f → TellsNothing after f
+silent_kept before after f same nothing id there = (
+  ap (λ o. option_map_or number_of o 0) (same id there).0 ∙ (nothing id there).0,
+  (same id there).1 ∙ (nothing id there).1,
+)
+
+pub climbs_inside : (before after : Nodes) (way : Way) (f : Branches) (more less : ℕ) (id : NodeId) → Climbs way more less before after
+    → times id.0 (around way f) ≡ 0 → total_at after (Below id) ≡ total_at before (Below id)
+climbs_inside before after way f more less id climbs none =
+    climbs.totals (Below id)
+    ∙ ap (λ b. cond b (moved more less (total_at before (Below id))) (total_at before (Below id)))
+    (not_both (is_below way (Below id)) (λ t.
+    let out = below_outside way id t in let whole = weigh_around (is_number id.0) way f in omega (arith, out, whole, none)))

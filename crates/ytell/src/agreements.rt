@@ -16,7 +16,7 @@ ghost use Rattle.ystore.specs.declared.record.Judged.{Judged};
 ghost use Rattle.ystore.specs.declared.nodes.Nodes.{Nodes};
 ghost use Rattle.yshape.specs.Hanging.{Branches, times};
 ghost use Rattle.yshape.specs.Changes.{SameShapes};
-ghost use Rattle.ytell.specs.Totals.{ChangesTold, IsFew, StandsIn, Totals, told_at};
+ghost use Rattle.ytell.specs.Totals.{ChangesTold, IsFew, StandsIn, TellsNothing, Totals, told_at};
 ghost use Rattle.ytell.specs.Keys.{Agrees, ChangesKey, Keys, SameKeys, TellsNoKey, has_key, is_missing, slot_of};
 
 use crate::alike::keys_alike;
@@ -48,6 +48,7 @@ pub fn kept_agreements()
         → ((number slot : ℕ) → times number g ≡ 0 → keys number slot ≡ None)
         → ((id : NodeId) → 0 < times id.0 g → times id.0 f ≡ 0 → TellsNoKey nodes id)
         → Agrees nodes keys g }
+    ensures silent { (nodes : Nodes) (f : Branches) → TellsNothing nodes f → (id : NodeId) → 0 < times id.0 f → TellsNoKey nodes id }
     ensures alike { (nodes : Nodes) (keys others : Keys) (f : Branches) → ((number slot : ℕ) → keys number slot ≡ others number slot)
         → Agrees nodes keys f → Agrees nodes others f }
     ensures empty { (nodes : Nodes) (f : Branches) → ((key : Key) → holders_at nodes key ≡ [])
