@@ -13,7 +13,7 @@ ghost use Rattle.ystore.specs.declared.row.Row.TheVariants.{Top, Below};
 ghost use Rattle.ystore.specs.declared.nodes.Nodes.{Nodes};
 ghost use Rattle.yshape.specs.Hanging.{Numbered, Branches, Keeps, times};
 ghost use Rattle.yshape.specs.Ways.{Way, around, end_of};
-ghost use Rattle.yshape.specs.Changes.{SameShapes, with_node};
+ghost use Rattle.yshape.specs.Changes.{SameShapes, with_node, with_node_at};
 ghost use Rattle.yshape.specs.Parts.{OnlyReads};
 ghost use Rattle.ytell.specs.Totals.{AreTotals, Climbs, IsSmall, IsTree, OnlyFaults, SameFaults, TellsNothing, Totals, told_at, told_count};
 
@@ -50,7 +50,7 @@ pub fn kept_trees()
 {}
 
 /// Where a row changes, wherever it stands, the totals are right once the rows above it have climbed by the total of what came
-/// into it and of what was taken out.
+/// into it and of what was taken out; a node that moves in its row changes none.
 pub fn changed_totals()
     ensures added { (before after : Nodes) (way : Way) (f : Branches) (n : Numbered) (below : Branches) (more : ℕ)
         → Totals before (around way f) → IsTree before (around way f) → AreTotals after (node n below end)
@@ -65,6 +65,9 @@ pub fn changed_totals()
         → Totals before (around way (join first (node m under rest))) → IsTree before (around way (join first (node m under rest)))
         → total_at before (Below m.id) ≡ less
         → Climbs way 0 less before after → Totals after (around way (join first rest)) }
+    ensures moved { (before after : Nodes) (way : Way) (first rest : Branches) (m : Numbered) (under : Branches) (place : ℕ)
+        → Totals before (around way (join first (node m under rest))) → IsTree before (around way (join first (node m under rest)))
+        → SameFaults before after → Totals after (around way (with_node_at place m under (join first rest))) }
 {}
 
 /// A branch of nodes at which nothing is told, and whose totals are 0, has right totals, and so has a document of such nodes;
