@@ -2,11 +2,11 @@
 use Rattle.std.proofs.lemmas.List.Sums.{sum_by-cons}
 use Rattle.std.specs.List.{sum_by}
 use Rattle.ystore.specs.declared.record.Judged.TheVariants.{Right, Wrong, Missing}
-use Rattle.std.proofs.Common.{◌≡◌, ℕ, zero, suc, ◌+◌, ◌<◌, ◌≤◌, Bool, true, false, ◌&&◌, List, [], ◌∷◌, length, Option, Some, None, option_map, slice_get, refl, sym, ap, ◌∙◌, arith, subst, cond, eqb, min, ◌-◌, ◌^◌, is_some}
+use Rattle.std.proofs.Common.{ltb, ◌≡◌, ℕ, zero, suc, ◌+◌, ◌<◌, ◌≤◌, Bool, true, false, ◌&&◌, List, [], ◌∷◌, length, Option, Some, None, option_map, slice_get, refl, sym, ap, ◌∙◌, arith, subst, cond, eqb, min, ◌-◌, ◌^◌, is_some}
 use Rattle.std.specs.Prelude.{unwrap_or, IfSome}
 use Rattle.std.specs.Option.{option_map_or}
 use Rattle.std.proofs.lemmas.Bool.{eq-eqb, eqb-true, eqb-false, ne_eqb, false≢true}
-use Rattle.std.proofs.lemmas.Option.{none-some}
+use Rattle.std.proofs.lemmas.Option.{none-some, same_Some}
 use Rattle.yspec.specs.Forest.{end, node, weigh}
 use Rattle.ycheck.specs.declared.fault.FaultCode.{FaultCode}
 use Rattle.ymodel.specs.declared.node.SchemaId.{SchemaId}
@@ -24,7 +24,7 @@ use Rattle.ystore.specs.declared.nodes.Nodes.{Nodes}
 use Rattle.yshape.specs.Hanging.{Numbered, Branches, is_number, times}
 use Rattle.yshape.specs.Changes.{SameShapes}
 use Rattle.ytell.specs.Totals.{ChangesTold, IsFew, StandsIn, Totals, judged_at, number_of, told_at, TellsNothing, is_told}
-use Rattle.ytell.specs.Keys.{AreKeys, Agrees, ChangesKey, Indexes, IsJudged, Keys, SameKeys, TellsNoKey, among, flag_at, has_key, is_missing, is_shared, slot_of}
+use Rattle.ytell.specs.Keys.{AreKeys, Agrees, ChangesKey, Indexes, IsSimilar, IsJudged, Keys, SameKeys, TellsNoKey, among, flag_at, has_key, is_missing, is_shared, judged_by, slot_of}
 use Rattle.ytell.proofs.TotalLemmas.{are_same, mark, told_same}
 use Rattle.ytell.proofs.TellLemmas.{flags_seen}
 use Rattle.ytell.proofs.IndexLemmas.{among-cons, holds, instances_same, key_stands, stands}
@@ -389,3 +389,64 @@ silent_keys nodes f nothing id there =
     judged : (o : Option Told) → option_map_or number_of o 0 ≡ 0 → option_map_or is_missing (option_map (λ t. t.judged) o) false ≡ false
     judged None none = refl
     judged (Some t) none = no_missing t.judged (first_none (mark (is_told t.judged)) (sum_by (λ b. cond b 1 0) t.same) (length t.play) none).0
+
+-- ---- keys that are the same
+
+module _ (laws : AreKeys) (nodes : Nodes) where
+  turned_is : (key other : Key) → same_key key other ≡ same_key other key
+  turned_is key other = by (same_key key other) refl (same_key other key) refl
+    where
+      by : (a : Bool) → same_key key other ≡ a → (b : Bool) → same_key other key ≡ b → same_key key other ≡ same_key other key
+      by true e b d = e ∙ sym (laws.turned key other e)
+      by false e true d = laws.turned other key d ∙ sym d
+      by false e false d = e ∙ sym d
+
+  similar_has : (key : Key) (o p : Option Key) → IsSimilar o p → option_map_or (same_key key) o false ≡ option_map_or (same_key key) p false
+  similar_has key None None is = refl
+  similar_has key (Some k) (Some l) is = turned_is key k ∙ (laws.alike k l key is ∙ turned_is l key)
+  similar_has key None (Some l) is = absurd is
+  similar_has key (Some k) None is = absurd is
+
+  similar_shared : (o p : Option Key) → IsSimilar o p → is_shared nodes o ≡ is_shared nodes p
+  similar_shared None None is = refl
+  similar_shared (Some k) (Some l) is = ap (λ o. ltb 1 (length (option_map_or (λ e. e.nodes) o []))) (laws.found nodes k l is)
+  similar_shared None (Some l) is = absurd is
+  similar_shared (Some k) None is = absurd is
+
+  similar_judged : (o p : Option Key) (j : Option Judged) → IsSimilar o p → IsJudged nodes o j → IsJudged nodes p j
+  similar_judged None None j is judged = judged
+  similar_judged (Some k) (Some l) j is judged = judged ∙ ap (λ o. Some (judged_by (option_map_or (λ e. e.instances) o 0))) (laws.found nodes k l is)
+  similar_judged None (Some l) j is judged = absurd is
+  similar_judged (Some k) None j is judged = absurd is
+
+  similar_none : (o p : Option Key) → IsSimilar o p → o ≡ None → p ≡ None
+  similar_none None None is e = refl
+  similar_none (Some k) (Some l) is e = absurd (none-some k (sym e))
+  similar_none None (Some l) is e = absurd is
+  similar_none (Some k) None is e = absurd is
+
+  similar_some : (o p : Option Key) (l : Key) → IsSimilar o p → p ≡ Some l → (k : Key) × (o ≡ Some k) × (same_key k l ≡ true)
+  similar_some None None l is e = absurd (none-some l e)
+  similar_some (Some k) (Some m) l is e = (k, refl, ap (same_key k) (sym (same_Some m l e)) ∙ is)
+  similar_some None (Some m) l is e = absurd is
+  similar_some (Some k) None l is e = absurd is
+
+  pub agrees_similar : (keys others : Keys) (f : Branches) → ((number slot : ℕ) → IsSimilar (keys number slot) (others number slot))
+      → Agrees nodes keys f → Agrees nodes others f
+  agrees_similar keys others f similar agrees =
+      record {
+        index = record {
+          holders = λ key number. agrees.index.holders key number ∙ ap mark (similar_has key (keys number (slot_of key)) (others number (slot_of key)) (similar number (slot_of key)));
+          slots = λ number slot key e.
+              let was = similar_some (keys number slot) (others number slot) key (similar number slot) e in
+              sym (laws.slots was.0 key was.2) ∙ agrees.index.slots number slot was.0 was.1;
+          outside = λ number slot none. similar_none (keys number slot) (others number slot) (similar number slot) (agrees.index.outside number slot none);
+        };
+        tells = record {
+          flags = λ id u there. agrees.tells.flags id u there ∙ similar_shared (keys id.0 (suc u)) (others id.0 (suc u)) (similar id.0 (suc u));
+          wide = λ id u key e.
+              let was = similar_some (keys id.0 (suc u)) (others id.0 (suc u)) key (similar id.0 (suc u)) e in
+              agrees.tells.wide id u was.0 was.1;
+          judged = λ id there. similar_judged (keys id.0 0) (others id.0 0) (judged_at nodes id) (similar id.0 0) (agrees.tells.judged id there);
+        };
+      }

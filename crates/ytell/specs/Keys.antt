@@ -49,6 +49,13 @@ with_key number slot key keys m s = if eqb m number && eqb s slot then key else 
 abbrev pub has_key : Keys → ℕ → Key → Bool
 has_key keys number key = option_map_or (same_key key) (keys number (slot_of key)) false
 
+-- the same key, or none in both
+abbrev pub IsSimilar : Option Key → Option Key → Type 0
+IsSimilar None None = Unit {0}
+IsSimilar (Some key) (Some other) = same_key key other ≡ true
+IsSimilar None (Some other) = ⊥
+IsSimilar (Some key) None = ⊥
+
 -- what is known of keys that are the same
 pub record AreKeys : Type 0 where
   pub itself : (key : Key) → same_key key key ≡ true

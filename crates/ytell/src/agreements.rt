@@ -17,7 +17,7 @@ ghost use Rattle.ystore.specs.declared.nodes.Nodes.{Nodes};
 ghost use Rattle.yshape.specs.Hanging.{Branches, times};
 ghost use Rattle.yshape.specs.Changes.{SameShapes};
 ghost use Rattle.ytell.specs.Totals.{ChangesTold, IsFew, StandsIn, TellsNothing, Totals, told_at};
-ghost use Rattle.ytell.specs.Keys.{Agrees, ChangesKey, Keys, SameKeys, TellsNoKey, has_key, is_missing, slot_of};
+ghost use Rattle.ytell.specs.Keys.{Agrees, ChangesKey, IsSimilar, Keys, SameKeys, TellsNoKey, has_key, is_missing, slot_of};
 
 use crate::alike::keys_alike;
 
@@ -68,6 +68,14 @@ pub fn changed_keys()
     ensures left { (key : Key) (id : NodeId) (before after : Nodes) → ChangesKey key (without_node id) before after
         → (other : Key) → instances_at after other ≡ instances_at before other }
     ensures shapes { (key : Key) (change : Entry → Entry) (before after : Nodes) → ChangesKey key change before after → SameShapes before after }
+{
+    keys_alike();
+}
+
+/// What is told agrees with an index whichever of keys that are the same a node is said to hold.
+pub fn similar_keys()
+    ensures { (nodes : Nodes) (keys others : Keys) (f : Branches) → ((number slot : ℕ) → IsSimilar (keys number slot) (others number slot))
+        → Agrees nodes keys f → Agrees nodes others f }
 {
     keys_alike();
 }
