@@ -4,11 +4,11 @@ ghost use Rattle.std.specs.Prelude.{◌≡◌};
 ghost use Rattle.ystore.specs.Store.{same_key};
 ghost use Rattle.ystore.specs.Views.{store_of, lent};
 ghost use Rattle.yshape.specs.Hanging.{Branches};
-ghost use Rattle.ytell.specs.Keys.{Agrees, Follows, Keys, slot_of};
+ghost use Rattle.ytell.specs.Keys.{Agrees, Keys, slot_of};
 ghost use Rattle.ytell.specs.Totals.{IsTree, Totals};
 ghost use Rattle.ytold.specs.Assigned.{CanJoin, CanLeave, joined, left};
 ghost use Rattle.ytold.specs.Growing.{AreAwaited};
-ghost use Rattle.ytold.specs.Joins.{CanHoldAll, KeepsRows, KeepsInstances, KeepsAwaited, KeepsThere};
+ghost use Rattle.ytold.specs.Joins.{Follows, CanHoldAll, KeepsRows, KeepsInstances, KeepsAwaited, KeepsThere};
 
 use ystore::{Counted, Key, NodeId};
 use ytell::{join, keys_alike, leave};

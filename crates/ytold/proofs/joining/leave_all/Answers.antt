@@ -2,7 +2,7 @@ use Rattle.std.proofs.Common.{◌∙◌, refl, arith}
 use Rattle.ystore.specs.Entries.{Entry, without_node}
 use Rattle.ystore.specs.Views.{store_of}
 use Rattle.ytold.proofs.CountingLemmas.{still_there}
-use Rattle.ytold.proofs.JoiningLemmas.{keeps_itself, keeps_on, shapes_of, tree_on, rows_of, number_kept, follows_itself, drop_more, one_left, all_left}
+use Rattle.ytold.proofs.JoiningLemmas.{keeps_itself, keeps_on, shapes_of, tree_on, rows_of, number_kept, follows_itself, follows_of, drop_more, one_left, all_left}
 use Rattle.ytold.proofs.joining.leave_all.Goals as goal
 
 pub loop-at-init : goal.loop-at-init
@@ -33,7 +33,8 @@ loop-at-preserved c =
       follows = λ held f tree agrees totals can.
           let so = c.loop-at.invariant.follows held f tree agrees totals can in
           one_left c.args.keys.now c.loop-at.at p held so.0 f first before after (drop_more c.args.keys.now c.loop-at.at p (omega arith) c.index-keys-at.is) so.1 so.2 so.3
-          (c.leave.ensures.follows so.0 f (tree_on first before f (shapes_of first before c.loop-at.invariant.kept) tree) so.1.agrees so.1.totals);
+          (λ has. follows_of _ _ f before after
+          (c.leave.ensures.follows so.0 f (tree_on first before f (shapes_of first before c.loop-at.invariant.kept) tree) so.1.agrees so.1.totals has));
     }
 
 pub returns-clause-follows : goal.returns-clause-follows

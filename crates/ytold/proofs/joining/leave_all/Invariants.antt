@@ -2,10 +2,10 @@ use Rattle.std.proofs.Common.{◌≡◌, drop}
 use Rattle.ystore.specs.Store.{same_key}
 use Rattle.ystore.specs.Views.{store_of, lent}
 use Rattle.yshape.specs.Hanging.{Branches}
-use Rattle.ytell.specs.Keys.{Agrees, Follows, Keys, slot_of}
+use Rattle.ytell.specs.Keys.{Agrees, Keys, slot_of}
 use Rattle.ytell.specs.Totals.{IsTree, Totals}
 use Rattle.ytold.specs.Assigned.{CanLeave, left}
-use Rattle.ytold.specs.Joins.{KeepsRows, KeepsInstances, KeepsAwaited, KeepsThere}
+use Rattle.ytold.specs.Joins.{Follows, KeepsRows, KeepsInstances, KeepsAwaited, KeepsThere}
 use Rattle.ytold.proofs.joining.leave_all.Given as goal
 
 -- those so far have left, and the others can
