@@ -1,15 +1,18 @@
 -- What agrees with an index, where neither changes.
-use Rattle.std.proofs.Common.{◌≡◌, ℕ, zero, suc, ◌+◌, ◌<◌, ◌≤◌, Bool, true, false, ◌&&◌, List, [], ◌∷◌, length, Option, Some, None, option_map, slice_get, refl, sym, ap, ◌∙◌, arith, subst, cond, eqb}
+use Rattle.std.proofs.lemmas.List.Sums.{sum_by-cons}
+use Rattle.std.specs.List.{sum_by}
+use Rattle.ystore.specs.declared.record.Judged.TheVariants.{Right, Wrong, Missing}
+use Rattle.std.proofs.Common.{ltb, ◌≡◌, ℕ, zero, suc, ◌+◌, ◌<◌, ◌≤◌, Bool, true, false, ◌&&◌, List, [], ◌∷◌, length, Option, Some, None, option_map, slice_get, refl, sym, ap, ◌∙◌, arith, subst, cond, eqb, min, ◌-◌, ◌^◌, is_some}
 use Rattle.std.specs.Prelude.{unwrap_or, IfSome}
 use Rattle.std.specs.Option.{option_map_or}
 use Rattle.std.proofs.lemmas.Bool.{eq-eqb, eqb-true, eqb-false, ne_eqb, false≢true}
-use Rattle.std.proofs.lemmas.Option.{none-some}
+use Rattle.std.proofs.lemmas.Option.{none-some, same_Some}
 use Rattle.yspec.specs.Forest.{end, node, weigh}
 use Rattle.ycheck.specs.declared.fault.FaultCode.{FaultCode}
 use Rattle.ymodel.specs.declared.node.SchemaId.{SchemaId}
 use Rattle.ystore.specs.Held.{Told, with_judged, with_play}
 use Rattle.ystore.specs.Entries as entries
-use Rattle.ystore.specs.Entries.{Entry, with_awaited}
+use Rattle.ystore.specs.Entries.{Entry, with_awaited, with_instance, without_instance}
 use Rattle.ystore.specs.Index.{made_ready, tidied}
 use Rattle.ystore.specs.Store.{held_at, entry_at, same_at, total_at, holders_at, instances_at, same_row, same_key, ChangesEntry}
 use Rattle.ystore.specs.declared.row.NodeId.{NodeId}
@@ -19,11 +22,12 @@ use Rattle.ystore.specs.declared.key.Key.{Key}
 use Rattle.ystore.specs.declared.record.Judged.{Judged}
 use Rattle.ystore.specs.declared.nodes.Nodes.{Nodes}
 use Rattle.yshape.specs.Hanging.{Numbered, Branches, is_number, times}
-use Rattle.ytell.specs.Totals.{ChangesTold, IsFew, StandsIn, Totals, judged_at, number_of, told_at}
-use Rattle.ytell.specs.Keys.{AreKeys, Agrees, Indexes, IsJudged, Keys, SameKeys, TellsNoKey, among, flag_at, has_key, is_missing, is_shared, slot_of}
+use Rattle.yshape.specs.Changes.{SameShapes}
+use Rattle.ytell.specs.Totals.{ChangesTold, IsFew, StandsIn, Totals, judged_at, number_of, told_at, TellsNothing, is_told}
+use Rattle.ytell.specs.Keys.{AreKeys, Agrees, ChangesKey, Indexes, IsSimilar, IsJudged, Keys, SameKeys, TellsNoKey, among, flag_at, has_key, is_missing, is_shared, judged_by, slot_of}
 use Rattle.ytell.proofs.TotalLemmas.{are_same, mark, told_same}
 use Rattle.ytell.proofs.TellLemmas.{flags_seen}
-use Rattle.ytell.proofs.IndexLemmas.{among-cons, holds, key_stands, stands}
+use Rattle.ytell.proofs.IndexLemmas.{among-cons, holds, instances_same, key_stands, stands}
 use Rattle.ytell.proofs.FellowLemmas.{judged_same, shared_same, told_where}
 
 -- ---- keys
@@ -295,3 +299,154 @@ totals_there before after f told totals few all =
       below = are_same before after f (λ id some. ap (λ o. option_map_or number_of o 0) (told (Below id) some)) (λ id some. totals (Below id) some) all.below;
       small = record { few = all.small.few; each = few };
     }
+
+-- ---- instances that come and go
+
+module _ (laws : AreKeys) (key : Key) (before after : Nodes) where
+  module _ (change : Entry → Entry) (changes : ChangesKey key change before after) where
+    pub key_shapes : SameShapes before after
+    key_shapes = record { shapes = changes.shapes; all = changes.node_count }
+
+    pub still_instances : ((e : Entry) → (change e).instances ≡ e.instances) → (other : Key) → instances_at after other ≡ instances_at before other
+    still_instances leaves = instances_same laws key change before after changes.changed changes.others leaves
+
+    step_instances : (step : ℕ → ℕ) → ((e : Entry) → (change e).instances ≡ step e.instances) → is_some (entry_at before key) ≡ true
+        → (other : Key) (b : Bool) → same_key key other ≡ b → instances_at after other ≡ cond b (step (instances_at before other)) (instances_at before other)
+    step_instances step steps there other true e =
+        ap (λ o. option_map_or (λ e. e.instances) o 0) (sym (laws.found after key other e) ∙ (changes.changed ∙ ap (option_map change) (laws.found before key other e)))
+        ∙ by (entry_at before other) (ap is_some (sym (laws.found before key other e)) ∙ there)
+      where
+        by : (o : Option Entry) → is_some o ≡ true → option_map_or (λ e. e.instances) (option_map change o) 0 ≡ step (option_map_or (λ e. e.instances) o 0)
+        by (Some e) there = steps e
+        by None there = absurd (false≢true there)
+    step_instances step steps there other false e = ap (λ o. option_map_or (λ e. e.instances) o 0) (changes.others other e)
+
+  pub more_instances : ChangesKey key with_instance before after → is_some (entry_at before key) ≡ true → instances_at before key < 2 ^ 64 - 1
+      → (other : Key) → instances_at after other ≡ instances_at before other + cond (same_key key other) 1 0
+  more_instances changes there less other = by (same_key key other) refl
+    where
+      by : (b : Bool) → same_key key other ≡ b → instances_at after other ≡ instances_at before other + cond (same_key key other) 1 0
+      by true e =
+          let now : instances_at after other ≡ min (instances_at before other + 1) (2 ^ 64 - 1) =
+          step_instances with_instance changes (λ n. min (n + 1) (2 ^ 64 - 1)) (λ e. refl) there other true e in
+          let same = ap (λ o. option_map_or (λ e. e.instances) o 0) (laws.found before key other e) in
+          let one : cond (same_key key other) 1 0 ≡ 1 = ap mark e in
+          omega (arith, now, same, one, less)
+      by false e =
+          let now = step_instances with_instance changes (λ n. min (n + 1) (2 ^ 64 - 1)) (λ e. refl) there other false e in
+          let none : cond (same_key key other) 1 0 ≡ 0 = ap mark e in
+          omega (arith, now, none)
+
+  pub fewer_instances : ChangesKey key without_instance before after → 1 ≤ instances_at before key
+      → (other : Key) → instances_at after other + cond (same_key key other) 1 0 ≡ instances_at before other
+  fewer_instances changes some other = by (same_key key other) refl
+    where
+      there : is_some (entry_at before key) ≡ true
+      there = from (entry_at before key) some
+        where
+          from : (o : Option Entry) → 1 ≤ option_map_or (λ e. e.instances) o 0 → is_some o ≡ true
+          from (Some e) some = refl
+          from None some = absurd (omega (arith, some))
+
+      by : (b : Bool) → same_key key other ≡ b → instances_at after other + cond (same_key key other) 1 0 ≡ instances_at before other
+      by true e =
+          let now : instances_at after other ≡ instances_at before other - 1 = step_instances without_instance changes (λ n. n - 1) (λ e. refl) there other true e in
+          let same = ap (λ o. option_map_or (λ e. e.instances) o 0) (laws.found before key other e) in
+          let one : cond (same_key key other) 1 0 ≡ 1 = ap mark e in
+          omega (arith, now, same, one, some)
+      by false e =
+          let now = step_instances without_instance changes (λ n. n - 1) (λ e. refl) there other false e in
+          let none : cond (same_key key other) 1 0 ≡ 0 = ap mark e in
+          omega (arith, now, none)
+
+-- ---- where nothing is told, no key tells anything
+
+no_flags : (bs : List Bool) → sum_by (λ b. cond b 1 0) bs ≡ 0 → (u : ℕ) → unwrap_or (slice_get bs u) false ≡ false
+no_flags [] none u = refl
+no_flags (true ∷ bs) none u = absurd (let e = sum_by-cons (λ b. mark b) true bs in omega (arith, e, none))
+no_flags (false ∷ bs) none zero = refl
+no_flags (false ∷ bs) none (suc u) = no_flags bs (let e = sum_by-cons (λ b. mark b) false bs in omega (arith, e, none)) u
+
+first_none : (a b c : ℕ) → a + (b + c) ≡ 0 → (a ≡ 0) × (b ≡ 0)
+first_none a b c none = (omega (arith, none), omega (arith, none))
+
+no_missing : (j : Judged) → mark (is_told j) ≡ 0 → is_missing j ≡ false
+no_missing Right none = refl
+no_missing (Wrong tag) none = refl
+no_missing Missing none = absurd (omega (arith, none))
+
+pub silent_keys : (nodes : Nodes) (f : Branches) → TellsNothing nodes f → (id : NodeId) → 0 < times id.0 f → TellsNoKey nodes id
+silent_keys nodes f nothing id there =
+    record {
+      flags = λ u. ap (λ bs. unwrap_or (slice_get bs u) false) (flags_seen (held_at nodes (Below id))) ∙ flags (told_at nodes (Below id)) (nothing id there).0 u;
+      judged = judged (told_at nodes (Below id)) (nothing id there).0;
+    }
+  where
+    flags : (o : Option Told) → option_map_or number_of o 0 ≡ 0 → (u : ℕ) → unwrap_or (slice_get (option_map_or (λ t. t.same) o []) u) false ≡ false
+    flags None none u = refl
+    flags (Some t) none u = no_flags t.same (first_none (mark (is_told t.judged)) (sum_by (λ b. cond b 1 0) t.same) (length t.play) none).1 u
+
+    judged : (o : Option Told) → option_map_or number_of o 0 ≡ 0 → option_map_or is_missing (option_map (λ t. t.judged) o) false ≡ false
+    judged None none = refl
+    judged (Some t) none = no_missing t.judged (first_none (mark (is_told t.judged)) (sum_by (λ b. cond b 1 0) t.same) (length t.play) none).0
+
+-- ---- keys that are the same
+
+module _ (laws : AreKeys) (nodes : Nodes) where
+  turned_is : (key other : Key) → same_key key other ≡ same_key other key
+  turned_is key other = by (same_key key other) refl (same_key other key) refl
+    where
+      by : (a : Bool) → same_key key other ≡ a → (b : Bool) → same_key other key ≡ b → same_key key other ≡ same_key other key
+      by true e b d = e ∙ sym (laws.turned key other e)
+      by false e true d = laws.turned other key d ∙ sym d
+      by false e false d = e ∙ sym d
+
+  similar_has : (key : Key) (o p : Option Key) → IsSimilar o p → option_map_or (same_key key) o false ≡ option_map_or (same_key key) p false
+  similar_has key None None is = refl
+  similar_has key (Some k) (Some l) is = turned_is key k ∙ (laws.alike k l key is ∙ turned_is l key)
+  similar_has key None (Some l) is = absurd is
+  similar_has key (Some k) None is = absurd is
+
+  similar_shared : (o p : Option Key) → IsSimilar o p → is_shared nodes o ≡ is_shared nodes p
+  similar_shared None None is = refl
+  similar_shared (Some k) (Some l) is = ap (λ o. ltb 1 (length (option_map_or (λ e. e.nodes) o []))) (laws.found nodes k l is)
+  similar_shared None (Some l) is = absurd is
+  similar_shared (Some k) None is = absurd is
+
+  similar_judged : (o p : Option Key) (j : Option Judged) → IsSimilar o p → IsJudged nodes o j → IsJudged nodes p j
+  similar_judged None None j is judged = judged
+  similar_judged (Some k) (Some l) j is judged = judged ∙ ap (λ o. Some (judged_by (option_map_or (λ e. e.instances) o 0))) (laws.found nodes k l is)
+  similar_judged None (Some l) j is judged = absurd is
+  similar_judged (Some k) None j is judged = absurd is
+
+  similar_none : (o p : Option Key) → IsSimilar o p → o ≡ None → p ≡ None
+  similar_none None None is e = refl
+  similar_none (Some k) (Some l) is e = absurd (none-some k (sym e))
+  similar_none None (Some l) is e = absurd is
+  similar_none (Some k) None is e = absurd is
+
+  similar_some : (o p : Option Key) (l : Key) → IsSimilar o p → p ≡ Some l → (k : Key) × (o ≡ Some k) × (same_key k l ≡ true)
+  similar_some None None l is e = absurd (none-some l e)
+  similar_some (Some k) (Some m) l is e = (k, refl, ap (same_key k) (sym (same_Some m l e)) ∙ is)
+  similar_some None (Some m) l is e = absurd is
+  similar_some (Some k) None l is e = absurd is
+
+  pub agrees_similar : (keys others : Keys) (f : Branches) → ((number slot : ℕ) → IsSimilar (keys number slot) (others number slot))
+      → Agrees nodes keys f → Agrees nodes others f
+  agrees_similar keys others f similar agrees =
+      record {
+        index = record {
+          holders = λ key number. agrees.index.holders key number ∙ ap mark (similar_has key (keys number (slot_of key)) (others number (slot_of key)) (similar number (slot_of key)));
+          slots = λ number slot key e.
+              let was = similar_some (keys number slot) (others number slot) key (similar number slot) e in
+              sym (laws.slots was.0 key was.2) ∙ agrees.index.slots number slot was.0 was.1;
+          outside = λ number slot none. similar_none (keys number slot) (others number slot) (similar number slot) (agrees.index.outside number slot none);
+        };
+        tells = record {
+          flags = λ id u there. agrees.tells.flags id u there ∙ similar_shared (keys id.0 (suc u)) (others id.0 (suc u)) (similar id.0 (suc u));
+          wide = λ id u key e.
+              let was = similar_some (keys id.0 (suc u)) (others id.0 (suc u)) key (similar id.0 (suc u)) e in
+              agrees.tells.wide id u was.0 was.1;
+          judged = λ id there. similar_judged (keys id.0 0) (others id.0 0) (judged_at nodes id) (similar id.0 0) (agrees.tells.judged id there);
+        };
+      }

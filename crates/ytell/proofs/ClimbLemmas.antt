@@ -245,3 +245,22 @@ all_done way f here rounds more less before now tree enough told so = by so.up s
         let within = way_within way f in
         let fits = tree.within in
         absurd (omega (arith, long, parts, done, within, fits, enough))
+
+-- ---- how long it is
+
+pub so_long : (way : Way) (here : Row) (rounds : ℕ) (change : ℕ → ℕ) (before now : Nodes) → SoFar way here rounds change before now → rounds ≤ length way
+so_long way here rounds change before now so =
+    let long = ap length so.is_way in let parts = length-append so.up so.down in let done = so.long in omega (arith, long, parts, done)
+
+pub here_top : (way : Way) (f : Branches) (here : Row) (rounds : ℕ) (change : ℕ → ℕ) (before now : Nodes) → IsTree before (around way f) → OnlyFaults before now
+    → None ≡ above_of now here → SoFar way here rounds change before now → here ≡ Top
+here_top way f here rounds change before now tree only none so =
+    by_last (λ up. up ++ so.down ≡ way → end_of Top up ≡ here → here ≡ Top) (λ whole ends. sym ends) inside so.up so.is_way so.ends
+  where
+    inside : (up : Way) (frame : Frame) → (up ++ frame ∷ []) ++ so.down ≡ way → end_of Top (up ++ frame ∷ []) ≡ here → here ≡ Top
+    inside up frame whole ends =
+        let there : Hangs before Top (around ((up ++ frame ∷ []) ++ so.down) f) = subst (λ w. Hangs before Top (around w f)) (sym whole) tree.hangs in
+        let under : Hangs before Top (around (up ++ frame ∷ []) (around so.down f)) = subst (λ g. Hangs before Top g) (around_append (up ++ frame ∷ []) so.down f) there in
+        absurd (none-some (end_of Top up)
+        (none ∙ (ap (above_of now) (sym ends ∙ end_more Top up frame)
+        ∙ (same_above before now only (Below frame.label.id) ∙ step_up before (around so.down f) up frame under))))

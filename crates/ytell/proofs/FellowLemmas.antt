@@ -1,12 +1,13 @@
 -- Flags of a node and of its fellows.
-use Rattle.std.proofs.Common.{◌≡◌, ℕ, zero, suc, ◌+◌, ◌<◌, ◌≤◌, Bool, true, false, ◌&&◌, ◌||◌, not, List, [], ◌∷◌, ◌++◌, length, slice_get, Option, Some, None, option_map, refl, sym, ap, ◌∙◌, arith, subst, cond, eqb, ltb, ◌≢◌, length-append}
+use Rattle.std.proofs.Common.{◌*◌, ◌≡◌, ℕ, zero, suc, ◌+◌, ◌<◌, ◌≤◌, Bool, true, false, ◌&&◌, ◌||◌, not, List, [], ◌∷◌, ◌++◌, length, slice_get, Option, Some, None, option_map, refl, sym, ap, ◌∙◌, arith, subst, cond, eqb, ltb, ◌≢◌, length-append}
 use Rattle.std.specs.Prelude.{slice_set, unwrap_or}
 use Rattle.std.specs.Option.{option_map_or}
 use Rattle.std.proofs.lemmas.Bool.{eqb-true, eqb-false, ne_eqb, lt-ltb, le-ltb, false≢true}
 use Rattle.std.proofs.lemmas.Option.{none-some}
+use Rattle.yspec.specs.Forest.{levels}
 use Rattle.ystore.specs.Held.{Told, with_same}
 use Rattle.ystore.specs.Entries.{without}
-use Rattle.ystore.specs.Store.{held_at, same_at, holders_at, instances_at, same_row, same_key}
+use Rattle.ystore.specs.Store.{held_at, reads, same_at, holders_at, instances_at, same_row, same_key, total_at}
 use Rattle.ystore.specs.declared.row.NodeId.{NodeId}
 use Rattle.ystore.specs.declared.row.Row.{Row}
 use Rattle.ystore.specs.declared.row.Row.TheVariants.{Below}
@@ -15,7 +16,7 @@ use Rattle.ystore.specs.declared.record.Judged.{Judged}
 use Rattle.ystore.specs.declared.nodes.Nodes.{Nodes}
 use Rattle.yshape.specs.Hanging.{Branches, times}
 use Rattle.yshape.proofs.FrameLemmas.{same_rows}
-use Rattle.ytell.specs.Totals.{ChangesTold, IsTree, StandsIn, Totals, judged_at, told_at}
+use Rattle.ytell.specs.Totals.{ChangesTold, IsTree, StandsIn, Totals, judged_at, told_at, OnlyFaults}
 use Rattle.ytell.specs.Keys.{AreKeys, Agrees, ChangesAt, IsJudged, Keys, Tells, among, flag_at, flag_of, has_key, is_missing, is_shared, is_touched, judged_by, own_at, own_of, slot_for, slot_of, with_key}
 use Rattle.ytell.proofs.WayLemmas.{not_both, itself}
 use Rattle.ytell.proofs.LawLemmas.{faults_shapes}
@@ -513,6 +514,50 @@ module _ (id other : NodeId) (number : ℕ) (b : Bool) (first second third : Nod
       same_other : same_at second other ≡ same_at first other
       same_other =
           flags_seen (held_at second (Below other)) ∙ (ap (λ o. option_map_or (λ t. t.same) o []) (one.others (Below other) apart) ∙ sym (flags_seen (held_at first (Below other))))
+
+-- the reads of both
+pub both_reads : (id other : NodeId) (number : ℕ) (b : Bool) (first second third : Nodes) (fellow : Option NodeId) (fellows : ℕ) → fellow ≡ Some other → fellows ≡ 1
+    → OnlyFaults first second → (f : Branches) → IsTree first f
+    → ((x : NodeId) → is_touched id fellow fellows (Below x) ≡ true → StandsIn (Below x) f)
+    → (IsTree first f → StandsIn (Below id) f → reads second ≤ reads first + levels f)
+    → (IsTree second f → StandsIn (Below other) f → reads third ≤ reads second + levels f)
+    → reads third ≤ reads first + 2 * levels f
+both_reads id other number b first second third fellow fellows e n only f tree touches one two =
+    let a = one tree (touches id (is_one id (ap (λ c. c || same_row (Below other) (Below id)) (itself (Below id))))) in
+    let c = two (tree_same first second (faults_shapes first second only) f tree)
+    (touches other (is_one other (ap (λ c. same_row (Below id) (Below other) || c) (itself (Below other)) ∙ or_true (same_row (Below id) (Below other))))) in
+    omega (arith, a, c)
+  where
+    or_true : (a : Bool) → (a || true) ≡ true
+    or_true true = refl
+    or_true false = refl
+
+    is_one : (x : NodeId) → is_touched id (Some other) 1 (Below x) ≡ true → is_touched id fellow fellows (Below x) ≡ true
+    is_one x t = ap (λ o. is_touched id o fellows (Below x)) e ∙ (ap (λ k. is_touched id (Some other) k (Below x)) n ∙ t)
+
+-- and totals beside the forest
+pub both_beside : (id other : NodeId) (first second third : Nodes) (fellow : Option NodeId) (fellows : ℕ) → fellow ≡ Some other → fellows ≡ 1
+    → OnlyFaults first second → (f : Branches) → IsTree first f
+    → ((x : NodeId) → is_touched id fellow fellows (Below x) ≡ true → StandsIn (Below x) f)
+    → (x : NodeId) → (IsTree first f → StandsIn (Below id) f → total_at second (Below x) ≡ total_at first (Below x))
+    → (IsTree second f → StandsIn (Below other) f → total_at third (Below x) ≡ total_at second (Below x))
+    → total_at third (Below x) ≡ total_at first (Below x)
+both_beside id other first second third fellow fellows e n only f tree touches x one two =
+    two (tree_same first second (faults_shapes first second only) f tree)
+    (touches other (is_one other (ap (λ c. same_row (Below id) (Below other) || c) (itself (Below other)) ∙ or_true (same_row (Below id) (Below other)))))
+    ∙ one tree (touches id (is_one id (ap (λ c. c || same_row (Below other) (Below id)) (itself (Below id)))))
+  where
+    or_true : (a : Bool) → (a || true) ≡ true
+    or_true true = refl
+    or_true false = refl
+
+    is_one : (x : NodeId) → is_touched id (Some other) 1 (Below x) ≡ true → is_touched id fellow fellows (Below x) ≡ true
+    is_one x t = ap (λ o. is_touched id o fellows (Below x)) e ∙ (ap (λ k. is_touched id (Some other) k (Below x)) n ∙ t)
+
+pub own_touched : (id : NodeId) (fellow : Option NodeId) (fellows : ℕ) → 0 < fellows → is_touched id fellow fellows (Below id) ≡ true
+own_touched id fellow fellows some =
+    ap (λ a. (a && same_row (Below id) (Below id)) || (eqb fellows 1 && option_map_or (λ other. same_row (Below other) (Below id)) fellow false)) (lt-ltb 0 fellows some)
+    ∙ ap (λ a. a || (eqb fellows 1 && option_map_or (λ other. same_row (Below other) (Below id)) fellow false)) (itself (Below id))
 
 -- ---- why a row is touched
 

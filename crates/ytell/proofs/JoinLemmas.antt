@@ -1,12 +1,13 @@
 -- A node joins those that hold a key, or leaves them.
-use Rattle.std.proofs.Common.{◌≡◌, ℕ, zero, suc, ◌+◌, ◌<◌, ◌≤◌, Bool, true, false, ◌&&◌, [], ◌∷◌, ◌++◌, length, slice_get, Option, Some, None, is_some, option_map, refl, sym, ap, ◌∙◌, arith, subst, cond, eqb, ltb}
+use Rattle.std.proofs.Common.{◌*◌, ◌≡◌, ℕ, zero, suc, ◌+◌, ◌<◌, ◌≤◌, Bool, true, false, ◌&&◌, [], ◌∷◌, ◌++◌, length, slice_get, Option, Some, None, is_some, option_map, refl, sym, ap, ◌∙◌, arith, subst, cond, eqb, ltb}
 use Rattle.std.specs.Prelude.{unwrap_or}
 use Rattle.std.specs.Option.{option_map_or}
 use Rattle.std.proofs.lemmas.Bool.{eqb-true, eqb-false, ne_eqb, lt-ltb, false≢true}
 use Rattle.std.proofs.lemmas.Option.{same_Some, none-some}
+use Rattle.yspec.specs.Forest.{levels}
 use Rattle.ystore.specs.Held.{Told, with_same, with_judged}
 use Rattle.ystore.specs.Entries.{Entry, with_node, without_node, without}
-use Rattle.ystore.specs.Store.{held_at, entry_at, same_at, holders_at, instances_at, node_count, same_row, same_key, ChangesEntry}
+use Rattle.ystore.specs.Store.{held_at, reads, entry_at, same_at, holders_at, instances_at, node_count, same_row, same_key, ChangesEntry, total_at}
 use Rattle.ystore.specs.declared.row.NodeId.{NodeId}
 use Rattle.ystore.specs.declared.row.Row.{Row}
 use Rattle.ystore.specs.declared.row.Row.TheVariants.{Below}
@@ -18,7 +19,7 @@ use Rattle.yshape.specs.Hanging.{Branches, times}
 use Rattle.yshape.proofs.FrameLemmas.{same_rows}
 use Rattle.yshape.specs.Parts.{OnlyReads}
 use Rattle.ytell.specs.Totals.{IsTree, OnlyFaults, StandsIn, Totals, is_told, judged_at, told_at}
-use Rattle.ytell.specs.Keys.{AreKeys, Agrees, ChangesAt, ChangesKey, Follows, Indexes, IsJudged, Keys, Tells, among, flag_of, has_key, is_missing, is_shared, is_touched, judged_by, own_at, own_of, slot_for, slot_of, with_key, wrong_of}
+use Rattle.ytell.specs.Keys.{AreKeys, Agrees, ChangesAt, ChangesKey, Follows, Indexes, IsJudged, Keys, Tells, among, flag_of, has_key, is_missing, is_shared, is_touched, judged_by, own_at, own_of, slot_for, slot_of, two_climbs, with_key, wrong_of}
 pub use Rattle.yshape.proofs.PartLemmas.{reads_on}
 use Rattle.ytell.proofs.WayLemmas.{not_both, itself}
 use Rattle.ytell.proofs.TotalLemmas.{mark, totals_same, tree_same}
@@ -77,6 +78,9 @@ module _ (key : Key) (change : Entry → Entry) where
 
   pub entered_totals : (before after : Nodes) → Enters key change before after → (f : Branches) → Totals before f → Totals after f
   entered_totals before after e f all = totals_same before after (held_faults before after e.held) f all
+
+entered_total : (before after : Nodes) → ((row : Row) → held_at after row ≡ held_at before row) → (row : Row) → total_at after row ≡ total_at before row
+entered_total before after held row = ap (λ o. option_map_or (λ h. h.total) o 0) (held row)
 
 pub no_faults : (nodes : Nodes) → OnlyFaults nodes nodes
 no_faults nodes = record { shapes = λ row. refl; rooms = λ row. refl; entries = λ key. refl; node_count = refl }
@@ -171,12 +175,16 @@ module _ (laws : AreKeys) (key : Key) (id : NodeId) (keys : Keys) (f : Branches)
         → (IsTree second f → Totals second f
         → ((x : NodeId) → is_touched id fellow n (Below x) ≡ true → StandsIn (Below x) f × (slice_get (same_at second x) u ≡ Some false))
         → option_map_or (λ (o : NodeId). eqb id.0 o.0) fellow false ≡ false → Totals third f)
-        → Follows (with_key id.0 (slot_of key) (Some key) keys) f first third
-    joined_fellows u fellow n is_flag wide is_fellow is_n told totals =
+        → reads second ≤ reads first + 2
+        → (IsTree second f → ((x : NodeId) → is_touched id fellow n (Below x) ≡ true → StandsIn (Below x) f) → (reads third ≤ reads second + 2 * levels f) × ((y : NodeId) → times y.0 f ≡ 0 → total_at third (Below y) ≡ total_at second (Below y)))
+        → Follows (two_climbs f) (with_key id.0 (slot_of key) (Some key) keys) f first third
+    joined_fellows u fellow n is_flag wide is_fellow is_n told totals few climbs =
         record {
           agrees = record { index = index; tells = tells_joined laws key id u keys f first third agrees is_flag else instances free wide here since };
           totals = totals (entered_tree key (with_node id) first second entered f tree) (entered_totals key (with_node id) first second entered f all) touches differ;
           own = own_kept touched u true first third since;
+          reads = let more = (climbs (entered_tree key (with_node id) first second entered f tree) (λ x t. (touches x t).0)).0 in omega (arith, few, more);
+          totals_beside = λ y none. (climbs (entered_tree key (with_node id) first second entered f tree) (λ x t. (touches x t).0)).1 y none ∙ entered_total first second entered.held (Below y);
           beside = λ x none. untouched touched (with_same u true) first third since (Below x) (not_both (touched (Below x)) (λ t.
               absurd (let some = (why x t).0 in omega (arith, some, none))));
         }
@@ -228,13 +236,16 @@ module _ (laws : AreKeys) (key : Key) (id : NodeId) (keys : Keys) (f : Branches)
     pub joined_value : (b : Bool) → flag_of key ≡ None → judged_at first id ≡ Some Right → eqb (instances_at first key) 0 ≡ b
         → ChangesAt (λ row. b && same_row (Below id) row) (with_judged Missing) second third
         → (IsTree second f → Totals second f → StandsIn (Below id) f → option_map is_told (judged_at second id) ≡ Some false → Totals third f)
-        → Follows (with_key id.0 (slot_of key) (Some key) keys) f first third
-    joined_value b is_value right is_b told totals =
+        → reads second ≤ reads first + 2 → (IsTree second f → StandsIn (Below id) f → (reads third ≤ reads second + levels f) × ((y : NodeId) → times y.0 f ≡ 0 → total_at third (Below y) ≡ total_at second (Below y)))
+        → Follows (two_climbs f) (with_key id.0 (slot_of key) (Some key) keys) f first third
+    joined_value b is_value right is_b told totals few climbs =
         record {
           agrees = record { index = index; tells = tells };
           totals = totals (entered_tree key (with_node id) first second entered f tree) (entered_totals key (with_node id) first second entered f all) stands_there
               (ap (option_map is_told) (ap (option_map (λ t. t.judged)) (told_before (Below id)) ∙ right));
           own = own_judged (touched_if b) Missing first third since refl (λ row t. own_right row t);
+          reads = let more = (climbs (entered_tree key (with_node id) first second entered f tree) stands_there).0 in omega (arith, few, more);
+          totals_beside = λ y none. (climbs (entered_tree key (with_node id) first second entered f tree) stands_there).1 y none ∙ entered_total first second entered.held (Below y);
           beside = λ x none. untouched (touched_if b) (with_judged Missing) first third since (Below x) (not_both (touched_if b (Below x)) (λ t.
               absurd (let same = ap (λ k. times k f) (eqb-true id.0 x.0 (and_second b (same_row (Below id) (Below x)) t)) in
               omega (arith, same, none, stands_there))));
@@ -339,12 +350,16 @@ module _ (laws : AreKeys) (key : Key) (id : NodeId) (keys : Keys) (f : Branches)
         → (IsTree second f → Totals second f
         → ((x : NodeId) → is_touched id fellow n (Below x) ≡ true → StandsIn (Below x) f × (slice_get (same_at second x) u ≡ Some true))
         → option_map_or (λ (o : NodeId). eqb id.0 o.0) fellow false ≡ false → Totals third f)
-        → Follows (with_key id.0 (slot_of key) None keys) f first third
-    left_fellows u fellow n is_flag fellow_second n_second told totals =
+        → reads second ≤ reads first + 2
+        → (IsTree second f → ((x : NodeId) → is_touched id fellow n (Below x) ≡ true → StandsIn (Below x) f) → (reads third ≤ reads second + 2 * levels f) × ((y : NodeId) → times y.0 f ≡ 0 → total_at third (Below y) ≡ total_at second (Below y)))
+        → Follows (two_climbs f) (with_key id.0 (slot_of key) None keys) f first third
+    left_fellows u fellow n is_flag fellow_second n_second told totals few climbs =
         record {
           agrees = record { index = index_left; tells = tells_left laws key id u keys f first third agrees is_flag others_stay instances_stay has fewer since };
           totals = totals (entered_tree key (without_node id) first second entered f tree) (entered_totals key (without_node id) first second entered f all) touches differ;
           own = own_kept touched_left u false first third since;
+          reads = let more = (climbs (entered_tree key (without_node id) first second entered f tree) (λ x t. (touches x t).0)).0 in omega (arith, few, more);
+          totals_beside = λ y none. (climbs (entered_tree key (without_node id) first second entered f tree) (λ x t. (touches x t).0)).1 y none ∙ entered_total first second entered.held (Below y);
           beside = λ x none. untouched touched_left (with_same u false) first third since (Below x) (not_both (touched_left (Below x)) (λ t.
               absurd (let some = (why x t).0 in omega (arith, some, none))));
         }
@@ -422,13 +437,16 @@ module _ (laws : AreKeys) (key : Key) (id : NodeId) (keys : Keys) (f : Branches)
     pub left_value : (b : Bool) → flag_of key ≡ None → eqb (instances_at first key) 0 ≡ b
         → ChangesAt (λ row. b && same_row (Below id) row) (with_judged Right) second third
         → (IsTree second f → Totals second f → StandsIn (Below id) f → option_map is_told (judged_at second id) ≡ Some b → Totals third f)
-        → Follows (with_key id.0 (slot_of key) None keys) f first third
-    left_value b is_value is_b told totals =
+        → reads second ≤ reads first + 2 → (IsTree second f → StandsIn (Below id) f → (reads third ≤ reads second + levels f) × ((y : NodeId) → times y.0 f ≡ 0 → total_at third (Below y) ≡ total_at second (Below y)))
+        → Follows (two_climbs f) (with_key id.0 (slot_of key) None keys) f first third
+    left_value b is_value is_b told totals few climbs =
         record {
           agrees = record { index = index_left; tells = tells };
           totals = totals (entered_tree key (without_node id) first second entered f tree) (entered_totals key (without_node id) first second entered f all) stood
               (ap (option_map is_told) (ap (option_map (λ t. t.judged)) (told_stays (Below id)) ∙ was) ∙ told_if b);
           own = own_judged (left_if b) Right first third since refl (λ row t. own_right row t);
+          reads = let more = (climbs (entered_tree key (without_node id) first second entered f tree) stood).0 in omega (arith, few, more);
+          totals_beside = λ y none. (climbs (entered_tree key (without_node id) first second entered f tree) stood).1 y none ∙ entered_total first second entered.held (Below y);
           beside = λ x none. untouched (left_if b) (with_judged Right) first third since (Below x) (not_both (left_if b (Below x)) (λ t.
               absurd (let same = ap (λ k. times k f) (eqb-true id.0 x.0 (and_second b (same_row (Below id) (Below x)) t)) in let there = stood in
               omega (arith, same, none, there))));

@@ -1,19 +1,22 @@
 -- Totals where a branch comes into a row or is taken out of it.
-use Rattle.std.proofs.Common.{◌≡◌, ℕ, zero, suc, ◌-◌, ◌^◌, ◌≤◌, List, option_map, refl, sym, ap, ◌∙◌, arith, subst, cond, Bool, true, false}
-use Rattle.yspec.specs.Forest.{end, node, join, size}
-use Rattle.ystore.specs.Rows.{Child, end_place}
+use Rattle.std.specs.Option.{option_map_or}
+use Rattle.ytell.proofs.WayLemmas.{not_both}
+use Rattle.std.proofs.Common.{◌+◌, ◌<◌, ◌≡◌, ℕ, zero, suc, ◌-◌, ◌^◌, ◌≤◌, List, option_map, refl, sym, ap, ◌∙◌, arith, subst, cond, Bool, true, false, min, length}
+use Rattle.yspec.specs.Forest.{end, node, join, size, weigh}
+use Rattle.ystore.specs.Rows.{Child, end_place, first_place, of_schema}
 use Rattle.ystore.specs.Held.{with_children, with_room}
 use Rattle.ystore.specs.Store.{held_at, total_at, ChangesRow}
+use Rattle.ystore.specs.declared.row.NodeId.{NodeId}
 use Rattle.ystore.specs.declared.row.Row.{Row}
 use Rattle.ystore.specs.declared.row.Row.TheVariants.{Top, Below}
 use Rattle.ystore.specs.declared.nodes.Nodes.{Nodes}
-use Rattle.yshape.specs.Hanging.{Numbered, Branches, Keeps, children_of, times}
+use Rattle.yshape.specs.Hanging.{Numbered, Branches, Keeps, children_of, times, is_number}
 use Rattle.yshape.specs.Ways.{Way, around}
-use Rattle.yshape.specs.Changes.{SameShapes, put_at, with_node}
-use Rattle.yshape.proofs.HangingLemmas.{is_itself, size_weigh, weigh_around, weigh_join}
-use Rattle.ytell.specs.Totals.{all_told, AreTotals, Climbs, IsTree, OnlyFaults, SameFaults, TellsNothing, Totals, on_way, moved}
+use Rattle.yshape.specs.Changes.{SameShapes, put_at, with_node, with_node_at}
+use Rattle.yshape.proofs.HangingLemmas.{is_itself, size_weigh, weigh_around, weigh_join, weigh_put}
+use Rattle.ytell.specs.Totals.{all_told, AreTotals, Climbs, IsTree, OnlyFaults, SameFaults, TellsNothing, Totals, on_way, moved, IsSmall, number_of, is_below, told_count, told_at}
 use Rattle.ytell.proofs.ClimbLemmas.{left_alone, same_total}
-use Rattle.ytell.proofs.TotalLemmas.{moved_exact, replaced, are_second, are_end}
+use Rattle.ytell.proofs.TotalLemmas.{moved_exact, replaced, are_second, are_end, below_outside, changed, are_join, are_first, totals_same}
 
 -- ---- what leaves faults
 
@@ -162,3 +165,72 @@ silent nodes (node n below after) nothing =
 
 pub root_silent : (nodes : Nodes) (n : Numbered) (below : Branches) → TellsNothing nodes (node n below end) → total_at nodes (Below n.id) ≡ 0
 root_silent nodes n below nothing = (nothing n.id (let one = is_itself n in omega (arith, one))).1
+
+pub silent_document : (nodes : Nodes) (f : Branches) → TellsNothing nodes f → told_count nodes Top ≡ 0 → total_at nodes Top ≡ 0 → IsSmall nodes f → Totals nodes f
+silent_document nodes f nothing told total small =
+    let all = silent nodes f nothing in
+    record { top = let none = all.0 in omega (arith, told, total, none); below = all.1; small = small }
+
+pub silent_kept : (before after : Nodes) (f : Branches)
+    → ((id : NodeId) → 0 < times id.0 f → (told_at after (Below id) ≡ told_at before (Below id)) × (total_at after (Below id) ≡ total_at before (Below id)))
+    → TellsNothing before f → TellsNothing after f
+silent_kept before after f same nothing id there = (
+  ap (λ o. option_map_or number_of o 0) (same id there).0 ∙ (nothing id there).0,
+  (same id there).1 ∙ (nothing id there).1,
+)
+
+pub climbs_inside : (before after : Nodes) (way : Way) (f : Branches) (more less : ℕ) (id : NodeId) → Climbs way more less before after
+    → times id.0 (around way f) ≡ 0 → total_at after (Below id) ≡ total_at before (Below id)
+climbs_inside before after way f more less id climbs none =
+    climbs.totals (Below id)
+    ∙ ap (λ b. cond b (moved more less (total_at before (Below id))) (total_at before (Below id)))
+    (not_both (is_below way (Below id)) (λ t.
+    let out = below_outside way id t in let whole = weigh_around (is_number id.0) way f in omega (arith, out, whole, none)))
+
+-- ---- a node that moves in its row
+
+are_put : (nodes : Nodes) (place : ℕ) (n : Numbered) (below f : Branches) → AreTotals nodes (node n below end) → AreTotals nodes f → AreTotals nodes (put_at place n below f)
+are_put nodes zero n below f new are = (new.0, new.1, are)
+are_put nodes (suc place) n below end new are = new
+are_put nodes (suc place) n below (node m under after) new are = (are.0, are.1, are_put nodes place n below after new are.2)
+
+module _ (before after : Nodes) (way : Way) (first rest : Branches) (m : Numbered) (under : Branches) (place : ℕ)
+    (all : Totals before (around way (join first (node m under rest)))) (tree : IsTree before (around way (join first (node m under rest))))
+    (same : SameFaults before after) where
+  abbrev at : ℕ
+  at = first_place m.schema (children_of (join first rest)) + min place (length (of_schema m.schema (children_of (join first rest))))
+
+  was_all : Totals after (around way (join first (node m under rest)))
+  was_all = totals_same before after same (around way (join first (node m under rest))) all
+
+  same_weight : (w : Numbered → ℕ) → weigh w (put_at at m under (join first rest)) ≡ weigh w (join first (node m under rest))
+  same_weight w =
+      let a = weigh_put w at m under (join first rest) in let b = weigh_join w first rest in let c = weigh_join w first (node m under rest) in
+      omega (arith, a, b, c)
+
+  pub moved_totals : Totals after (around way (with_node_at place m under (join first rest)))
+  moved_totals =
+      changed (λ t. t) 0 0 (2 ^ 64 - 1) (λ t within enough. refl) after after way (join first (node m under rest)) (put_at at m under (join first rest)) was_all tree.once
+      (λ row apart. refl) (λ row. both (on_way Top way row) (total_at after row)) are
+      (let e = same_weight (λ n. told_count after (Below n.id)) in omega (arith, e)) (omega arith)
+      (record { few = few; each = was_all.small.each })
+    where
+      both : (b : Bool) (t : ℕ) → t ≡ cond b t t
+      both true t = refl
+      both false t = refl
+
+      parts : AreTotals after (node m under rest)
+      parts = are_second after first (node m under rest) (are_end after way (join first (node m under rest)) was_all.below)
+
+      are : AreTotals after (put_at at m under (join first rest))
+      are =
+          are_put after at m under (join first rest) (parts.0, parts.1, tt)
+          (are_join after first rest (are_first after first (node m under rest) (are_end after way (join first (node m under rest)) was_all.below)) parts.2)
+
+      few : size (around way (put_at at m under (join first rest))) ≤ 2 ^ 28
+      few =
+          let was = was_all.small.few in
+          let a = size_weigh (around way (join first (node m under rest))) in let b = size_weigh (around way (put_at at m under (join first rest))) in
+          let c = weigh_around (λ _. 1) way (join first (node m under rest)) in let d = weigh_around (λ _. 1) way (put_at at m under (join first rest)) in
+          let e = same_weight (λ _. 1) in
+          omega (arith, was, a, b, c, d, e)

@@ -6,25 +6,26 @@ use Rattle.std.specs.List.{sum_by}
 use Rattle.std.proofs.lemmas.Bool.{false≢true}
 use Rattle.std.proofs.lemmas.Option.{same_Some, none-some}
 use Rattle.std.proofs.lemmas.List.Sums.{sum_by-cons}
+use Rattle.yspec.specs.Forest.{levels}
 use Rattle.ycheck.specs.declared.fault.FaultCode.{FaultCode}
 use Rattle.ymodel.specs.declared.node.SchemaId.{SchemaId}
 use Rattle.ystore.specs.Held.{Held, Told, with_told, with_judged, with_same, with_play}
-use Rattle.ystore.specs.Store.{held_at, same_at, play_at, ChangesRow}
+use Rattle.ystore.specs.Store.{held_at, reads, same_at, play_at, ChangesRow, total_at}
 use Rattle.ystore.specs.declared.row.NodeId.{NodeId}
 use Rattle.ystore.specs.declared.row.Row.{Row}
 use Rattle.ystore.specs.declared.row.Row.TheVariants.{Top, Below}
 use Rattle.ystore.specs.declared.record.Judged.{Judged}
 use Rattle.ystore.specs.declared.nodes.Nodes.{Nodes}
-use Rattle.yshape.specs.Hanging.{Branches, Hangs}
+use Rattle.yshape.specs.Hanging.{Branches, Hangs, times}
 use Rattle.yshape.specs.Ways.{Way, around, end_of}
 use Rattle.yshape.specs.Changes.{SameShapes}
 use Rattle.yshape.specs.Parts.{OnlyReads}
 use Rattle.yshape.proofs.FrameLemmas as frame
 pub use Rattle.yshape.proofs.PartLemmas.{one_read}
-use Rattle.ytell.specs.Totals.{told_at, judged_at, is_told, IsFew, IsTree, Totals, StandsIn, Climbs, OnlyFaults, SameTold, SameFaults, ChangesTold}
-use Rattle.ytell.proofs.WayLemmas.{way_to, end_held}
-use Rattle.ytell.proofs.ClimbLemmas.{left_alone, only_on, read_only, read_told, read_total}
-use Rattle.ytell.proofs.TotalLemmas.{told_changed, told_row, mark}
+use Rattle.ytell.specs.Totals.{told_at, judged_at, is_told, IsFew, IsTree, Totals, StandsIn, Climbs, OnlyFaults, SameTold, SameFaults, ChangesTold, moved, is_below}
+use Rattle.ytell.proofs.WayLemmas.{way_levels, way_to, end_held, below_inside, parted, not_both}
+use Rattle.ytell.proofs.ClimbLemmas.{left_alone, only_on, read_only, read_told, read_total, same_total}
+use Rattle.ytell.proofs.TotalLemmas.{told_changed, told_row, tree_same, mark}
 
 pub told_only : (row : Row) (change : Told → Told) (before after : Nodes) → ChangesRow row (option_map (with_told change)) before after → OnlyFaults before after
 told_only row change before after changes =
@@ -173,3 +174,53 @@ told_after_read row change old read new reads told =
 
 pub play_read : (old read : Nodes) (row : Row) → OnlyReads old read → play_at read row ≡ play_at old row
 play_read old read row reads = ap (λ o. option_map_or (λ held. held.told.play) o []) (reads.held row)
+
+-- ---- reads
+
+-- a climb reads no more than the forest is deep
+pub climb_reads : (old mid new : Nodes) (f : Branches) (row : Row) → IsTree old f → StandsIn row f → SameShapes old mid
+    → ((way : Way) (g : Branches) → IsTree mid (around way g) → end_of Top way ≡ row → reads new ≤ reads mid + length way)
+    → reads new ≤ reads mid + levels f
+climb_reads old mid new f Top tree stands same climb =
+    let few = climb [] f (tree_same old mid same f tree) refl in omega (arith, few)
+climb_reads old mid new f (Below id) tree stands same climb =
+    let to = way_to id f stands in
+    let way : Way = to.first ∷ to.rest in
+    let few = climb way to.below (tree_same old mid same (around way to.below) (subst (λ g. IsTree old g) to.is_forest tree)) to.ends in
+    let deep = way_levels way to.below in
+    let same_levels = ap levels to.is_forest in
+    omega (arith, few, deep, same_levels)
+
+pub told_reads : (row : Row) (change : Told → Told) (old mid new : Nodes) → ChangesRow row (option_map (with_told change)) old mid
+    → (f : Branches) → IsTree old f → StandsIn row f
+    → ((way : Way) (g : Branches) → IsTree mid (around way g) → end_of Top way ≡ row → reads new ≤ reads mid + length way)
+    → reads new ≤ reads old + levels f
+told_reads row change old mid new changes f tree stands climb =
+    let few = climb_reads old mid new f row tree stands (frame.told_same row old mid change changes) climb in
+    let same = changes.reads in omega (arith, few, same)
+
+-- ---- totals beside the forest
+
+climb_beside : (old mid new : Nodes) (f : Branches) (row : Row) (more less : ℕ) → IsTree old f → StandsIn row f → SameShapes old mid
+    → ((way : Way) (g : Branches) → IsTree mid (around way g) → end_of Top way ≡ row → Climbs way more less mid new)
+    → (x : NodeId) → times x.0 f ≡ 0 → total_at new (Below x) ≡ total_at mid (Below x)
+climb_beside old mid new f Top more less tree stands same climb x none = (climb [] f (tree_same old mid same f tree) refl).totals (Below x)
+climb_beside old mid new f (Below id) more less tree stands same climb x none =
+    let to = way_to id f stands in
+    let way : Way = to.first ∷ to.rest in
+    let climbs = climb way to.below (tree_same old mid same (around way to.below) (subst (λ g. IsTree old g) to.is_forest tree)) to.ends in
+    climbs.totals (Below x)
+    ∙ ap (λ b. cond b (moved more less (total_at mid (Below x))) (total_at mid (Below x)))
+    (not_both (is_below way (Below x)) (λ t.
+    let inside = below_inside to.first to.rest to.below x t in
+    let parts = parted x.0 to.first to.rest to.below in
+    let whole = ap (times x.0) to.is_forest in
+    omega (arith, inside, parts, whole, none)))
+
+pub told_beside : (row : Row) (change : Told → Told) (old mid new : Nodes) (more less : ℕ) → ChangesRow row (option_map (with_told change)) old mid
+    → (f : Branches) → IsTree old f → StandsIn row f
+    → ((way : Way) (g : Branches) → IsTree mid (around way g) → end_of Top way ≡ row → Climbs way more less mid new)
+    → (x : NodeId) → times x.0 f ≡ 0 → total_at new (Below x) ≡ total_at old (Below x)
+told_beside row change old mid new more less changes f tree stands climb x none =
+    climb_beside old mid new f row more less tree stands (frame.told_same row old mid change changes) climb x none
+    ∙ same_total old mid (Below x) (left_alone (λ h. h.total) (with_told change) (λ h. refl) row old mid changes (Below x))

@@ -1,12 +1,12 @@
 -- All nodes that refer to a value are judged anew.
-use Rattle.std.proofs.Common.{◌≡◌, ℕ, zero, suc, ◌+◌, ◌-◌, ◌^◌, ◌<◌, ◌≤◌, min, Bool, true, false, ◌&&◌, ◌||◌, List, [], ◌∷◌, ◌++◌, length, take, slice_get, Option, Some, None, is_some, option_map, refl, sym, ap, ◌∙◌, arith, subst, cond, eqb, ltb}
+use Rattle.std.proofs.Common.{◌≡◌, ℕ, zero, suc, ◌+◌, ◌-◌, ◌^◌, ◌<◌, ◌≤◌, min, Bool, true, false, ◌&&◌, ◌||◌, List, [], ◌∷◌, ◌++◌, length, take, slice_get, Option, Some, None, is_some, option_map, refl, sym, ap, ◌∙◌, arith, subst, cond, eqb, ltb, ◌*◌}
 use Rattle.std.specs.Prelude.{unwrap_or}
 use Rattle.std.specs.Option.{option_map_or}
-use Rattle.std.proofs.lemmas.Bool.{eq-eqb, ne_eqb, lt-ltb, le-ltb, false≢true}
+use Rattle.std.proofs.lemmas.Bool.{eqb-true, eqb-false, eq-eqb, ne_eqb, lt-ltb, le-ltb, false≢true}
 use Rattle.std.proofs.lemmas.Option.{same_Some, none-some}
 use Rattle.ystore.specs.Held.{Told, with_judged}
 use Rattle.ystore.specs.Entries.{Entry, without_instance}
-use Rattle.ystore.specs.Store.{entry_at, holders_at, instances_at, same_row, same_key}
+use Rattle.ystore.specs.Store.{entry_at, holders_at, instances_at, same_row, same_key, reads, total_at}
 use Rattle.ystore.specs.declared.row.NodeId.{NodeId}
 use Rattle.ystore.specs.declared.row.Row.{Row}
 use Rattle.ystore.specs.declared.row.Row.TheVariants.{Top, Below}
@@ -17,7 +17,7 @@ use Rattle.ystore.specs.declared.nodes.Nodes.{Nodes}
 use Rattle.yshape.specs.Hanging.{Branches, times}
 use Rattle.yshape.specs.Parts.{OnlyReads}
 use Rattle.ytell.specs.Totals.{ChangesTold, IsTree, OnlyFaults, StandsIn, Totals, is_told, judged_at, told_at}
-use Rattle.ytell.specs.Keys.{AreKeys, Agrees, ChangesAt, ChangesKey, Follows, Indexes, IsJudged, Keys, Tells, among, flag_of, has_key, is_holder, is_missing, judged_by, slot_for, slot_of, wrong_of}
+use Rattle.ytell.specs.Keys.{AreKeys, Agrees, ChangesAt, ChangesKey, Follows, Indexes, IsJudged, Keys, Tells, among, flag_of, has_key, is_holder, is_missing, judged_by, slot_for, slot_of, wrong_of, judging}
 use Rattle.ytell.proofs.WayLemmas.{not_both}
 use Rattle.ytell.proofs.ClimbLemmas.{read_told}
 use Rattle.ytell.proofs.TotalLemmas.{mark}
@@ -188,12 +188,19 @@ module _ (laws : AreKeys) (key : Key) (change : Entry → Entry) (step : ℕ →
 
   pub valued : (b : Bool) (j : Judged) → cond b j (judged_by (instances_at first key)) ≡ judged_by (step (instances_at first key)) → wrong_of j ≡ None
       → ChangesAt (λ row. b && is_holder (holders_at second key) row) (with_judged j) second third
-      → (IsTree second f → Totals second f → Totals third f) → Follows keys f first third
-  valued b j good not_wrong told totals =
+      → (IsTree second f → Totals second f → Totals third f) → reads second ≤ reads first + 1
+      → (IsTree second f → ((x : NodeId) → 1 ≤ among x.0 (holders_at second key) → StandsIn (Below x) f) → (reads third + 1 ≤ reads second + judging b (holders_at second key) f) × ((y : NodeId) → times y.0 f ≡ 0 → total_at third (Below y) ≡ total_at second (Below y)))
+      → Follows (judging b (holders_at first key) f) keys f first third
+  valued b j good not_wrong told totals few climbs =
       record {
         agrees = record { index = index; tells = tells };
         totals = totals (entered_tree key change first second entered f tree) (entered_totals key change first second entered f all);
         own = own_judged (touched_if b) j first third since not_wrong own_right;
+        reads =
+            let more = subst (λ (ids : List NodeId). reads third + 1 ≤ reads second + judging b ids f) holders_second
+            (climbs (entered_tree key change first second entered f tree) (λ x some. (holder_is x (judged_by (instances_at first key)) refl some).0)).0 in
+            omega (arith, few, more);
+        totals_beside = λ y none. (climbs (entered_tree key change first second entered f tree) (λ x some. (holder_is x (judged_by (instances_at first key)) refl some).0)).1 y none ∙ ap (λ o. option_map_or (λ h. h.total) o 0) (entered.held (Below y));
         beside = λ x none. untouched (touched_if b) (with_judged j) first third since (Below x) (not_both (touched_if b (Below x)) (λ t.
             absurd (let there = key_stands first keys f agrees.index x.0 key (touched_holds x t) in omega (arith, there, none))));
       }
@@ -327,3 +334,15 @@ one_less first taken key entered = ap (λ o. option_map_or (λ e. e.instances) o
     by : (o : Option Entry) → option_map_or (λ e. e.instances) (option_map without_instance o) 0 ≡ option_map_or (λ e. e.instances) o 0 - 1
     by (Some e) = refl
     by None = refl
+
+pub one_is : (n : ℕ) → 1 ≤ n → eqb (n - 1) 0 ≡ eqb n 1
+one_is n some = by (eqb n 1) refl
+  where
+    by : (b : Bool) → eqb n 1 ≡ b → eqb (n - 1) 0 ≡ eqb n 1
+    by true e = eq-eqb (n - 1) 0 (let is = eqb-true n 1 e in omega (arith, is)) ∙ sym e
+    by false e = ne_eqb (n - 1) 0 (λ same. eqb-false n 1 e (omega (arith, same, some))) ∙ sym e
+
+-- ---- reads of the loop
+
+pub loop_reads : (now read next start p deep : ℕ) → now ≤ start + (1 + p * (1 + deep)) → read ≡ now + 1 → next ≤ read + deep → next ≤ start + (1 + (p + 1) * (1 + deep))
+loop_reads now read next start p deep a b c = let e : (p + 1) * (1 + deep) ≡ p * (1 + deep) + (1 + deep) = grind arith in omega (arith, a, b, c, e)

@@ -1,7 +1,7 @@
 -- The rows on a way, and which nodes of a forest they stand below.
 use Rattle.std.proofs.Common.{◌≡◌, ℕ, zero, suc, ◌+◌, ◌<◌, ◌≤◌, Bool, true, false, ◌||◌, [], ◌∷◌, ◌++◌, length, Option, Some, None, is_some, option_map, refl, sym, ap, ◌∙◌, arith, subst, cond, eqb}
 use Rattle.std.proofs.lemmas.Bool.{eq-eqb, eqb-true, false≢true}
-use Rattle.yspec.specs.Forest.{end, node, join, size}
+use Rattle.yspec.specs.Forest.{end, node, join, levels, size}
 use Rattle.ystore.specs.Held.{Held}
 use Rattle.ystore.specs.Store.{held_at, same_row}
 use Rattle.ystore.specs.declared.row.NodeId.{NodeId}
@@ -188,3 +188,15 @@ way_within (frame ∷ way) f =
     let whole = size_weigh (around (frame ∷ way) f) in
     let inner = size_weigh (around way f) in
     omega (arith, rest, parts, whole, inner)
+
+levels_second : (f g : Branches) → levels g ≤ levels (join f g)
+levels_second end g = omega arith
+levels_second (node n below after) g = let rest = levels_second after g in omega (arith, rest)
+
+-- nor than it is deep
+pub way_levels : (way : Way) (f : Branches) → length way ≤ levels (around way f)
+way_levels [] f = omega arith
+way_levels (frame ∷ way) f =
+    let rest = way_levels way f in
+    let parts = levels_second frame.before (node frame.label (around way f) frame.after) in
+    omega (arith, rest, parts)

@@ -1,14 +1,15 @@
 -- Which keys nodes hold, as an index has them, and what is told by them.
-use Rattle.std.specs.Prelude.{◌≡◌, ℕ, suc, ◌<◌, ◌&&◌, ◌||◌, Bool, true, false, List, length, Option, Some, None, option_map, if◌then◌else◌, eqb, ltb, slice_get, unwrap_or}
+use Rattle.std.specs.Prelude.{◌≡◌, ℕ, suc, ◌<◌, ◌&&◌, ◌||◌, Bool, true, false, List, length, Option, Some, None, option_map, if◌then◌else◌, eqb, ltb, slice_get, unwrap_or, ◌+◌, ◌*◌, ◌≤◌}
 use Rattle.std.specs.List.{sum_by}
 use Rattle.std.specs.Option.{option_map_or}
 use Rattle.std.specs.String.{string_bytes}
 use Rattle.yspec.specs.text.Text.{Text}
+use Rattle.yspec.specs.Forest.{levels}
 use Rattle.ycheck.specs.declared.fault.FaultCode.{FaultCode}
 use Rattle.ymodel.specs.declared.node.SchemaId.{SchemaId}
 use Rattle.ystore.specs.Held.{Told}
 use Rattle.ystore.specs.Entries.{Entry}
-use Rattle.ystore.specs.Store.{entry_at, same_at, holders_at, instances_at, node_count, same_key, same_row}
+use Rattle.ystore.specs.Store.{reads, entry_at, same_at, holders_at, instances_at, node_count, same_key, same_row, total_at}
 use Rattle.ystore.specs.declared.row.NodeId.{NodeId}
 use Rattle.ystore.specs.declared.row.Row.{Row}
 use Rattle.ystore.specs.declared.row.Row.TheVariants.{Top, Below}
@@ -47,6 +48,13 @@ with_key number slot key keys m s = if eqb m number && eqb s slot then key else 
 
 abbrev pub has_key : Keys → ℕ → Key → Bool
 has_key keys number key = option_map_or (same_key key) (keys number (slot_of key)) false
+
+-- the same key, or none in both
+abbrev pub IsSimilar : Option Key → Option Key → Type 0
+IsSimilar None None = Unit {0}
+IsSimilar (Some key) (Some other) = same_key key other ≡ true
+IsSimilar None (Some other) = ⊥
+IsSimilar (Some key) None = ⊥
 
 -- what is known of keys that are the same
 pub record AreKeys : Type 0 where
@@ -160,10 +168,20 @@ pub record ChangesKey (key : Key) (change : Entry → Entry) (before after : Nod
   pub rooms : (row : Row) → room_at after row ≡ room_at before row
   pub node_count : node_count after ≡ node_count before
 
--- What is told agrees with an index again, and the totals are right; what no key tells stays, and all that is told of nodes
--- beside the forest.
-pub record Follows (keys : Keys) (f : Branches) (before after : Nodes) : Type 0 where
+-- What is told agrees with an index again, and the totals are right; what no key tells stays, and of nodes beside the
+-- forest all that is told, and their totals. There are so many reads at most.
+pub record Follows (cost : ℕ) (keys : Keys) (f : Branches) (before after : Nodes) : Type 0 where
   pub agrees : Agrees after keys f
   pub totals : Totals after f
   pub own : (row : Row) → own_at after row ≡ own_at before row
   pub beside : (id : NodeId) → times id.0 f ≡ 0 → told_at after (Below id) ≡ told_at before (Below id)
+  pub totals_beside : (id : NodeId) → times id.0 f ≡ 0 → total_at after (Below id) ≡ total_at before (Below id)
+  pub reads : reads after ≤ reads before + cost
+
+-- as many as two climbs take
+abbrev pub two_climbs : Branches → ℕ
+two_climbs f = 2 + 2 * levels f
+
+-- as many as it takes to judge each node that refers to a value, where it does
+abbrev pub judging : Bool → List NodeId → Branches → ℕ
+judging judges ids f = 2 + (if judges then length ids * (1 + levels f) else 0)

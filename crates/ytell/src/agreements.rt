@@ -1,13 +1,13 @@
 //! Laws of what agrees with an index.
 
-ghost use Rattle.std.specs.Prelude.{◌≡◌, ◌<◌, ◌≤◌, ℕ, false, List, [], Option, Some, None, length, option_map, if◌then◌else◌, IfSome};
+ghost use Rattle.std.specs.Prelude.{◌≡◌, ◌+◌, ◌-◌, ◌^◌, ◌<◌, ◌≤◌, ℕ, true, false, is_some, List, [], Option, Some, None, length, option_map, if◌then◌else◌, IfSome};
 ghost use Rattle.yspec.specs.Forest.{weigh};
 ghost use Rattle.ycheck.specs.declared.fault.FaultCode.{FaultCode};
 ghost use Rattle.ymodel.specs.declared.node.SchemaId.{SchemaId};
 ghost use Rattle.ystore.specs.Held.{with_judged, with_play};
-ghost use Rattle.ystore.specs.Entries.{with_awaited};
+ghost use Rattle.ystore.specs.Entries.{Entry, with_awaited, with_instance, with_node, without_instance, without_node};
 ghost use Rattle.ystore.specs.Index.{made_ready, tidied};
-ghost use Rattle.ystore.specs.Store.{entry_at, holders_at, total_at, ChangesEntry};
+ghost use Rattle.ystore.specs.Store.{entry_at, holders_at, instances_at, same_key, total_at, ChangesEntry};
 ghost use Rattle.ystore.specs.declared.key.Key.{Key};
 ghost use Rattle.ystore.specs.declared.row.NodeId.{NodeId};
 ghost use Rattle.ystore.specs.declared.row.Row.{Row};
@@ -15,8 +15,9 @@ ghost use Rattle.ystore.specs.declared.row.Row.TheVariants.{Below};
 ghost use Rattle.ystore.specs.declared.record.Judged.{Judged};
 ghost use Rattle.ystore.specs.declared.nodes.Nodes.{Nodes};
 ghost use Rattle.yshape.specs.Hanging.{Branches, times};
-ghost use Rattle.ytell.specs.Totals.{ChangesTold, IsFew, StandsIn, Totals, told_at};
-ghost use Rattle.ytell.specs.Keys.{Agrees, Keys, SameKeys, TellsNoKey, has_key, is_missing, slot_of};
+ghost use Rattle.yshape.specs.Changes.{SameShapes};
+ghost use Rattle.ytell.specs.Totals.{ChangesTold, IsFew, StandsIn, TellsNothing, Totals, told_at};
+ghost use Rattle.ytell.specs.Keys.{Agrees, ChangesKey, IsSimilar, Keys, SameKeys, TellsNoKey, has_key, is_missing, slot_of};
 
 use crate::alike::keys_alike;
 
@@ -47,11 +48,37 @@ pub fn kept_agreements()
         → ((number slot : ℕ) → times number g ≡ 0 → keys number slot ≡ None)
         → ((id : NodeId) → 0 < times id.0 g → times id.0 f ≡ 0 → TellsNoKey nodes id)
         → Agrees nodes keys g }
+    ensures silent { (nodes : Nodes) (f : Branches) → TellsNothing nodes f → (id : NodeId) → 0 < times id.0 f → TellsNoKey nodes id }
     ensures alike { (nodes : Nodes) (keys others : Keys) (f : Branches) → ((number slot : ℕ) → keys number slot ≡ others number slot)
         → Agrees nodes keys f → Agrees nodes others f }
     ensures empty { (nodes : Nodes) (f : Branches) → ((key : Key) → holders_at nodes key ≡ [])
         → ((id : NodeId) → 0 < times id.0 f → TellsNoKey nodes id) → Agrees nodes (λ number slot. None) f }
 {}
+
+/// How many instances keys have once one comes or goes, or a node joins a key or leaves it; and all shapes stay.
+pub fn changed_keys()
+    ensures more { (key : Key) (before after : Nodes) → ChangesKey key with_instance before after
+        → is_some (entry_at before key) ≡ true → instances_at before key < 2 ^ 64 - 1
+        → (other : Key) → instances_at after other ≡ instances_at before other + (if same_key key other then 1 else 0) }
+    ensures fewer { (key : Key) (before after : Nodes) → ChangesKey key without_instance before after
+        → 1 ≤ instances_at before key
+        → (other : Key) → instances_at after other + (if same_key key other then 1 else 0) ≡ instances_at before other }
+    ensures joined { (key : Key) (id : NodeId) (before after : Nodes) → ChangesKey key (with_node id) before after
+        → (other : Key) → instances_at after other ≡ instances_at before other }
+    ensures left { (key : Key) (id : NodeId) (before after : Nodes) → ChangesKey key (without_node id) before after
+        → (other : Key) → instances_at after other ≡ instances_at before other }
+    ensures shapes { (key : Key) (change : Entry → Entry) (before after : Nodes) → ChangesKey key change before after → SameShapes before after }
+{
+    keys_alike();
+}
+
+/// What is told agrees with an index whichever of keys that are the same a node is said to hold.
+pub fn similar_keys()
+    ensures { (nodes : Nodes) (keys others : Keys) (f : Branches) → ((number slot : ℕ) → IsSimilar (keys number slot) (others number slot))
+        → Agrees nodes keys f → Agrees nodes others f }
+{
+    keys_alike();
+}
 
 /// The nodes of a key are as many as hold it in a forest in which no node stands twice.
 pub fn counted_holders()

@@ -1,16 +1,17 @@
 //! Keys that nodes join and leave, and what is told by them.
 
-ghost use Rattle.std.specs.Prelude.{◌≡◌, true, false, not, Some, None, is_some, option_map, slice_get, eqb};
+ghost use Rattle.std.specs.Prelude.{◌+◌, ◌*◌, ◌≤◌, ◌≡◌, true, false, not, Some, None, is_some, option_map, slice_get, eqb};
 ghost use Rattle.std.specs.Option.{option_map_or};
+ghost use Rattle.yspec.specs.Forest.{levels};
 ghost use Rattle.ystore.specs.Entries.{with_node, without_node};
 ghost use Rattle.ystore.specs.Held.{with_same};
-ghost use Rattle.ystore.specs.Store.{entry_at, is_awaited, same_at};
+ghost use Rattle.ystore.specs.Store.{entry_at, is_awaited, reads, same_at, total_at};
 ghost use Rattle.ystore.specs.Views.{store_of, lent};
 ghost use Rattle.ystore.specs.declared.row.NodeId as rust;
 ghost use Rattle.ystore.specs.declared.row.Row.TheVariants.{Below};
 ghost use Rattle.yshape.specs.Hanging.{Branches, times};
 ghost use Rattle.ytell.specs.Totals.{IsTree, OnlyFaults, StandsIn, Totals};
-ghost use Rattle.ytell.specs.Keys.{Agrees, CanHold, ChangesAt, ChangesKey, Follows, Keys, flag_of, has_key, is_touched, slot_of, with_key};
+ghost use Rattle.ytell.specs.Keys.{Agrees, CanHold, ChangesAt, ChangesKey, Follows, Keys, flag_of, has_key, is_touched, slot_of, two_climbs, with_key};
 
 use crate::alike::keys_alike;
 use crate::telling::{tell_judged, tell_same};
@@ -23,7 +24,7 @@ pub fn join(counted: &mut Counted<'_>, key: &Key, id: NodeId)
         → Agrees (store_of counted.old) keys f → Totals (store_of counted.old) f → StandsIn (Below id) f
         → keys id.0 (slot_of key.now) ≡ None → CanHold (store_of counted.old) id (flag_of key.now)
         → is_some (entry_at (store_of counted.old) key.now) ≡ true
-        → Follows (with_key id.0 (slot_of key.now) (Some key.now) keys) f (store_of counted.old) (store_of counted.new) }
+        → Follows (two_climbs f) (with_key id.0 (slot_of key.now) (Some key.now) keys) f (store_of counted.old) (store_of counted.new) }
     ensures kept { ChangesKey key.now (with_node id) (store_of counted.old) (store_of counted.new) }
     ensures same_reference { lent counted.new ≡ lent counted.old }
 {
@@ -37,7 +38,7 @@ pub fn join(counted: &mut Counted<'_>, key: &Key, id: NodeId)
 pub fn leave(counted: &mut Counted<'_>, key: &Key, id: NodeId)
     ensures follows { (keys : Keys) (f : Branches) → IsTree (store_of counted.old) f
         → Agrees (store_of counted.old) keys f → Totals (store_of counted.old) f → has_key keys id.0 key.now ≡ true
-        → Follows (with_key id.0 (slot_of key.now) None keys) f (store_of counted.old) (store_of counted.new) }
+        → Follows (two_climbs f) (with_key id.0 (slot_of key.now) None keys) f (store_of counted.old) (store_of counted.new) }
     ensures kept { ChangesKey key.now (without_node id) (store_of counted.old) (store_of counted.new) }
     ensures same_reference { lent counted.new ≡ lent counted.old }
 {
@@ -65,7 +66,7 @@ fn join_value(counted: &mut Counted<'_>, key: &Key, id: NodeId)
         → Agrees (store_of counted.old) keys f → Totals (store_of counted.old) f → StandsIn (Below id) f
         → keys id.0 (slot_of key.now) ≡ None → CanHold (store_of counted.old) id None
         → is_some (entry_at (store_of counted.old) key.now) ≡ true
-        → Follows (with_key id.0 (slot_of key.now) (Some key.now) keys) f (store_of counted.old) (store_of counted.new) }
+        → Follows (two_climbs f) (with_key id.0 (slot_of key.now) (Some key.now) keys) f (store_of counted.old) (store_of counted.new) }
     ensures kept { ChangesKey key.now (with_node id) (store_of counted.old) (store_of counted.new) }
     ensures same_reference { lent counted.new ≡ lent counted.old }
 {
@@ -84,7 +85,7 @@ fn join_fellows(counted: &mut Counted<'_>, key: &Key, id: NodeId, number: usize)
         → Agrees (store_of counted.old) keys f → Totals (store_of counted.old) f → StandsIn (Below id) f
         → keys id.0 (slot_of key.now) ≡ None → CanHold (store_of counted.old) id (Some number)
         → is_some (entry_at (store_of counted.old) key.now) ≡ true
-        → Follows (with_key id.0 (slot_of key.now) (Some key.now) keys) f (store_of counted.old) (store_of counted.new) }
+        → Follows (two_climbs f) (with_key id.0 (slot_of key.now) (Some key.now) keys) f (store_of counted.old) (store_of counted.new) }
     ensures kept { ChangesKey key.now (with_node id) (store_of counted.old) (store_of counted.new) }
     ensures same_reference { lent counted.new ≡ lent counted.old }
 {
@@ -99,7 +100,7 @@ fn join_fellows(counted: &mut Counted<'_>, key: &Key, id: NodeId, number: usize)
 fn leave_value(counted: &mut Counted<'_>, key: &Key, id: NodeId)
     ensures follows { flag_of key.now ≡ None → (keys : Keys) (f : Branches) → IsTree (store_of counted.old) f
         → Agrees (store_of counted.old) keys f → Totals (store_of counted.old) f → has_key keys id.0 key.now ≡ true
-        → Follows (with_key id.0 (slot_of key.now) None keys) f (store_of counted.old) (store_of counted.new) }
+        → Follows (two_climbs f) (with_key id.0 (slot_of key.now) None keys) f (store_of counted.old) (store_of counted.new) }
     ensures kept { ChangesKey key.now (without_node id) (store_of counted.old) (store_of counted.new) }
     ensures same_reference { lent counted.new ≡ lent counted.old }
 {
@@ -115,7 +116,7 @@ fn leave_value(counted: &mut Counted<'_>, key: &Key, id: NodeId)
 fn leave_fellows(counted: &mut Counted<'_>, key: &Key, id: NodeId, number: usize)
     ensures follows { flag_of key.now ≡ Some number → (keys : Keys) (f : Branches) → IsTree (store_of counted.old) f
         → Agrees (store_of counted.old) keys f → Totals (store_of counted.old) f → has_key keys id.0 key.now ≡ true
-        → Follows (with_key id.0 (slot_of key.now) None keys) f (store_of counted.old) (store_of counted.new) }
+        → Follows (two_climbs f) (with_key id.0 (slot_of key.now) None keys) f (store_of counted.old) (store_of counted.new) }
     ensures kept { ChangesKey key.now (without_node id) (store_of counted.old) (store_of counted.new) }
     ensures same_reference { lent counted.new ≡ lent counted.old }
 {
@@ -141,6 +142,13 @@ fn tell_fellows(
         → ((x : rust.NodeId) → is_touched id fellow fellows (Below x) ≡ true
         → StandsIn (Below x) f × (slice_get (same_at (store_of counted.old) x) number ≡ Some (not is_same)))
         → option_map_or (λ other. eqb id.0 other.0) fellow false ≡ false → Totals (store_of counted.new) f }
+    ensures reads { (f : Branches) → IsTree (store_of counted.old) f
+        → ((x : rust.NodeId) → is_touched id fellow fellows (Below x) ≡ true → StandsIn (Below x) f)
+        → reads (store_of counted.new) ≤ reads (store_of counted.old) + 2 * levels f }
+    ensures beside { (f : Branches) → IsTree (store_of counted.old) f
+        → ((x : rust.NodeId) → is_touched id fellow fellows (Below x) ≡ true → StandsIn (Below x) f)
+        → (x : rust.NodeId) → times x.0 f ≡ 0
+        → total_at (store_of counted.new) (Below x) ≡ total_at (store_of counted.old) (Below x) }
     ensures same_reference { lent counted.new ≡ lent counted.old }
 {
     if fellows == 0 {

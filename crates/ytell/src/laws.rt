@@ -1,20 +1,21 @@
 //! Laws of what is told, and of totals, in a store.
 
-ghost use Rattle.std.specs.Prelude.{◌≡◌, ◌≤◌, ◌^◌, ℕ, List, Option, option_map};
+ghost use Rattle.std.specs.Prelude.{◌≡◌, ◌<◌, ◌≤◌, ◌^◌, ℕ, List, Option, option_map};
 ghost use Rattle.yspec.specs.Forest.{end, node, join, size};
 ghost use Rattle.ystore.specs.Rows.{Child};
 ghost use Rattle.ystore.specs.Held.{with_children, with_room};
 ghost use Rattle.ystore.specs.Entries.{Entry};
 ghost use Rattle.ystore.specs.Store.{total_at, ChangesRow, ChangesEntry, Stays};
 ghost use Rattle.ystore.specs.declared.key.Key.{Key};
+ghost use Rattle.ystore.specs.declared.row.NodeId.{NodeId};
 ghost use Rattle.ystore.specs.declared.row.Row.{Row};
 ghost use Rattle.ystore.specs.declared.row.Row.TheVariants.{Top, Below};
 ghost use Rattle.ystore.specs.declared.nodes.Nodes.{Nodes};
-ghost use Rattle.yshape.specs.Hanging.{Numbered, Branches, Keeps};
+ghost use Rattle.yshape.specs.Hanging.{Numbered, Branches, Keeps, times};
 ghost use Rattle.yshape.specs.Ways.{Way, around, end_of};
-ghost use Rattle.yshape.specs.Changes.{SameShapes, with_node};
+ghost use Rattle.yshape.specs.Changes.{SameShapes, with_node, with_node_at};
 ghost use Rattle.yshape.specs.Parts.{OnlyReads};
-ghost use Rattle.ytell.specs.Totals.{AreTotals, Climbs, IsTree, OnlyFaults, SameFaults, TellsNothing, Totals};
+ghost use Rattle.ytell.specs.Totals.{AreTotals, Climbs, IsSmall, IsTree, OnlyFaults, SameFaults, TellsNothing, Totals, told_at, told_count};
 
 /// What leaves all that is told and all totals: changes of a row's children or of its room, entries of the index, growths and
 /// reads.
@@ -30,11 +31,14 @@ pub fn same_faults()
     ensures joined { (first second third : Nodes) → SameFaults first second → SameFaults second third → SameFaults first third }
 {}
 
-/// Totals are right as long as what is told and all totals stay, and a climb is one beside changes that leave them.
+/// Totals are right as long as what is told and all totals stay, and a climb is one beside changes that leave them. It leaves
+/// the totals of nodes beside the forest.
 pub fn kept_totals()
     ensures totals { (before after : Nodes) (f : Branches) → SameFaults before after → Totals before f → Totals after f }
     ensures climbs { (first before after last : Nodes) (way : Way) (more less : ℕ) → SameFaults first before
         → Climbs way more less before after → SameFaults after last → Climbs way more less first last }
+    ensures beside { (before after : Nodes) (way : Way) (f : Branches) (more less : ℕ) (id : NodeId) → Climbs way more less before after
+        → times id.0 (around way f) ≡ 0 → total_at after (Below id) ≡ total_at before (Below id) }
 {}
 
 /// A forest hangs on the top as long as all shapes stay; writes of faults leave them.
@@ -46,7 +50,7 @@ pub fn kept_trees()
 {}
 
 /// Where a row changes, wherever it stands, the totals are right once the rows above it have climbed by the total of what came
-/// into it and of what was taken out.
+/// into it and of what was taken out; a node that moves in its row changes none.
 pub fn changed_totals()
     ensures added { (before after : Nodes) (way : Way) (f : Branches) (n : Numbered) (below : Branches) (more : ℕ)
         → Totals before (around way f) → IsTree before (around way f) → AreTotals after (node n below end)
@@ -61,12 +65,20 @@ pub fn changed_totals()
         → Totals before (around way (join first (node m under rest))) → IsTree before (around way (join first (node m under rest)))
         → total_at before (Below m.id) ≡ less
         → Climbs way 0 less before after → Totals after (around way (join first rest)) }
+    ensures moved { (before after : Nodes) (way : Way) (first rest : Branches) (m : Numbered) (under : Branches) (place : ℕ)
+        → Totals before (around way (join first (node m under rest))) → IsTree before (around way (join first (node m under rest)))
+        → SameFaults before after → Totals after (around way (with_node_at place m under (join first rest))) }
 {}
 
-/// A branch of nodes at which nothing is told, and whose totals are 0, has right totals; where such a branch is added, nothing
-/// climbs.
+/// A branch of nodes at which nothing is told, and whose totals are 0, has right totals, and so has a document of such nodes;
+/// where such a branch is added, nothing climbs. It stays so as long as the same is told of its nodes, with the same totals.
 pub fn silent_branches()
     ensures totals { (nodes : Nodes) (f : Branches) → TellsNothing nodes f → AreTotals nodes f }
+    ensures document { (nodes : Nodes) (f : Branches) → TellsNothing nodes f → told_count nodes Top ≡ 0 → total_at nodes Top ≡ 0
+        → IsSmall nodes f → Totals nodes f }
+    ensures kept { (before after : Nodes) (f : Branches) → ((id : NodeId) → 0 < times id.0 f
+        → (told_at after (Below id) ≡ told_at before (Below id)) × (total_at after (Below id) ≡ total_at before (Below id)))
+        → TellsNothing before f → TellsNothing after f }
     ensures added { (before after : Nodes) (way : Way) (f : Branches) (n : Numbered) (below : Branches)
         → Totals before (around way f) → IsTree before (around way f) → TellsNothing after (node n below end)
         → size (around way (with_node n below f)) ≤ 2 ^ 28

@@ -9,7 +9,9 @@ mod telling;
 mod totals;
 mod values;
 
-pub use agreements::{counted_holders, kept_agreements, same_entries, same_totals};
+pub use agreements::{
+    changed_keys, counted_holders, kept_agreements, same_entries, same_totals, similar_keys,
+};
 pub use alike::keys_alike;
 pub use keys::{join, leave};
 pub use laws::{changed_totals, kept_totals, kept_trees, same_faults, silent_branches};

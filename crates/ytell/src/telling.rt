@@ -1,11 +1,13 @@
 //! Writes of what is told, with the totals above.
 
-ghost use Rattle.std.specs.Prelude.{◌≡◌, ◌<◌, ◌≤◌, ◌^◌, Some, length, option_map, slice_get, if◌then◌else◌};
+ghost use Rattle.std.specs.Prelude.{◌≡◌, ◌<◌, ◌≤◌, ◌^◌, Some, length, option_map, slice_get, if◌then◌else◌, ◌+◌};
+ghost use Rattle.yspec.specs.Forest.{levels};
 ghost use Rattle.ystore.specs.Held.{with_judged, with_same, with_play};
-ghost use Rattle.ystore.specs.Store.{same_at};
+ghost use Rattle.ystore.specs.Store.{reads, same_at, total_at};
 ghost use Rattle.ystore.specs.Views.{store_of, lent};
+ghost use Rattle.ystore.specs.declared.row.NodeId as rust;
 ghost use Rattle.ystore.specs.declared.row.Row.TheVariants.{Below};
-ghost use Rattle.yshape.specs.Hanging.{Branches};
+ghost use Rattle.yshape.specs.Hanging.{Branches, times};
 ghost use Rattle.ytell.specs.Totals.{ChangesTold, IsTree, StandsIn, Totals, is_told, judged_at};
 
 use crate::totals::climb;
@@ -17,6 +19,10 @@ pub fn tell_judged(counted: &mut Counted<'_>, id: NodeId, judged: Judged, was: b
     ensures totals { (f : Branches) → IsTree (store_of counted.old) f → Totals (store_of counted.old) f
         → StandsIn (Below id) f → option_map is_told (judged_at (store_of counted.old) id) ≡ Some was
         → Totals (store_of counted.new) f }
+    ensures reads { (f : Branches) → IsTree (store_of counted.old) f → StandsIn (Below id) f
+        → reads (store_of counted.new) ≤ reads (store_of counted.old) + levels f }
+    ensures beside { (f : Branches) (x : rust.NodeId) → IsTree (store_of counted.old) f → StandsIn (Below id) f → times x.0 f ≡ 0
+        → total_at (store_of counted.new) (Below x) ≡ total_at (store_of counted.old) (Below x) }
     ensures same_reference { lent counted.new ≡ lent counted.old }
 {
     let more = count_of(is_fault(&judged));
@@ -31,6 +37,10 @@ pub fn tell_same(counted: &mut Counted<'_>, id: NodeId, number: usize, is_same: 
     ensures totals { (f : Branches) → IsTree (store_of counted.old) f → Totals (store_of counted.old) f
         → StandsIn (Below id) f → slice_get (same_at (store_of counted.old) id) number ≡ Some was
         → Totals (store_of counted.new) f }
+    ensures reads { (f : Branches) → IsTree (store_of counted.old) f → StandsIn (Below id) f
+        → reads (store_of counted.new) ≤ reads (store_of counted.old) + levels f }
+    ensures beside { (f : Branches) (x : rust.NodeId) → IsTree (store_of counted.old) f → StandsIn (Below id) f → times x.0 f ≡ 0
+        → total_at (store_of counted.new) (Below x) ≡ total_at (store_of counted.old) (Below x) }
     ensures same_reference { lent counted.new ≡ lent counted.old }
 {
     counted.set_same(id, number, is_same);
@@ -42,6 +52,10 @@ pub fn tell_play(counted: &mut Counted<'_>, row: Row, play: Vec<Absence>)
     ensures told { ChangesTold row (with_play play.items) (store_of counted.old) (store_of counted.new) }
     ensures totals { (f : Branches) → IsTree (store_of counted.old) f → Totals (store_of counted.old) f
         → StandsIn row f → length play.items ≤ 2 ^ 32 → Totals (store_of counted.new) f }
+    ensures reads { (f : Branches) → IsTree (store_of counted.old) f → StandsIn row f
+        → reads (store_of counted.new) ≤ reads (store_of counted.old) + (1 + levels f) }
+    ensures beside { (f : Branches) (x : rust.NodeId) → IsTree (store_of counted.old) f → StandsIn row f → times x.0 f ≡ 0
+        → total_at (store_of counted.new) (Below x) ≡ total_at (store_of counted.old) (Below x) }
     ensures same_reference { lent counted.new ≡ lent counted.old }
 {
     let more = play.len();

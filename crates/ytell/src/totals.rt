@@ -1,6 +1,7 @@
 //! Totals of a row and of all rows above it.
 
-ghost use Rattle.std.specs.Prelude.{◌≡◌};
+ghost use Rattle.std.specs.Prelude.{◌≡◌, ◌+◌, ◌≤◌, length};
+ghost use Rattle.ystore.specs.Store.{reads};
 ghost use Rattle.ystore.specs.Views.{store_of, lent};
 ghost use Rattle.ystore.specs.declared.row.Row.TheVariants.{Top};
 ghost use Rattle.yshape.specs.Hanging.{Branches};
@@ -10,10 +11,12 @@ ghost use Rattle.ytell.specs.Totals.{IsTree, Climbs, OnlyFaults, SameTold, above
 
 use ystore::{Counted, Row};
 
-/// Raises the total of a row and of all rows above it, and then lowers them.
+/// Raises the total of a row and of all rows above it, and then lowers them. Each row above is read.
 pub fn climb(counted: &mut Counted<'_>, row: Row, more: usize, less: usize)
     ensures climbs { (way : Way) (f : Branches) → IsTree (store_of counted.old) (around way f)
         → end_of Top way ≡ row → Climbs way more less (store_of counted.old) (store_of counted.new) }
+    ensures reads { (way : Way) (f : Branches) → IsTree (store_of counted.old) (around way f)
+        → end_of Top way ≡ row → reads (store_of counted.new) ≤ reads (store_of counted.old) + length way }
     ensures told { SameTold (store_of counted.old) (store_of counted.new) }
     ensures kept { OnlyFaults (store_of counted.old) (store_of counted.new) }
     ensures same_reference { lent counted.new ≡ lent counted.old }
@@ -33,6 +36,8 @@ pub fn climb(counted: &mut Counted<'_>, row: Row, more: usize, less: usize)
 fn row_above(counted: &mut Counted<'_>, row: Row) -> Option<Row>
     ensures above { result ≡ above_of (store_of counted.old) row }
     ensures kept { OnlyReads (store_of counted.old) (store_of counted.new) }
+    ensures reads { reads (store_of counted.new) ≤ reads (store_of counted.old) + 1 }
+    ensures top { row ≡ Top → reads (store_of counted.new) ≡ reads (store_of counted.old) }
     ensures same_reference { lent counted.new ≡ lent counted.old }
 {
     match row {

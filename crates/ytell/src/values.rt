@@ -1,16 +1,17 @@
 //! Instances of values that come and go, and what is told by them.
 
-ghost use Rattle.std.specs.Prelude.{◌≡◌, ◌≤◌, Some, None, if◌then◌else◌};
+ghost use Rattle.std.specs.Prelude.{◌≡◌, ◌+◌, ◌*◌, ◌≤◌, Some, None, eqb, length, if◌then◌else◌};
+ghost use Rattle.yspec.specs.Forest.{levels};
 ghost use Rattle.ystore.specs.Entries.{with_instance, without_instance};
 ghost use Rattle.ystore.specs.Held.{with_judged};
-ghost use Rattle.ystore.specs.Store.{holders_at, instances_at};
+ghost use Rattle.ystore.specs.Store.{holders_at, instances_at, reads, total_at};
 ghost use Rattle.ystore.specs.Views.{store_of, lent};
 ghost use Rattle.ystore.specs.declared.row.NodeId as rust;
 ghost use Rattle.ystore.specs.declared.row.Row.TheVariants.{Below};
 ghost use Rattle.ystore.specs.declared.record.Judged.TheVariants.{Right, Missing};
 ghost use Rattle.yshape.specs.Hanging.{Branches, times};
 ghost use Rattle.ytell.specs.Totals.{IsTree, OnlyFaults, StandsIn, Totals, judged_at};
-ghost use Rattle.ytell.specs.Keys.{Agrees, ChangesAt, ChangesKey, Follows, Keys, among, flag_of, is_holder};
+ghost use Rattle.ytell.specs.Keys.{Agrees, ChangesAt, ChangesKey, Follows, Keys, among, flag_of, is_holder, judging};
 
 use crate::alike::keys_alike;
 use crate::telling::tell_judged;
@@ -20,7 +21,8 @@ use ystore::{Counted, Judged, Key};
 pub fn add_value(counted: &mut Counted<'_>, key: &Key)
     ensures follows { (keys : Keys) (f : Branches) → IsTree (store_of counted.old) f
         → Agrees (store_of counted.old) keys f → Totals (store_of counted.old) f → flag_of key.now ≡ None
-        → Follows keys f (store_of counted.old) (store_of counted.new) }
+        → Follows (judging (eqb (instances_at (store_of counted.old) key.now) 0) (holders_at (store_of counted.old) key.now) f)
+        keys f (store_of counted.old) (store_of counted.new) }
     ensures kept { ChangesKey key.now with_instance (store_of counted.old) (store_of counted.new) }
     ensures same_reference { lent counted.new ≡ lent counted.old }
 {
@@ -38,7 +40,8 @@ pub fn take_value(counted: &mut Counted<'_>, key: &Key)
     ensures follows { (keys : Keys) (f : Branches) → IsTree (store_of counted.old) f
         → Agrees (store_of counted.old) keys f → Totals (store_of counted.old) f → flag_of key.now ≡ None
         → 1 ≤ instances_at (store_of counted.old) key.now
-        → Follows keys f (store_of counted.old) (store_of counted.new) }
+        → Follows (judging (eqb (instances_at (store_of counted.old) key.now) 1) (holders_at (store_of counted.old) key.now) f)
+        keys f (store_of counted.old) (store_of counted.new) }
     ensures kept { ChangesKey key.now without_instance (store_of counted.old) (store_of counted.new) }
     ensures same_reference { lent counted.new ≡ lent counted.old }
 {
@@ -60,6 +63,13 @@ fn judge_holders(counted: &mut Counted<'_>, key: &Key, is_found: bool)
         → StandsIn (Below x) f × (among x.0 (holders_at (store_of counted.old) key.now) ≤ 1)
         × (judged_at (store_of counted.old) x ≡ Some (if is_found then Missing else Right)))
         → Totals (store_of counted.new) f }
+    ensures reads { (f : Branches) → IsTree (store_of counted.old) f
+        → ((x : rust.NodeId) → 1 ≤ among x.0 (holders_at (store_of counted.old) key.now) → StandsIn (Below x) f)
+        → reads (store_of counted.new) ≤ reads (store_of counted.old) + (1 + length (holders_at (store_of counted.old) key.now) * (1 + levels f)) }
+    ensures beside { (f : Branches) → IsTree (store_of counted.old) f
+        → ((x : rust.NodeId) → 1 ≤ among x.0 (holders_at (store_of counted.old) key.now) → StandsIn (Below x) f)
+        → (x : rust.NodeId) → times x.0 f ≡ 0
+        → total_at (store_of counted.new) (Below x) ≡ total_at (store_of counted.old) (Below x) }
     ensures same_reference { lent counted.new ≡ lent counted.old }
 {
     for place in 0..counted.holder_count(key) {

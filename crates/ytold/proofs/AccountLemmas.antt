@@ -28,7 +28,7 @@ use Rattle.yfacts.specs.Keys.{Holding, held_with, held_by}
 use Rattle.yfacts.specs.Judging.{Judged, value_judged}
 use Rattle.ytold.specs.Accounts.{Enters, StandsThere, News, news_view, news_of}
 use Rattle.ytold.specs.declared.account.News as rust
-use Rattle.ytold.specs.Standing.{Standing, Every, standing, keys_held, values_given, absences_in_row, absences_there, defaults_in_row, on_the_way, way_held}
+use Rattle.ytold.specs.Standing.{Standing, Every, IsFewIn, IsFewThere, standing, keys_held, values_given, absences_in_row, absences_there, defaults_in_row, on_the_way, way_held}
 use Rattle.ytold.specs.declared.account.Account.{Account}
 use Rattle.ytold.proofs.EachLemmas.{every_first, every_second, every_join}
 
@@ -72,6 +72,9 @@ values_are schema s of was own now is first second =
 pub absences_are : (schema : Schema) (s : Standing) (of : Option SchemaId) → of ≡ Some s.label.schema
     → absences_in_row schema (number_of of) (tree_of s.below) ≡ absences_there schema s
 absences_are schema s of is = ap (λ (o : Option SchemaId). absences_in_row schema (number_of o) (tree_of s.below)) is
+
+pub few_are : (schema : Schema) (s : Standing) (of : Option SchemaId) → of ≡ Some s.label.schema → IsFewIn schema (number_of of) (tree_of s.below) → IsFewThere schema s
+few_are schema s of is few = subst (λ (o : Option SchemaId). IsFewIn schema (number_of o) (tree_of s.below)) is few
 
 -- ---- all that stand
 

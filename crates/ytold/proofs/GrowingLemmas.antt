@@ -1,10 +1,10 @@
 -- Growths of an index one after another, and what becomes of the nodes that are awaited where entries change.
 use Rattle.std.proofs.Common.{◌≡◌, ℕ, ◌+◌, ◌-◌, ◌<◌, ◌≤◌, Bool, true, false, List, [], ◌∷◌, length, map, get_or, take, drop, Option, Some, None, is_some, option_map, refl, sym, ap, ap₂, ◌∙◌, arith, subst, cond, String, Global}
 use Rattle.std.specs.Prelude.{string_bytes, IfSome}
-use Rattle.std.specs.List.{AllZip}
+use Rattle.std.specs.List.{AllZip, count_by}
 use Rattle.std.specs.Option.{option_map_or}
 use Rattle.std.proofs.lemmas.List.{take_more, take_all, drop_all}
-use Rattle.std.proofs.lemmas.List.Sums.{sum_by-cons, sum_by-drop_more}
+use Rattle.std.proofs.lemmas.List.Sums.{sum_by-cons, sum_by_more, sum_by-drop_more}
 use Rattle.yspec.specs.types.Types.{Val}
 use Rattle.ymodel.specs.declared.node.SchemaId.{SchemaId}
 use Rattle.ystore.specs.Entries.{Entry, none, with_awaited, with_node}
@@ -26,6 +26,12 @@ texts_copied [] [] copied = refl
 texts_copied [] (y ∷ ys) copied = absurd copied
 texts_copied (x ∷ xs) [] copied = absurd copied
 texts_copied (x ∷ xs) (y ∷ ys) copied = ap₂ (λ t ts. t ∷ ts) copied.0 (texts_copied xs ys copied.1)
+
+pub values_copied : (xs ys : List Val) → AllZip (λ x y. y ≡ x) xs ys → ys ≡ xs
+values_copied [] [] copied = refl
+values_copied [] (y ∷ ys) copied = absurd copied
+values_copied (x ∷ xs) [] copied = absurd copied
+values_copied (x ∷ xs) (y ∷ ys) copied = ap₂ (λ t ts. t ∷ ts) copied.0 (values_copied xs ys copied.1)
 
 pub copy_same : (copy key other : Key) → key_view copy ≡ key_view key → same_key copy other ≡ same_key key other
 copy_same copy key other e = same_views copy other ∙ (ap (λ v. same v (key_view other)) e ∙ sym (same_views key other))
@@ -196,6 +202,34 @@ all_awaited first now pairs place key over so_far =
     let none_left = ap (times_joined key) (drop_all place pairs over) in
     omega (arith, none_left, so_far)
 
+-- ---- keys that no one names
+
+module _ {A : Type 0} (at : A → Key) (xs : List A) (first : Nodes) where
+  abbrev times : Key → List A → ℕ
+  times key ys = count_by (λ x. same_key (at x) key) ys
+
+  -- at keys that those so far don't name nothing is changed
+  abbrev pub Untouched : ℕ → Nodes → Type 0
+  Untouched place now = (key : Key) → times key (take place xs) ≡ 0 → entry_at now key ≡ entry_at first key
+
+  pub one_touches : (place : ℕ) (other : A) (now next : Nodes) → place < length xs
+      → ((key : Key) → same_key (at (get_or xs place other)) key ≡ false → entry_at next key ≡ entry_at now key)
+      → Untouched place now → Untouched (place + 1) next
+  one_touches place other now next less others so_far key none = by (same_key (at (get_or xs place other)) key) refl
+    where
+      more : times key (take (place + 1) xs) ≡ times key (take place xs) + mark (same_key (at (get_or xs place other)) key)
+      more = sum_by_more (λ (x : A). mark (same_key (at x) key)) xs place other less
+
+      by : (b : Bool) → same_key (at (get_or xs place other)) key ≡ b → entry_at next key ≡ entry_at first key
+      by true e =
+          let one : mark (same_key (at (get_or xs place other)) key) ≡ 1 = ap mark e in
+          let all = more in
+          absurd (omega (arith, all, none, one))
+      by false e = others key e ∙ so_far key (let all = more in omega (arith, all, none))
+
+  pub all_untouched : (place : ℕ) (now : Nodes) → length xs ≤ place → Untouched place now → (key : Key) → times key xs ≡ 0 → entry_at now key ≡ entry_at first key
+  all_untouched place now over so_far key none = so_far key (ap (times key) (take_all place xs over) ∙ none)
+
 -- ---- nodes that are awaited, and join
 
 pub times_joined-cons : (key : Key) (p : Key × NodeId) (ps : List (Key × NodeId)) → times_joined key (p ∷ ps) ≡ cond (same_key p.0 key) 1 0 + times_joined key ps
@@ -266,6 +300,14 @@ module _ (found : Found) (before after : Nodes) where
   still_there pairs key change leaves changed others =
       there_kept before after pairs
       (entries_so found key change before after changed others (λ o p. is_some o ≡ true → is_some p ≡ true) (λ o e. e) leaves)
+
+pub mapped_awaited : (change : Entry → Entry) → ((e : Entry) → (change e).awaited ≡ e.awaited) → (o : Option Entry) → awaited_of (option_map change o) ≡ awaited_of o
+mapped_awaited change leaves (Some e) = leaves e
+mapped_awaited change leaves None = refl
+
+pub mapped_there : (change : Entry → Entry) (o : Option Entry) → is_some o ≡ true → is_some (option_map change o) ≡ true
+mapped_there change (Some e) there = refl
+mapped_there change None there = there
 
 pub first_there : Found → (nodes : Nodes) (p : SchemaId × Val) (ps : List (SchemaId × Val)) (key : Key) → AreThere nodes (p ∷ ps) → key_view key ≡ value_key p.0.0 p.1
     → is_some (entry_at nodes key) ≡ true

@@ -18,11 +18,12 @@ use Rattle.ystore.specs.declared.nodes.Nodes.{Nodes}
 use Rattle.yshape.specs.Hanging.{Branches, times}
 use Rattle.yshape.specs.Changes.{SameShapes}
 use Rattle.yshape.proofs.FrameLemmas.{hangs_same}
-use Rattle.ytell.specs.Keys.{AreKeys, Agrees, ChangesKey, CanHold, Follows, IsJudged, Keys, Own, flag_of, has_key, is_missing, own_at, own_of, slot_for, slot_of, with_key, wrong_of}
+use Rattle.ytell.specs.Keys as told
+use Rattle.ytell.specs.Keys.{AreKeys, Agrees, ChangesKey, CanHold, IsJudged, Keys, Own, flag_of, has_key, is_missing, own_at, own_of, slot_for, slot_of, with_key, wrong_of}
 use Rattle.ytold.specs.Assigned as assigned
 use Rattle.ytold.specs.Assigned.{CanJoin, CanLeave, joined, left, without_key}
 use Rattle.ytell.specs.Totals.{IsTree, Totals, told_at, judged_at}
-use Rattle.ytold.specs.Joins.{KeepsRows, KeepsInstances, KeepsAwaited, HasOwn, CanHoldAll, fits_flag}
+use Rattle.ytold.specs.Joins.{Follows, KeepsRows, KeepsInstances, KeepsAwaited, HasOwn, CanHoldAll, fits_flag}
 
 -- ---- rows
 
@@ -78,11 +79,22 @@ awaited_on first second third a b key = b key ∙ a key
 -- ---- what is told
 
 pub follows_itself : (nodes : Nodes) (held : Keys) (f : Branches) → Agrees nodes held f → Totals nodes f → Follows held f nodes nodes
-follows_itself nodes held f agrees totals = record { agrees = agrees; totals = totals; own = λ row. refl; beside = λ id none. refl }
+follows_itself nodes held f agrees totals = record { agrees = agrees; totals = totals; own = λ row. refl; beside = λ id none. refl; totals_beside = λ id none. refl }
 
 pub follows_on : (held now : Keys) (f : Branches) (first second third : Nodes) → Follows held f first second → Follows now f second third → Follows now f first third
 follows_on held now f first second third a b =
-    record { agrees = b.agrees; totals = b.totals; own = λ row. b.own row ∙ a.own row; beside = λ id none. b.beside id none ∙ a.beside id none }
+    record {
+      agrees = b.agrees;
+      totals = b.totals;
+      own = λ row. b.own row ∙ a.own row;
+      beside = λ id none. b.beside id none ∙ a.beside id none;
+      totals_beside = λ id none. b.totals_beside id none ∙ a.totals_beside id none;
+    }
+
+-- whatever it took
+pub follows_of : (cost : ℕ) (held : Keys) (f : Branches) (before after : Nodes) → told.Follows cost held f before after → Follows held f before after
+follows_of cost held f before after a =
+    record { agrees = a.agrees; totals = a.totals; own = a.own; beside = a.beside; totals_beside = a.totals_beside }
 
 -- ---- one step
 

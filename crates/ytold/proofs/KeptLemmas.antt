@@ -102,12 +102,12 @@ module _ (schema : Schema) (held now : Assignment Key) (way : Way) (f loose g le
     whole_new : (k : ℕ) → times k (around way g) ≡ (beside_way k way + on_way k way) + times k g
     whole_new k = let all = weigh_around (is_number k) way g in let parts = parts_way k way in omega (arith, all, parts)
 
-    unlike_gone : Unlike gone
+    pub unlike_gone : Unlike gone
     unlike_gone = unlike_both above way f left
         (λ k. let most = once k in let all = weigh_around (is_number k) way f in let p = part k in omega (arith, most, all, p))
         (λ k. let most = once k in omega (arith, most))
 
-    unlike_come : Unlike come
+    pub unlike_come : Unlike come
     unlike_come = unlike_both above way g loose
         (λ k. let most = once k in let all = weigh_around (is_number k) way f in omega (arith, most, all))
         (λ k. let most = once_new k in omega (arith, most))
@@ -121,7 +121,7 @@ module _ (schema : Schema) (held now : Assignment Key) (way : Way) (f loose g le
         (has_none (flat_map (keys_held schema) gone) k slot
         (not_in schema gone k slot (not_in-append k (standing above left) (on_the_way Top way f) (not_standing k above left out) (not_on_way k Top way f off))))
 
-    abbrev Free : Standing → Type 0
+    abbrev pub Free : Standing → Type 0
     Free s = (slot : ℕ) → cond (has_at slot_in (flat_map (keys_held schema) gone) s.label.id.0 slot) None (held s.label.id.0 slot) ≡ None
 
     -- those on the way have left what they held
@@ -175,6 +175,16 @@ module _ (schema : Schema) (held now : Assignment Key) (way : Way) (f loose g le
           ∙ (ap₂ (λ (o p : Option Key). option_or o p) (found.0 slot) (free.0 slot) ∙ or_none (key_at schema s.row (stored_of s.label) (tree_of s.below) slot)),
       keyed_now ss found.1 free.1,
     )
+
+    -- what comes and what stands on the way has no keys, once those that go and those on the way have left theirs
+    pub all_free : Every Free come
+    all_free = every_join Free (standing above loose) (on_the_way Top way g) (new_free (standing above loose) (all_in above loose)) way_free
+
+    -- nor has what goes
+    pub gone_free : Each (HasKeys schema held) above left → Every Free (standing above left)
+    gone_free there =
+        all_left (standing above left) (every_first _ (standing above left) (on_the_way Top way f) (all_found schema gone unlike_gone))
+        (standing_each (HasKeys schema held) above left there)
 
     pub keys_kept : (schema_id : SchemaId) (change : Change) → Swaps schema_id change f loose g left → Each (HasKeys schema now) Top (around way g)
     keys_kept schema_id change swaps =

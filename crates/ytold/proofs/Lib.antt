@@ -5,12 +5,15 @@ pub mod CountingLemmas
 pub mod EachLemmas
 pub mod JoiningLemmas
 pub mod GrowingLemmas
+pub mod GrownLemmas
 pub mod KeptLemmas
 pub mod KeyLemmas
 pub mod NewsLemmas
+pub mod OwnKeptLemmas
 pub mod PlanLemmas
 pub mod RowLemmas
 pub mod SumLemmas
 pub mod UnlikeLemmas
 pub mod ValueLemmas
 pub mod TidyLemmas
+pub mod TransferLemmas

@@ -23,7 +23,7 @@ nodes_join w end g = omega arith
 nodes_join w (node s below after) g = let rest = nodes_join w after g in omega (arith, rest)
 
 -- the labels of a row don't show what stands below one of them
-same_labels : (before : Tree) (s : Stored) (b c after : Tree) → row (join before (node s b after)) ≡ row (join before (node s c after))
+pub same_labels : (before : Tree) (s : Stored) (b c after : Tree) → row (join before (node s b after)) ≡ row (join before (node s c after))
 same_labels end s b c after = refl
 same_labels (node r x f) s b c after = ap (λ (ss : List Stored). r ∷ ss) (same_labels f s b c after)
 

@@ -1,6 +1,7 @@
 -- Entries that are given back.
 use Rattle.std.proofs.Common.{◌≡◌, ℕ, Bool, true, false, ◌&&◌, List, length, Option, Some, None, option_map, refl, sym, ap, ◌∙◌, cond, eqb}
 use Rattle.std.specs.Prelude.{option_and_then}
+use Rattle.std.specs.Option.{option_map_or}
 use Rattle.std.proofs.lemmas.Bool.{eqb-true, false≢true}
 use Rattle.ystore.specs.Entries.{Entry, is_idle}
 use Rattle.ystore.specs.Held.{Held}
@@ -10,12 +11,12 @@ use Rattle.ystore.specs.Store.{entry_at, same_key, ChangesEntry}
 use Rattle.ystore.specs.declared.key.Key.{Key}
 use Rattle.ystore.specs.declared.nodes.Nodes.{Nodes}
 use Rattle.yshape.specs.Hanging.{Branches}
-use Rattle.ytell.specs.Keys.{AreKeys, Follows, Keys, SameKeys, own_of}
+use Rattle.ytell.specs.Keys.{AreKeys, Keys, SameKeys, own_of}
 use Rattle.ytell.proofs.AgreeLemmas.{keys_on, agrees_told}
 use Rattle.ytell.proofs.LawLemmas.{held_faults}
 use Rattle.ytell.proofs.TotalLemmas.{totals_same}
 use Rattle.ytold.specs.Growing.{awaited_of, awaited_at}
-use Rattle.ytold.specs.Joins.{KeepsRows, Tidies}
+use Rattle.ytold.specs.Joins.{Follows, KeepsRows, Tidies}
 
 -- an entry that is given back awaited nothing
 idle_awaits : (e : Entry) (b : Bool) → is_idle e ≡ b → awaited_of (cond b None (Some e)) ≡ e.awaited
@@ -69,4 +70,5 @@ tidied_follows held f first before after follows tidies =
       totals = totals_same before after (held_faults before after tidies.held) f follows.totals;
       own = λ row. ap (λ (o : Option Held). option_map own_of (option_map (λ (h : Held). h.told) o)) (tidies.held row) ∙ follows.own row;
       beside = λ id none. ap (option_map (λ (h : Held). h.told)) (tidies.held (Below id)) ∙ follows.beside id none;
+      totals_beside = λ id none. ap (λ (o : Option Held). option_map_or (λ (h : Held). h.total) o 0) (tidies.held (Below id)) ∙ follows.totals_beside id none;
     }

@@ -24,6 +24,10 @@ awaited_at nodes key = awaited_of (entry_at nodes key)
 abbrev pub times_joined : Key → List (Key × NodeId) → ℕ
 times_joined key pairs = count_by (λ p. same_key p.0 key) pairs
 
+-- how many of some values a key is of
+abbrev pub times_valued : Key → List (SchemaId × Val) → ℕ
+times_valued key values = count_by (λ p. same_key (Value p.0 p.1) key) values
+
 -- at each key as many nodes are awaited as join it
 abbrev pub AreAwaited : Nodes → List (Key × NodeId) → Type 0
 AreAwaited nodes pairs = (key : Key) → times_joined key pairs ≤ awaited_at nodes key

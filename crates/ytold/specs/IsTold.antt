@@ -1,5 +1,5 @@
 -- A store tells of the document that hangs in it what is told of that, and has indexes that say so.
-use Rattle.std.specs.Prelude.{◌≡◌, ◌≤◌, ◌^◌, ℕ, true, length, Option, Some, None, option_map}
+use Rattle.std.specs.Prelude.{◌≡◌, ℕ, Bool, true, false, Option, Some, None, option_map}
 use Rattle.std.specs.Option.{option_map_or}
 use Rattle.yspec.specs.text.Text.{Text}
 use Rattle.yspec.specs.types.Types.{Val}
@@ -15,12 +15,12 @@ use Rattle.yshape.specs.Hanging.{Numbered, Branches, stored_of, tree_of}
 use Rattle.yfacts.specs.Given.{is_referred}
 use Rattle.yfacts.specs.InPlay.{absence_views}
 use Rattle.yfacts.specs.Judging.{Judged, right, wrong, missing, value_judged}
-use Rattle.yfacts.specs.Keys.{value_key, key_view}
+use Rattle.yfacts.specs.Keys.{Key, value_key, key_view}
 use Rattle.ytell.specs.Keys.{Agrees, Keys, Own, own_at}
 use Rattle.ytell.specs.Totals.{Totals}
 use Rattle.ytold.specs.Each.{Each}
 use Rattle.ytold.specs.Keyed.{HasKeys}
-use Rattle.ytold.specs.Standing.{absences_in_row, defaults_in_row}
+use Rattle.ytold.specs.Standing.{absences_in_row, IsFewIn}
 
 -- the error-app-tag that is told of a value that its type doesn't take
 abbrev pub wrong_in : Judged → Option (Option Text)
@@ -36,7 +36,12 @@ pub record TellsOwn (schema : Schema) (nodes : Nodes) (above : Row) (n : Numbere
   pub is_wrong : own.wrong ≡ wrong_in (value_judged schema (stored_of n))
   pub is_play : absence_views own.play ≡ absences_in_row schema (Some n.schema.0) (tree_of below)
   pub are_flags : own.flags ≡ flag_count schema n.schema.0
-  pub few : length (defaults_in_row schema (Some n.schema.0) (tree_of below)) ≤ 2 ^ 32
+  pub few : IsFewIn schema (Some n.schema.0) (tree_of below)
+
+-- whether instances of a key's value are counted
+abbrev pub is_counted : Schema → Key → Bool
+is_counted schema (value_key number v) = is_referred schema number
+is_counted schema _ = false
 
 pub record IsTold (schema : Schema) (nodes : Nodes) (f : Branches) : Type 0 where
   pub held : Keys
@@ -45,6 +50,7 @@ pub record IsTold (schema : Schema) (nodes : Nodes) (f : Branches) : Type 0 wher
   pub values : (key : rust.Key) (number : ℕ) (v : Val) → key_view key ≡ value_key number v → is_referred schema number ≡ true
       → instances_at nodes key ≡ times_in schema (tree_of f) number v
   pub top : absence_views (play_at nodes Top) ≡ absences_in_row schema None (tree_of f)
-  pub few : length (defaults_in_row schema None (tree_of f)) ≤ 2 ^ 32
+  pub others : (key : rust.Key) → is_counted schema (key_view key) ≡ false → instances_at nodes key ≡ 0
+  pub few : IsFewIn schema None (tree_of f)
   pub each : Each (TellsOwn schema nodes) Top f
   pub totals : Totals nodes f

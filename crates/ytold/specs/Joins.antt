@@ -1,20 +1,17 @@
 -- What stays while nodes leave keys and join them, and while instances come and go.
-use Rattle.std.specs.Prelude.{◌≡◌, ℕ, ◌+◌, ◌<◌, List, Option, Some, None}
-use Rattle.std.specs.List.{count_by}
-use Rattle.ystore.specs.Store.{held_at, instances_at, node_count, same_key}
+use Rattle.std.specs.Prelude.{◌≡◌, ℕ, ◌<◌, true, List, Option, Some, None, is_some}
+use Rattle.ystore.specs.Store.{held_at, entry_at, instances_at, node_count, total_at}
 use Rattle.ystore.specs.declared.row.NodeId.{NodeId}
 use Rattle.ystore.specs.declared.row.Row.{Row}
 use Rattle.ystore.specs.declared.row.Row.TheVariants.{Below}
 use Rattle.ystore.specs.declared.key.Key.{Key}
-use Rattle.ystore.specs.declared.key.Key.TheVariants.{Value}
 use Rattle.ystore.specs.declared.nodes.Nodes.{Nodes}
-use Rattle.ymodel.specs.declared.node.SchemaId.{SchemaId}
-use Rattle.yspec.specs.types.Types.{Val}
-use Rattle.yshape.specs.Hanging.{Branches, shape_at}
-use Rattle.ytell.specs.Totals.{room_at, StandsIn}
-use Rattle.ytell.specs.Keys.{Own, SameKeys, own_at, flag_of}
+use Rattle.yshape.specs.Hanging.{Branches, shape_at, times}
+use Rattle.ytell.specs.Totals.{room_at, told_at, StandsIn, Totals}
+use Rattle.ytell.specs.Keys.{Agrees, Keys, Own, SameKeys, own_at, flag_of}
 use Rattle.ytold.specs.Standing.{Every}
 use Rattle.ytold.specs.Growing.{awaited_at}
+pub use Rattle.ytold.specs.Growing.{times_valued}
 
 -- shapes of rows and their room, and the number of nodes
 pub record KeepsRows (before after : Nodes) : Type 0 where
@@ -26,13 +23,13 @@ pub record KeepsRows (before after : Nodes) : Type 0 where
 abbrev pub KeepsAwaited : Nodes → Nodes → Type 0
 KeepsAwaited before after = (key : Key) → awaited_at after key ≡ awaited_at before key
 
+-- entries that are there
+abbrev pub KeepsThere : Nodes → Nodes → Type 0
+KeepsThere before after = (key : Key) → is_some (entry_at before key) ≡ true → is_some (entry_at after key) ≡ true
+
 -- how many instances each value has
 abbrev pub KeepsInstances : Nodes → Nodes → Type 0
 KeepsInstances before after = (key : Key) → instances_at after key ≡ instances_at before key
-
--- how many of some values a key is of
-abbrev pub times_valued : Key → List (SchemaId × Val) → ℕ
-times_valued key values = count_by (λ p. same_key (Value p.0 p.1) key) values
 
 -- a node can hold a key that sets a flag, if it has the flag, or one of a value, if its own is taken by its type
 abbrev pub fits_flag : Option ℕ → Own → Type 0
@@ -54,3 +51,12 @@ pub record Tidies (before after : Nodes) : Type 0 where
   pub keys : SameKeys before after
   pub awaited : KeepsAwaited before after
   pub node_count : node_count after ≡ node_count before
+
+-- What is told agrees with an index again, and the totals are right; what no key tells stays, and all that is told of nodes
+-- beside the forest.
+pub record Follows (keys : Keys) (f : Branches) (before after : Nodes) : Type 0 where
+  pub agrees : Agrees after keys f
+  pub totals : Totals after f
+  pub own : (row : Row) → own_at after row ≡ own_at before row
+  pub beside : (id : NodeId) → times id.0 f ≡ 0 → told_at after (Below id) ≡ told_at before (Below id)
+  pub totals_beside : (id : NodeId) → times id.0 f ≡ 0 → total_at after (Below id) ≡ total_at before (Below id)

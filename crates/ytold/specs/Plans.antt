@@ -16,7 +16,7 @@ use Rattle.yfacts.specs.Given.{given_view}
 use Rattle.yfacts.specs.InPlay.{absence_views}
 use Rattle.yfacts.specs.Keys.{holdings}
 use Rattle.ytold.specs.Accounts.{news_of, news_view}
-use Rattle.ytold.specs.Standing.{Standing, standing, on_the_way, keys_held, all_given, absences_in_row, defaults_in_row}
+use Rattle.ytold.specs.Standing.{Standing, Every, IsFewIn, IsFewThere, standing, on_the_way, keys_held, all_given, absences_in_row, defaults_in_row}
 use Rattle.ytold.specs.declared.planning.Plan.{Plan}
 
 -- the number of the schema node above the row at the end of a way, given that above the row where it begins
@@ -56,4 +56,6 @@ pub record Plans (schema : Schema) (way : Way) (f loose g left : Branches) (plan
   pub goes : given_view plan.goes.items ≡ all_given schema (end_of Top way) left ++ defaults_in_row schema (row_schema None way) (tree_of f)
   pub comes : given_view plan.comes.items ≡ all_given schema (end_of Top way) loose ++ defaults_in_row schema (row_schema None way) (tree_of g)
   pub absences : absence_views plan.absences.items ≡ absences_in_row schema (row_schema None way) (tree_of g)
+  pub few_row : IsFewIn schema (row_schema None way) (tree_of g)
+  pub few_new : Every (IsFewThere schema) (standing (end_of Top way) loose)
   pub news : map news_view plan.news.items ≡ map (news_of schema) (standing (end_of Top way) loose)

@@ -1,5 +1,5 @@
 -- The nodes that hang on a row, one after another, and what each of them holds and gives.
-use Rattle.std.specs.Prelude.{ℕ, ◌++◌, List, [], ◌∷◌, Option, Some}
+use Rattle.std.specs.Prelude.{ℕ, ◌≤◌, ◌^◌, length, ◌++◌, List, [], ◌∷◌, Option, Some}
 use Rattle.std.specs.List.{flat_map}
 use Rattle.yspec.specs.Forest.{end, node}
 use Rattle.yspec.specs.schema.Schema.{Schema, row_at}
@@ -45,6 +45,13 @@ defaults_in_row schema above t = referred schema (defaults_in (instances_in t) [
 -- of the row below a node
 abbrev pub absences_there : Schema → Standing → List Absent
 absences_there schema s = absences_in_row schema (Some s.label.schema.0) (tree_of s.below)
+
+-- not too many defaults are in use in a row to be counted
+abbrev pub IsFewIn : Schema → Option ℕ → Tree → Type 0
+IsFewIn schema above t = length (defaults_in_row schema above t) ≤ 2 ^ 32
+
+abbrev pub IsFewThere : Schema → Standing → Type 0
+IsFewThere schema s = IsFewIn schema (Some s.label.schema.0) (tree_of s.below)
 
 -- its value and the defaults in use below it
 abbrev pub values_given : Schema → Standing → List Default

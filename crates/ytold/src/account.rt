@@ -70,6 +70,8 @@ pub fn enter_node(
     ensures absences { let s = schema_view.view schema.now in
         IfOk result (λ told. (n : Standing) → StandsThere (store_of counted.old) id n
         → absence_views told.items ≡ words.absences_there s n) }
+    ensures few { let s = schema_view.view schema.now in
+        IfOk result (λ told. (n : Standing) → StandsThere (store_of counted.old) id n → words.IsFewThere s n) }
     ensures kept { OnlyReads (store_of counted.old) (store_of counted.new) }
     ensures same_reference { lent counted.new ≡ lent counted.old }
 {
@@ -80,7 +82,8 @@ pub fn enter_node(
     Ok(told)
 }
 
-/// Enters the defaults in use in a row, and answers what is told of what isn't stored in it.
+/// Enters the defaults in use in a row, and answers what is told of what isn't stored in it. There is no room for more than
+/// 2^32 of them.
 pub fn enter_row(
     counted: &mut Counted<'_>,
     schema: &Schema,
@@ -94,6 +97,8 @@ pub fn enter_row(
     ensures absences { let s = schema_view.view schema.now in
         IfOk result (λ told. (f : Branches) → Hangs (store_of counted.old) row f
         → absence_views told.items ≡ words.absences_in_row s (number_of of) (tree_of f)) }
+    ensures few { let s = schema_view.view schema.now in
+        IfOk result (λ told. (f : Branches) → Hangs (store_of counted.old) row f → words.IsFewIn s (number_of of) (tree_of f)) }
     ensures kept { OnlyReads (store_of counted.old) (store_of counted.new) }
     ensures same_reference { lent counted.new ≡ lent counted.old }
 {
@@ -101,6 +106,9 @@ pub fn enter_row(
         absences,
         mut defaults,
     } = in_play(counted, schema, row, of)?;
+    if defaults.len() > u32::MAX as usize {
+        return Err(AllocError);
+    }
     account.values.append(&mut defaults)?;
     Ok(absences)
 }
@@ -140,6 +148,9 @@ pub fn enter_new_nodes(
         IfOk result (λ news. (above : rows.Row) (f : Branches) → Stands (store_of counted.old) above f
         → ids_of f ≡ numbers.now
         → map news_view news.items ≡ map (news_of s) (words.standing above f)) }
+    ensures few { let s = schema_view.view schema.now in
+        IfOk result (λ news. (above : rows.Row) (f : Branches) → Stands (store_of counted.old) above f
+        → ids_of f ≡ numbers.now → words.Every (words.IsFewThere s) (words.standing above f)) }
     ensures kept { OnlyReads (store_of counted.old) (store_of counted.new) }
     ensures same_reference { lent counted.new ≡ lent counted.old }
 {

@@ -1,16 +1,20 @@
 //! Growths that a plan needs, before anything is changed.
 
-ghost use Rattle.std.specs.Prelude.{◌≡◌, ◌+◌, ◌∷◌, ℕ, List, Option, true, false, is_some, option_map, IfOk, OnOk};
+ghost use Rattle.std.specs.Prelude.{◌≡◌, ◌+◌, ◌∷◌, List, true, is_some, option_map, IfOk, OnOk};
 ghost use Rattle.yspec.specs.types.Types as types;
 ghost use Rattle.ymodel.specs.declared.node.SchemaId as schema_id;
 ghost use Rattle.ystore.specs.Entries.{Entry, with_node};
-ghost use Rattle.ystore.specs.Store.{entry_at, is_awaited, same_key};
+ghost use Rattle.ystore.specs.Store.{entry_at, has_room, is_awaited};
 ghost use Rattle.ystore.specs.Views.{store_of, lent};
 ghost use Rattle.ystore.specs.declared.row.NodeId as node_id;
+ghost use Rattle.ystore.specs.declared.row.Row.{Row};
 ghost use Rattle.ystore.specs.declared.key.Key as rust;
 ghost use Rattle.ystore.specs.declared.nodes.Nodes.{Nodes};
+ghost use Rattle.yshape.specs.Hanging.{Branches, Keeps};
+ghost use Rattle.ytell.specs.Keys.{Agrees, Keys};
+ghost use Rattle.ytell.specs.Totals.{IsTree, Totals};
 ghost use Rattle.yfacts.specs.Keys.{key_view, value_key};
-ghost use Rattle.ytold.specs.Growing.{AreAwaited, AreThere, Changes, Grows, awaited_at, awaited_of, times_joined};
+ghost use Rattle.ytold.specs.Growing.{AreAwaited, AreThere, Changes, Grows, awaited_at, times_joined, times_valued};
 
 use crate::planning::Plan;
 use std::alloc::AllocError;
@@ -24,6 +28,8 @@ pub fn grow(counted: &mut Counted<'_>, plan: &Plan) -> Result<(), AllocError>
     ensures there { OnOk result (AreThere (store_of counted.new) plan.now.comes.items) }
     ensures awaited { OnOk result ((key : rust.Key) → awaited_at (store_of counted.new) key
         ≡ awaited_at (store_of counted.old) key + times_joined key plan.now.joins.items) }
+    ensures others { OnOk result ((key : rust.Key) → times_valued key plan.now.comes.items ≡ 0 → times_joined key plan.now.joins.items ≡ 0
+        → entry_at (store_of counted.new) key ≡ entry_at (store_of counted.old) key) }
     ensures grows { Grows (store_of counted.old) (store_of counted.new) }
     ensures same_reference { lent counted.new ≡ lent counted.old }
 {
@@ -35,6 +41,8 @@ pub fn grow(counted: &mut Counted<'_>, plan: &Plan) -> Result<(), AllocError>
 fn await_values(counted: &mut Counted<'_>, values: &[(SchemaId, Val)]) -> Result<(), AllocError>
     ensures there { OnOk result (AreThere (store_of counted.new) values.now) }
     ensures awaited { (key : rust.Key) → awaited_at (store_of counted.new) key ≡ awaited_at (store_of counted.old) key }
+    ensures others { OnOk result ((key : rust.Key) → times_valued key values.now ≡ 0
+        → entry_at (store_of counted.new) key ≡ entry_at (store_of counted.old) key) }
     ensures grows { Grows (store_of counted.old) (store_of counted.new) }
     ensures same_reference { lent counted.new ≡ lent counted.old }
 {
@@ -50,6 +58,8 @@ fn await_values(counted: &mut Counted<'_>, values: &[(SchemaId, Val)]) -> Result
 fn await_nodes(counted: &mut Counted<'_>, pairs: &[(Key, NodeId)]) -> Result<(), AllocError>
     ensures awaited { OnOk result ((key : rust.Key) → awaited_at (store_of counted.new) key
         ≡ awaited_at (store_of counted.old) key + times_joined key pairs.now) }
+    ensures others { OnOk result ((key : rust.Key) → times_joined key pairs.now ≡ 0
+        → entry_at (store_of counted.new) key ≡ entry_at (store_of counted.old) key) }
     ensures grows { Grows (store_of counted.old) (store_of counted.new) }
     ensures same_reference { lent counted.new ≡ lent counted.old }
 {
@@ -76,7 +86,7 @@ fn copy_of_key(key: &Key) -> Result<Key, AllocError>
 }
 
 /// Nodes are awaited at their keys once there is room for each. The first of them can join its key, and then the others are
-/// awaited; changes of entries that leave how many are awaited leave all of them so.
+/// awaited; a change of an entry that leaves how many are awaited leaves all of them so.
 pub fn awaited_nodes()
     ensures grown { (before after : Nodes) (pairs : List (rust.Key × node_id.NodeId))
         → ((key : rust.Key) → awaited_at after key ≡ awaited_at before key + times_joined key pairs) → AreAwaited after pairs }
@@ -85,8 +95,8 @@ pub fn awaited_nodes()
     ensures rest { (before after : Nodes) (p : rust.Key × node_id.NodeId) (ps : List (rust.Key × node_id.NodeId)) (key : rust.Key) (id : node_id.NodeId)
         → key_view key ≡ key_view p.0 → Changes key (option_map (with_node id)) before after
         → AreAwaited before (p ∷ ps) → AreAwaited after ps }
-    ensures kept { (before after : Nodes) (pairs : List (rust.Key × node_id.NodeId)) (key : rust.Key) (change : Option Entry → Option Entry)
-        → Changes key change before after → ((e : Option Entry) → awaited_of (change e) ≡ awaited_of e)
+    ensures kept { (before after : Nodes) (pairs : List (rust.Key × node_id.NodeId)) (key : rust.Key) (change : Entry → Entry)
+        → Changes key (option_map change) before after → ((e : Entry) → (change e).awaited ≡ e.awaited)
         → AreAwaited before pairs → AreAwaited after pairs }
     ensures same { (before after : Nodes) (pairs : List (rust.Key × node_id.NodeId)) → ((key : rust.Key) → entry_at after key ≡ entry_at before key)
         → AreAwaited before pairs → AreAwaited after pairs }
@@ -94,15 +104,24 @@ pub fn awaited_nodes()
     same_keys();
 }
 
-/// The entry of a value is there, and stays there as long as no change takes it away.
+/// The entry of each value is there, and stays there where what entries hold is changed.
 pub fn entries_there()
     ensures first { (nodes : Nodes) (p : schema_id.SchemaId × types.Val) (ps : List (schema_id.SchemaId × types.Val)) (key : rust.Key)
         → AreThere nodes (p ∷ ps) → key_view key ≡ value_key p.0.0 p.1 → is_some (entry_at nodes key) ≡ true }
-    ensures kept { (before after : Nodes) (pairs : List (schema_id.SchemaId × types.Val)) (key : rust.Key) (change : Option Entry → Option Entry)
-        → Changes key change before after → ((e : Option Entry) → is_some e ≡ true → is_some (change e) ≡ true)
-        → AreThere before pairs → AreThere after pairs }
+    ensures kept { (before after : Nodes) (pairs : List (schema_id.SchemaId × types.Val)) (key : rust.Key) (change : Entry → Entry)
+        → Changes key (option_map change) before after → AreThere before pairs → AreThere after pairs }
     ensures same { (before after : Nodes) (pairs : List (schema_id.SchemaId × types.Val)) → ((key : rust.Key) → entry_at after key ≡ entry_at before key)
         → AreThere before pairs → AreThere after pairs }
 {
     same_keys();
 }
+
+/// A growth leaves trees and room for children, what is told, and what agrees with an index.
+pub fn grown_stores()
+    ensures keeps { (before after : Nodes) (tree : Branches) (above : Row) (loose : Branches) → Grows before after
+        → Keeps before tree above loose → Keeps after tree above loose }
+    ensures room { (before after : Nodes) (row : Row) → Grows before after → has_room before row → has_room after row }
+    ensures trees { (before after : Nodes) (f : Branches) → Grows before after → IsTree before f → IsTree after f }
+    ensures totals { (before after : Nodes) (f : Branches) → Grows before after → Totals before f → Totals after f }
+    ensures agrees { (before after : Nodes) (keys : Keys) (f : Branches) → Grows before after → Agrees before keys f → Agrees after keys f }
+{}

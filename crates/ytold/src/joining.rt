@@ -4,11 +4,11 @@ ghost use Rattle.std.specs.Prelude.{◌≡◌};
 ghost use Rattle.ystore.specs.Store.{same_key};
 ghost use Rattle.ystore.specs.Views.{store_of, lent};
 ghost use Rattle.yshape.specs.Hanging.{Branches};
-ghost use Rattle.ytell.specs.Keys.{Agrees, Follows, Keys, slot_of};
+ghost use Rattle.ytell.specs.Keys.{Agrees, Keys, slot_of};
 ghost use Rattle.ytell.specs.Totals.{IsTree, Totals};
 ghost use Rattle.ytold.specs.Assigned.{CanJoin, CanLeave, joined, left};
 ghost use Rattle.ytold.specs.Growing.{AreAwaited};
-ghost use Rattle.ytold.specs.Joins.{CanHoldAll, KeepsRows, KeepsInstances, KeepsAwaited};
+ghost use Rattle.ytold.specs.Joins.{Follows, CanHoldAll, KeepsRows, KeepsInstances, KeepsAwaited, KeepsThere};
 
 use ystore::{Counted, Key, NodeId};
 use ytell::{join, keys_alike, leave};
@@ -22,6 +22,7 @@ pub fn leave_all(counted: &mut Counted<'_>, keys: &[(Key, NodeId)])
     ensures kept { KeepsRows (store_of counted.old) (store_of counted.new) }
     ensures instances { KeepsInstances (store_of counted.old) (store_of counted.new) }
     ensures awaited { KeepsAwaited (store_of counted.old) (store_of counted.new) }
+    ensures there { KeepsThere (store_of counted.old) (store_of counted.new) }
     ensures same_reference { lent counted.new ≡ lent counted.old }
 {
     keys_alike();

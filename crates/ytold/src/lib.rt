@@ -12,7 +12,7 @@ mod values;
 
 pub use account::{Account, News, enter_new_nodes, enter_node, enter_nodes, enter_row, enter_way};
 pub use changing::change_row;
-pub use growing::{awaited_nodes, entries_there, grow};
+pub use growing::{awaited_nodes, entries_there, grow, grown_stores};
 pub use joining::{join_all, leave_all};
 pub use planning::{Plan, plan_of};
 pub use telling::tell_all;

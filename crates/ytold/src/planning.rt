@@ -99,6 +99,8 @@ fn enter_place(
     ensures absences { let s = schema_view.view schema.now in
         IfOk result (λ told. (f : Branches) → Hangs (store_of counted.old) row f
         → absence_views told.items ≡ words.absences_in_row s (number_of of) (tree_of f)) }
+    ensures few { let s = schema_view.view schema.now in
+        IfOk result (λ told. (f : Branches) → Hangs (store_of counted.old) row f → words.IsFewIn s (number_of of) (tree_of f)) }
     ensures kept { OnlyReads (store_of counted.old) (store_of counted.new) }
     ensures same_reference { lent counted.new ≡ lent counted.old }
 {
@@ -122,6 +124,8 @@ fn enter_changed(
     ensures absences { let s = schema_view.view schema.now in
         (r : IsReady swap (store_of counted.old)) → IfOk result (λ told.
         absence_views told.items ≡ words.absences_in_row s (number_of of) (tree_of r.g)) }
+    ensures few { let s = schema_view.view schema.now in
+        (r : IsReady swap (store_of counted.old)) → IfOk result (λ told. words.IsFewIn s (number_of of) (tree_of r.g)) }
     ensures kept { OnlyReads (store_of counted.old) (store_of counted.new) }
     ensures same_reference { lent counted.new ≡ lent counted.old }
 {

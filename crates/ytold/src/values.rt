@@ -8,10 +8,10 @@ ghost use Rattle.ystore.specs.declared.nodes.Nodes.{Nodes};
 ghost use Rattle.yshape.specs.Hanging.{Branches};
 ghost use Rattle.ystore.specs.Entries.{with_instance, without_instance};
 ghost use Rattle.ystore.specs.declared.key.Key.TheVariants.{Value};
-ghost use Rattle.ytell.specs.Keys.{Agrees, ChangesKey, Follows, Keys};
+ghost use Rattle.ytell.specs.Keys.{Agrees, ChangesKey, Keys};
 ghost use Rattle.ytell.specs.Totals.{IsTree, Totals};
 ghost use Rattle.ytold.specs.Growing.{AreThere};
-ghost use Rattle.ytold.specs.Joins.{KeepsRows, KeepsAwaited, Tidies, times_valued};
+ghost use Rattle.ytold.specs.Joins.{Follows, KeepsRows, KeepsAwaited, Tidies, times_valued};
 
 use crate::tidying::tidy;
 use ymodel::SchemaId;

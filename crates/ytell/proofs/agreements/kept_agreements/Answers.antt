@@ -1,4 +1,4 @@
-use Rattle.ytell.proofs.AgreeLemmas.{agrees_told, agrees_play, agrees_judged, agrees_forest, agrees_alike, agrees_empty}
+use Rattle.ytell.proofs.AgreeLemmas.{agrees_told, agrees_play, agrees_judged, agrees_forest, agrees_alike, agrees_empty, silent_keys}
 use Rattle.ytell.proofs.agreements.kept_agreements.Goals as goal
 
 pub returns : goal.returns
@@ -8,6 +8,7 @@ returns c =
       play = agrees_play;
       judged = agrees_judged;
       forest = agrees_forest;
+      silent = silent_keys;
       alike = agrees_alike;
       empty = agrees_empty;
     }

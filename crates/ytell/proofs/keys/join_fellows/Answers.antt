@@ -1,4 +1,4 @@
-use Rattle.std.proofs.Common.{◌∙◌, ap, slice_get}
+use Rattle.std.proofs.Common.{arith, ◌∙◌, ap, slice_get}
 use Rattle.ystore.specs.Entries.{with_node}
 use Rattle.ystore.specs.Views.{store_of}
 use Rattle.ytell.proofs.TellLemmas.{one_read}
@@ -30,3 +30,6 @@ returns-clause-follows c is_flag keys f tree agrees all stands free can there =
     stands free there c.args.number c.holder-fellow.result c.holder_count-fellows.result is_flag can
     (c.holder-fellow.ensures.holder ∙ ap (λ ids. slice_get ids 0) (holders_read first counted c.args.key.now one))
     c.holder_count-fellows.ensures.count c.tell_fellows.ensures.told (λ t a touches differ. c.tell_fellows.ensures.totals f t a touches differ)
+    (let a = c.holder_count-fellows.ensures.counted.store.counted in let b = c.holder-fellow.ensures.counted.store.counted in
+    let e = c.add_holder.ensures.store.reads in omega (arith, a, b, e))
+    (λ t touches. (c.tell_fellows.ensures.reads f t touches, c.tell_fellows.ensures.beside f t touches))

@@ -23,6 +23,7 @@ returns-then-instance_count-gt0-clause-follows c is_value keys f tree agrees all
     joined_value c.keys_alike.ensures c.args.key.now c.args.id keys f first second second (no_faults second) tree agrees all entered stands free there false is_value can
     (ne_eqb (instances_at first c.args.key.now) 0 (λ none. absurd (let more = c.if-instance_count-gt0.true in let e = counts in omega (arith, none, more, e))))
     (λ row. refl) (λ t a s is. a)
+    (let a = c.add_holder.ensures.store.reads in let b = c.instance_count.ensures.counted.store.counted in omega (arith, a, b)) (λ t s. (omega arith, λ y none. refl))
 
 pub returns-clause-follows : goal.returns-clause-follows
 returns-clause-follows c is_value keys f tree agrees all stands free can there =
@@ -36,3 +37,4 @@ returns-clause-follows c is_value keys f tree agrees all stands free can there =
     joined_value c.keys_alike.ensures c.args.key.now c.args.id keys f first second (store_of c.tell_judged.new.counted) c.tell_judged.ensures.told.kept tree agrees all entered stands free there true is_value can
     (eq-eqb (instances_at first c.args.key.now) 0 (let more = c.if-instance_count-gt0.false in let e = counts in omega (arith, more, e)))
     (told_where (Below c.args.id) (with_judged Missing) second (store_of c.tell_judged.new.counted) c.tell_judged.ensures.told) (λ t a s is. c.tell_judged.ensures.totals f t a s is)
+    (let a = c.add_holder.ensures.store.reads in let b = c.instance_count.ensures.counted.store.counted in omega (arith, a, b)) (λ t s. (c.tell_judged.ensures.reads f t s, λ y none. c.tell_judged.ensures.beside f y t s none))

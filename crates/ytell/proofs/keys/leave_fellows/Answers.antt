@@ -1,4 +1,4 @@
-use Rattle.std.proofs.Common.{◌∙◌, ap, length, slice_get, sym}
+use Rattle.std.proofs.Common.{arith, ◌∙◌, ap, length, slice_get, sym}
 use Rattle.ystore.specs.Entries.{without_node}
 use Rattle.ystore.specs.Views.{store_of}
 use Rattle.ytell.proofs.TellLemmas.{one_read}
@@ -32,3 +32,6 @@ returns-clause-follows c is_flag keys f tree agrees all has =
     (c.holder-fellow.ensures.holder ∙ ap (λ ids. slice_get ids 0) (sym (holders_read counted second c.args.key.now two)))
     (c.holder_count-fellows.ensures.count ∙ ap length (sym (holders_read taken second c.args.key.now reads)))
     c.tell_fellows.ensures.told (λ t a touches differ. c.tell_fellows.ensures.totals f t a touches differ)
+    (let a = c.holder_count-fellows.ensures.counted.store.counted in let b = c.holder-fellow.ensures.counted.store.counted in
+    let e = c.take_holder.ensures.store.reads in omega (arith, a, b, e))
+    (λ t touches. (c.tell_fellows.ensures.reads f t touches, c.tell_fellows.ensures.beside f t touches))

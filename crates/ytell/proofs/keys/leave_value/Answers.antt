@@ -23,6 +23,7 @@ returns-then-instance_count-gt0-clause-follows c is_value keys f tree agrees all
     left_value c.keys_alike.ensures c.args.key.now c.args.id keys f first second second (no_faults second) tree agrees all entered has false is_value
     (ne_eqb (instances_at first c.args.key.now) 0 (λ none. absurd (let more = c.if-instance_count-gt0.true in let e = counts in omega (arith, none, more, e))))
     (λ row. refl) (λ t a s is. a)
+    (let a = c.take_holder.ensures.store.reads in let b = c.instance_count.ensures.counted.store.counted in omega (arith, a, b)) (λ t s. (omega arith, λ y none. refl))
 
 pub returns-clause-follows : goal.returns-clause-follows
 returns-clause-follows c is_value keys f tree agrees all has =
@@ -36,3 +37,4 @@ returns-clause-follows c is_value keys f tree agrees all has =
     left_value c.keys_alike.ensures c.args.key.now c.args.id keys f first second (store_of c.tell_judged.new.counted) c.tell_judged.ensures.told.kept tree agrees all entered has true is_value
     (eq-eqb (instances_at first c.args.key.now) 0 (let more = c.if-instance_count-gt0.false in let e = counts in omega (arith, more, e)))
     (told_where (Below c.args.id) (with_judged Right) second (store_of c.tell_judged.new.counted) c.tell_judged.ensures.told) (λ t a s is. c.tell_judged.ensures.totals f t a s is)
+    (let a = c.take_holder.ensures.store.reads in let b = c.instance_count.ensures.counted.store.counted in omega (arith, a, b)) (λ t s. (c.tell_judged.ensures.reads f t s, λ y none. c.tell_judged.ensures.beside f y t s none))

@@ -1,4 +1,4 @@
-use Rattle.ytell.proofs.LawLemmas.{added, put, taken}
+use Rattle.ytell.proofs.LawLemmas.{added, put, taken, moved_totals}
 use Rattle.ytell.proofs.laws.changed_totals.Goals as goal
 
 pub returns : goal.returns
@@ -7,4 +7,5 @@ returns c =
       added = added;
       put = put;
       taken = taken;
+      moved = moved_totals;
     }

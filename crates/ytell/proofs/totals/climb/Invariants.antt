@@ -1,6 +1,7 @@
-use Rattle.std.proofs.Common.{◌≡◌}
+use Rattle.std.proofs.Common.{◌≡◌, ◌+◌, ◌≤◌}
 use Rattle.yshape.specs.Hanging.{Branches}
 use Rattle.yshape.specs.Ways.{Way, around, end_of}
+use Rattle.ystore.specs.Store.{reads}
 use Rattle.ystore.specs.Views.{store_of, lent}
 use Rattle.ystore.specs.declared.row.Row.TheVariants.{Top}
 use Rattle.ytell.specs.Totals.{IsTree, OnlyFaults, SameTold, moved}
@@ -13,6 +14,7 @@ invariant-loop-round l =
       same_reference : lent l.counted ≡ lent l.fn.counted;
       told : SameTold (store_of l.fn.counted) (store_of l.counted);
       kept : OnlyFaults (store_of l.fn.counted) (store_of l.counted);
+      reads : reads (store_of l.counted) ≤ reads (store_of l.fn.counted) + l.round;
       so_far : (way : Way) (f : Branches) → IsTree (store_of l.fn.counted) (around way f) → end_of Top way ≡ l.fn.row
           → SoFar way l.here l.round (moved l.more l.less) (store_of l.fn.counted) (store_of l.counted);
     }

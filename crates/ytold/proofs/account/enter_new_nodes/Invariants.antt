@@ -7,7 +7,7 @@ use Rattle.yshape.specs.Hanging.{Branches, Stands}
 use Rattle.yshape.specs.Copies.{ids_of}
 use Rattle.yshape.specs.Parts.{OnlyReads}
 use Rattle.ytold.specs.Accounts.{Enters, news_of, news_view}
-use Rattle.ytold.specs.Standing.{standing, keys_held, values_given}
+use Rattle.ytold.specs.Standing.{Every, IsFewThere, standing, keys_held, values_given}
 use Rattle.ytold.proofs.AccountLemmas.{Parted}
 use Rattle.ytold.proofs.account.enter_new_nodes.Given as goal
 
@@ -20,5 +20,6 @@ invariant-loop-id l =
       entered : (above : rows.Row) (f : Branches) → Stands (store_of l.fn.counted) above f → ids_of f ≡ l.numbers
           → (p : Parted l.numbers l.id-index (standing above f))
           × Enters l.fn.account l.account (flat_map (keys_held (schema_view.view l.schema)) p.done) (flat_map (values_given (schema_view.view l.schema)) p.done)
+          × Every (IsFewThere (schema_view.view l.schema)) p.done
           × (map news_view l.all.items ≡ map (news_of (schema_view.view l.schema)) p.done);
     }

@@ -1,4 +1,5 @@
-use Rattle.std.proofs.Common.{◌≡◌, ◌+◌, drop}
+use Rattle.std.proofs.Common.{◌≡◌, ◌+◌, drop, take}
+use Rattle.ystore.specs.Store.{entry_at}
 use Rattle.ystore.specs.Views.{store_of, lent}
 use Rattle.ystore.specs.declared.key.Key.{Key}
 use Rattle.ytold.specs.Growing.{Grows, awaited_at, times_joined}
@@ -12,4 +13,5 @@ invariant-loop-key l =
       grows : Grows (store_of l.fn.counted) (store_of l.counted);
       awaited : (key : Key) → awaited_at (store_of l.counted) key + times_joined key (drop l.key-index l.pairs)
           ≡ awaited_at (store_of l.fn.counted) key + times_joined key l.pairs;
+      others : (key : Key) → times_joined key (take l.key-index l.pairs) ≡ 0 → entry_at (store_of l.counted) key ≡ entry_at (store_of l.fn.counted) key;
     }

@@ -1,10 +1,11 @@
 use Rattle.std.proofs.Common.{◌∙◌, is_some, ap, sym, subst, arith}
 use Rattle.yspec.specs.types.Types.{Val}
-use Rattle.ystore.specs.Store.{entry_at}
+use Rattle.ymodel.specs.declared.node.SchemaId.{SchemaId}
+use Rattle.ystore.specs.Store.{entry_at, same_key}
 use Rattle.ystore.specs.Views.{store_of}
 use Rattle.ystore.specs.declared.key.Key.TheVariants.{Value}
 use Rattle.ytold.specs.Growing.{IsThere}
-use Rattle.ytold.proofs.GrowingLemmas.{grows_on, value_grows, value_awaits, is_ready, one_there}
+use Rattle.ytold.proofs.GrowingLemmas.{grows_on, value_grows, value_awaits, is_ready, one_there, one_touches}
 use Rattle.ytold.proofs.growing.await_values.Goals as goal
 
 pub loop-id-preserved : goal.loop-id-preserved
@@ -22,5 +23,8 @@ loop-id-preserved c =
       same_reference = c.in_ok-await_instance.ensures.same_reference ∙ c.loop-id.invariant.same_reference;
       grows = grows_on first now next c.loop-id.invariant.grows grows;
       awaited = λ key. value_awaits found _ now next made key ∙ c.loop-id.invariant.awaited key;
+      others = one_touches (λ (q : SchemaId × Val). Value q.0 q.1) c.args.values.now first c.loop-id.id-index p now next (omega arith)
+          (λ key other. made.others key (ap (λ (v : Val). same_key (Value p.0 v) key) c.in_ok-clone.ensures ∙ (ap (λ (q : SchemaId × Val). same_key (Value q.0 q.1) key) c.loop-id-item.is ∙ other)))
+          c.loop-id.invariant.others;
       there = one_there now next c.args.values.now c.loop-id.id-index p (omega arith) grows (subst (IsThere next) c.loop-id-item.is there) c.loop-id.invariant.there;
     }

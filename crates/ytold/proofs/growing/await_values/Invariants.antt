@@ -1,7 +1,8 @@
 use Rattle.std.proofs.Common.{◌≡◌, take}
+use Rattle.ystore.specs.Store.{entry_at}
 use Rattle.ystore.specs.Views.{store_of, lent}
 use Rattle.ystore.specs.declared.key.Key.{Key}
-use Rattle.ytold.specs.Growing.{AreThere, Grows, awaited_at}
+use Rattle.ytold.specs.Growing.{AreThere, Grows, awaited_at, times_valued}
 use Rattle.ytold.proofs.growing.await_values.Given as goal
 
 -- there are entries for those so far
@@ -11,5 +12,6 @@ invariant-loop-id l =
       same_reference : lent l.counted ≡ lent l.fn.counted;
       grows : Grows (store_of l.fn.counted) (store_of l.counted);
       awaited : (key : Key) → awaited_at (store_of l.counted) key ≡ awaited_at (store_of l.fn.counted) key;
+      others : (key : Key) → times_valued key (take l.id-index l.values) ≡ 0 → entry_at (store_of l.counted) key ≡ entry_at (store_of l.fn.counted) key;
       there : AreThere (store_of l.counted) (take l.id-index l.values);
     }

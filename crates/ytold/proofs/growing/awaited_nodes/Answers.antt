@@ -1,4 +1,5 @@
-use Rattle.ytold.proofs.GrowingLemmas.{grown_awaited, first_awaited, first_found, rest_awaited, still_awaited, awaited_same}
+use Rattle.std.proofs.Common.{option_map}
+use Rattle.ytold.proofs.GrowingLemmas.{grown_awaited, first_awaited, first_found, rest_awaited, still_awaited, mapped_awaited, awaited_same}
 use Rattle.ytold.proofs.growing.awaited_nodes.Goals as goal
 
 pub returns-clause-grown : goal.returns-clause-grown
@@ -12,7 +13,7 @@ returns-clause-rest c before after p ps key id is changes = rest_awaited c.same_
 
 pub returns-clause-kept : goal.returns-clause-kept
 returns-clause-kept c before after pairs key change changes leaves =
-    still_awaited c.same_keys.ensures.found before after pairs key change leaves changes.changed changes.others
+    still_awaited c.same_keys.ensures.found before after pairs key (option_map change) (mapped_awaited change leaves) changes.changed changes.others
 
 pub returns-clause-same : goal.returns-clause-same
 returns-clause-same c = awaited_same

@@ -3,7 +3,7 @@ use Rattle.ystore.specs.Entries.{Entry, with_node}
 use Rattle.ystore.specs.Views.{store_of}
 use Rattle.ytold.specs.Growing.{AreAwaited}
 use Rattle.ytold.proofs.GrowingLemmas.{first_awaited, first_found, rest_awaited}
-use Rattle.ytold.proofs.JoiningLemmas.{keeps_itself, keeps_on, shapes_of, tree_on, rows_of, number_kept, follows_itself, drop_more, one_joined, all_joined}
+use Rattle.ytold.proofs.JoiningLemmas.{keeps_itself, keeps_on, shapes_of, tree_on, rows_of, number_kept, follows_itself, follows_of, drop_more, one_joined, all_joined}
 use Rattle.ytold.proofs.joining.join_all.Goals as goal
 
 pub loop-at-init : goal.loop-at-init
@@ -41,8 +41,9 @@ loop-at-preserved c =
       follows = λ held f tree agrees totals can hold.
           let so = c.loop-at.invariant.follows held f tree agrees totals can hold in
           one_joined c.args.keys.now c.loop-at.at p held so.0 f first before after drops so.1 so.2 so.3 so.4
-          (λ stands none holds. c.join.ensures.follows so.0 f (tree_on first before f (shapes_of first before c.loop-at.invariant.kept) tree) so.1.agrees so.1.totals stands none holds
-          (first_found before p rest p.0 awaited refl));
+          (λ stands none holds. follows_of _ _ f before after
+          (c.join.ensures.follows so.0 f (tree_on first before f (shapes_of first before c.loop-at.invariant.kept) tree) so.1.agrees so.1.totals stands none holds
+          (first_found before p rest p.0 awaited refl)));
     }
 
 pub returns-clause-follows : goal.returns-clause-follows

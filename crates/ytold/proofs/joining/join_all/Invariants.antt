@@ -1,11 +1,11 @@
 use Rattle.std.proofs.Common.{◌≡◌, drop}
 use Rattle.ystore.specs.Views.{store_of, lent}
 use Rattle.yshape.specs.Hanging.{Branches}
-use Rattle.ytell.specs.Keys.{Agrees, Follows, Keys, slot_of}
+use Rattle.ytell.specs.Keys.{Agrees, Keys, slot_of}
 use Rattle.ytell.specs.Totals.{IsTree, Totals}
 use Rattle.ytold.specs.Assigned.{CanJoin, joined}
 use Rattle.ytold.specs.Growing.{AreAwaited}
-use Rattle.ytold.specs.Joins.{CanHoldAll, KeepsRows, KeepsInstances}
+use Rattle.ytold.specs.Joins.{Follows, CanHoldAll, KeepsRows, KeepsInstances}
 use Rattle.ytold.proofs.joining.join_all.Given as goal
 
 -- those so far have joined, and the others are awaited and can

@@ -2,10 +2,10 @@ use Rattle.std.proofs.Common.{◌≡◌, drop}
 use Rattle.ystore.specs.Store.{same_key}
 use Rattle.ystore.specs.Views.{store_of, lent}
 use Rattle.yshape.specs.Hanging.{Branches}
-use Rattle.ytell.specs.Keys.{Agrees, Follows, Keys, slot_of}
+use Rattle.ytell.specs.Keys.{Agrees, Keys, slot_of}
 use Rattle.ytell.specs.Totals.{IsTree, Totals}
 use Rattle.ytold.specs.Assigned.{CanLeave, left}
-use Rattle.ytold.specs.Joins.{KeepsRows, KeepsInstances, KeepsAwaited}
+use Rattle.ytold.specs.Joins.{Follows, KeepsRows, KeepsInstances, KeepsAwaited, KeepsThere}
 use Rattle.ytold.proofs.joining.leave_all.Given as goal
 
 -- those so far have left, and the others can
@@ -16,6 +16,7 @@ invariant-loop-at l =
       kept : KeepsRows (store_of l.fn.counted) (store_of l.counted);
       instances : KeepsInstances (store_of l.fn.counted) (store_of l.counted);
       awaited : KeepsAwaited (store_of l.fn.counted) (store_of l.counted);
+      there : KeepsThere (store_of l.fn.counted) (store_of l.counted);
       follows : (held : Keys) (f : Branches) → IsTree (store_of l.fn.counted) f → Agrees (store_of l.fn.counted) held f → Totals (store_of l.fn.counted) f
           → CanLeave slot_of same_key held l.keys
           → (now : Keys) × Follows now f (store_of l.fn.counted) (store_of l.counted) × CanLeave slot_of same_key now (drop l.at l.keys)

@@ -19,6 +19,12 @@ returns-clause-absences c r =
     IfOk-weaker c.enter_place-told.result _ _ (λ told absences. absences r.g (hangs_there (store_of c.make.new.counted) r.way r.g c.args.swap.above r.at keeps.hangs))
     c.enter_place-told.ensures.absences
 
+pub returns-clause-few : goal.returns-clause-few
+returns-clause-few c r =
+    let keeps = c.make.ensures.tree r.way r.f r.loose r.g r.left r.at r.swaps r.keeps in
+    IfOk-weaker c.enter_place-told.result _ _ (λ told few. few r.g (hangs_there (store_of c.make.new.counted) r.way r.g c.args.swap.above r.at keeps.hangs))
+    c.enter_place-told.ensures.few
+
 pub returns-clause-kept : goal.returns-clause-kept
 returns-clause-kept c =
     let r = c.requires in

@@ -12,7 +12,7 @@ use Rattle.yshape.proofs.PartLemmas.{reads_on, stands_read}
 use Rattle.yfacts.specs.Given.{given_view}
 use Rattle.yfacts.specs.Keys.{holdings}
 use Rattle.ytold.specs.Plans.{row_schema}
-use Rattle.ytold.specs.Standing.{standing, on_the_way, all_given, defaults_in_row, absences_in_row}
+use Rattle.ytold.specs.Standing.{IsFewIn, standing, on_the_way, all_given, defaults_in_row, absences_in_row}
 use Rattle.ytold.proofs.AccountLemmas.{hangs_read}
 use Rattle.ytold.proofs.PlanLemmas.{entered_twice, left_stands, ready_read, within}
 use Rattle.ytold.proofs.planning.plan_of.Goals as goal
@@ -61,5 +61,7 @@ returns-clause-plan c p =
       goes = before.1 ∙ ap (λ o. all_given s here r.left ++ defaults_in_row s o (tree_of r.f)) of;
       comes = after.1 ∙ ap (λ o. all_given s here r.loose ++ defaults_in_row s o (tree_of r.g)) of;
       absences = c.in_ok-absences.ensures.absences ready ∙ ap (λ o. absences_in_row s o (tree_of r.g)) of;
+      few_row = subst (λ (o : Option _). IsFewIn s o (tree_of r.g)) of (c.in_ok-absences.ensures.few ready);
+      few_new = c.in_ok-news.ensures.few here r.loose (stands_read first fourth here r.loose to_fourth loose) p.are_new;
       news = c.in_ok-news.ensures.news here r.loose (stands_read first fourth here r.loose to_fourth loose) p.are_new;
     }

@@ -3,10 +3,10 @@ use Rattle.ystore.specs.Store.{instances_at}
 use Rattle.ystore.specs.Views.{store_of, lent}
 use Rattle.ystore.specs.declared.key.Key as rust
 use Rattle.yshape.specs.Hanging.{Branches}
-use Rattle.ytell.specs.Keys.{Agrees, Follows, Keys}
+use Rattle.ytell.specs.Keys.{Agrees, Keys}
 use Rattle.ytell.specs.Totals.{IsTree, Totals}
 use Rattle.ytold.specs.Growing.{AreThere}
-use Rattle.ytold.specs.Joins.{KeepsRows, KeepsAwaited, times_valued}
+use Rattle.ytold.specs.Joins.{Follows, KeepsRows, KeepsAwaited, times_valued}
 use Rattle.ytold.proofs.values.add_all.Given as goal
 
 -- those so far are counted, and for the others there are entries
