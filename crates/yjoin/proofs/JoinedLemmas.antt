@@ -39,7 +39,7 @@ use Rattle.ytell.specs.Totals.{AreTotals, IsTree, all_told, number_of, told_coun
 use Rattle.ytold.specs.Each.{Each}
 use Rattle.ytold.specs.IsTold.{IsTold, TellsOwn}
 use Rattle.ytold.specs.Keyed.{HasKeys}
-use Rattle.yjoin.specs.Bare.{IsBare}
+use Rattle.ytold.specs.Bare.{IsBare}
 use Rattle.yjoin.proofs.FlagLemmas.{counts_same, flags_are, number_is}
 use Rattle.yjoin.proofs.HolderLemmas.{shared_is}
 use Rattle.yjoin.proofs.JudgedLemmas.{judged_is}

@@ -13,7 +13,7 @@ ghost use Rattle.ystore.specs.declared.row.Row.TheVariants.{Top};
 ghost use Rattle.yshape.specs.Hanging.{Branches, tree_of};
 ghost use Rattle.ytell.specs.Totals.{IsTree};
 ghost use Rattle.ytold.specs.IsTold.{IsTold};
-ghost use Rattle.yjoin.specs.Bare.{IsBare};
+ghost use Rattle.ytold.specs.Bare.{IsBare};
 
 /// A store whose indexes say what its document holds, and whose flags and totals agree with them, tells of each node what is
 /// told there: what it lists are the faults of the document, and the total of its top row is their number.
