@@ -3,6 +3,7 @@ pub mod AssignedLemmas
 pub mod ChangeLemmas
 pub mod CountingLemmas
 pub mod EachLemmas
+pub mod InstanceLemmas
 pub mod JoiningLemmas
 pub mod GrowingLemmas
 pub mod GrownLemmas
