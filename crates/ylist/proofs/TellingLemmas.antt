@@ -1,8 +1,14 @@
 -- What a store lists, where it holds of each node what is told there, are the faults of its document.
 use Rattle.std.proofs.Common.{◌≡◌, ℕ, zero, suc, ◌+◌, ◌≤◌, Bool, true, false, cond, eqb, ltb, List, [], ◌∷◌, ◌++◌, length, Option, Some, None, Result, Ok, Err, IfOk, refl, sym, ap, ap₂, ◌∙◌, arith, length-append}
 use Rattle.std.proofs.lemmas.Bool.{eqb-true}
-use Rattle.std.proofs.lemmas.List.{append-nil}
+use Rattle.std.proofs.lemmas.List.{append-nil, length-map}
 use Rattle.std.specs.Option.{option_map_or}
+use Rattle.std.specs.Prelude.{sum_by, option_map}
+use Rattle.std.proofs.lemmas.List.Sums.{sum_by-cons}
+use Rattle.ystore.specs.Held.{Held}
+use Rattle.ystore.specs.Rows.{Child}
+use Rattle.ystore.specs.declared.record.Judged.{Judged}
+use Rattle.ystore.specs.declared.record.Judged.TheVariants.{Right, Wrong, Missing}
 use Rattle.yspec.specs.Forest.{end, node, size, levels}
 use Rattle.yspec.specs.types.Types.{Raw, Val, taken}
 use Rattle.yspec.specs.schema.Schema.{Schema, SchemaNode, Kind, container, leaf, leaf_list, list, choice, case, LeafPath, has_value, children_of, node_at}
@@ -15,18 +21,18 @@ use Rattle.ymodel.specs.View as schema_view
 use Rattle.ymodel.specs.declared.schema.Schema as rust
 use Rattle.ymodel.proofs.CallerLemmas.{numbered}
 use Rattle.ycheck.specs.Walk.{value_told, marks_told, repetition}
-use Rattle.yplay.specs.Merging.{CasesInChoices, merged, absences_below, listed_in, listed}
-use Rattle.yplay.proofs.ListLemmas.{documents_listed, merged_counted}
+use Rattle.yplay.specs.Merging.{CasesInChoices, merged, absences_below, listed_in, listed, told_at, told_count}
+use Rattle.yplay.proofs.ListLemmas.{documents_listed, merged_counted, listed_counted}
 use Rattle.yplay.proofs.PlacedLemmas.{cases_of}
-use Rattle.ystore.specs.Store.{same_at, total_at, node_count}
+use Rattle.ystore.specs.Store.{same_at, total_at, node_count, held_at, play_at}
 use Rattle.ystore.specs.declared.row.Row.{Row}
 use Rattle.ystore.specs.declared.row.Row.TheVariants.{Top, Below}
 use Rattle.ystore.specs.declared.nodes.Nodes.{Nodes}
 use Rattle.yshape.specs.Hanging.{Numbered, Branches, child_of, children_of as children_in, stored_of, tree_of, Stands, Hangs}
 use Rattle.yshape.proofs.HangingLemmas as hanging
 use Rattle.yshape.proofs.CopyLemmas.{levels_within}
-use Rattle.ylist.specs.Listed.{judged_at, judged_told, own_told, told_from, told_below, children_told, list_told}
-use Rattle.ylist.specs.Telling.{is_twice, are_twice, same_of, TellsBelow, Tells}
+use Rattle.ylist.specs.Listed.{judged_at, judged_told, own_told, told_from, told_below, children_told, list_told, absence_of, is_item}
+use Rattle.ylist.specs.Telling.{is_twice, are_twice, same_of, TellsBelow, Tells, is_told, number_of, number_at, all_told, AreTotals, TellsAt}
 
 -- ---- a child that has no fault
 
@@ -35,21 +41,64 @@ nothing_told [] total true none counted = refl
 nothing_told (f ∷ fs) total true none counted = let zero = eqb-true total 0 none in absurd (omega (arith, zero, counted))
 nothing_told fs total false some counted = refl
 
+-- ---- how many are told
+
+length-marks : (is_item : Bool) (which : ℕ) (marks : List Bool) → length (marks_told is_item which marks) ≡ sum_by (λ m. cond m 1 0) marks
+length-marks is_item which [] = refl
+length-marks is_item which (m ∷ marks) =
+    length-append (cond m (repetition is_item which ∷ []) []) (marks_told is_item (which + 1) marks)
+    ∙ (ap₂ ◌+◌ (one m) (length-marks is_item (which + 1) marks) ∙ sym (sum_by-cons (λ m. cond m 1 0) m marks))
+  where
+    one : (m : Bool) → length (cond m (repetition is_item which ∷ []) []) ≡ cond m 1 0
+    one true = refl
+    one false = refl
+
+length-judged : (j : Judged) → length (judged_told j) ≡ cond (is_told j) 1 0
+length-judged Right = refl
+length-judged (Wrong app_tag) = refl
+length-judged Missing = refl
+
+number_is : (schema : Schema) (nodes : Nodes) (child : Child)
+    → number_at nodes (Below child.1) ≡ length (own_told schema nodes child) + length (play_at nodes (Below child.1))
+number_is schema nodes child = by (held_at nodes (Below child.1)) (is_item schema child.0.0)
+  where
+    by : (o : Option Held) (b : Bool) → option_map_or number_of (option_map (λ h. h.told) o) 0
+        ≡ length (option_map_or judged_told (option_map (λ h. h.told.judged) o) [] ++ marks_told b 0 (option_map_or (λ h. h.told.same) o []))
+        + length (option_map_or (λ h. h.told.play) o [])
+    by None b = omega arith
+    by (Some h) b =
+        let first = length-judged h.told.judged in
+        let second = length-marks b 0 h.told.same in
+        let both = length-append (judged_told h.told.judged) (marks_told b 0 h.told.same) in
+        omega (arith, first, second, both)
+
 -- ---- a document
 
 module _ (schema : Schema) (nodes : Nodes) (times : Times) where
+  node_number : (row : RowTimes) (n : Numbered) (below : Branches) → TellsAt times row schema nodes n below
+      → number_at nodes (Below n.id) ≡ told_at times row schema (stored_of n) (tree_of below)
+  node_number row n below here =
+      number_is schema nodes (child_of n)
+      ∙ ap₂ ◌+◌ (ap length here.own) (sym (length-map (play_at nodes (Below n.id)) absence_of) ∙ ap length here.play)
+
+  all_is : (row : RowTimes) (f : Branches) → TellsBelow times row schema nodes f → all_told nodes f ≡ told_count times row schema (tree_of f)
+  unfolding told_count
+  all_is row end tells = refl
+  all_is row (node n below after) tells = ap₂ ◌+◌ (node_number row n below tells.0)
+      (ap₂ ◌+◌ (all_is (row_times schema (tree_of below)) below tells.1) (all_is row after tells.2))
+
   row_told_is : (k : ℕ)
-      → ((above : Row) (row : RowTimes) (f : Branches) → Hangs nodes above f → levels f ≤ k → TellsBelow times row schema nodes f
+      → ((above : Row) (row : RowTimes) (f : Branches) → Hangs nodes above f → levels f ≤ k → TellsBelow times row schema nodes f → AreTotals nodes f
       → told_below k schema nodes above ≡ listed_in times row schema (tree_of f))
-      → (above : Row) (row : RowTimes) (f : Branches) → Stands nodes above f → levels f ≤ suc k → TellsBelow times row schema nodes f
+      → (above : Row) (row : RowTimes) (f : Branches) → Stands nodes above f → levels f ≤ suc k → TellsBelow times row schema nodes f → AreTotals nodes f
       → children_told k schema nodes (children_in f) ≡ listed_in times row schema (tree_of f)
   unfolding listed_in
-  row_told_is k deeper above row end stands within tells = refl
-  row_told_is k deeper above row (node n below after) stands within tells =
+  row_told_is k deeper above row end stands within tells totals = refl
+  row_told_is k deeper above row (node n below after) stands within tells totals =
       let t = tree_of below in
       let here = tells.0 in
-      let later = row_told_is k deeper above row after stands.2 (omega (arith, within)) tells.2 in
-      let under = deeper (Below n.id) (row_times schema t) below (record { listed = hanging.listed_below nodes above n below stands.0; stands = stands.1 }) (omega (arith, within)) tells.1 in
+      let later = row_told_is k deeper above row after stands.2 (omega (arith, within)) tells.2 totals.2 in
+      let under = deeper (Below n.id) (row_times schema t) below (record { listed = hanging.listed_below nodes above n below stands.0; stands = stands.1 }) (omega (arith, within)) tells.1 totals.1 in
       let fs = faults_at times row schema (stored_of n) t in
       let rest = merged schema (Some n.schema.0) (absences_below (children_of schema n.schema.0) t) (listed_in times (row_times schema t) schema t) in
       let told : told_from schema nodes (told_below k schema nodes (Below n.id)) (child_of n) ≡ fs ++ rest =
@@ -57,27 +106,39 @@ module _ (schema : Schema) (nodes : Nodes) (times : Times) where
       let counted : total_at nodes (Below n.id) ≡ length (fs ++ rest) =
       (let both = length-append fs rest in
       let inner = merged_counted schema (Some n.schema.0) times (row_times schema t) (absences_below (children_of schema n.schema.0) t) t in
-      omega (arith, here.total, both, inner)) in
+      let own = node_number row n below here in
+      let all = all_is (row_times schema t) below tells.1 in
+      omega (arith, totals.0, both, inner, own, all)) in
       ap₂ (λ (xs : List Fault) (ts : List Told). record { schema_number = n.schema.0; faults = xs } ∷ ts)
       (ap (λ (xs : List Fault). cond (eqb (total_at nodes (Below n.id)) 0) [] xs) told
       ∙ nothing_told (fs ++ rest) (total_at nodes (Below n.id)) (eqb (total_at nodes (Below n.id)) 0) refl counted)
       later
 
-  told_is : (k : ℕ) (above : Row) (row : RowTimes) (f : Branches) → Hangs nodes above f → levels f ≤ k → TellsBelow times row schema nodes f
+  told_is : (k : ℕ) (above : Row) (row : RowTimes) (f : Branches) → Hangs nodes above f → levels f ≤ k → TellsBelow times row schema nodes f → AreTotals nodes f
       → told_below k schema nodes above ≡ listed_in times row schema (tree_of f)
   unfolding listed_in
-  told_is zero above row end hangs within tells = refl
-  told_is zero above row (node n below after) hangs within tells = absurd (omega (arith, within))
-  told_is (suc k) above row f hangs within tells =
+  told_is zero above row end hangs within tells totals = refl
+  told_is zero above row (node n below after) hangs within tells totals = absurd (omega (arith, within))
+  told_is (suc k) above row f hangs within tells totals =
       ap (children_told k schema nodes) hangs.listed
-      ∙ row_told_is k (λ a r g. told_is k a r g) above row f hangs.stands within tells
+      ∙ row_told_is k (λ a r g. told_is k a r g) above row f hangs.stands within tells totals
 
 pub list_is : (schema : Schema) (nodes : Nodes) (f : Branches) → Hangs nodes Top f → size f ≤ node_count nodes → Tells schema nodes f
     → list_told schema nodes ≡ listed schema (tree_of f)
 unfolding listed
 list_is schema nodes f hangs within tells =
     ap₂ (merged schema None) tells.play
-    (told_is schema nodes (times_in schema (tree_of f)) (node_count nodes) Top (row_times schema (tree_of f)) f hangs (let deep = levels_within f in omega (arith, deep, within)) tells.below)
+    (told_is schema nodes (times_in schema (tree_of f)) (node_count nodes) Top (row_times schema (tree_of f)) f hangs (let deep = levels_within f in omega (arith, deep, within))
+    tells.below tells.totals)
+
+-- the total of the top is how many there are
+pub total_is : (schema : Schema) (nodes : Nodes) (f : Branches) → Tells schema nodes f → total_at nodes Top ≡ length (play_at nodes Top) + all_told nodes f
+    → IsNumbered 0 schema.nodes → CasesInChoices false schema.nodes → Fits schema (tree_of f) → total_at nodes Top ≡ length (faults_of schema (tree_of f))
+total_is schema nodes f tells total numbered cased fits =
+    total
+    ∙ (ap₂ ◌+◌ (sym (length-map (play_at nodes Top) absence_of) ∙ ap length tells.play)
+    (all_is schema nodes (times_in schema (tree_of f)) (row_times schema (tree_of f)) f tells.below)
+    ∙ (sym (listed_counted schema (tree_of f)) ∙ sym (ap length (documents_listed schema (tree_of f) numbered cased fits))))
 
 -- so where its document fits
 pub faults_are : (schema : Schema) (nodes : Nodes) (f : Branches) → Hangs nodes Top f → size f ≤ node_count nodes → Tells schema nodes f

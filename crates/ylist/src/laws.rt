@@ -1,6 +1,6 @@
 //! Laws of stores that tell of a document.
 
-ghost use Rattle.std.specs.Prelude.{◌≡◌, ◌≤◌, ◌++◌, [], ℕ, false, Option, Some};
+ghost use Rattle.std.specs.Prelude.{◌≡◌, ◌≤◌, ◌++◌, ◌+◌, [], ℕ, false, Option, Some, length};
 ghost use Rattle.std.specs.Option.{option_map_or};
 ghost use Rattle.yspec.specs.Forest.{size};
 ghost use Rattle.yspec.specs.types.Types.{Raw};
@@ -10,15 +10,15 @@ ghost use Rattle.yspec.specs.document.Instances.{Tuple, tuple};
 ghost use Rattle.yspec.specs.document.Faults.{Times, RowTimes, faults_at, faults_of, own_faults};
 ghost use Rattle.ycheck.specs.Walk.{marks_told, value_told};
 ghost use Rattle.yplay.specs.Merging.{CasesInChoices, listed};
-ghost use Rattle.ystore.specs.Store.{node_count, same_at};
+ghost use Rattle.ystore.specs.Store.{node_count, play_at, same_at, total_at};
 ghost use Rattle.ystore.specs.declared.nodes.Nodes.{Nodes};
 ghost use Rattle.ystore.specs.declared.row.Row.TheVariants.{Top};
 ghost use Rattle.yshape.specs.Hanging.{Branches, Hangs, Numbered, child_of, stored_of, tree_of};
 ghost use Rattle.ylist.specs.Listed.{judged_at, judged_told, list_told, own_told};
-ghost use Rattle.ylist.specs.Telling.{Tells, same_of};
+ghost use Rattle.ylist.specs.Telling.{Tells, all_told, same_of};
 
 /// What a store lists, where it holds of each node what is told there, is the list of its document's faults, and where the
-/// document fits, these are all.
+/// document fits, these are all; then the total of the top is how many they are.
 pub fn told_documents()
     ensures listed { (schema : Schema) (nodes : Nodes) (f : Branches) → Hangs nodes Top f
         → size f ≤ node_count nodes → Tells schema nodes f
@@ -27,6 +27,10 @@ pub fn told_documents()
         → size f ≤ node_count nodes → Tells schema nodes f → IsNumbered 0 schema.nodes
         → CasesInChoices false schema.nodes → Fits schema (tree_of f)
         → list_told schema nodes ≡ faults_of schema (tree_of f) }
+    ensures total { (schema : Schema) (nodes : Nodes) (f : Branches) → Tells schema nodes f
+        → total_at nodes Top ≡ length (play_at nodes Top) + all_told nodes f
+        → IsNumbered 0 schema.nodes → CasesInChoices false schema.nodes
+        → Fits schema (tree_of f) → total_at nodes Top ≡ length (faults_of schema (tree_of f)) }
 {}
 
 /// The faults at a node are those of its value, and those of what others have too.
