@@ -1,20 +1,22 @@
 -- What a store lists, where it holds of each node what is told there, are the faults of its document.
-use Rattle.std.proofs.Common.{◌≡◌, ℕ, zero, suc, ◌+◌, ◌≤◌, Bool, true, false, cond, eqb, ltb, List, [], ◌∷◌, ◌++◌, length, Option, Some, None, Result, Ok, Err, IfOk, refl, sym, ap, ap₂, ◌∙◌, arith, length-append}
+use Rattle.std.proofs.Common.{◌≡◌, ℕ, zero, suc, ◌+◌, ◌≤◌, Bool, true, false, cond, eqb, ltb, List, [], ◌∷◌, ◌++◌, length, Option, Some, None, Result, Ok, Err, IfOk, refl, sym, ap, ap₂, ◌∙◌, arith, length-append, ◌&&◌}
 use Rattle.std.proofs.lemmas.Bool.{eqb-true}
 use Rattle.std.proofs.lemmas.List.{append-nil, length-map}
 use Rattle.std.specs.Option.{option_map_or}
-use Rattle.std.specs.Prelude.{sum_by, option_map}
+use Rattle.std.specs.Prelude.{sum_by, option_map, option_and_then, get_or, unwrap_or}
 use Rattle.std.proofs.lemmas.List.Sums.{sum_by-cons}
 use Rattle.ystore.specs.Held.{Held}
 use Rattle.ystore.specs.Rows.{Child}
 use Rattle.ystore.specs.declared.record.Judged.{Judged}
 use Rattle.ystore.specs.declared.record.Judged.TheVariants.{Right, Wrong, Missing}
+use Rattle.std.proofs.lemmas.Option.{slice_get_past}
+use Rattle.yspec.specs.document.Document.{Stored, Tree}
 use Rattle.yspec.specs.Forest.{end, node, size, levels}
 use Rattle.yspec.specs.types.Types.{Raw, Val, taken}
-use Rattle.yspec.specs.schema.Schema.{Schema, SchemaNode, Kind, container, leaf, leaf_list, list, choice, case, LeafPath, has_value, children_of, node_at}
+use Rattle.yspec.specs.schema.Schema.{Schema, SchemaNode, Kind, container, leaf, leaf_list, list, choice, case, LeafPath, has_value, children_of, node_at, Tuples, Amount}
 use Rattle.yspec.specs.document.Fault.{Fault, fault_with, plain_fault}
 use Rattle.yspec.specs.document.FaultCode.{V10}
-use Rattle.yspec.specs.document.Instances.{Tuple, tuple, times_in}
+use Rattle.yspec.specs.document.Instances.{Tuple, tuple, times_in, kind_tuple, tuple_of_paths}
 use Rattle.yspec.specs.document.Faults.{Times, RowTimes, Told, row_times, own_faults, faults_at, faults_of, value_faults, tuple_info, tuple_code, tuple_fault, tuple_faults}
 use Rattle.yspec.specs.document.Fitting.{IsNumbered, Fits}
 use Rattle.ymodel.specs.View as schema_view
@@ -32,7 +34,7 @@ use Rattle.yshape.specs.Hanging.{Numbered, Branches, child_of, children_of as ch
 use Rattle.yshape.proofs.HangingLemmas as hanging
 use Rattle.yshape.proofs.CopyLemmas.{levels_within}
 use Rattle.ylist.specs.Listed.{judged_at, judged_told, own_told, told_from, told_below, children_told, list_told, absence_of, is_item}
-use Rattle.ylist.specs.Telling.{is_twice, are_twice, same_of, TellsBelow, Tells, is_told, number_of, number_at, all_told, AreTotals, TellsAt}
+use Rattle.ylist.specs.Telling.{is_twice, are_twice, same_of, TellsBelow, Tells, is_told, number_of, number_at, all_told, AreTotals, TellsAt, is_same}
 
 -- ---- a child that has no fault
 
@@ -190,13 +192,77 @@ own_is times row n (list shape amount) value tuples =
 own_is times row n (choice default_case is_mandatory) value tuples = refl
 own_is times row n case value tuples = refl
 
+-- ---- by number
+
+-- flags that aren't set tell nothing
+marks_same : (is_item : Bool) (which : ℕ) (ms ns : List Bool) → ((u : ℕ) → get_or ms u false ≡ get_or ns u false) → marks_told is_item which ms ≡ marks_told is_item which ns
+marks_same is_item which [] [] same = refl
+marks_same is_item which [] (n ∷ ns) same =
+    marks_same is_item (which + 1) [] ns (λ u. same (suc u))
+    ∙ ap (λ b. cond b (repetition is_item which ∷ []) [] ++ marks_told is_item (which + 1) ns) (same 0)
+marks_same is_item which (m ∷ ms) [] same =
+    ap (λ b. cond b (repetition is_item which ∷ []) [] ++ marks_told is_item (which + 1) ms) (same 0)
+    ∙ marks_same is_item (which + 1) ms [] (λ u. same (suc u))
+marks_same is_item which (m ∷ ms) (n ∷ ns) same =
+    ap₂ (λ (b : Bool) (fs : List Fault). cond b (repetition is_item which ∷ []) [] ++ fs) (same 0) (marks_same is_item (which + 1) ms ns (λ u. same (suc u)))
+
+twice_at : (row : RowTimes) (number : ℕ) (tuples : ℕ → Option Tuple) (k : ℕ) (xs : List (List LeafPath)) (u : ℕ) → ((v : ℕ) → length xs ≤ v → tuples (k + v) ≡ None)
+    → get_or (are_twice row number tuples k xs) u false ≡ is_twice row number (k + u) (tuples (k + u))
+twice_at row number tuples k [] u none = sym (ap (is_twice row number (k + u)) (none u (omega arith)))
+twice_at row number tuples k (x ∷ xs) zero none =
+    let here : k ≡ k + 0 = omega arith in ap (λ v. is_twice row number v (tuples v)) here
+twice_at row number tuples k (x ∷ xs) (suc u) none =
+    let next : suc k + u ≡ k + suc u = omega arith in
+    twice_at row number tuples (suc k) xs u (λ v past. let more : suc k + v ≡ k + suc v = omega arith in ap tuples more ∙ none (suc v) (omega (arith, past)))
+    ∙ ap (λ v. is_twice row number v (tuples v)) next
+
+entry_at : (row : RowTimes) (n : SchemaNode) (tuples : ℕ → Option Tuple) (uniques : List (List LeafPath)) (u : ℕ) → ((v : ℕ) → length uniques ≤ v → tuples (suc v) ≡ None)
+    → get_or (is_twice row n.number 0 (tuples 0) ∷ are_twice row n.number tuples 1 uniques) u false ≡ is_twice row n.number u (tuples u)
+entry_at row n tuples uniques zero none = refl
+entry_at row n tuples uniques (suc u) none =
+    let next : 1 + u ≡ suc u = omega arith in
+    twice_at row n.number tuples 1 uniques u (λ v past. let more : 1 + v ≡ suc v = omega arith in ap tuples more ∙ none v past)
+    ∙ ap (λ v. is_twice row n.number v (tuples v)) next
+
+item_first : (config twice : Bool) → get_or (cond config (twice ∷ []) []) 0 false ≡ (config && twice)
+item_first true twice = refl
+item_first false twice = refl
+
+item_behind : (config twice : Bool) (u : ℕ) → get_or (cond config (twice ∷ []) []) (suc u) false ≡ false
+item_behind true twice u = refl
+item_behind false twice u = refl
+
+same_at_is : (row : RowTimes) (n : SchemaNode) (kind : Kind) (value : Option Raw) (tuples : ℕ → Option Tuple) (u : ℕ)
+    → ((shape : Tuples) (amount : Amount) → kind ≡ list shape amount → (v : ℕ) → length shape.uniques ≤ v → tuples (suc v) ≡ None)
+    → get_or (same_of row n kind value tuples) u false ≡ is_same row n kind value tuples u
+same_at_is row n (list shape amount) value tuples u none = entry_at row n tuples shape.uniques u (none shape amount refl)
+same_at_is row n (leaf_list type defaults amount) value tuples zero none =
+    item_first n.config (option_map_or (λ v. ltb 1 (row.items n.number v)) (option_and_then (taken type.type) value) false)
+same_at_is row n (leaf_list type defaults amount) value tuples (suc u) none =
+    item_behind n.config (option_map_or (λ v. ltb 1 (row.items n.number v)) (option_and_then (taken type.type) value) false) u
+same_at_is row n (container presence) value tuples u none = refl
+same_at_is row n (leaf type absence) value tuples u none = refl
+same_at_is row n (choice default_case is_mandatory) value tuples u none = refl
+same_at_is row n case value tuples u none = refl
+
+-- a list has no more tuples than a key and its `unique`s
+no_more_tuples : (schema : Schema) (s : Stored) (below : Tree) (m : SchemaNode) → node_at schema s.schema_number ≡ Some m
+    → (shape : Tuples) (amount : Amount) → m.kind ≡ list shape amount → (v : ℕ) → length shape.uniques ≤ v → tuple schema s below (suc v) ≡ None
+no_more_tuples schema s below m is shape amount kind v past =
+    ap (λ o. option_and_then (λ (n : SchemaNode). kind_tuple schema n.kind below (suc v)) o) is
+    ∙ (ap (λ k. kind_tuple schema k below (suc v)) kind
+    ∙ ap (λ o. tuple_of_paths schema below (unwrap_or o [])) (slice_get_past shape.uniques v past))
+
 pub told_at_node : (times : Times) (row : RowTimes) (schema : Schema) (nodes : Nodes) (n : Numbered) (below : Branches) (m : SchemaNode) → node_at schema n.schema.0 ≡ Some m
     → option_map_or judged_told (judged_at nodes n.id) [] ≡ value_told times m.kind n.value
-    → same_at nodes n.id ≡ same_of row m m.kind n.value (tuple schema (stored_of n) (tree_of below))
+    → ((u : ℕ) → get_or (same_at nodes n.id) u false ≡ is_same row m m.kind n.value (tuple schema (stored_of n) (tree_of below)) u)
     → own_told schema nodes (child_of n) ≡ faults_at times row schema (stored_of n) (tree_of below)
 told_at_node times row schema nodes n below m is value same =
-    let n' = n in
     let tuples = tuple schema (stored_of n) (tree_of below) in
-    ap₂ ◌++◌ value (ap₂ (λ b ms. marks_told b 0 ms) (ap (λ o. option_map_or (λ (n : SchemaNode). has_value n.kind) o false) is) same)
+    let n' = n in
+    let flags : marks_told (has_value m.kind) 0 (same_at nodes n.id) ≡ marks_told (has_value m.kind) 0 (same_of row m m.kind n.value tuples) =
+    marks_same (has_value m.kind) 0 (same_at nodes n.id) (same_of row m m.kind n.value tuples)
+    (λ u. same u ∙ sym (same_at_is row m m.kind n.value tuples u (no_more_tuples schema (stored_of n) (tree_of below) m is))) in
+    ap₂ ◌++◌ value (ap (λ o. marks_told (option_map_or (λ (n : SchemaNode). has_value n.kind) o false) 0 (same_at nodes n.id)) is ∙ flags)
     ∙ (sym (own_is times row m m.kind n.value tuples)
     ∙ sym (ap (λ o. option_map_or (λ (n : SchemaNode). own_faults times row n n.kind n'.value tuples) o []) is))

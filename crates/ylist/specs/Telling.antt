@@ -1,5 +1,5 @@
 -- Stores that hold of each node what is told there.
-use Rattle.std.specs.Prelude.{◌≡◌, ◌+◌, ℕ, suc, Bool, true, false, List, [], ◌∷◌, Option, if◌then◌else◌, option_and_then, nat_lt, option_map, length}
+use Rattle.std.specs.Prelude.{◌≡◌, ◌+◌, ℕ, zero, suc, ◌&&◌, Bool, true, false, List, [], ◌∷◌, Option, if◌then◌else◌, option_and_then, nat_lt, option_map, length}
 use Rattle.std.specs.List.{sum_by}
 use Rattle.std.specs.Option.{option_map_or}
 use Rattle.yspec.specs.Forest.{end, node, weigh}
@@ -36,6 +36,13 @@ same_of row n (list shape amount) value tuples =
 same_of row n (leaf_list type defaults amount) value tuples = if n.config
     then option_map_or (λ v. nat_lt 1 (row.items n.number v)) (option_and_then (taken type.type) value) false ∷ [] else []
 same_of row n _ value tuples = []
+
+-- the same by number
+abbrev pub is_same : RowTimes → SchemaNode → Kind → Option Raw → (ℕ → Option Tuple) → ℕ → Bool
+is_same row n (list shape amount) value tuples u = is_twice row n.number u (tuples u)
+is_same row n (leaf_list type defaults amount) value tuples zero =
+    n.config && option_map_or (λ v. nat_lt 1 (row.items n.number v)) (option_and_then (taken type.type) value) false
+is_same row n _ value tuples u = false
 
 -- ---- totals
 

@@ -1,6 +1,6 @@
 //! Laws of stores that tell of a document.
 
-ghost use Rattle.std.specs.Prelude.{◌≡◌, ◌≤◌, ◌++◌, ◌+◌, [], ℕ, false, Option, Some, length};
+ghost use Rattle.std.specs.Prelude.{◌≡◌, ◌≤◌, ◌++◌, ◌+◌, [], ℕ, false, Option, Some, length, get_or};
 ghost use Rattle.std.specs.Option.{option_map_or};
 ghost use Rattle.yspec.specs.Forest.{size};
 ghost use Rattle.yspec.specs.types.Types.{Raw};
@@ -15,7 +15,7 @@ ghost use Rattle.ystore.specs.declared.nodes.Nodes.{Nodes};
 ghost use Rattle.ystore.specs.declared.row.Row.TheVariants.{Top};
 ghost use Rattle.yshape.specs.Hanging.{Branches, Hangs, Numbered, child_of, stored_of, tree_of};
 ghost use Rattle.ylist.specs.Listed.{judged_at, judged_told, list_told, own_told};
-ghost use Rattle.ylist.specs.Telling.{Tells, all_told, same_of};
+ghost use Rattle.ylist.specs.Telling.{Tells, all_told, is_same, same_of};
 
 /// What a store lists, where it holds of each node what is told there, is the list of its document's faults, and where the
 /// document fits, these are all; then the total of the top is how many they are.
@@ -41,12 +41,13 @@ pub fn parted_faults()
         ++ marks_told (has_value kind) 0 (same_of row n kind value tuples) }
 {}
 
-/// So a store holds what is told at a node where it holds what is told of its value, and of each question whether others
-/// have the same.
+/// So a store holds what is told at a node where it holds what is told of its value, and of each question, by its number,
+/// whether others have the same.
 pub fn told_nodes()
     ensures { (times : Times) (row : RowTimes) (schema : Schema) (nodes : Nodes) (n : Numbered) (below : Branches) (m : SchemaNode)
         → node_at schema n.schema.0 ≡ Some m
         → option_map_or judged_told (judged_at nodes n.id) [] ≡ value_told times m.kind n.value
-        → same_at nodes n.id ≡ same_of row m m.kind n.value (tuple schema (stored_of n) (tree_of below))
+        → ((u : ℕ) → get_or (same_at nodes n.id) u false
+        ≡ is_same row m m.kind n.value (tuple schema (stored_of n) (tree_of below)) u)
         → own_told schema nodes (child_of n) ≡ faults_at times row schema (stored_of n) (tree_of below) }
 {}
