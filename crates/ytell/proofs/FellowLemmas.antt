@@ -10,7 +10,7 @@ use Rattle.ystore.specs.Entries.{without}
 use Rattle.ystore.specs.Store.{held_at, reads, same_at, holders_at, instances_at, same_row, same_key, total_at}
 use Rattle.ystore.specs.declared.row.NodeId.{NodeId}
 use Rattle.ystore.specs.declared.row.Row.{Row}
-use Rattle.ystore.specs.declared.row.Row.TheVariants.{Below}
+use Rattle.ystore.specs.declared.row.Row.TheVariants.{Top, Below}
 use Rattle.ystore.specs.declared.key.Key.{Key}
 use Rattle.ystore.specs.declared.record.Judged.{Judged}
 use Rattle.ystore.specs.declared.nodes.Nodes.{Nodes}
@@ -558,6 +558,18 @@ pub own_touched : (id : NodeId) (fellow : Option NodeId) (fellows : ℕ) → 0 <
 own_touched id fellow fellows some =
     ap (λ a. (a && same_row (Below id) (Below id)) || (eqb fellows 1 && option_map_or (λ other. same_row (Below other) (Below id)) fellow false)) (lt-ltb 0 fellows some)
     ∙ ap (λ a. a || (eqb fellows 1 && option_map_or (λ other. same_row (Below other) (Below id)) fellow false)) (itself (Below id))
+
+-- the top is below no node
+pub touched_top : (id : NodeId) (fellow : Option NodeId) (fellows : ℕ) → is_touched id fellow fellows Top ≡ false
+touched_top id fellow fellows = by (ltb 0 fellows) (eqb fellows 1) fellow
+  where
+    by : (a b : Bool) (o : Option NodeId) → ((a && false) || (b && option_map_or (λ other. same_row (Below other) Top) o false)) ≡ false
+    by true true None = refl
+    by true true (Some other) = refl
+    by true false o = refl
+    by false true None = refl
+    by false true (Some other) = refl
+    by false false o = refl
 
 -- ---- why a row is touched
 

@@ -10,7 +10,7 @@ use Rattle.ystore.specs.Entries.{Entry, with_node, without_node, without}
 use Rattle.ystore.specs.Store.{held_at, reads, entry_at, same_at, holders_at, instances_at, node_count, same_row, same_key, ChangesEntry, total_at}
 use Rattle.ystore.specs.declared.row.NodeId.{NodeId}
 use Rattle.ystore.specs.declared.row.Row.{Row}
-use Rattle.ystore.specs.declared.row.Row.TheVariants.{Below}
+use Rattle.ystore.specs.declared.row.Row.TheVariants.{Top, Below}
 use Rattle.ystore.specs.declared.key.Key.{Key}
 use Rattle.ystore.specs.declared.record.Judged.{Judged}
 use Rattle.ystore.specs.declared.record.Judged.TheVariants.{Right, Missing}
@@ -21,12 +21,12 @@ use Rattle.yshape.specs.Parts.{OnlyReads}
 use Rattle.ytell.specs.Totals.{IsTree, OnlyFaults, StandsIn, Totals, is_told, judged_at, told_at}
 use Rattle.ytell.specs.Keys.{AreKeys, Agrees, ChangesAt, ChangesKey, Follows, Indexes, IsJudged, Keys, Tells, among, flag_of, has_key, is_missing, is_shared, is_touched, judged_by, own_at, own_of, slot_for, slot_of, two_climbs, with_key, wrong_of}
 pub use Rattle.yshape.proofs.PartLemmas.{reads_on}
-use Rattle.ytell.proofs.WayLemmas.{not_both, itself}
+use Rattle.ytell.proofs.WayLemmas.{not_both, not_this, itself}
 use Rattle.ytell.proofs.TotalLemmas.{mark, totals_same, tree_same}
 use Rattle.ytell.proofs.LawLemmas.{held_faults}
 use Rattle.ytell.proofs.TellLemmas.{flags_seen}
 use Rattle.ytell.proofs.IndexLemmas.{among_less, held, holders_else, holders_here, holds, in_slot, instances_same, joined, key_stands, left, long_less, first_among, with_here, with_other_number, with_other_slot}
-use Rattle.ytell.proofs.FellowLemmas.{judged_same, own_kept, shared_same, some_flag, tells_joined, tells_left, touched_itself, touched_why}
+use Rattle.ytell.proofs.FellowLemmas.{judged_same, own_kept, shared_same, some_flag, tells_joined, tells_left, touched_itself, touched_top, touched_why}
 
 -- ---- an entry that changes
 
@@ -185,6 +185,7 @@ module _ (laws : AreKeys) (key : Key) (id : NodeId) (keys : Keys) (f : Branches)
           own = own_kept touched u true first third since;
           reads = let more = (climbs (entered_tree key (with_node id) first second entered f tree) (λ x t. (touches x t).0)).0 in omega (arith, few, more);
           totals_beside = λ y none. (climbs (entered_tree key (with_node id) first second entered f tree) (λ x t. (touches x t).0)).1 y none ∙ entered_total first second entered.held (Below y);
+          top = untouched touched (with_same u true) first third since Top (touched_top id (slice_get (holders_at first key) 0) (length (holders_at first key)));
           beside = λ x none. untouched touched (with_same u true) first third since (Below x) (not_both (touched (Below x)) (λ t.
               absurd (let some = (why x t).0 in omega (arith, some, none))));
         }
@@ -246,6 +247,7 @@ module _ (laws : AreKeys) (key : Key) (id : NodeId) (keys : Keys) (f : Branches)
           own = own_judged (touched_if b) Missing first third since refl (λ row t. own_right row t);
           reads = let more = (climbs (entered_tree key (with_node id) first second entered f tree) stands_there).0 in omega (arith, few, more);
           totals_beside = λ y none. (climbs (entered_tree key (with_node id) first second entered f tree) stands_there).1 y none ∙ entered_total first second entered.held (Below y);
+          top = untouched (touched_if b) (with_judged Missing) first third since Top (not_this b);
           beside = λ x none. untouched (touched_if b) (with_judged Missing) first third since (Below x) (not_both (touched_if b (Below x)) (λ t.
               absurd (let same = ap (λ k. times k f) (eqb-true id.0 x.0 (and_second b (same_row (Below id) (Below x)) t)) in
               omega (arith, same, none, stands_there))));
@@ -360,6 +362,7 @@ module _ (laws : AreKeys) (key : Key) (id : NodeId) (keys : Keys) (f : Branches)
           own = own_kept touched_left u false first third since;
           reads = let more = (climbs (entered_tree key (without_node id) first second entered f tree) (λ x t. (touches x t).0)).0 in omega (arith, few, more);
           totals_beside = λ y none. (climbs (entered_tree key (without_node id) first second entered f tree) (λ x t. (touches x t).0)).1 y none ∙ entered_total first second entered.held (Below y);
+          top = untouched touched_left (with_same u false) first third since Top (touched_top id (slice_get (holders_at third key) 0) (length (holders_at third key)));
           beside = λ x none. untouched touched_left (with_same u false) first third since (Below x) (not_both (touched_left (Below x)) (λ t.
               absurd (let some = (why x t).0 in omega (arith, some, none))));
         }
@@ -447,6 +450,7 @@ module _ (laws : AreKeys) (key : Key) (id : NodeId) (keys : Keys) (f : Branches)
           own = own_judged (left_if b) Right first third since refl (λ row t. own_right row t);
           reads = let more = (climbs (entered_tree key (without_node id) first second entered f tree) stood).0 in omega (arith, few, more);
           totals_beside = λ y none. (climbs (entered_tree key (without_node id) first second entered f tree) stood).1 y none ∙ entered_total first second entered.held (Below y);
+          top = untouched (left_if b) (with_judged Right) first third since Top (not_this b);
           beside = λ x none. untouched (left_if b) (with_judged Right) first third since (Below x) (not_both (left_if b (Below x)) (λ t.
               absurd (let same = ap (λ k. times k f) (eqb-true id.0 x.0 (and_second b (same_row (Below id) (Below x)) t)) in let there = stood in
               omega (arith, same, none, there))));

@@ -18,7 +18,7 @@ use Rattle.yshape.specs.Hanging.{Branches, times}
 use Rattle.yshape.specs.Parts.{OnlyReads}
 use Rattle.ytell.specs.Totals.{ChangesTold, IsTree, OnlyFaults, StandsIn, Totals, is_told, judged_at, told_at}
 use Rattle.ytell.specs.Keys.{AreKeys, Agrees, ChangesAt, ChangesKey, Follows, Indexes, IsJudged, Keys, Tells, among, flag_of, has_key, is_holder, is_missing, judged_by, slot_for, slot_of, wrong_of, judging}
-use Rattle.ytell.proofs.WayLemmas.{not_both}
+use Rattle.ytell.proofs.WayLemmas.{not_both, not_this}
 use Rattle.ytell.proofs.ClimbLemmas.{read_told}
 use Rattle.ytell.proofs.TotalLemmas.{mark}
 use Rattle.ytell.proofs.IndexLemmas.{among-cons, among_more, held, held_slot, holders_else, holders_here, holds, in_slot, key_stands}
@@ -201,6 +201,7 @@ module _ (laws : AreKeys) (key : Key) (change : Entry → Entry) (step : ℕ →
             (climbs (entered_tree key change first second entered f tree) (λ x some. (holder_is x (judged_by (instances_at first key)) refl some).0)).0 in
             omega (arith, few, more);
         totals_beside = λ y none. (climbs (entered_tree key change first second entered f tree) (λ x some. (holder_is x (judged_by (instances_at first key)) refl some).0)).1 y none ∙ ap (λ o. option_map_or (λ h. h.total) o 0) (entered.held (Below y));
+        top = untouched (touched_if b) (with_judged j) first third since Top (not_this b);
         beside = λ x none. untouched (touched_if b) (with_judged j) first third since (Below x) (not_both (touched_if b (Below x)) (λ t.
             absurd (let there = key_stands first keys f agrees.index x.0 key (touched_holds x t) in omega (arith, there, none))));
       }

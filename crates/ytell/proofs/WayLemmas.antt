@@ -1,5 +1,5 @@
 -- The rows on a way, and which nodes of a forest they stand below.
-use Rattle.std.proofs.Common.{◌≡◌, ℕ, zero, suc, ◌+◌, ◌<◌, ◌≤◌, Bool, true, false, ◌||◌, [], ◌∷◌, ◌++◌, length, Option, Some, None, is_some, option_map, refl, sym, ap, ◌∙◌, arith, subst, cond, eqb}
+use Rattle.std.proofs.Common.{◌≡◌, ℕ, zero, suc, ◌+◌, ◌<◌, ◌≤◌, Bool, true, false, ◌&&◌, ◌||◌, [], ◌∷◌, ◌++◌, length, Option, Some, None, is_some, option_map, refl, sym, ap, ◌∙◌, arith, subst, cond, eqb}
 use Rattle.std.proofs.lemmas.Bool.{eq-eqb, eqb-true, false≢true}
 use Rattle.yspec.specs.Forest.{end, node, join, levels, size}
 use Rattle.ystore.specs.Held.{Held}
@@ -108,6 +108,10 @@ below_not_top (frame ∷ way) = below_not_top way
 pub not_both : (b : Bool) → (b ≡ true → ⊥) → b ≡ false
 not_both true never = absurd (never refl)
 not_both false never = refl
+
+pub not_this : (b : Bool) → (b && false) ≡ false
+not_this true = refl
+not_this false = refl
 
 -- a row above those of a way doesn't stand among them
 pub fresh : (up : Way) (frame : Frame) (down : Way) (f : Branches) → ((number : ℕ) → times number (around (up ++ frame ∷ down) f) ≤ 1)

@@ -168,12 +168,13 @@ pub record ChangesKey (key : Key) (change : Entry → Entry) (before after : Nod
   pub rooms : (row : Row) → room_at after row ≡ room_at before row
   pub node_count : node_count after ≡ node_count before
 
--- What is told agrees with an index again, and the totals are right; what no key tells stays, and of nodes beside the
--- forest all that is told, and their totals. There are so many reads at most.
+-- What is told agrees with an index again, and the totals are right; what no key tells stays, of the top and of nodes beside
+-- the forest all that is told, and the totals of these. There are so many reads at most.
 pub record Follows (cost : ℕ) (keys : Keys) (f : Branches) (before after : Nodes) : Type 0 where
   pub agrees : Agrees after keys f
   pub totals : Totals after f
   pub own : (row : Row) → own_at after row ≡ own_at before row
+  pub top : told_at after Top ≡ told_at before Top
   pub beside : (id : NodeId) → times id.0 f ≡ 0 → told_at after (Below id) ≡ told_at before (Below id)
   pub totals_beside : (id : NodeId) → times id.0 f ≡ 0 → total_at after (Below id) ≡ total_at before (Below id)
   pub reads : reads after ≤ reads before + cost

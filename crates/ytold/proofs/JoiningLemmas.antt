@@ -79,7 +79,7 @@ awaited_on first second third a b key = b key ∙ a key
 -- ---- what is told
 
 pub follows_itself : (nodes : Nodes) (held : Keys) (f : Branches) → Agrees nodes held f → Totals nodes f → Follows held f nodes nodes
-follows_itself nodes held f agrees totals = record { agrees = agrees; totals = totals; own = λ row. refl; beside = λ id none. refl; totals_beside = λ id none. refl }
+follows_itself nodes held f agrees totals = record { agrees = agrees; totals = totals; own = λ row. refl; top = refl; beside = λ id none. refl; totals_beside = λ id none. refl }
 
 pub follows_on : (held now : Keys) (f : Branches) (first second third : Nodes) → Follows held f first second → Follows now f second third → Follows now f first third
 follows_on held now f first second third a b =
@@ -87,6 +87,7 @@ follows_on held now f first second third a b =
       agrees = b.agrees;
       totals = b.totals;
       own = λ row. b.own row ∙ a.own row;
+      top = b.top ∙ a.top;
       beside = λ id none. b.beside id none ∙ a.beside id none;
       totals_beside = λ id none. b.totals_beside id none ∙ a.totals_beside id none;
     }
@@ -94,7 +95,7 @@ follows_on held now f first second third a b =
 -- whatever it took
 pub follows_of : (cost : ℕ) (held : Keys) (f : Branches) (before after : Nodes) → told.Follows cost held f before after → Follows held f before after
 follows_of cost held f before after a =
-    record { agrees = a.agrees; totals = a.totals; own = a.own; beside = a.beside; totals_beside = a.totals_beside }
+    record { agrees = a.agrees; totals = a.totals; own = a.own; top = a.top; beside = a.beside; totals_beside = a.totals_beside }
 
 -- ---- one step
 

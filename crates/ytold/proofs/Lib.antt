@@ -1,5 +1,6 @@
 pub mod AccountLemmas
 pub mod AssignedLemmas
+pub mod BareLemmas
 pub mod ChangeLemmas
 pub mod CountingLemmas
 pub mod EachLemmas

@@ -6,7 +6,7 @@ use Rattle.std.proofs.lemmas.Bool.{eqb-true, false≢true}
 use Rattle.ystore.specs.Entries.{Entry, is_idle}
 use Rattle.ystore.specs.Held.{Held}
 use Rattle.ystore.specs.Index.{tidied}
-use Rattle.ystore.specs.declared.row.Row.TheVariants.{Below}
+use Rattle.ystore.specs.declared.row.Row.TheVariants.{Top, Below}
 use Rattle.ystore.specs.Store.{entry_at, same_key, ChangesEntry}
 use Rattle.ystore.specs.declared.key.Key.{Key}
 use Rattle.ystore.specs.declared.nodes.Nodes.{Nodes}
@@ -69,6 +69,7 @@ tidied_follows held f first before after follows tidies =
       agrees = agrees_told before after held f tidies.keys (λ id stands. ap (option_map (λ (h : Held). h.told)) (tidies.held (Below id))) follows.agrees;
       totals = totals_same before after (held_faults before after tidies.held) f follows.totals;
       own = λ row. ap (λ (o : Option Held). option_map own_of (option_map (λ (h : Held). h.told) o)) (tidies.held row) ∙ follows.own row;
+      top = ap (option_map (λ (h : Held). h.told)) (tidies.held Top) ∙ follows.top;
       beside = λ id none. ap (option_map (λ (h : Held). h.told)) (tidies.held (Below id)) ∙ follows.beside id none;
       totals_beside = λ id none. ap (λ (o : Option Held). option_map_or (λ (h : Held). h.total) o 0) (tidies.held (Below id)) ∙ follows.totals_beside id none;
     }

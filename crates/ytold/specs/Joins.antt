@@ -3,7 +3,7 @@ use Rattle.std.specs.Prelude.{◌≡◌, ℕ, ◌<◌, true, List, Option, Some,
 use Rattle.ystore.specs.Store.{held_at, entry_at, instances_at, node_count, total_at}
 use Rattle.ystore.specs.declared.row.NodeId.{NodeId}
 use Rattle.ystore.specs.declared.row.Row.{Row}
-use Rattle.ystore.specs.declared.row.Row.TheVariants.{Below}
+use Rattle.ystore.specs.declared.row.Row.TheVariants.{Top, Below}
 use Rattle.ystore.specs.declared.key.Key.{Key}
 use Rattle.ystore.specs.declared.nodes.Nodes.{Nodes}
 use Rattle.yshape.specs.Hanging.{Branches, shape_at, times}
@@ -52,11 +52,12 @@ pub record Tidies (before after : Nodes) : Type 0 where
   pub awaited : KeepsAwaited before after
   pub node_count : node_count after ≡ node_count before
 
--- What is told agrees with an index again, and the totals are right; what no key tells stays, and all that is told of nodes
--- beside the forest.
+-- What is told agrees with an index again, and the totals are right; what no key tells stays, and all that is told of the
+-- top and of nodes beside the forest.
 pub record Follows (keys : Keys) (f : Branches) (before after : Nodes) : Type 0 where
   pub agrees : Agrees after keys f
   pub totals : Totals after f
   pub own : (row : Row) → own_at after row ≡ own_at before row
+  pub top : told_at after Top ≡ told_at before Top
   pub beside : (id : NodeId) → times id.0 f ≡ 0 → told_at after (Below id) ≡ told_at before (Below id)
   pub totals_beside : (id : NodeId) → times id.0 f ≡ 0 → total_at after (Below id) ≡ total_at before (Below id)

@@ -1,5 +1,6 @@
 pub mod Accounts
 pub mod Assigned
+pub mod Bare
 pub mod Changed
 pub mod Each
 pub mod Growing

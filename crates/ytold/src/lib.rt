@@ -2,6 +2,7 @@
 #![tactic(auto)]
 
 mod account;
+mod bare;
 mod changing;
 mod growing;
 mod joining;
@@ -11,6 +12,7 @@ mod tidying;
 mod values;
 
 pub use account::{Account, News, enter_new_nodes, enter_node, enter_nodes, enter_row, enter_way};
+pub use bare::kept_tops;
 pub use changing::change_row;
 pub use growing::{awaited_nodes, entries_there, grow, grown_stores};
 pub use joining::{join_all, leave_all};

@@ -1,0 +1,4 @@
+pub mod FlagLemmas
+pub mod HolderLemmas
+pub mod JoinedLemmas
+pub mod JudgedLemmas
