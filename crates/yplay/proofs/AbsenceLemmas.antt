@@ -1,19 +1,19 @@
 -- What is told of nodes that aren't stored ascends by their numbers, and is at most one a node; defaults in use are those
 -- that are in play.
-use Rattle.std.proofs.Common.{◌≡◌, ℕ, suc, ◌+◌, ◌≤◌, ◌<◌, Bool, true, false, cond, eqb, ltb, ◌&&◌, List, [], ◌∷◌, ◌++◌, map, length, refl, sym, ap₂, ◌∙◌, arith, length-append}
+use Rattle.std.proofs.Common.{ap, ◌≡◌, ℕ, suc, ◌+◌, ◌≤◌, ◌<◌, Bool, true, false, cond, eqb, ltb, ◌&&◌, List, [], ◌∷◌, ◌++◌, map, length, refl, sym, ap₂, ◌∙◌, arith, length-append}
 use Rattle.std.specs.Prelude.{count_by, sum_by}
 use Rattle.std.proofs.lemmas.List.Sums.{sum_by-cons, sum_by-append}
-use Rattle.yspec.specs.Forest.{Forest, end, node, size}
+use Rattle.yspec.specs.Forest.{Forest, end, node, size, weigh_nodes}
 use Rattle.yspec.specs.types.Types.{Val}
 use Rattle.yspec.specs.types.Order.{same_value}
-use Rattle.yspec.specs.schema.Schema.{SchemaNode, Kind, container, leaf, leaf_list, list, choice, case, Absence, allowed, default_used, mandatory, key, Amount}
-use Rattle.yspec.specs.document.Document.{Step, step_to}
+use Rattle.yspec.specs.schema.Schema.{SchemaNode, Kind, container, leaf, leaf_list, list, choice, case, Absence, allowed, default_used, mandatory, key, Amount, Schema, children_of}
+use Rattle.yspec.specs.document.Document.{Step, step_to, Tree, instances_in}
 use Rattle.yspec.specs.document.Fault.{plain_fault}
 use Rattle.yspec.specs.document.FaultCode.{FaultCode, V2, V3, V4, V5, V6, V7}
 use Rattle.yspec.specs.document.Fitting.{IsNumbered}
 use Rattle.yspec.specs.document.Play.{Item, tell, in_use, visit, visit_each, cases, stored_cases, choice_faults, absent_leaf, absent_items, exceeds, amount_faults, is_among, node_items, stored_inside, steps_inside, items_in_play}
-use Rattle.yspec.specs.document.Instances.{times_in_use}
-use Rattle.yplay.specs.Absences.{Absent, absent_leaf_told, choice_told, node_absences, absences_in, Default, is_default, absent_leaf_default, node_defaults, defaults_in}
+use Rattle.yspec.specs.document.Instances.{times_in_use, times_at, times_in, is_value, value_of}
+use Rattle.yplay.specs.Absences.{Absent, absent_leaf_told, choice_told, node_absences, absences_in, Default, is_default, absent_leaf_default, node_defaults, defaults_in, defaults_below, given_at}
 use Rattle.yplay.specs.Merging.{Ascends}
 
 -- ---- in order
@@ -238,3 +238,15 @@ module _ (number : ℕ) (v : Val) where
       (defaults_used below (stored_inside n.kind stored) (cases stored n.kind below) (steps_inside n.kind above n.number)))
       (defaults_used after stored chosen above)
       ∙ sym (sum_by-append (λ d. cond (is_default number v d) 1 0) (node_defaults stored chosen n n.kind inside) (defaults_in stored chosen after)))
+
+-- in a whole document
+pub given_in : (schema : Schema) (number : ℕ) (v : Val) (tree : Tree) → weigh_nodes (times_at schema number v) tree ≡ weigh_nodes (given_at schema number v) tree
+given_in schema number v end = refl
+given_in schema number v (node s below after) =
+    ap₂ ◌+◌ (ap (λ c. cond (eqb s.schema_number number) (cond (is_value v (value_of schema s)) 1 0) 0 + c)
+    (defaults_used number v (children_of schema s.schema_number) (instances_in below) [] []))
+    (ap₂ ◌+◌ (given_in schema number v below) (given_in schema number v after))
+
+pub instances_given : (schema : Schema) (tree : Tree) (number : ℕ) (v : Val) → times_in schema tree number v
+    ≡ defaults_below number v schema.nodes tree + weigh_nodes (given_at schema number v) tree
+instances_given schema tree number v = ap₂ ◌+◌ (defaults_used number v schema.nodes (instances_in tree) [] []) (given_in schema number v tree)

@@ -1,10 +1,12 @@
 -- What is told of the nodes of a row that aren't stored, and which defaults are in use there, as pairs with the number of
 -- the schema node: what is in play of the row, without steps (RFC 7950, 7.5.1, 7.6.1, 7.6.5, 7.7.2, 7.7.5 and 7.9).
-use Rattle.std.specs.Prelude.{ℕ, ◌++◌, ◌==◌, ◌&&◌, Bool, List, [], ◌∷◌, map, if◌then◌else◌, nat_lt}
+use Rattle.std.specs.Prelude.{ℕ, ◌+◌, count_by, ◌++◌, ◌==◌, ◌&&◌, Bool, List, [], ◌∷◌, map, if◌then◌else◌, nat_lt}
 use Rattle.yspec.specs.Forest.{Forest, end, node}
 use Rattle.yspec.specs.types.Types.{Val}
 use Rattle.yspec.specs.types.Order.{same_value}
-use Rattle.yspec.specs.schema.Schema.{SchemaNode, Kind, container, leaf, leaf_list, list, choice, case, Absence, allowed, default_used, mandatory, key, Amount}
+use Rattle.yspec.specs.schema.Schema.{Schema, children_of, SchemaNode, Kind, container, leaf, leaf_list, list, choice, case, Absence, allowed, default_used, mandatory, key, Amount}
+use Rattle.yspec.specs.document.Document.{Stored, Tree, instances_in}
+use Rattle.yspec.specs.document.Instances.{is_value, value_of}
 use Rattle.yspec.specs.document.FaultCode.{FaultCode, V2, V3, V4, V5, V6, V7}
 use Rattle.yspec.specs.document.Play.{cases, stored_cases, exceeds, is_among, stored_inside}
 
@@ -84,3 +86,13 @@ defaults_in stored chosen end = []
 defaults_in stored chosen (node n below after) = node_defaults stored chosen n n.kind
     (defaults_in (stored_inside n.kind stored) (cases stored n.kind below) below)
     ++ defaults_in stored chosen after
+
+-- how often a value is a default in use below a stored node, or at the top
+abbrev pub defaults_below : ℕ → Val → Forest SchemaNode → Tree → ℕ
+defaults_below number v children below = count_by (is_default number v) (defaults_in (instances_in below) [] children)
+
+-- how many instances of a schema node have a value at a stored node: itself, and defaults in use below it
+abbrev pub given_at : Schema → ℕ → Val → Stored → Tree → ℕ
+given_at schema number v s below =
+    (if s.schema_number == number then (if is_value v (value_of schema s) then 1 else 0) else 0)
+    + defaults_below number v (children_of schema s.schema_number) below

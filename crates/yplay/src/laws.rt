@@ -1,7 +1,7 @@
 //! Laws of what is told of nodes that aren't stored, and of the list of faults.
 
 ghost use Rattle.std.specs.Prelude.{◌≡◌, ◌≤◌, ◌+◌, ℕ, List, [], Option, Some, Ok, true, false, length, count_by};
-ghost use Rattle.yspec.specs.Forest.{Forest, size};
+ghost use Rattle.yspec.specs.Forest.{Forest, size, weigh_nodes};
 ghost use Rattle.yspec.specs.text.Statement.{Statement};
 ghost use Rattle.yspec.specs.types.Types.{Val};
 ghost use Rattle.yspec.specs.schema.Schema.{Schema, SchemaNode, is_data, node_at, row_at};
@@ -11,7 +11,7 @@ ghost use Rattle.yspec.specs.document.Play.{in_play};
 ghost use Rattle.yspec.specs.document.Instances.{times_below, times_in};
 ghost use Rattle.yspec.specs.document.Faults.{Times, RowTimes, Told, faults_of, row_times, told_in, woven};
 ghost use Rattle.yspec.specs.linking.Compiling.{compiled};
-ghost use Rattle.yplay.specs.Absences.{absences_in, defaults_in, is_default};
+ghost use Rattle.yplay.specs.Absences.{absences_in, defaults_below, defaults_in, given_at, is_default};
 ghost use Rattle.yplay.specs.Merging.{Ascends, AreChildren, CasesInChoices, FitsRow, absences_below, listed, listed_in, merged, told_count};
 
 /// Of a numbered row each fault is told of another node, in order, and so of no more nodes than there are in it.
@@ -22,11 +22,15 @@ pub fn absences_in_order()
         → length (absences_in stored chosen children) ≤ size children }
 {}
 
-/// A value is in play unstored as often as it is a default in use.
+/// A value is in play unstored as often as it is a default in use; so how many instances of a schema node have a value is
+/// counted by stored values and defaults in use.
 pub fn defaults_in_play()
-    ensures { (schema : Schema) (number : ℕ) (v : Val) (children : Forest SchemaNode) (below : Tree)
+    ensures below { (schema : Schema) (number : ℕ) (v : Val) (children : Forest SchemaNode) (below : Tree)
         → times_below schema number v children below
         ≡ count_by (is_default number v) (defaults_in (instances_in below) [] children) }
+    ensures document { (schema : Schema) (tree : Tree) (number : ℕ) (v : Val)
+        → times_in schema tree number v ≡ defaults_below number v schema.nodes tree
+        + weigh_nodes (given_at schema number v) tree }
 {}
 
 /// What is in play of a row that fits, each visit replaced by what its instances tell, is what is told of the nodes that

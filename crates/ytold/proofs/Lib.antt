@@ -4,6 +4,7 @@ pub mod BareLemmas
 pub mod ChangeLemmas
 pub mod CountingLemmas
 pub mod EachLemmas
+pub mod InstanceLemmas
 pub mod JoiningLemmas
 pub mod GrowingLemmas
 pub mod GrownLemmas

@@ -75,7 +75,7 @@ module _ (schema : Schema) (number : ℕ) (v : Val) (is : is_referred schema num
   times_append : (xs ys : List Default) → times (xs ++ ys) ≡ times xs + times ys
   times_append xs ys = sum_by-append (λ d. cond (is_default number v d) 1 0) xs ys
 
-  in_use : (above : Option ℕ) (t : Tree) → times (defaults_in_row schema above t) ≡ times_below schema number v (row_at schema above) t
+  pub in_use : (above : Option ℕ) (t : Tree) → times (defaults_in_row schema above t) ≡ times_below schema number v (row_at schema above) t
   in_use above t =
       counted_referred schema number v (defaults_in (instances_in t) [] (row_at schema above)) is
       ∙ sym (defaults_used number v (row_at schema above) (instances_in t) [] [])

@@ -5,12 +5,12 @@ use Rattle.yspec.specs.text.Text.{Text}
 use Rattle.yspec.specs.types.Types.{Val}
 use Rattle.yspec.specs.schema.Schema.{Schema}
 use Rattle.yspec.specs.document.Instances.{times_in}
-use Rattle.ystore.specs.Store.{instances_at, play_at}
+use Rattle.ystore.specs.Store.{instances_at, play_at, total_at}
 use Rattle.ystore.specs.declared.row.Row.{Row}
 use Rattle.ystore.specs.declared.row.Row.TheVariants.{Top, Below}
 use Rattle.ystore.specs.declared.key.Key as rust
 use Rattle.ystore.specs.declared.nodes.Nodes.{Nodes}
-use Rattle.yshape.specs.Growing.{flag_count}
+use Rattle.yshape.specs.Growing.{flag_count, nothing_told}
 use Rattle.yshape.specs.Hanging.{Numbered, Branches, stored_of, tree_of}
 use Rattle.yfacts.specs.Given.{is_referred}
 use Rattle.ytold.specs.Bare.{IsBare}
@@ -18,10 +18,10 @@ use Rattle.yfacts.specs.InPlay.{absence_views}
 use Rattle.yfacts.specs.Judging.{Judged, right, wrong, missing, value_judged}
 use Rattle.yfacts.specs.Keys.{Key, value_key, key_view}
 use Rattle.ytell.specs.Keys.{Agrees, Keys, Own, own_at}
-use Rattle.ytell.specs.Totals.{Totals}
+use Rattle.ytell.specs.Totals.{Totals, told_at}
 use Rattle.ytold.specs.Each.{Each}
 use Rattle.ytold.specs.Keyed.{HasKeys}
-use Rattle.ytold.specs.Standing.{absences_in_row, IsFewIn}
+use Rattle.ytold.specs.Standing.{Standing, absences_in_row, IsFewIn}
 
 -- the error-app-tag that is told of a value that its type doesn't take
 abbrev pub wrong_in : Judged → Option (Option Text)
@@ -56,3 +56,8 @@ pub record IsTold (schema : Schema) (nodes : Nodes) (f : Branches) : Type 0 wher
   pub few : IsFewIn schema None (tree_of f)
   pub each : Each (TellsOwn schema nodes) Top f
   pub totals : Totals nodes f
+
+-- nothing is told of a node that is new, and its total is 0
+pub record IsFresh (schema : Schema) (nodes : Nodes) (s : Standing) : Type 0 where
+  pub told : told_at nodes (Below s.label.id) ≡ Some (nothing_told (flag_count schema s.label.schema.0))
+  pub total : total_at nodes (Below s.label.id) ≡ 0

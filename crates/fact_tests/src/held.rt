@@ -1,0 +1,206 @@
+//! What each node of a store holds, in preorder: its keys, the values that it gives, and what is told of it and below it.
+
+use std::alloc::Global;
+use test_modules::{DEFAULT_CASE, ENTRIES, MODULE, NETWORK, STATE};
+use yfacts::{flag_count, in_play, judged_of, keys_of, own_value_of};
+use ymodel::{Schema, SchemaId};
+use yschema::compile;
+use yshape::{copy_part, store_of_tree};
+use ystore::{Counted, Judged, Key, NodeId, Nodes, Row};
+use ytext::parse;
+use ytree::read;
+
+// A reference `R` with its target; an item `I` with its leaf-list; a tuple `T` with its list, its number and its length.
+fn key_word(alloc: Global, key: &Key) -> Option<String> {
+    match key {
+        Key::Value(target, _) => format!(in alloc; "R{} ", target.0).ok(),
+        Key::Item(_, list, _) => format!(in alloc; "I{} ", list.0).ok(),
+        Key::Tuple(_, list, number, values) => {
+            format!(in alloc; "T{}.{}.{} ", list.0, number, values.len()).ok()
+        }
+        Key::Texts(..) => None,
+    }
+}
+
+fn add_keys(
+    counted: &mut Counted<'_>,
+    schema: &Schema,
+    id: NodeId,
+    text: &mut String,
+) -> Option<()> {
+    let alloc = counted.alloc();
+    let above = counted.parent(id)?;
+    let mut held = Vec::new(alloc);
+    keys_of(counted, schema, above, id, &mut held).ok()?;
+    for (key, _) in &held {
+        text.push_str(key_word(alloc, key)?.as_str()).ok()?;
+    }
+    Some(())
+}
+
+// A value `=` of its own, and defaults in use `*` in a row, each with the schema node.
+fn add_own(
+    counted: &mut Counted<'_>,
+    schema: &Schema,
+    id: NodeId,
+    text: &mut String,
+) -> Option<()> {
+    let alloc = counted.alloc();
+    let mut given = Vec::new(alloc);
+    own_value_of(counted, schema, id, &mut given).ok()?;
+    for (of, _) in &given {
+        text.push_str(format!(in alloc; "={} ", of.0).ok()?.as_str())
+            .ok()?;
+    }
+    Some(())
+}
+
+// What is told of what isn't stored in a row, and its defaults in use.
+fn add_row(
+    counted: &mut Counted<'_>,
+    schema: &Schema,
+    row: Row,
+    above: Option<SchemaId>,
+    text: &mut String,
+) -> Option<()> {
+    let alloc = counted.alloc();
+    let found = in_play(counted, schema, row, above).ok()?;
+    for (code, of) in &found.absences {
+        text.push_str(
+            format!(in alloc; "V{}@{} ", code.number(), of.0)
+                .ok()?
+                .as_str(),
+        )
+        .ok()?;
+    }
+    for (of, _) in &found.defaults {
+        text.push_str(format!(in alloc; "*{} ", of.0).ok()?.as_str())
+            .ok()?;
+    }
+    Some(())
+}
+
+fn add_judged(
+    counted: &mut Counted<'_>,
+    schema: &Schema,
+    id: NodeId,
+    text: &mut String,
+) -> Option<()> {
+    match judged_of(counted, schema, id).ok()? {
+        Judged::Wrong(Some(tag)) => {
+            text.push_str("V1:").ok()?;
+            text.push_str(tag.as_str()).ok()?;
+            text.push_str(" ").ok()
+        }
+        Judged::Wrong(None) => text.push_str("V1 ").ok(),
+        Judged::Missing => None,
+        Judged::Right => Some(()),
+    }
+}
+
+fn add_node(
+    counted: &mut Counted<'_>,
+    schema: &Schema,
+    id: NodeId,
+    text: &mut String,
+) -> Option<()> {
+    let alloc = counted.alloc();
+    let of = counted.schema(id)?;
+    text.push_str(
+        format!(in alloc; "{}:{} ", of.0, flag_count(schema, of))
+            .ok()?
+            .as_str(),
+    )
+    .ok()?;
+    add_keys(counted, schema, id, text)?;
+    add_own(counted, schema, id, text)?;
+    add_judged(counted, schema, id, text)?;
+    add_row(counted, schema, Row::Below(id), Some(of), text)
+}
+
+// The numbers of all nodes of a document.
+fn numbers_of(counted: &mut Counted<'_>) -> Option<Vec<NodeId>> {
+    let alloc = counted.alloc();
+    let depth = counted.node_count();
+    let mut copy = Vec::new(alloc);
+    let mut numbers = Vec::new(alloc);
+    let count = counted.child_count(Row::Top);
+    for place in 0..count {
+        let id = counted.child(Row::Top, place)?;
+        copy_part(counted, id, depth, &mut copy, &mut numbers).ok()?;
+    }
+    Some(numbers)
+}
+
+fn text_of(alloc: Global, schema: &Schema, document: &str) -> Option<String> {
+    let tree = read(alloc, schema, document.as_bytes()).ok()?;
+    let mut nodes: Nodes = store_of_tree(alloc, &tree).ok()?;
+    let mut counted = nodes.counted();
+    let mut text = String::new(alloc);
+    add_row(&mut counted, schema, Row::Top, None, &mut text)?;
+    let numbers = numbers_of(&mut counted)?;
+    for id in &numbers {
+        add_node(&mut counted, schema, *id, &mut text)?;
+    }
+    Some(text)
+}
+
+// `document => what is told of the top row and its defaults, then of each node its schema node, the number of its flags, its
+// keys, its value, what is told of it and of the row below it, and the defaults there`
+fn holds(alloc: Global, module: &str, row: &str) -> Option<bool> {
+    let (document, expected) = row.split_once(" => ")?;
+    let mut modules = Vec::new(alloc);
+    modules.push(parse(alloc, module.as_bytes()).ok()?).ok()?;
+    let schema = compile(alloc, &modules).ok()?;
+    let text = text_of(alloc, &schema, document)?;
+    Some(text.as_str() == expected)
+}
+
+fn hold(alloc: Global, module: &str, rows: &str) -> Option<bool> {
+    for row in rows.lines() {
+        if !holds(alloc, module, row)? {
+            return Some(false);
+        }
+    }
+    Some(true)
+}
+
+const PLAIN: &str = r#"{} => V3@1 
+{"p:c":{}} => 0:0 V3@1 
+{"p:c":{"id":7}} => 0:0 1:0 
+{"p:c":{"id":256,"note":"x"}} => 0:0 1:0 V1 2:0 "#;
+
+#[test]
+fn plain_documents(rt: HostRuntime) {
+    assert!(rt; hold(rt.alloc(), MODULE, PLAIN) == Some(true));
+}
+
+const HOSTS: &str = r#"{} => V6@1 
+{"ex-net:net":{"host":[{"auto":[null],"name":"a","uplink":"b"},{"addr":"x","name":"b","use-port":80}]}} => 0:0 1:2 T1.0.1 *4 2:0 =2 5:0 R2 9:0 1:2 T1.0.1 T1.1.2 V4@7 *4 2:0 =2 3:0 6:0 R4 
+{"ex-net:net":{"host":[{"auto":[null],"port":5000,"speed":1},{"auto":[null],"name":"123456789"},{"auto":[null]},{"auto":[null]}]}} => 0:0 V7@1 1:2 V2@2 V5@7 4:0 V1:bad-port 9:0 11:0 1:2 *4 2:0 V1 9:0 1:2 V2@2 *4 9:0 1:2 V2@2 *4 9:0 "#;
+
+#[test]
+fn hosts(rt: HostRuntime) {
+    assert!(rt; hold(rt.alloc(), NETWORK, HOSTS) == Some(true));
+}
+
+const CHOICES: &str = r#"{} => *2 
+{"k:boost":1} => 4:0 
+{"k:rate":1,"k:want":1} => 2:0 =2 5:0 R2 
+{"k:boost":1,"k:rate":2} => V5@0 2:0 =2 4:0 "#;
+
+#[test]
+fn choices(rt: HostRuntime) {
+    assert!(rt; hold(rt.alloc(), DEFAULT_CASE, CHOICES) == Some(true));
+}
+
+const ITEMS: &str =
+    r#"{"v:e":[{"id":2,"in":{"x":"a"},"m":[1,1,300]},{"id":1}]} => 0:2 T0.0.1 T0.1.1 1:0 2:0 3:0 4:1 I4 4:1 I4 4:1 V1 0:2 T0.0.1 1:0 "#;
+
+#[test]
+fn items(rt: HostRuntime) {
+    assert!(rt; hold(rt.alloc(), ENTRIES, ITEMS) == Some(true));
+    let state =
+        r#"{"w:c":{"tag":["b","a"]},"w:log":[{},{"at":"1"}]} => 0:0 1:1 I1 1:1 I1 3:1 V3@4 3:1 4:0 "#;
+    assert!(rt; hold(rt.alloc(), STATE, state) == Some(true));
+}

@@ -1,0 +1,5 @@
+//! Tests of what nodes and rows of stores hold.
+#![tactic(auto)]
+
+#[cfg(test)]
+mod held;
