@@ -1,6 +1,7 @@
 -- A store whose indexes say what its document holds tells of each node what is told there.
-use Rattle.std.proofs.Common.{◌≡◌, ℕ, suc, ◌+◌, ◌<◌, ◌≤◌, Bool, false, List, [], ◌∷◌, ◌++◌, length, Option, Some, None, refl, sym, ap, ap₂, ◌∙◌, arith, subst}
+use Rattle.std.proofs.Common.{◌≡◌, ℕ, suc, ◌+◌, ◌<◌, ◌≤◌, Bool, false, List, [], ◌∷◌, ◌++◌, length, Option, Some, None, refl, sym, ap, ap₂, ◌∙◌, cond, arith, subst}
 use Rattle.std.specs.Prelude.{option_map, option_and_then, slice_get, unwrap_or}
+use Rattle.std.specs.List.{sum_by}
 use Rattle.std.specs.Option.{option_map_or}
 use Rattle.std.proofs.lemmas.Option.{none-some, same_Some}
 use Rattle.yspec.specs.Forest.{end, node, join}
@@ -12,14 +13,13 @@ use Rattle.yspec.specs.document.Instances.{times_in, value_of}
 use Rattle.yspec.specs.document.Faults.{Times, RowTimes, row_times, faults_at, faults_of}
 use Rattle.ycheck.specs.Targets.{required_target}
 use Rattle.ycheck.specs.Walk.{marks_told}
-use Rattle.yplay.specs.Merging as merging
-use Rattle.yplay.specs.Merging.{CasesInChoices, absences_below, listed}
-use Rattle.yplay.proofs.ListLemmas.{documents_listed, listed_counted}
+use Rattle.yplay.specs.Merging.{CasesInChoices, absences_below}
 use Rattle.ylist.specs.Listed.{absences_of, judged_told, is_item, list_told, own_told}
+use Rattle.ylist.specs.Telling as listing
 use Rattle.ylist.specs.Telling.{Tells, TellsAt, TellsBelow}
-use Rattle.ylist.proofs.TellingLemmas.{faults_are}
+use Rattle.ylist.proofs.TellingLemmas.{faults_are, total_is}
 use Rattle.ystore.specs.Held.{Held, Told, told_of}
-use Rattle.ystore.specs.Store.{held_at, total_at}
+use Rattle.ystore.specs.Store.{held_at, play_at, total_at}
 use Rattle.ystore.specs.declared.row.Row.{Row}
 use Rattle.ystore.specs.declared.row.Row.TheVariants.{Top, Below}
 use Rattle.ystore.specs.declared.record.Judged as stored
@@ -35,11 +35,12 @@ use Rattle.yfacts.specs.Telling as telling
 use Rattle.yfacts.specs.Telling.{times_of, with_reference, flags_from, judged_faults, told_faults}
 use Rattle.yfacts.proofs.TellingLemmas.{told_by_keys}
 use Rattle.ytell.specs.Keys.{Agrees, IsJudged, Own, is_shared, own_of}
-use Rattle.ytell.specs.Totals.{AreTotals, IsTree, all_told, number_of, told_count}
+use Rattle.ytell.specs.Totals as totals
+use Rattle.ytell.specs.Totals.{IsTree}
 use Rattle.ytold.specs.Each.{Each}
 use Rattle.ytold.specs.IsTold.{IsTold, TellsOwn}
 use Rattle.ytold.specs.Keyed.{HasKeys}
-use Rattle.yjoin.proofs.FlagLemmas.{counts_same, flags_are, number_is}
+use Rattle.yjoin.proofs.FlagLemmas.{counts_same, flags_are}
 use Rattle.yjoin.proofs.HolderLemmas.{shared_is}
 use Rattle.yjoin.proofs.JudgedLemmas.{judged_is}
 
@@ -58,6 +59,30 @@ same_faults : (j : stored.Judged) → judged_told j ≡ judged_faults (judged_vi
 same_faults Right = refl
 same_faults (Wrong tag) = refl
 same_faults Missing = refl
+
+-- ---- totals, as both crates say them
+
+same_told : (j : stored.Judged) → totals.is_told j ≡ listing.is_told j
+same_told Right = refl
+same_told (Wrong tag) = refl
+same_told Missing = refl
+
+same_number : (o : Option Told) → option_map_or totals.number_of o 0 ≡ option_map_or listing.number_of o 0
+same_number None = refl
+same_number (Some t) = ap (λ (b : Bool). cond b 1 0 + (sum_by (λ (b : Bool). cond b 1 0) t.same + length t.play)) (same_told t.judged)
+
+module _ (nodes : Nodes) where
+  same_at_row : (row : Row) → totals.told_count nodes row ≡ listing.number_at nodes row
+  same_at_row row = same_number (totals.told_at nodes row)
+
+  same_sums : (f : Branches) → totals.all_told nodes f ≡ listing.all_told nodes f
+  same_sums end = refl
+  same_sums (node n below after) = ap₂ ◌+◌ (same_at_row (Below n.id)) (ap₂ ◌+◌ (same_sums below) (same_sums after))
+
+  same_totals : (f : Branches) → totals.AreTotals nodes f → listing.AreTotals nodes f
+  same_totals end are = tt
+  same_totals (node n below after) are =
+      (are.0 ∙ ap₂ ◌+◌ (same_at_row (Below n.id)) (same_sums below), same_totals below are.1, same_totals after are.2)
 
 -- what is told by keys, where the schema has the node
 module _ (schema : Schema) (above : Row) (s : Stored) (t : Tree) (count : Key → ℕ) where
@@ -135,20 +160,11 @@ module _ (schema : Schema) (nodes : Nodes) (f : Branches) (tree : IsTree nodes f
       play_is : absences_of at.held.told.play ≡ absences_below (children_of schema n.schema.0) (tree_of below)
       play_is = ap (λ o. absences_of o.play) at.is_own ∙ own.is_play
 
-      number_told : told_count nodes (Below n.id) ≡ merging.told_at document row schema (stored_of n) (tree_of below)
-      number_told =
-          ap (λ (o : Option Held). option_map_or number_of (option_map (λ h. h.told) o) 0) at.is
-          ∙ (number_is (is_item schema n.schema.0) at.held.told
-          ∙ ap₂ (λ (a : List Fault) (b : List _). length a + length b) own_is play_is)
-
-      tells_at : total_at nodes (Below n.id) ≡ told_count nodes (Below n.id) + all_told nodes below
-          → all_told nodes below ≡ merging.told_count document (row_times schema (tree_of below)) schema (tree_of below)
-          → TellsAt document row schema nodes n below
-      tells_at total rest =
+      tells_at : TellsAt document row schema nodes n below
+      tells_at =
           record {
             own = list_is ∙ own_is;
             play = ap (λ (o : Option Held). absences_of (option_map_or (λ h. h.told.play) o [])) at.is ∙ play_is;
-            total = total ∙ ap₂ ◌+◌ number_told rest;
           }
 
   -- ---- all of them
@@ -168,52 +184,36 @@ module _ (schema : Schema) (nodes : Nodes) (f : Branches) (tree : IsTree nodes f
       let one = is_itself n in
       omega (arith, whole, around_it, joined, one)
 
-  rows : (way : Way) (first rest : Branches) → f ≡ around way (join first rest) → Keyed (end_of Top way) rest → Each (TellsOwn schema nodes) (end_of Top way) rest → AreTotals nodes rest
+  rows : (way : Way) (first rest : Branches) → f ≡ around way (join first rest) → Keyed (end_of Top way) rest → Each (TellsOwn schema nodes) (end_of Top way) rest
       → TellsBelow document (row_times schema (tree_of (join first rest))) schema nodes rest
-      × (all_told nodes rest ≡ merging.told_count document (row_times schema (tree_of (join first rest))) schema (tree_of rest))
-  unfolding merging.told_count
-  rows way first end is keyed own totals = (tt, refl)
-  rows way first (node n below after) is keyed own totals =
+  rows way first end is keyed own = tt
+  rows way first (node n below after) is keyed own =
       let frame : Frame = record { before = first; label = n; after = after } in
       let down : f ≡ around (way ++ frame ∷ []) below = is ∙ sym (around_more way frame below) in
       let to : Below n.id ≡ end_of Top (way ++ frame ∷ []) = sym (end_more Top way frame) in
-      let under = rows (way ++ frame ∷ []) end below down (subst (λ r. Keyed r below) to keyed.1) (subst (λ r. Each (TellsOwn schema nodes) r below) to own.1) totals.1 in
       let same = join_more first n below after in
-      let later = rows way (join first (node n below end)) after (is ∙ ap (around way) (sym same)) keyed.2 own.2 totals.2 in
-      let standing = stands_in way first n below after is in
-      let whole = join first (node n below after) in (
-        (
-          tells_at way whole is n below standing keyed.0 own.0 totals.0 under.1,
-          under.0,
-          subst (λ h. TellsBelow document (row_times schema (tree_of h)) schema nodes after) same later.0,
-        ),
-        ap₂ ◌+◌ (number_told way whole is n below standing keyed.0 own.0)
-            (ap₂ ◌+◌ under.1 (subst (λ h. all_told nodes after ≡ merging.told_count document (row_times schema (tree_of h)) schema (tree_of after)) same later.1)),
+      let later = rows way (join first (node n below end)) after (is ∙ ap (around way) (sym same)) keyed.2 own.2 in (
+        tells_at way (join first (node n below after)) is n below (stands_in way first n below after is) keyed.0 own.0,
+        rows (way ++ frame ∷ []) end below down (subst (λ r. Keyed r below) to keyed.1) (subst (λ r. Each (TellsOwn schema nodes) r below) to own.1),
+        subst (λ h. TellsBelow document (row_times schema (tree_of h)) schema nodes after) same later,
       )
 
-  abbrev all : TellsBelow document (row_times schema (tree_of f)) schema nodes f × (all_told nodes f ≡ merging.told_count document (row_times schema (tree_of f)) schema (tree_of f))
-  all = rows [] end f refl told.keyed told.each told.totals.below
-
   pub tells_is : Tells schema nodes f
-  tells_is = record { play = told.top; below = all.0 }
+  tells_is = record { play = told.top; below = rows [] end f refl told.keyed told.each; totals = same_totals nodes f told.totals.below }
 
   -- ---- how many there are
 
-  top_number : (t : Told) → option_map (λ (t : Told). t.judged) (Some t) ≡ Some Right → option_map (λ (t : Told). t.same) (Some t) ≡ Some [] → number_of t ≡ length (absences_of t.play)
+  top_number : (t : Told) → option_map (λ (t : Told). t.judged) (Some t) ≡ Some Right → option_map (λ (t : Told). t.same) (Some t) ≡ Some [] → totals.number_of t ≡ length t.play
   top_number t value same =
-      let parts = number_is false t
-      ∙ ap₂ (λ (j : stored.Judged) (bs : List Bool). length (judged_told j ++ marks_told false 0 bs) + length (absences_of t.play)) (same_Some t.judged Right value) (same_Some t.same [] same) in
+      let parts = ap₂ (λ (j : stored.Judged) (bs : List Bool). totals.number_of (record { judged = j; same = bs; play = t.play })) (same_Some t.judged Right value) (same_Some t.same [] same) in
       omega (arith, parts)
 
-  total_is : total_at nodes Top ≡ length (listed schema (tree_of f))
-  total_is =
-      told.totals.top
-      ∙ (ap₂ ◌+◌ (top_number (told_of nodes.top.told) told.bare.judged told.bare.same ∙ ap (λ (xs : List _). length xs) told.top) all.1
-      ∙ sym (listed_counted schema (tree_of f)))
+  top_is : total_at nodes Top ≡ length (play_at nodes Top) + listing.all_told nodes f
+  top_is = told.totals.top ∙ ap₂ ◌+◌ (top_number (told_of nodes.top.told) told.bare.judged told.bare.same) (same_sums nodes f)
 
   module _ (numbered : IsNumbered 0 schema.nodes) (cased : CasesInChoices false schema.nodes) (fits : Fits schema (tree_of f)) where
     pub faults_is : list_told schema nodes ≡ faults_of schema (tree_of f)
     faults_is = faults_are schema nodes f tree.hangs tree.within tells_is numbered cased fits
 
     pub count_is : total_at nodes Top ≡ length (faults_of schema (tree_of f))
-    count_is = total_is ∙ ap length (sym (documents_listed schema (tree_of f) numbered cased fits))
+    count_is = total_is schema nodes f tells_is top_is numbered cased fits
