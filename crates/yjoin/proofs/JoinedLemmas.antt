@@ -39,7 +39,6 @@ use Rattle.ytell.specs.Totals.{AreTotals, IsTree, all_told, number_of, told_coun
 use Rattle.ytold.specs.Each.{Each}
 use Rattle.ytold.specs.IsTold.{IsTold, TellsOwn}
 use Rattle.ytold.specs.Keyed.{HasKeys}
-use Rattle.ytold.specs.Bare.{IsBare}
 use Rattle.yjoin.proofs.FlagLemmas.{counts_same, flags_are, number_is}
 use Rattle.yjoin.proofs.HolderLemmas.{shared_is}
 use Rattle.yjoin.proofs.JudgedLemmas.{judged_is}
@@ -206,15 +205,15 @@ module _ (schema : Schema) (nodes : Nodes) (f : Branches) (tree : IsTree nodes f
       ∙ ap₂ (λ (j : stored.Judged) (bs : List Bool). length (judged_told j ++ marks_told false 0 bs) + length (absences_of t.play)) (same_Some t.judged Right value) (same_Some t.same [] same) in
       omega (arith, parts)
 
-  pub total_is : IsBare nodes → total_at nodes Top ≡ length (listed schema (tree_of f))
-  total_is bare =
+  total_is : total_at nodes Top ≡ length (listed schema (tree_of f))
+  total_is =
       told.totals.top
-      ∙ (ap₂ ◌+◌ (top_number (told_of nodes.top.told) bare.judged bare.same ∙ ap (λ (xs : List _). length xs) told.top) all.1
+      ∙ (ap₂ ◌+◌ (top_number (told_of nodes.top.told) told.bare.judged told.bare.same ∙ ap (λ (xs : List _). length xs) told.top) all.1
       ∙ sym (listed_counted schema (tree_of f)))
 
   module _ (numbered : IsNumbered 0 schema.nodes) (cased : CasesInChoices false schema.nodes) (fits : Fits schema (tree_of f)) where
     pub faults_is : list_told schema nodes ≡ faults_of schema (tree_of f)
     faults_is = faults_are schema nodes f tree.hangs tree.within tells_is numbered cased fits
 
-    pub count_is : IsBare nodes → total_at nodes Top ≡ length (faults_of schema (tree_of f))
-    count_is bare = total_is bare ∙ ap length (sym (documents_listed schema (tree_of f) numbered cased fits))
+    pub count_is : total_at nodes Top ≡ length (faults_of schema (tree_of f))
+    count_is = total_is ∙ ap length (sym (documents_listed schema (tree_of f) numbered cased fits))

@@ -13,7 +13,6 @@ ghost use Rattle.ystore.specs.declared.row.Row.TheVariants.{Top};
 ghost use Rattle.yshape.specs.Hanging.{Branches, tree_of};
 ghost use Rattle.ytell.specs.Totals.{IsTree};
 ghost use Rattle.ytold.specs.IsTold.{IsTold};
-ghost use Rattle.ytold.specs.Bare.{IsBare};
 
 /// A store whose indexes say what its document holds, and whose flags and totals agree with them, tells of each node what is
 /// told there: what it lists are the faults of the document, and the total of its top row is their number.
@@ -22,7 +21,7 @@ pub fn told_documents()
     ensures faults { (schema : Schema) (nodes : Nodes) (f : Branches) → IsTree nodes f → IsTold schema nodes f
         → IsNumbered 0 schema.nodes → CasesInChoices false schema.nodes → Fits schema (tree_of f)
         → list_told schema nodes ≡ faults_of schema (tree_of f) }
-    ensures total { (schema : Schema) (nodes : Nodes) (f : Branches) → IsTree nodes f → IsTold schema nodes f → IsBare nodes
+    ensures total { (schema : Schema) (nodes : Nodes) (f : Branches) → IsTree nodes f → IsTold schema nodes f
         → IsNumbered 0 schema.nodes → CasesInChoices false schema.nodes → Fits schema (tree_of f)
         → total_at nodes Top ≡ length (faults_of schema (tree_of f)) }
 {}

@@ -12,6 +12,7 @@ use Rattle.ystore.specs.declared.nodes.Nodes.{Nodes}
 use Rattle.yshape.specs.Growing.{flag_count, nothing_told}
 use Rattle.yshape.specs.Hanging.{Numbered, Branches, stored_of, tree_of}
 use Rattle.yfacts.specs.Given.{is_referred}
+use Rattle.ytold.specs.Bare.{IsBare}
 use Rattle.yfacts.specs.InPlay.{absence_views}
 use Rattle.yfacts.specs.Judging.{Judged, right, wrong, missing, value_judged}
 use Rattle.yfacts.specs.Keys.{Key, value_key, key_view}
@@ -48,6 +49,7 @@ pub record IsTold (schema : Schema) (nodes : Nodes) (f : Branches) : Type 0 wher
   pub agrees : Agrees nodes held f
   pub values : (key : rust.Key) (number : ℕ) (v : Val) → key_view key ≡ value_key number v → is_referred schema number ≡ true
       → instances_at nodes key ≡ times_in schema (tree_of f) number v
+  pub bare : IsBare nodes
   pub top : absence_views (play_at nodes Top) ≡ absences_in_row schema None (tree_of f)
   pub others : (key : rust.Key) → is_counted schema (key_view key) ≡ false → instances_at nodes key ≡ 0
   pub few : IsFewIn schema None (tree_of f)
