@@ -84,7 +84,14 @@ fn replaced(alloc: Global, schema: &Schema, nodes: &mut Nodes, other: &str) -> O
     let mut counted = nodes.counted();
     let (id, old) = first_of(&mut counted)?;
     let mut numbers = Vec::new(alloc);
-    let new = insert_part(&mut counted, schema, Row::Top, tree.roots().first()?, &mut numbers).ok()?;
+    let new = insert_part(
+        &mut counted,
+        schema,
+        Row::Top,
+        tree.roots().first()?,
+        &mut numbers,
+    )
+    .ok()?;
     counted.put_child(Row::Top, id, old, new);
     let below = counted.child(Row::Below(old), 0)?;
     remove_nodes(&mut counted, &[old, below]);
@@ -113,7 +120,14 @@ fn added(alloc: Global) -> Option<bool> {
     let mut counted = nodes.counted();
     let (id, first) = first_of(&mut counted)?;
     let mut numbers = Vec::new(alloc);
-    let new = insert_part(&mut counted, &schema, Row::Top, other.roots().first()?, &mut numbers).ok()?;
+    let new = insert_part(
+        &mut counted,
+        &schema,
+        Row::Top,
+        other.roots().first()?,
+        &mut numbers,
+    )
+    .ok()?;
     let is_listed = numbers.len() == 2 && numbers[0] == new;
     counted.reserve_child(Row::Top).ok()?;
     counted.add_child(Row::Top, id, new);

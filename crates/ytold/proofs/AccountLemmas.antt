@@ -1,15 +1,14 @@
 -- What nodes hold and give is entered in an account, one after another.
-use Rattle.std.proofs.Common.{◌≡◌, ℕ, zero, suc, ◌+◌, ◌<◌, ◌≤◌, Bool, true, false, List, [], ◌∷◌, ◌++◌, length, map, drop, Option, Some, None, option_map, refl, sym, ap, ap₂, ◌∙◌, arith, subst, append_assoc}
+use Rattle.std.proofs.Common.{◌≡◌, ℕ, suc, ◌+◌, ◌≤◌, Bool, true, false, List, [], ◌∷◌, ◌++◌, length, map, drop, Option, Some, option_map, refl, sym, ap, ap₂, ◌∙◌, arith, subst, append_assoc}
 use Rattle.std.specs.List.{flat_map}
-use Rattle.std.proofs.lemmas.Option.{same_Some}
 use Rattle.std.proofs.lemmas.Bool.{false≢true}
 use Rattle.std.proofs.lemmas.List.{flat_map_more, length-append, map-append}
-use Rattle.yspec.specs.Forest.{end, node, join, preorder, size}
-use Rattle.yspec.specs.schema.Schema.{Schema, row_at}
+use Rattle.yspec.specs.Forest.{end, node, join, size}
+use Rattle.yspec.specs.schema.Schema.{Schema}
 use Rattle.ymodel.specs.declared.node.SchemaId.{SchemaId}
 use Rattle.ymodel.specs.Layout.{number_of}
 use Rattle.ystore.specs.Held.{Label}
-use Rattle.ystore.specs.Store.{label_at, children_at}
+use Rattle.ystore.specs.Store.{label_at}
 use Rattle.ystore.specs.declared.row.NodeId.{NodeId}
 use Rattle.ystore.specs.declared.row.Row.{Row}
 use Rattle.ystore.specs.declared.row.Row.TheVariants.{Top, Below}
@@ -30,7 +29,7 @@ use Rattle.ytold.specs.Accounts.{Enters, StandsThere, News, news_view, news_of}
 use Rattle.ytold.specs.declared.account.News as rust
 use Rattle.ytold.specs.Standing.{Standing, Every, IsFewIn, IsFewThere, standing, keys_held, values_given, absences_in_row, absences_there, defaults_in_row, on_the_way, way_held}
 use Rattle.ytold.specs.declared.account.Account.{Account}
-use Rattle.ytold.proofs.EachLemmas.{every_first, every_second, every_join}
+use Rattle.ytold.proofs.EachLemmas.{every_second, every_join}
 
 -- ---- a node
 

@@ -1,7 +1,7 @@
 -- Keys that are joined and left one after another.
-use Rattle.std.proofs.Common.{◌≡◌, ℕ, ◌+◌, Bool, true, false, ◌&&◌, ◌||◌, List, [], ◌∷◌, ◌++◌, Option, Some, None, refl, sym, ap, ap₂, ◌∙◌, arith, cond, eqb}
+use Rattle.std.proofs.Common.{◌≡◌, ℕ, Bool, true, false, ◌&&◌, ◌||◌, List, [], ◌∷◌, Option, Some, None, refl, sym, ap, ap₂, ◌∙◌, arith, cond, eqb}
 use Rattle.std.specs.Option.{option_map_or, option_or}
-use Rattle.std.proofs.lemmas.Bool.{eq-eqb, eqb-true, false≢true}
+use Rattle.std.proofs.lemmas.Bool.{eqb-true, false≢true}
 use Rattle.ystore.specs.declared.row.NodeId.{NodeId}
 use Rattle.ytold.specs.Assigned.{Assignment, is_at, with_key, without_key, joined, left, has_at, key_in, AreDistinct, CanJoin, CanLeave, NoneHeld, AllHeld}
 

@@ -1,5 +1,5 @@
 -- What leaves the top bare.
-use Rattle.std.proofs.Common.{◌≡◌, Bool, true, false, cond, List, [], ◌∷◌, Option, Some, None, option_map, refl, ap, ◌∙◌}
+use Rattle.std.proofs.Common.{◌≡◌, Bool, true, false, cond, List, [], ◌∷◌, Option, option_map, refl, ap, ◌∙◌}
 use Rattle.ymodel.specs.declared.node.SchemaId.{SchemaId}
 use Rattle.ycheck.specs.declared.fault.FaultCode.{FaultCode}
 use Rattle.ystore.specs.Held.{Told, with_play}

@@ -1,13 +1,12 @@
 -- A change of a row, with the totals above it.
-use Rattle.std.proofs.Common.{◌≡◌, ℕ, zero, suc, ◌+◌, ◌-◌, ◌^◌, ◌≤◌, ◌<◌, Bool, true, false, ◌||◌, List, [], ◌∷◌, ◌++◌, length, map, min, Option, Some, None, option_map, refl, sym, ap, ap₂, ◌∙◌, arith, subst, cond, eqb}
+use Rattle.std.proofs.Common.{◌≡◌, ℕ, ◌+◌, ◌-◌, ◌^◌, ◌≤◌, ◌<◌, Bool, true, false, List, [], ◌∷◌, min, Option, Some, None, option_map, refl, sym, ap, ◌∙◌, arith, subst, cond}
 use Rattle.std.specs.Prelude.{IfSome}
 use Rattle.std.specs.Option.{option_map_or}
-use Rattle.std.proofs.lemmas.Bool.{ne_eqb, eq-eqb, eqb-true}
-use Rattle.yspec.specs.Forest.{end, node, join, size, preorder}
+use Rattle.yspec.specs.Forest.{end, node, size}
 use Rattle.ycheck.specs.declared.fault.FaultCode.{FaultCode}
 use Rattle.ymodel.specs.declared.node.SchemaId.{SchemaId}
 use Rattle.ystore.specs.Rows.{Child}
-use Rattle.ystore.specs.Held.{Held, Told, with_children, with_play}
+use Rattle.ystore.specs.Held.{Held, with_children, with_play}
 use Rattle.ystore.specs.Store.{held_at, entry_at, total_at, same_row, ChangesRow}
 use Rattle.ystore.specs.declared.key.Key.{Key}
 use Rattle.ystore.specs.declared.row.NodeId.{NodeId}
@@ -19,13 +18,13 @@ use Rattle.yshape.specs.Copies.{ids_of}
 use Rattle.yshape.specs.Growing.{Removes}
 use Rattle.yshape.specs.Parts.{OnlyReads}
 use Rattle.yshape.specs.Swaps.{Swaps}
-use Rattle.yshape.specs.Ways.{Frame, Way, around, end_of}
+use Rattle.yshape.specs.Ways.{Way, around, end_of}
 use Rattle.yshape.specs.declared.swapping.Change.{Change}
 use Rattle.yshape.specs.declared.swapping.Change.TheVariants.{Add, Put, Take}
 use Rattle.yshape.proofs.HangingLemmas.{weigh_join, weigh_around, outside, is_itself}
 use Rattle.yshape.proofs.FrameLemmas.{same_rows, keeps_same}
 use Rattle.yshape.proofs.RemoveLemmas.{others_stay, given_back, count_of, count_ids}
-use Rattle.ytell.specs.Totals.{AreTotals, ChangesTold, Climbs, IsFew, IsTree, OnlyFaults, SameFaults, SameTold, StandsIn, TellsNothing, Totals, is_below, on_way, told_at, told_count, number_of}
+use Rattle.ytell.specs.Totals.{AreTotals, ChangesTold, Climbs, IsFew, IsTree, OnlyFaults, SameFaults, StandsIn, TellsNothing, Totals, is_below, on_way, told_at, number_of}
 use Rattle.ytell.proofs.AgreeLemmas.{totals_there}
 use Rattle.ytell.proofs.LawLemmas.{children_faults, held_faults, faults_on, climbs_beside, faults_shapes, tree_kept, put, taken, added, silent, root_silent}
 use Rattle.ytell.proofs.TotalLemmas.{are_same, totals_same, below_outside}

@@ -1,5 +1,5 @@
 -- Instances of values that come and go, one after another.
-use Rattle.std.proofs.Common.{◌≡◌, ℕ, zero, suc, ◌+◌, ◌-◌, ◌^◌, ◌≤◌, ◌<◌, min, Bool, true, false, List, [], ◌∷◌, length, Option, Some, None, is_some, option_map, refl, sym, ap, ◌∙◌, arith, subst, cond}
+use Rattle.std.proofs.Common.{◌≡◌, ◌+◌, ◌-◌, ◌^◌, ◌≤◌, ◌<◌, Bool, true, false, List, [], ◌∷◌, length, Option, Some, None, is_some, option_map, refl, sym, ap, ◌∙◌, arith, subst, cond}
 use Rattle.std.specs.Option.{option_map_or}
 use Rattle.std.proofs.lemmas.Bool.{false≢true}
 use Rattle.std.proofs.lemmas.List.Sums.{sum_by-cons}
@@ -11,7 +11,7 @@ use Rattle.ystore.specs.declared.key.Key.{Key}
 use Rattle.ystore.specs.declared.key.Key.TheVariants.{Value}
 use Rattle.ystore.specs.declared.nodes.Nodes.{Nodes}
 use Rattle.ytell.specs.Keys.{AreKeys, ChangesKey}
-use Rattle.ytold.specs.Growing.{AreThere, IsThere}
+use Rattle.ytold.specs.Growing.{AreThere}
 use Rattle.ytold.specs.Joins.{times_valued}
 
 abbrev Pair : Type 0

@@ -1,10 +1,10 @@
 -- What is so at each node, of joined rows and of rows at the end of a way.
-use Rattle.std.proofs.Common.{◌≡◌, ℕ, ◌+◌, ◌<◌, List, [], ◌∷◌, ◌++◌, refl, sym, ap, ◌∙◌, arith}
+use Rattle.std.proofs.Common.{◌<◌, List, [], ◌∷◌, ◌++◌, arith}
 use Rattle.yspec.specs.Forest.{end, node, join}
 use Rattle.ystore.specs.declared.row.Row.{Row}
 use Rattle.ystore.specs.declared.row.Row.TheVariants.{Below}
-use Rattle.yshape.specs.Hanging.{Numbered, Branches, is_number, times}
-use Rattle.yshape.specs.Ways.{Frame, Way, around, end_of}
+use Rattle.yshape.specs.Hanging.{Numbered, Branches, times}
+use Rattle.yshape.specs.Ways.{Way, around, end_of}
 use Rattle.yshape.proofs.HangingLemmas.{is_itself}
 use Rattle.ytold.specs.Each.{Each, OnWay, Around, beside_way}
 use Rattle.ytold.specs.Standing.{Standing, Every, standing, on_the_way}

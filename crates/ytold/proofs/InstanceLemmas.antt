@@ -1,5 +1,5 @@
 -- How many instances come and go, by the keys of an index.
-use Rattle.std.proofs.Common.{◌≡◌, ℕ, zero, suc, ◌+◌, ◌*◌, ◌-◌, ◌^◌, ◌<◌, ◌≤◌, Bool, true, false, ◌&&◌, List, [], ◌∷◌, ◌++◌, length, Option, Some, None, refl, sym, ap, ap₂, ◌∙◌, arith, subst, cond, eqb}
+use Rattle.std.proofs.Common.{◌≡◌, ℕ, ◌+◌, ◌*◌, ◌^◌, ◌≤◌, Bool, true, false, ◌&&◌, List, [], ◌∷◌, Option, Some, None, refl, sym, ap, ◌∙◌, arith, cond, eqb}
 use Rattle.std.specs.Prelude.{count_by}
 use Rattle.std.proofs.lemmas.Bool.{eqb-true, false≢true}
 use Rattle.std.proofs.lemmas.List.Sums.{sum_by-cons, count_by-le-length}
@@ -16,15 +16,14 @@ use Rattle.ystore.specs.declared.key.Key as rust
 use Rattle.ystore.specs.declared.key.Key.TheVariants.{Value}
 use Rattle.ystore.specs.declared.row.Row.{Row}
 use Rattle.ystore.specs.declared.row.Row.TheVariants.{Top, Below}
-use Rattle.yshape.specs.Hanging.{Numbered, Branches, stored_of, tree_of}
+use Rattle.yshape.specs.Hanging.{Branches, stored_of, tree_of}
 use Rattle.yplay.specs.Absences.{Default, is_default}
 use Rattle.yfacts.specs.Given.{given_view, is_referred}
 use Rattle.yfacts.specs.Keys.{Key, value_key, item_key, tuple_key, texts_key, key_view, same}
 use Rattle.yfacts.proofs.SameLemmas.{same_views}
-use Rattle.ytold.specs.Each.{Each}
 use Rattle.ytold.specs.IsTold.{is_counted}
 use Rattle.ytold.specs.Growing.{times_valued}
-use Rattle.ytold.specs.Standing.{Standing, Every, IsFewIn, IsFewThere, standing, defaults_in_row}
+use Rattle.ytold.specs.Standing.{Every, IsFewIn, IsFewThere, standing, defaults_in_row}
 use Rattle.ytold.proofs.EachLemmas.{every_first, every_second}
 use Rattle.ytold.proofs.ValueLemmas.{in_use}
 

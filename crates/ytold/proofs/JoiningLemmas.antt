@@ -5,9 +5,9 @@ use Rattle.std.specs.Prelude.{string_bytes}
 use Rattle.std.proofs.lemmas.Bool.{false≢true}
 use Rattle.std.proofs.lemmas.Option.{none-some, same_Some}
 use Rattle.std.proofs.lemmas.List.{at_drop_more, at_drop_all}
-use Rattle.ystore.specs.Entries.{Entry, with_node, without_node}
+use Rattle.ystore.specs.Entries.{Entry}
 use Rattle.ystore.specs.Held.{Held, Told}
-use Rattle.ystore.specs.Store.{held_at, same_at, entry_at, instances_at, same_key}
+use Rattle.ystore.specs.Store.{held_at, same_at, entry_at, same_key}
 use Rattle.ystore.specs.declared.record.Judged.{Judged}
 use Rattle.ystore.specs.declared.record.Judged.TheVariants.{Right, Wrong, Missing}
 use Rattle.ystore.specs.declared.row.NodeId.{NodeId}

@@ -3,29 +3,27 @@
 use Rattle.std.proofs.Common.{◌≡◌, ℕ, zero, suc, ◌+◌, ◌<◌, ◌≤◌, Bool, true, false, List, [], ◌∷◌, ◌++◌, Option, Some, None, refl, sym, ap, ap₂, ◌∙◌, arith, subst, cond}
 use Rattle.std.specs.Option.{option_or}
 use Rattle.std.specs.List.{flat_map}
-use Rattle.std.proofs.lemmas.Option.{none-some}
 use Rattle.yspec.specs.Forest.{end, node, join}
 use Rattle.yspec.specs.schema.Schema.{Schema}
 use Rattle.ymodel.specs.declared.node.SchemaId.{SchemaId}
 use Rattle.ystore.specs.Rows as rows
-use Rattle.ystore.specs.declared.row.NodeId.{NodeId}
 use Rattle.ystore.specs.declared.row.Row.{Row}
 use Rattle.ystore.specs.declared.row.Row.TheVariants.{Top, Below}
 use Rattle.yshape.specs.Hanging.{Numbered, Branches, stored_of, tree_of, children_of, is_number, times}
 use Rattle.yshape.specs.Changes.{put_at}
 use Rattle.yshape.specs.Swaps.{Swaps}
-use Rattle.yshape.specs.Ways.{Frame, Way, around, end_of}
+use Rattle.yshape.specs.Ways.{Way, around, end_of}
 use Rattle.yshape.specs.declared.swapping.Change.{Change}
 use Rattle.yshape.specs.declared.swapping.Change.TheVariants.{Add, Put, Take}
-use Rattle.yshape.proofs.HangingLemmas.{weigh_join, weigh_around, weigh_put, outside, is_itself}
-use Rattle.yfacts.specs.Keys.{Key, Holding, key_at}
+use Rattle.yshape.proofs.HangingLemmas.{weigh_join, weigh_around}
+use Rattle.yfacts.specs.Keys.{Key, key_at}
 use Rattle.ytold.specs.Assigned.{Assignment, has_at, key_in}
-use Rattle.ytold.specs.Each.{Each, OnWay, Around, beside_way, on_way}
+use Rattle.ytold.specs.Each.{Each, beside_way, on_way}
 use Rattle.ytold.specs.Keyed.{HasKeys}
-use Rattle.ytold.specs.Standing.{Standing, Every, standing, on_the_way, keys_held, all_held, way_held}
-use Rattle.ytold.specs.Unlike.{NotIn, Unlike, slot_in}
+use Rattle.ytold.specs.Standing.{Standing, Every, standing, on_the_way, keys_held}
+use Rattle.ytold.specs.Unlike.{Unlike, slot_in}
 use Rattle.ytold.proofs.EachLemmas.{every_first, every_second, every_join, each_join, each_first, each_second, each_there, each_around, each_again, each_other, each_standing, standing_each, way_each, each_way, around_again}
-use Rattle.ytold.proofs.KeyLemmas.{key_in-append, not_in, all_found}
+use Rattle.ytold.proofs.KeyLemmas.{not_in, all_found}
 use Rattle.ytold.proofs.UnlikeLemmas.{not_in-append, not_standing, all_in, parts_way, not_on_way, unlike_both, has_none, none_has}
 
 -- ---- rows

@@ -1,11 +1,10 @@
 -- The keys that nodes hold, at their slots.
-use Rattle.std.proofs.Common.{◌≡◌, ℕ, zero, suc, ◌+◌, ◌<◌, ◌≤◌, Bool, true, false, ◌&&◌, ◌||◌, List, [], ◌∷◌, ◌++◌, length, map, slice_get, Option, Some, None, option_map, refl, sym, ap, ap₂, ◌∙◌, arith, subst, cond, eqb, ltb}
+use Rattle.std.proofs.Common.{◌≡◌, ℕ, zero, suc, ◌+◌, ◌<◌, ◌≤◌, Bool, true, false, ◌&&◌, List, [], ◌∷◌, ◌++◌, length, slice_get, Option, Some, None, option_map, refl, sym, ap, ap₂, ◌∙◌, arith, cond, eqb, ltb}
 use Rattle.std.specs.Prelude.{option_and_then, option_to_list, unwrap_or}
 use Rattle.std.specs.Option.{option_map_or, option_or}
 use Rattle.std.specs.List.{flat_map}
 use Rattle.std.proofs.lemmas.Bool.{eq-eqb, ne_eqb, eqb-true, ltb-true, ltb-false, false≢true}
 use Rattle.std.proofs.lemmas.Option.{none-some, same_Some}
-use Rattle.yspec.specs.Forest.{end, node}
 use Rattle.yspec.specs.types.Types.{Val}
 use Rattle.yspec.specs.schema.Schema.{Schema, SchemaNode, Kind, container, leaf, leaf_list, list, choice, case, LeafPath, Tuples, node_at}
 use Rattle.yspec.specs.document.Document.{Stored, Tree}
@@ -13,7 +12,7 @@ use Rattle.yspec.specs.document.Instances.{Tuple, tuple_of_paths, paths_of, valu
 use Rattle.ycheck.specs.Targets.{required_target}
 use Rattle.ystore.specs.declared.row.NodeId.{NodeId}
 use Rattle.ystore.specs.declared.row.Row.{Row}
-use Rattle.yfacts.specs.Keys.{Key, value_key, item_key, tuple_key, texts_key, Holding, held_with, reference_key, item_key_at, kind_key, flagged_key, key_at, kind_flags, flags_of, slots_of, keys_from, held_by}
+use Rattle.yfacts.specs.Keys.{Key, value_key, item_key, tuple_key, Holding, held_with, item_key_at, kind_key, flagged_key, key_at, kind_flags, flags_of, slots_of, keys_from}
 use Rattle.yshape.specs.Hanging.{stored_of, tree_of}
 use Rattle.ytold.specs.Assigned.{is_at, key_in}
 use Rattle.ytold.specs.Standing.{Standing, Every, keys_held}

@@ -1,5 +1,5 @@
 -- What is told of new nodes, one after another.
-use Rattle.std.proofs.Common.{◌≡◌, ◌≤◌, ◌^◌, ℕ, Bool, true, false, ◌||◌, List, [], ◌∷◌, length, Option, Some, None, option_map, refl, sym, ap, ◌∙◌, arith, subst, cond, eqb}
+use Rattle.std.proofs.Common.{◌≡◌, Bool, true, false, ◌||◌, List, [], ◌∷◌, length, option_map, refl, sym, ap, ◌∙◌, arith, cond, eqb}
 use Rattle.std.specs.List.{list_any}
 use Rattle.std.proofs.lemmas.Bool.{false≢true}
 use Rattle.ystore.specs.Held.{Told}
@@ -7,10 +7,9 @@ use Rattle.ystore.specs.Store.{same_row}
 use Rattle.ystore.specs.declared.row.NodeId.{NodeId}
 use Rattle.ystore.specs.declared.row.Row.{Row}
 use Rattle.ystore.specs.declared.row.Row.TheVariants.{Below}
-use Rattle.ystore.specs.declared.record.Judged.TheVariants.{Right}
 use Rattle.ystore.specs.declared.nodes.Nodes.{Nodes}
 use Rattle.yshape.specs.Hanging.{Branches}
-use Rattle.ytell.specs.Totals.{IsTree, OnlyFaults, StandsIn, Totals, told_at, judged_at}
+use Rattle.ytell.specs.Totals.{told_at, judged_at}
 use Rattle.ytold.specs.Telling.{AreNew, told_by, with_news}
 use Rattle.ytold.specs.declared.account.News.{News}
 

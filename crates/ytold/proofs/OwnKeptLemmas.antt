@@ -1,11 +1,10 @@
 -- What no key tells of the nodes of a document whose row at the end of a way is changed.
-use Rattle.std.proofs.Common.{◌≡◌, ℕ, zero, suc, ◌+◌, ◌^◌, ◌<◌, ◌≤◌, Bool, true, false, List, [], ◌∷◌, ◌++◌, length, Option, Some, None, option_map, refl, sym, ap, ap₂, ◌∙◌, arith, subst, cond, eqb}
+use Rattle.std.proofs.Common.{◌≡◌, ℕ, ◌+◌, ◌^◌, ◌<◌, ◌≤◌, false, List, [], ◌∷◌, length, Option, Some, None, option_map, refl, sym, ap, ◌∙◌, arith, subst, cond, eqb}
 use Rattle.std.specs.Prelude.{count_by}
-use Rattle.std.proofs.lemmas.Bool.{ne_eqb, eq-eqb, false≢true}
-use Rattle.std.proofs.lemmas.Option.{none-some}
-use Rattle.yspec.specs.Forest.{end, node, join, row}
+use Rattle.std.proofs.lemmas.Bool.{ne_eqb, eq-eqb}
+use Rattle.yspec.specs.Forest.{node, row}
 use Rattle.yspec.specs.schema.Schema.{Schema, row_at}
-use Rattle.yspec.specs.document.Document.{Stored, Tree, instances_in}
+use Rattle.yspec.specs.document.Document.{Stored, Tree}
 use Rattle.ycheck.specs.declared.fault.FaultCode.{FaultCode}
 use Rattle.ymodel.specs.declared.node.SchemaId.{SchemaId}
 use Rattle.ystore.specs.Store.{same_row}
@@ -17,7 +16,7 @@ use Rattle.yshape.specs.Hanging.{Numbered, Branches, stored_of, tree_of, is_numb
 use Rattle.yshape.specs.Swaps.{Swaps}
 use Rattle.yshape.specs.Ways.{Frame, Way, around, end_of}
 use Rattle.yshape.specs.declared.swapping.Change.{Change}
-use Rattle.yshape.proofs.HangingLemmas.{weigh_join, weigh_around, outside, is_itself}
+use Rattle.yshape.proofs.HangingLemmas.{weigh_join, weigh_around, is_itself}
 use Rattle.yshape.proofs.GrowLemmas.{tree_join}
 use Rattle.yplay.specs.Absences.{absences_in, defaults_in}
 use Rattle.yfacts.specs.Given.{referred}
@@ -26,8 +25,7 @@ use Rattle.ytell.specs.Keys.{Own, own_at}
 use Rattle.ytold.specs.Each.{Each, OnWay, Around, beside_way, on_way}
 use Rattle.ytold.specs.IsTold.{TellsOwn}
 use Rattle.ytold.specs.Plans.{row_schema}
-use Rattle.ytold.specs.Standing.{Standing, Every, IsFewIn, standing, absences_in_row, defaults_in_row}
-use Rattle.ytold.proofs.AccountLemmas.{below_same}
+use Rattle.ytold.specs.Standing.{Every, IsFewIn, standing, absences_in_row}
 use Rattle.ytold.proofs.EachLemmas.{each_there, each_around, each_again, each_standing, around_again}
 use Rattle.ytold.proofs.KeptLemmas.{each_swapped}
 use Rattle.ytold.proofs.SumLemmas.{same_labels}

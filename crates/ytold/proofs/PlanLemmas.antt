@@ -1,24 +1,24 @@
 -- A change of a row, prepared and planned.
-use Rattle.std.proofs.Common.{◌≡◌, ℕ, ◌+◌, ◌<◌, ◌≤◌, ◌++◌, List, [], ◌∷◌, length, map, Option, Some, None, option_map, refl, sym, ap, ap₂, ◌∙◌, arith, subst, append-nil}
+use Rattle.std.proofs.Common.{◌≡◌, ℕ, ◌<◌, ◌≤◌, ◌++◌, List, [], ◌∷◌, length, Option, Some, None, option_map, refl, sym, ap, ◌∙◌, arith, subst, append-nil}
 use Rattle.std.specs.Prelude.{IfSome}
 use Rattle.std.specs.List.{flat_map}
 use Rattle.std.proofs.lemmas.Grind.{flat_map-append}
-use Rattle.yspec.specs.Forest.{end, node, join, size}
+use Rattle.yspec.specs.Forest.{node, join, size}
 use Rattle.yspec.specs.schema.Schema.{Schema}
 use Rattle.ymodel.specs.Layout.{number_of}
 use Rattle.ystore.specs.Held.{Label}
-use Rattle.ystore.specs.Store.{held_at, label_at, node_count, has_room}
+use Rattle.ystore.specs.Store.{label_at, node_count}
 use Rattle.ystore.specs.declared.row.NodeId.{NodeId}
 use Rattle.ystore.specs.declared.row.Row.{Row}
 use Rattle.ystore.specs.declared.row.Row.TheVariants.{Top, Below}
 use Rattle.ystore.specs.declared.nodes.Nodes.{Nodes}
-use Rattle.yshape.specs.Hanging.{Branches, tree_of, Stands, Hangs, Keeps}
+use Rattle.yshape.specs.Hanging.{Branches, Stands, Hangs, Keeps}
 use Rattle.yshape.specs.Parts.{OnlyReads}
 use Rattle.yshape.specs.Ways.{Frame, Way, around, end_of}
 use Rattle.yshape.specs.declared.swapping.Swap.{Swap}
 use Rattle.yshape.proofs.HangingLemmas.{at_end, stands_second}
 use Rattle.yshape.proofs.FoundLemmas.{end_more, around_more}
-use Rattle.yshape.proofs.PartLemmas.{label_is, stands_read, children_read}
+use Rattle.yshape.proofs.PartLemmas.{label_is, stands_read}
 use Rattle.yplay.specs.Absences.{Default}
 use Rattle.yfacts.specs.Keys.{Holding, holdings}
 use Rattle.ytold.specs.Accounts.{Enters}
@@ -29,7 +29,7 @@ use Rattle.yshape.specs.declared.swapping.Change.{Change}
 use Rattle.yshape.specs.declared.swapping.Change.TheVariants.{Add, Put, Take}
 use Rattle.ymodel.specs.declared.node.SchemaId.{SchemaId}
 use Rattle.yfacts.specs.Given.{given_view}
-use Rattle.ytold.specs.Standing.{Standing, keys_held, defaults_in_row}
+use Rattle.ytold.specs.Standing.{Standing, keys_held}
 use Rattle.ytold.proofs.AccountLemmas.{Last, last_of, top_not, below_same, hangs_read}
 
 -- ---- the schema node above a row

@@ -1,7 +1,7 @@
 -- A sum over the nodes of a document changes by the row at the end of a way, and the node above it.
 use Rattle.std.proofs.Common.{◌≡◌, ℕ, ◌+◌, List, [], ◌∷◌, ◌++◌, refl, sym, ap, ◌∙◌, arith, eqb, cond}
 use Rattle.std.specs.Prelude.{sum_by, count_by}
-use Rattle.yspec.specs.Forest.{Forest, end, node, row, join, weigh_nodes}
+use Rattle.yspec.specs.Forest.{end, node, row, join, weigh_nodes}
 use Rattle.yspec.specs.types.Types.{Val}
 use Rattle.yspec.specs.schema.Schema.{Schema, children_of}
 use Rattle.yspec.specs.document.Document.{Stored, Tree}

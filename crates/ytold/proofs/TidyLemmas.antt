@@ -1,6 +1,5 @@
 -- Entries that are given back.
-use Rattle.std.proofs.Common.{◌≡◌, ℕ, Bool, true, false, ◌&&◌, List, length, Option, Some, None, option_map, refl, sym, ap, ◌∙◌, cond, eqb}
-use Rattle.std.specs.Prelude.{option_and_then}
+use Rattle.std.proofs.Common.{◌≡◌, Bool, true, false, ◌&&◌, length, Option, Some, None, option_map, refl, sym, ap, ◌∙◌, cond, eqb}
 use Rattle.std.specs.Option.{option_map_or}
 use Rattle.std.proofs.lemmas.Bool.{eqb-true, false≢true}
 use Rattle.ystore.specs.Entries.{Entry, is_idle}

@@ -1,5 +1,5 @@
 -- Keys of a store and their views: what holds of the one holds of the other.
-use Rattle.std.proofs.Common.{◌≡◌, ℕ, zero, suc, ◌+◌, Bool, true, false, ◌&&◌, ◌||◌, List, [], ◌∷◌, ◌++◌, map, Option, Some, None, option_map, refl, sym, ap, ap₂, ◌∙◌, subst, cond, eqb}
+use Rattle.std.proofs.Common.{◌≡◌, ℕ, zero, suc, ◌+◌, Bool, true, false, ◌&&◌, ◌||◌, List, [], ◌∷◌, ◌++◌, Option, Some, None, option_map, refl, sym, ap, ap₂, ◌∙◌, cond, eqb}
 use Rattle.std.specs.Prelude.{option_to_list}
 use Rattle.std.specs.Option.{option_map_or, option_or}
 use Rattle.std.specs.List.{flat_map}
@@ -12,11 +12,11 @@ use Rattle.ystore.specs.declared.key.Key.TheVariants as variants
 use Rattle.yshape.specs.Hanging.{stored_of, tree_of}
 use Rattle.yfacts.specs.Keys.{Key, Holding, key_view, holdings, held_with, key_at, keys_from, slots_of}
 use Rattle.ytell.specs.Keys.{Keys, slot_of}
-use Rattle.ytold.specs.Assigned.{Assignment, is_at, joined, left, has_at, key_in, AreDistinct, CanJoin, CanLeave, NoneHeld, AllHeld}
+use Rattle.ytold.specs.Assigned.{Assignment, is_at, joined, left, has_at, key_in, AreDistinct, NoneHeld, AllHeld}
 use Rattle.ytold.specs.Keyed.{HasKeys}
 use Rattle.ytold.specs.Standing.{Standing, Every, keys_held}
 use Rattle.ytold.specs.Unlike.{slot_in}
-use Rattle.ytold.proofs.AssignedLemmas.{can_join, can_leave, joined_is, left_is}
+use Rattle.ytold.proofs.AssignedLemmas.{joined_is, left_is}
 use Rattle.ytold.proofs.EachLemmas.{every_join}
 use Rattle.ytold.proofs.GrowingLemmas.{views_same}
 use Rattle.ytold.proofs.KeyLemmas.{slot_is}

@@ -1,23 +1,23 @@
 -- Nodes that hang in a store have numbers of their own, so their keys are distinct.
-use Rattle.std.proofs.Common.{◌≡◌, ℕ, zero, suc, ◌+◌, ◌<◌, ◌≤◌, Bool, true, false, ◌&&◌, ◌||◌, List, [], ◌∷◌, ◌++◌, Option, Some, None, refl, sym, ap, ap₂, ◌∙◌, arith, cond, eqb}
+use Rattle.std.proofs.Common.{◌≡◌, ℕ, zero, suc, ◌+◌, ◌≤◌, Bool, true, false, ◌||◌, List, [], ◌∷◌, ◌++◌, Option, Some, None, refl, sym, ap, ap₂, ◌∙◌, arith, cond, eqb}
 use Rattle.std.specs.Prelude.{option_to_list}
 use Rattle.std.specs.List.{flat_map}
 use Rattle.std.proofs.lemmas.Bool.{ne_eqb, eq-eqb, false≢true}
 use Rattle.std.proofs.lemmas.Option.{none-some}
-use Rattle.yspec.specs.Forest.{end, node, join}
+use Rattle.yspec.specs.Forest.{end, node}
 use Rattle.yspec.specs.schema.Schema.{Schema}
 use Rattle.ystore.specs.declared.row.NodeId.{NodeId}
 use Rattle.ystore.specs.declared.row.Row.{Row}
 use Rattle.ystore.specs.declared.row.Row.TheVariants.{Top, Below}
 use Rattle.yshape.specs.Hanging.{Numbered, Branches, stored_of, tree_of, is_number, times}
-use Rattle.yshape.specs.Ways.{Frame, Way, around}
-use Rattle.yshape.proofs.HangingLemmas.{weigh_join, weigh_around, outside, is_itself}
+use Rattle.yshape.specs.Ways.{Way, around}
+use Rattle.yshape.proofs.HangingLemmas.{weigh_join, outside, is_itself}
 use Rattle.yfacts.specs.Keys.{Key, Holding, held_with, keys_from, key_at, slots_of}
 use Rattle.ytold.specs.Assigned.{is_at, has_at, key_in, AreDistinct}
 use Rattle.ytold.specs.Each.{beside_way, on_way}
 use Rattle.ytold.specs.Standing.{Standing, Every, standing, on_the_way, keys_held}
 use Rattle.ytold.specs.Unlike.{NotIn, Unlike, slot_in}
-use Rattle.ytold.proofs.EachLemmas.{every_first, every_second, every_join}
+use Rattle.ytold.proofs.EachLemmas.{every_join}
 use Rattle.ytold.proofs.KeyLemmas.{slot_is, below_first, not_in}
 
 -- ---- lists

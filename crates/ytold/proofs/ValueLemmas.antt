@@ -15,7 +15,7 @@ use Rattle.ystore.specs.declared.row.Row.TheVariants.{Top, Below}
 use Rattle.yshape.specs.Hanging.{Numbered, Branches, stored_of, tree_of, children_of}
 use Rattle.yshape.specs.Changes.{put_at}
 use Rattle.yshape.specs.Swaps.{Swaps}
-use Rattle.yshape.specs.Ways.{Frame, Way, around, end_of}
+use Rattle.yshape.specs.Ways.{Way, around, end_of}
 use Rattle.yshape.specs.declared.swapping.Change.{Change}
 use Rattle.yshape.specs.declared.swapping.Change.TheVariants.{Add, Put, Take}
 use Rattle.yshape.proofs.GrowLemmas.{tree_join}
@@ -26,7 +26,7 @@ use Rattle.yplay.specs.Absences.{defaults_in}
 use Rattle.yfacts.proofs.GivenLemmas.{counted_own, counted_referred}
 use Rattle.ytold.specs.Plans.{row_schema}
 use Rattle.ytold.specs.Standing.{Standing, standing, values_given, all_given, defaults_in_row}
-use Rattle.ytold.specs.Sums.{top_at, times_there}
+use Rattle.ytold.specs.Sums.{top_at}
 use Rattle.ytold.proofs.SumLemmas.{nodes_join, times_changed}
 
 -- ---- sums of a swapped row

@@ -1,5 +1,5 @@
 -- Which keys the nodes of a document hold.
-use Rattle.std.specs.Prelude.{◌≡◌, ℕ, Option}
+use Rattle.std.specs.Prelude.{◌≡◌, ℕ}
 use Rattle.yspec.specs.schema.Schema.{Schema}
 use Rattle.ystore.specs.declared.row.Row.{Row}
 use Rattle.yshape.specs.Hanging.{Numbered, Branches, stored_of, tree_of}

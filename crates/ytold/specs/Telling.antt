@@ -1,15 +1,14 @@
 -- What is told of nodes that are new.
-use Rattle.std.specs.Prelude.{◌≡◌, ◌≤◌, ◌^◌, ◌==◌, Bool, false, List, [], ◌∷◌, length, Option, Some, option_map, if◌then◌else◌}
+use Rattle.std.specs.Prelude.{◌≡◌, ◌≤◌, ◌^◌, ◌==◌, false, List, [], ◌∷◌, length, Option, Some, option_map, if◌then◌else◌}
 use Rattle.std.specs.List.{list_any}
 use Rattle.ystore.specs.Held.{Told}
 use Rattle.ystore.specs.Store.{same_row}
-use Rattle.ystore.specs.declared.row.NodeId.{NodeId}
 use Rattle.ystore.specs.declared.row.Row.{Row}
 use Rattle.ystore.specs.declared.row.Row.TheVariants.{Below}
 use Rattle.ystore.specs.declared.record.Judged.TheVariants.{Right}
 use Rattle.ystore.specs.declared.nodes.Nodes.{Nodes}
 use Rattle.yshape.specs.Hanging.{Branches}
-use Rattle.ytell.specs.Totals.{StandsIn, told_at, judged_at}
+use Rattle.ytell.specs.Totals.{StandsIn, judged_at}
 use Rattle.ytold.specs.declared.account.News.{News}
 
 -- with what is to be told of a node

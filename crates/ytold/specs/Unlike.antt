@@ -1,5 +1,5 @@
 -- Nodes with numbers of their own.
-use Rattle.std.specs.Prelude.{◌≡◌, ℕ, ◌==◌, zero, suc, false, List, [], ◌∷◌}
+use Rattle.std.specs.Prelude.{◌≡◌, ℕ, ◌==◌, suc, false, List, [], ◌∷◌}
 use Rattle.yfacts.specs.Keys.{Key, value_key, item_key, tuple_key, texts_key}
 use Rattle.ytold.specs.Standing.{Standing}
 

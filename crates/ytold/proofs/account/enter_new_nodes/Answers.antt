@@ -1,5 +1,5 @@
-use Rattle.std.proofs.Common.{◌∙◌, [], ◌∷◌, ◌++◌, map, get_or, refl, sym, ap, ap₂, arith, subst}
-use Rattle.std.proofs.lemmas.List.{at_drop_more, at_drop_all, map-append}
+use Rattle.std.proofs.Common.{◌∙◌, [], ◌∷◌, map, get_or, refl, sym, ap, arith, subst}
+use Rattle.std.proofs.lemmas.List.{at_drop_more, at_drop_all}
 use Rattle.ymodel.specs.View as schema_view
 use Rattle.ystore.specs.Views.{store_of}
 use Rattle.ystore.specs.declared.row.NodeId.{NodeId}

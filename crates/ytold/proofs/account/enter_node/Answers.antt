@@ -1,7 +1,7 @@
-use Rattle.std.proofs.Common.{Some, refl, sym, ap, ◌∙◌, ◌++◌, append-nil}
+use Rattle.std.proofs.Common.{◌∙◌, append-nil}
 use Rattle.ymodel.specs.View as schema_view
 use Rattle.ystore.specs.Views.{store_of}
-use Rattle.yshape.proofs.PartLemmas.{one_read, reads_on}
+use Rattle.yshape.proofs.PartLemmas.{one_read}
 use Rattle.yfacts.specs.Given.{given_view}
 use Rattle.yfacts.specs.Keys.{holdings}
 use Rattle.ytold.proofs.AccountLemmas.{values_are, absences_are, few_are, schema_is, there_read, hangs_below}

@@ -1,14 +1,9 @@
-use Rattle.std.proofs.Common.{◌∙◌, ◌-◌, ◌+◌, ◌++◌, [], suc, refl, sym, ap, arith, subst, append-nil}
-use Rattle.yspec.specs.Forest.{size}
+use Rattle.std.proofs.Common.{◌∙◌, ◌-◌, ◌+◌, refl, sym, arith, append-nil}
 use Rattle.ymodel.specs.View as schema_view
-use Rattle.ystore.specs.Store.{node_count}
 use Rattle.ystore.specs.Views.{store_of}
-use Rattle.ystore.specs.declared.row.Row.{Row}
-use Rattle.ystore.specs.declared.row.Row.TheVariants.{Top, Below}
-use Rattle.yshape.specs.Ways.{Way, around}
 use Rattle.yshape.proofs.PartLemmas.{reads_nothing, reads_on}
 use Rattle.yfacts.specs.Keys.{holdings}
-use Rattle.ytold.proofs.AccountLemmas.{Halfway, begun, step_up, all_up, all_ended, there_read, moved_on}
+use Rattle.ytold.proofs.AccountLemmas.{begun, all_up, all_ended, moved_on}
 use Rattle.ytold.proofs.account.enter_way.Goals as goal
 
 pub loop-level-init : goal.loop-level-init

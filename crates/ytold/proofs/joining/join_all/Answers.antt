@@ -1,5 +1,5 @@
 use Rattle.std.proofs.Common.{◌∙◌, drop, ◌+◌, refl, subst, arith}
-use Rattle.ystore.specs.Entries.{Entry, with_node}
+use Rattle.ystore.specs.Entries.{with_node}
 use Rattle.ystore.specs.Views.{store_of}
 use Rattle.ytold.specs.Growing.{AreAwaited}
 use Rattle.ytold.proofs.GrowingLemmas.{first_awaited, first_found, rest_awaited}

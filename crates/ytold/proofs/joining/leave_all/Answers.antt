@@ -1,5 +1,5 @@
 use Rattle.std.proofs.Common.{◌∙◌, refl, arith}
-use Rattle.ystore.specs.Entries.{Entry, without_node}
+use Rattle.ystore.specs.Entries.{without_node}
 use Rattle.ystore.specs.Views.{store_of}
 use Rattle.ytold.proofs.CountingLemmas.{still_there}
 use Rattle.ytold.proofs.JoiningLemmas.{keeps_itself, keeps_on, shapes_of, tree_on, rows_of, number_kept, follows_itself, follows_of, drop_more, one_left, all_left}

@@ -1,9 +1,7 @@
-use Rattle.std.proofs.Common.{◌∙◌, arith}
 use Rattle.std.proofs.lemmas.Result.{IfOk-weaker}
-use Rattle.ymodel.specs.View as schema_view
 use Rattle.ystore.specs.Views.{store_of}
 use Rattle.yshape.specs.Ways.{around}
-use Rattle.yshape.proofs.SwapLemmas.{undone, room_back}
+use Rattle.yshape.proofs.SwapLemmas.{undone}
 use Rattle.ytold.proofs.PlanLemmas.{hangs_there, within}
 use Rattle.ytold.proofs.planning.enter_changed.Goals as goal
 

@@ -1,5 +1,4 @@
-use Rattle.std.proofs.Common.{◌∙◌, arith}
-use Rattle.yspec.specs.Forest.{size}
+use Rattle.std.proofs.Common.{arith}
 use Rattle.ymodel.specs.Layout.{number_of}
 use Rattle.ymodel.specs.View as schema_view
 use Rattle.ystore.specs.Views.{store_of}

@@ -1,17 +1,15 @@
-use Rattle.std.proofs.Common.{◌∙◌, ◌++◌, None, Option, ap, refl, subst, sym, arith}
-use Rattle.yspec.specs.Forest.{size}
+use Rattle.std.proofs.Common.{◌∙◌, ◌++◌, Option, ap, subst, sym, arith}
 use Rattle.ymodel.specs.Layout.{number_of}
 use Rattle.ymodel.specs.View as schema_view
 use Rattle.ystore.specs.Views.{store_of}
 use Rattle.ystore.specs.declared.row.Row.{Row}
 use Rattle.ystore.specs.declared.row.Row.TheVariants.{Top}
-use Rattle.yshape.specs.Hanging.{Branches, tree_of, Stands}
+use Rattle.yshape.specs.Hanging.{tree_of, Stands}
 use Rattle.yshape.specs.Ways.{around, end_of}
 use Rattle.yshape.proofs.HangingLemmas.{at_end}
 use Rattle.yshape.proofs.PartLemmas.{reads_on, stands_read}
 use Rattle.yfacts.specs.Given.{given_view}
 use Rattle.yfacts.specs.Keys.{holdings}
-use Rattle.ytold.specs.Plans.{row_schema}
 use Rattle.ytold.specs.Standing.{IsFewIn, standing, on_the_way, all_given, defaults_in_row, absences_in_row}
 use Rattle.ytold.proofs.AccountLemmas.{hangs_read}
 use Rattle.ytold.proofs.PlanLemmas.{entered_twice, left_stands, ready_read, within}
