@@ -19,3 +19,6 @@ pub mod UnlikeLemmas
 pub mod ValueLemmas
 pub mod TidyLemmas
 pub mod TransferLemmas
+pub mod SwappedLemmas
+
+pub mod WithdrawnLemmas
