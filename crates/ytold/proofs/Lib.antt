@@ -22,3 +22,4 @@ pub mod TransferLemmas
 pub mod SwappedLemmas
 
 pub mod WithdrawnLemmas
+pub mod RetellLemmas

@@ -79,11 +79,11 @@ module _ (schema : Schema) where
 
   pub all_referred : (ds : List Default) → Every IsReferred (referred schema ds)
   all_referred [] = tt
-  all_referred (d ∷ ds) = by (is_referred schema d.0) refl
+  all_referred (d ∷ ds) = by (is_referred schema d.0) refl (all_referred ds)
     where
-      by : (b : Bool) → is_referred schema d.0 ≡ b → Every IsReferred (cond b (d ∷ referred schema ds) (referred schema ds))
-      by true e = (e, all_referred ds)
-      by false e = all_referred ds
+      by : (b : Bool) → is_referred schema d.0 ≡ b → Every IsReferred (referred schema ds) → Every IsReferred (cond b (d ∷ referred schema ds) (referred schema ds))
+      by true e rest = (e, rest)
+      by false e rest = rest
 
   pub given_referred : (ss : List Standing) → Every IsReferred (flat_map (values_given schema) ss)
   given_referred [] = tt
