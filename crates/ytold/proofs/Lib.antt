@@ -8,6 +8,7 @@ pub mod InstanceLemmas
 pub mod JoiningLemmas
 pub mod GrowingLemmas
 pub mod GrownLemmas
+pub mod HoldLemmas
 pub mod KeptLemmas
 pub mod KeyLemmas
 pub mod NewsLemmas
