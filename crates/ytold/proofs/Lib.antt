@@ -24,3 +24,5 @@ pub mod SwappedLemmas
 
 pub mod WithdrawnLemmas
 pub mod RetellLemmas
+pub mod RetoldLemmas
+pub mod FreshLemmas

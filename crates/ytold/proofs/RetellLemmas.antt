@@ -45,7 +45,7 @@ use Rattle.ytold.proofs.UnlikeLemmas.{distinct, every_map, unlike_both}
 use Rattle.ytold.proofs.ValueLemmas.{few_go, given_all, in_use, values_changed}
 
 -- what is so of each number of a forest
-number_in : (P : ℕ → Type 0) (k : ℕ) (above : Row) (f : Branches) → 1 ≤ times k f → Every (λ s. P s.label.id.0) (standing above f) → P k
+pub number_in : (P : ℕ → Type 0) (k : ℕ) (above : Row) (f : Branches) → 1 ≤ times k f → Every (λ s. P s.label.id.0) (standing above f) → P k
 number_in P k above end here all = absurd (omega (arith, here))
 number_in P k above (node n below after) here all =
     by (eqb n.id.0 k) refl (times k below) refl
@@ -64,7 +64,7 @@ module _ (schema : Schema) (way : Way) (f loose g left_over : Branches) (of : Sc
     (once : (k : ℕ) → times k (around way f) + times k loose ≤ 1) (is : IsTold schema start (around way f)) where
   -- ---- numbers
 
-  same : (k : ℕ) → times k g + times k left_over ≡ times k f + times k loose
+  pub same : (k : ℕ) → times k g + times k left_over ≡ times k f + times k loose
   same k = times_swapped k of change f loose g left_over swaps
 
   part : (k : ℕ) → times k left_over ≤ times k f
