@@ -26,3 +26,5 @@ pub mod WithdrawnLemmas
 pub mod RetellLemmas
 pub mod RetoldLemmas
 pub mod FreshLemmas
+pub mod AgainLemmas
+pub mod WholeLemmas

@@ -186,13 +186,13 @@ module _ (schema : Schema) (way : Way) (f loose g left_over : Branches) (of : Sc
       few_of [] tells = tt
       few_of (s ∷ ss) tells = (tells.0.few, few_of ss tells.1)
 
-  all_goes : Every (IsReferred schema) (given_view plan.goes.items)
+  pub all_goes : Every (IsReferred schema) (given_view plan.goes.items)
   all_goes =
       subst (λ (ds : List Default). Every (IsReferred schema) ds) (sym plans.goes)
       (every_join (IsReferred schema) (all_given schema (end_of Top way) left_over) (defaults_in_row schema (row_schema None way) (tree_of f))
       (given_referred schema (standing (end_of Top way) left_over)) (all_referred schema _))
 
-  all_comes : Every (IsReferred schema) (given_view plan.comes.items)
+  pub all_comes : Every (IsReferred schema) (given_view plan.comes.items)
   all_comes =
       subst (λ (ds : List Default). Every (IsReferred schema) ds) (sym plans.comes)
       (every_join (IsReferred schema) (all_given schema (end_of Top way) loose) (defaults_in_row schema (row_schema None way) (tree_of g))

@@ -106,7 +106,7 @@ module _ (schema : Schema) (way : Way) (f loose g left_over : Branches) (of : Sc
   apart : (id : NodeId) → 1 ≤ times id.0 loose → times id.0 (around way f) ≡ 0
   apart id here = let most = once id.0 in omega (arith, most, here)
 
-  new_stands : (id : NodeId) → 1 ≤ times id.0 loose → 1 ≤ times id.0 (around way g)
+  pub new_stands : (id : NodeId) → 1 ≤ times id.0 loose → 1 ≤ times id.0 (around way g)
   new_stands id here = let all = sums id.0 in let gone = times_gone id.0 of change f loose g left_over swaps in
       let none = apart id here in let was = weigh_around (is_number id.0) way f in omega (arith, all, gone, none, here, was)
 
@@ -213,6 +213,11 @@ module _ (schema : Schema) (way : Way) (f loose g left_over : Branches) (of : Sc
   own_played true None play e = refl
   own_played false o play e = absurd (false≢true e)
 
+  pub own_come : Every (λ s. TellsOwn schema told s.row s.label s.below) come
+  own_come =
+      own_new schema changed told come plan.news.items plans.news unlike_new plans.few_new (fresh_then come (all_in (end_of Top way) loose) fresh)
+      (every_map (λ s. 1 ≤ times s.label.id.0 loose) _ (λ s here. ap (option_map own_of) (news (Below s.label.id))) come (all_in (end_of Top way) loose))
+
   pub own_told : Each (TellsOwn schema told) Top (around way g)
   own_told =
       own_kept schema start told way f loose g left_over of change swaps once (λ k. same schema way f loose g left_over of change swaps plan plans start once is k) plan.absences.items
@@ -231,6 +236,4 @@ module _ (schema : Schema) (way : Way) (f loose g left_over : Branches) (of : Sc
       ∙ (own_played (same_row above (Below id)) (told_at mid (Below id)) plan.absences.items
       (ap (λ (r : Row). same_row r (Below id)) (sym at ∙ ends) ∙ row_itself (Below id))
       ∙ ap (option_map (λ (w : Own). record w { play = plan.absences.items })) (follows.own (Below id))))
-      (own_new schema changed told come plan.news.items plans.news unlike_new plans.few_new (fresh_then come (all_in (end_of Top way) loose) fresh)
-      (every_map (λ s. 1 ≤ times s.label.id.0 loose) _ (λ s here. ap (option_map own_of) (news (Below s.label.id))) come (all_in (end_of Top way) loose)))
-      plans.absences plans.few_row is.each
+      own_come plans.absences plans.few_row is.each

@@ -1,8 +1,8 @@
 //! A change of a row of a document, and of all that is told of it.
 
-ghost use Rattle.std.specs.Prelude.{◌≡◌, ◌≤◌, ◌^◌, ◌+◌};
+ghost use Rattle.std.specs.Prelude.{◌≡◌, ◌≤◌, ◌^◌, ◌+◌, ℕ, Option};
 ghost use Rattle.yspec.specs.Forest.{end, size};
-ghost use Rattle.yspec.specs.schema.Schema.{Schema};
+ghost use Rattle.yspec.specs.schema.Schema.{Schema, row_at};
 ghost use Rattle.ystore.specs.Store.{instances_at, same_key};
 ghost use Rattle.ystore.specs.Views.{store_of, lent};
 ghost use Rattle.ystore.specs.declared.key.Key as rust;
@@ -41,7 +41,7 @@ pub fn change(counted: &mut Counted<'_>, swap: Swap, plan: Plan, old: &[NodeId])
         → Every (IsFresh schema (store_of counted.old)) (standing (end_of Top r.way) r.loose)
         → Plans schema r.way r.f r.loose r.g r.left plan
         → AreThere (store_of counted.old) plan.comes.items
-        → size (around r.way r.g) ≤ 2 ^ 28
+        → size (around r.way r.g) ≤ 2 ^ 28 → ((above : Option ℕ) → size (row_at schema above) ≤ 2 ^ 32)
         → IsTold schema (store_of counted.new) (around r.way r.g) }
     ensures same_reference { lent counted.new ≡ lent counted.old }
 {
