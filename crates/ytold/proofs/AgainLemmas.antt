@@ -1,10 +1,9 @@
 -- A document of which a row is changed is told of again, when all steps are done.
-use Rattle.std.proofs.Common.{◌≡◌, ℕ, zero, suc, ◌+◌, ◌^◌, ◌<◌, ◌≤◌, Bool, true, false, List, [], ◌∷◌, ◌++◌, Option, Some, None, is_some, length, option_map, refl, sym, ap, ◌∙◌, arith, subst, cond, eqb}
+use Rattle.std.proofs.Common.{◌≡◌, ℕ, ◌+◌, ◌<◌, ◌≤◌, true, false, List, [], ◌∷◌, Option, Some, None, is_some, length, option_map, refl, sym, ap, ◌∙◌, arith, cond}
 use Rattle.std.specs.Prelude.{IfSome, count_by}
 use Rattle.std.specs.Option.{option_map_or}
 use Rattle.std.proofs.lemmas.Bool.{false≢true}
 use Rattle.std.proofs.lemmas.Option.{none-some, same_Some}
-use Rattle.yspec.specs.Forest.{end, node, size}
 use Rattle.yspec.specs.schema.Schema.{Schema}
 use Rattle.yspec.specs.types.Types.{Val}
 use Rattle.yspec.specs.document.Instances.{times_in}
@@ -27,9 +26,9 @@ use Rattle.yshape.proofs.FrameLemmas.{keeps_same}
 use Rattle.yplay.specs.Absences.{Default, is_default}
 use Rattle.yfacts.specs.Given.{is_referred}
 use Rattle.yfacts.specs.InPlay.{absence_views}
-use Rattle.yfacts.specs.Keys.{Key, value_key, key_view}
+use Rattle.yfacts.specs.Keys.{value_key, key_view}
 use Rattle.ytell.specs.Keys.{Agrees, Keys, slot_of}
-use Rattle.ytell.specs.Totals.{IsTree, OnlyFaults, StandsIn, Totals, told_at, room_at}
+use Rattle.ytell.specs.Totals.{IsTree, OnlyFaults, StandsIn, Totals, told_at}
 use Rattle.ytell.proofs.AgreeLemmas.{entries_keys}
 use Rattle.ytold.specs.Assigned.{CanJoin, joined}
 use Rattle.ytold.specs.Bare.{IsBare}
@@ -90,7 +89,7 @@ play_by : (o : Option Held) → option_map_or (λ (h : Held). h.told.play) o [] 
 play_by (Some h) = refl
 play_by None = refl
 
-play_same : (before after : Nodes) → told_at after Top ≡ told_at before Top → play_at after Top ≡ play_at before Top
+pub play_same : (before after : Nodes) → told_at after Top ≡ told_at before Top → play_at after Top ≡ play_at before Top
 play_same before after e = play_by (held_at after Top) ∙ (ap (λ o. option_map_or (λ (t : Told). t.play) o []) e ∙ sym (play_by (held_at before Top)))
 
 end_below : (id : NodeId) (way : Way) → same_row (end_of (Below id) way) Top ≡ false

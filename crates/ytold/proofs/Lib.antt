@@ -21,10 +21,10 @@ pub mod ValueLemmas
 pub mod TidyLemmas
 pub mod TransferLemmas
 pub mod SwappedLemmas
-
 pub mod WithdrawnLemmas
 pub mod RetellLemmas
 pub mod RetoldLemmas
 pub mod FreshLemmas
 pub mod AgainLemmas
 pub mod WholeLemmas
+pub mod StillLemmas

@@ -1,32 +1,30 @@
 -- What keys and values do where a row of a document is changed.
-use Rattle.std.proofs.Common.{◌≡◌, ℕ, zero, suc, ◌+◌, ◌*◌, ◌-◌, ◌^◌, ◌<◌, ◌≤◌, Bool, true, false, List, [], ◌∷◌, ◌++◌, Option, Some, None, option_map, refl, sym, ap, ap₂, ◌∙◌, arith, subst, cond, eqb}
+use Rattle.std.proofs.Common.{◌≡◌, ℕ, zero, suc, ◌+◌, ◌-◌, ◌^◌, ◌≤◌, Bool, true, false, List, [], ◌∷◌, Some, None, option_map, refl, sym, ap, ap₂, ◌∙◌, arith, subst, cond, eqb}
 use Rattle.std.specs.Prelude.{count_by}
 use Rattle.std.specs.List.{flat_map}
 use Rattle.std.specs.Option.{option_or}
 use Rattle.std.proofs.lemmas.Bool.{eqb-true, false≢true}
 use Rattle.std.proofs.lemmas.List.Sums.{sum_by-append}
-use Rattle.yspec.specs.Forest.{end, node, size, weigh_nodes}
+use Rattle.yspec.specs.Forest.{end, node, size}
 use Rattle.yspec.specs.schema.Schema.{Schema}
 use Rattle.yspec.specs.types.Types.{Val}
-use Rattle.yspec.specs.document.Instances.{times_in}
 use Rattle.ymodel.specs.declared.node.SchemaId.{SchemaId}
 use Rattle.ystore.specs.Store.{instances_at, same_key}
-use Rattle.ystore.specs.declared.row.NodeId.{NodeId}
 use Rattle.ystore.specs.declared.row.Row.{Row}
 use Rattle.ystore.specs.declared.row.Row.TheVariants.{Top, Below}
 use Rattle.ystore.specs.declared.key.Key as rust
 use Rattle.ystore.specs.declared.nodes.Nodes.{Nodes}
-use Rattle.yshape.specs.Hanging.{Numbered, Branches, Keeps, tree_of, is_number, times}
+use Rattle.yshape.specs.Hanging.{Branches, tree_of, is_number, times}
 use Rattle.yshape.specs.Swaps.{Swaps}
 use Rattle.yshape.specs.Ways.{Way, around, end_of}
 use Rattle.yshape.specs.declared.swapping.Change.{Change}
 use Rattle.yshape.proofs.HangingLemmas.{weigh_around}
 use Rattle.yplay.specs.Absences.{Default, is_default}
 use Rattle.yfacts.specs.Given.{given_view, is_referred}
-use Rattle.yfacts.specs.Keys.{Key, Holding, value_key, item_key, tuple_key, texts_key, holdings, key_view}
+use Rattle.yfacts.specs.Keys.{Key, Holding, value_key, item_key, tuple_key, texts_key, key_view}
 use Rattle.ytell.specs.Keys.{Keys, slot_of}
 use Rattle.ytold.specs.Assigned.{Assignment, AreDistinct, CanJoin, CanLeave, has_at, joined, key_in, left}
-use Rattle.ytold.specs.Each.{Each, beside_way, on_way}
+use Rattle.ytold.specs.Each.{Each}
 use Rattle.ytold.specs.Growing.{AreThere, times_valued}
 use Rattle.ytold.specs.IsTold.{IsTold, TellsOwn, is_counted}
 use Rattle.ytold.specs.Joins.{WithdrawsValues}
@@ -42,7 +40,7 @@ use Rattle.ytold.proofs.KeptLemmas.{all_free, gone_free, keys_kept}
 use Rattle.ytold.proofs.SwappedLemmas.{IsReferred, all_referred, each_gone, given_referred, times_gone, times_swapped}
 use Rattle.ytold.proofs.TransferLemmas.{viewed, all_free_so, all_held, all_so, distinct_same, joined_view, left_view, none_held}
 use Rattle.ytold.proofs.UnlikeLemmas.{distinct, every_map, unlike_both}
-use Rattle.ytold.proofs.ValueLemmas.{few_go, given_all, in_use, values_changed}
+use Rattle.ytold.proofs.ValueLemmas.{few_go, given_all, in_use}
 
 -- what is so of each number of a forest
 pub number_in : (P : ℕ → Type 0) (k : ℕ) (above : Row) (f : Branches) → 1 ≤ times k f → Every (λ s. P s.label.id.0) (standing above f) → P k

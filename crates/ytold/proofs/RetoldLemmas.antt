@@ -1,14 +1,14 @@
 -- What is told of a document once a row of it is changed and all is told of the nodes that come.
-use Rattle.std.proofs.Common.{◌≡◌, ℕ, zero, suc, ◌+◌, ◌^◌, ◌<◌, ◌≤◌, Bool, true, false, List, [], ◌∷◌, ◌++◌, length, Option, Some, None, option_map, refl, sym, ap, ◌∙◌, arith, subst, cond, eqb}
+use Rattle.std.proofs.Common.{◌≡◌, ℕ, zero, suc, ◌+◌, ◌^◌, ◌<◌, ◌≤◌, Bool, true, false, List, [], ◌∷◌, Option, Some, None, option_map, refl, sym, ap, ◌∙◌, arith, subst, cond}
 use Rattle.std.specs.Prelude.{replicate, sum_by}
 use Rattle.std.specs.Option.{option_map_or}
 use Rattle.std.proofs.lemmas.Bool.{eq-eqb, false≢true}
 use Rattle.std.proofs.lemmas.List.Sums.{sum_by-cons}
-use Rattle.yspec.specs.Forest.{end, node, size}
+use Rattle.yspec.specs.Forest.{size}
 use Rattle.yspec.specs.schema.Schema.{Schema, row_at}
 use Rattle.ycheck.specs.declared.fault.FaultCode.{FaultCode}
 use Rattle.ymodel.specs.declared.node.SchemaId.{SchemaId}
-use Rattle.ystore.specs.Held.{Held, Told, with_play}
+use Rattle.ystore.specs.Held.{Told, with_play}
 use Rattle.ystore.specs.Store.{entry_at, held_at, same_at, same_row, total_at}
 use Rattle.ystore.specs.declared.record.Judged.TheVariants.{Right}
 use Rattle.ystore.specs.declared.row.NodeId.{NodeId}
@@ -17,20 +17,20 @@ use Rattle.ystore.specs.declared.row.Row.TheVariants.{Top, Below}
 use Rattle.ystore.specs.declared.key.Key as rust
 use Rattle.ystore.specs.declared.nodes.Nodes.{Nodes}
 use Rattle.yshape.specs.Growing.{flag_count, nothing_told}
-use Rattle.yshape.specs.Hanging.{Numbered, Branches, is_number, times}
+use Rattle.yshape.specs.Hanging.{Branches, is_number, times}
 use Rattle.yshape.specs.Swaps.{Swaps}
 use Rattle.yshape.specs.Ways.{Way, around, end_of}
 use Rattle.yshape.specs.declared.swapping.Change.{Change}
 use Rattle.yshape.proofs.FrameLemmas.{same_rows}
 use Rattle.yshape.proofs.HangingLemmas.{weigh_around}
-use Rattle.ytell.specs.Keys.{Agrees, IsJudged, Keys, Own, TellsNoKey, is_missing, own_at, own_of}
+use Rattle.ytell.specs.Keys.{Agrees, IsJudged, Keys, Own, is_missing, own_of}
 use Rattle.ytell.specs.Totals.{OnlyFaults, StandsIn, TellsNothing, judged_at, number_of, told_at, told_count}
 use Rattle.ytell.proofs.AgreeLemmas.{agrees_forest, agrees_kept, entries_keys, same_judged, silent_keys}
 use Rattle.ytell.proofs.TellLemmas.{flags_seen}
 use Rattle.ytold.specs.Each.{Each}
 use Rattle.ytold.specs.IsTold.{IsFresh, IsTold, TellsOwn}
 use Rattle.ytold.specs.Joins.{Follows}
-use Rattle.ytold.specs.Plans.{Plans, row_schema}
+use Rattle.ytold.specs.Plans.{Plans}
 use Rattle.ytold.specs.Standing.{Standing, Every, standing}
 use Rattle.ytold.specs.Telling.{AreNew, told_by}
 use Rattle.ytold.specs.Unlike.{Unlike}

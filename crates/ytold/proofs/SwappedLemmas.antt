@@ -1,12 +1,11 @@
 -- Which nodes stand in a row that is changed by one branch, and what goes.
-use Rattle.std.proofs.Common.{◌≡◌, ℕ, ◌+◌, ◌≤◌, Bool, true, false, List, [], ◌∷◌, ◌++◌, refl, sym, ap, ◌∙◌, arith, subst, cond}
-use Rattle.std.specs.List.{filter, flat_map}
+use Rattle.std.proofs.Common.{◌≡◌, ℕ, ◌+◌, ◌≤◌, Bool, true, false, List, [], ◌∷◌, refl, sym, ap, arith, subst, cond}
+use Rattle.std.specs.List.{flat_map}
 use Rattle.yspec.specs.Forest.{end, node, join, size, weigh}
 use Rattle.yspec.specs.schema.Schema.{Schema}
 use Rattle.ymodel.specs.declared.node.SchemaId.{SchemaId}
 use Rattle.ystore.specs.Rows as rows
 use Rattle.ystore.specs.declared.row.Row.{Row}
-use Rattle.ystore.specs.declared.row.Row.TheVariants.{Below}
 use Rattle.yshape.specs.Hanging.{Numbered, Branches, children_of, is_number, times}
 use Rattle.yshape.specs.Swaps.{Swaps}
 use Rattle.yshape.specs.Ways.{Way, around}

@@ -1,5 +1,5 @@
 -- A document of which a row is changed is told of again: the steps, one after another.
-use Rattle.std.proofs.Common.{◌≡◌, ℕ, suc, ◌+◌, ◌^◌, ◌≤◌, List, [], ◌∷◌, length, Option, None, option_map, refl, sym, ap, ◌∙◌, arith, subst, cond}
+use Rattle.std.proofs.Common.{◌≡◌, ℕ, suc, ◌+◌, ◌^◌, ◌≤◌, List, [], ◌∷◌, length, Option, None, option_map, refl, ap, arith, cond}
 use Rattle.yspec.specs.Forest.{end, size}
 use Rattle.yspec.specs.schema.Schema.{Schema, row_at}
 use Rattle.yspec.specs.types.Types.{Val}

@@ -1,8 +1,8 @@
 -- Nodes leave their keys, then instances come, then others go.
-use Rattle.std.proofs.Common.{◌≡◌, ℕ, ◌+◌, ◌-◌, ◌^◌, ◌≤◌, true, List, refl, sym, ap, ◌∙◌, arith, subst}
+use Rattle.std.proofs.Common.{◌≡◌, ◌+◌, ◌-◌, ◌^◌, ◌≤◌, List, ◌∙◌, arith}
 use Rattle.yspec.specs.types.Types.{Val}
 use Rattle.ymodel.specs.declared.node.SchemaId.{SchemaId}
-use Rattle.ystore.specs.Store.{entry_at, instances_at, same_key}
+use Rattle.ystore.specs.Store.{instances_at, same_key}
 use Rattle.ystore.specs.declared.row.NodeId.{NodeId}
 use Rattle.ystore.specs.declared.key.Key as rust
 use Rattle.ystore.specs.declared.key.Key.TheVariants.{Value}
@@ -13,7 +13,6 @@ use Rattle.ytell.specs.Totals.{IsTree, Totals}
 use Rattle.ytold.specs.Assigned.{CanLeave, left}
 use Rattle.ytold.specs.Growing.{AreThere, IsThere, times_valued}
 use Rattle.ytold.specs.Joins.{Follows, KeepsRows, KeepsInstances, KeepsThere}
-use Rattle.ytold.specs.Standing.{Every}
 use Rattle.ytold.proofs.JoiningLemmas.{follows_on, shapes_of, tree_on}
 use Rattle.ytold.proofs.UnlikeLemmas.{every_map}
 

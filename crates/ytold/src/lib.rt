@@ -18,7 +18,7 @@ pub use changing::change_row;
 pub use growing::{awaited_nodes, entries_there, grow, grown_stores};
 pub use joining::{join_all, leave_all};
 pub use planning::{Plan, plan_of};
-pub use retelling::change;
+pub use retelling::{change, retell};
 pub use telling::tell_all;
 pub use tidying::tidy_all;
 pub use values::{add_all, take_all};

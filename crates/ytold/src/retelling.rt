@@ -1,8 +1,11 @@
 //! A change of a row of a document, and of all that is told of it.
 
-ghost use Rattle.std.specs.Prelude.{◌≡◌, ◌≤◌, ◌^◌, ◌+◌, ℕ, Option};
+ghost use Rattle.std.specs.Prelude.{◌≡◌, ◌≤◌, ◌^◌, ◌+◌, ℕ, Option, OnErr, OnOk};
 ghost use Rattle.yspec.specs.Forest.{end, size};
-ghost use Rattle.yspec.specs.schema.Schema.{Schema, row_at};
+ghost use Rattle.yspec.specs.schema.Schema as spec;
+ghost use Rattle.yspec.specs.schema.Schema.{row_at};
+ghost use Rattle.ymodel.specs.View as schema_view;
+ghost use Rattle.ystore.specs.declared.row.Row.{Row};
 ghost use Rattle.ystore.specs.Store.{instances_at, same_key};
 ghost use Rattle.ystore.specs.Views.{store_of, lent};
 ghost use Rattle.ystore.specs.declared.key.Key as rust;
@@ -16,19 +19,49 @@ ghost use Rattle.ytold.specs.Assigned.{CanLeave, left};
 ghost use Rattle.ytold.specs.Growing.{AreAwaited, AreThere, times_valued};
 ghost use Rattle.ytold.specs.Joins.{Follows, KeepsAwaited, KeepsRows, WithdrawsValues};
 ghost use Rattle.ytold.specs.IsTold.{IsFresh, IsTold};
-ghost use Rattle.ytold.specs.Plans.{IsReady, Plans};
+ghost use Rattle.ytold.specs.Plans.{IsReady, Plans, Prepared};
 ghost use Rattle.ytold.specs.Standing.{Every, standing};
 
 use crate::changing::change_row;
+use crate::growing::grow;
 use crate::joining::{join_all, leave_all};
-use crate::planning::Plan;
+use crate::planning::{Plan, plan_of};
 use crate::telling::tell_all;
 use crate::tidying::tidy_all;
 use crate::values::{add_all, take_all};
+use std::alloc::AllocError;
+use ymodel::{Schema, SchemaId};
 use yshape::Swap;
-use ymodel::SchemaId;
 use ystore::{Counted, Key, NodeId};
 use ytype::Val;
+
+/// Changes a row of a document, given the numbers of the nodes that go and of those that come, and all that is told of it. Where
+/// memory is wanting the document and what is told of it are as they were, and there may be more room than before.
+pub fn retell(
+    counted: &mut Counted<'_>,
+    schema: &Schema,
+    swap: Swap,
+    old: &[NodeId],
+    new: &[NodeId],
+) -> Result<(), AllocError>
+    requires { Prepared swap (store_of counted.old) old.now new.now }
+    ensures told { let s = schema_view.view schema.now in (p : Prepared swap (store_of counted.old) old.now new.now)
+        → IsTold s (store_of counted.old) (around p.ready.way p.ready.f)
+        → Every (IsFresh s (store_of counted.old)) (standing (end_of Top p.ready.way) p.ready.loose)
+        → size (around p.ready.way p.ready.g) ≤ 2 ^ 28 → ((above : Option ℕ) → size (row_at s above) ≤ 2 ^ 32)
+        → OnOk result (IsTold s (store_of counted.new) (around p.ready.way p.ready.g)) }
+    ensures keeps { (p : Prepared swap (store_of counted.old) old.now new.now)
+        → OnOk result (Keeps (store_of counted.new) (around p.ready.way p.ready.g) swap.above end) }
+    ensures told_still { OnErr result ((s : spec.Schema) (f : Branches) → IsTold s (store_of counted.old) f → IsTold s (store_of counted.new) f) }
+    ensures keeps_still { OnErr result ((tree : Branches) (above : Row) (loose : Branches) → Keeps (store_of counted.old) tree above loose
+        → Keeps (store_of counted.new) tree above loose) }
+    ensures same_reference { lent counted.new ≡ lent counted.old }
+{
+    let plan = plan_of(counted, schema, swap, old, new)?;
+    grow(counted, &plan)?;
+    change(counted, swap, plan, old);
+    Ok(())
+}
 
 /// Changes a row as planned, and all that is told of the document; nothing grows. These are the numbers of the nodes that go.
 pub fn change(counted: &mut Counted<'_>, swap: Swap, plan: Plan, old: &[NodeId])
@@ -36,7 +69,7 @@ pub fn change(counted: &mut Counted<'_>, swap: Swap, plan: Plan, old: &[NodeId])
     requires awaited { AreAwaited (store_of counted.old) plan.joins.items }
     ensures keeps { (r : IsReady swap (store_of counted.old)) → ids_of r.left ≡ old.now
         → Keeps (store_of counted.new) (around r.way r.g) swap.above end }
-    ensures told { (schema : Schema) (r : IsReady swap (store_of counted.old)) → ids_of r.left ≡ old.now
+    ensures told { (schema : spec.Schema) (r : IsReady swap (store_of counted.old)) → ids_of r.left ≡ old.now
         → IsTold schema (store_of counted.old) (around r.way r.f)
         → Every (IsFresh schema (store_of counted.old)) (standing (end_of Top r.way) r.loose)
         → Plans schema r.way r.f r.loose r.g r.left plan

@@ -1,10 +1,10 @@
-use Rattle.std.proofs.Common.{◌≡◌, sym, ap, ◌∙◌, arith, subst}
+use Rattle.std.proofs.Common.{ap, arith, subst}
 use Rattle.ystore.specs.Views.{store_of}
 use Rattle.ytell.proofs.LawLemmas.{faults_shapes}
 use Rattle.yshape.proofs.FrameLemmas.{keeps_same}
 use Rattle.yspec.specs.Forest.{end}
 use Rattle.yshape.specs.Ways.{around}
-use Rattle.ytold.specs.Growing.{awaited_at, awaited_of, times_joined}
+use Rattle.ytold.specs.Growing.{awaited_of, times_joined}
 use Rattle.ytold.proofs.AgainLemmas.{ready_on}
 use Rattle.ytold.proofs.JoiningLemmas.{shapes_of}
 use Rattle.ytold.proofs.TidyLemmas.{tidied_rows}
