@@ -76,7 +76,7 @@ valued_none schema key off (p ∷ ps) all =
 -- ---- few
 
 module _ (schema : Schema) (number : ℕ) (v : Val) (is : is_referred schema number ≡ true) where
-  few_below : (above : Option ℕ) (t : Tree) → IsFewIn schema above t → times_below schema number v (row_at schema above) t ≤ 2 ^ 32
+  pub few_below : (above : Option ℕ) (t : Tree) → IsFewIn schema above t → times_below schema number v (row_at schema above) t ≤ 2 ^ 32
   few_below above t few =
       let used = in_use schema number v is above t in
       let most = count_by-le-length (is_default number v) (defaults_in_row schema above t) in

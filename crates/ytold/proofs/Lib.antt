@@ -8,6 +8,7 @@ pub mod InstanceLemmas
 pub mod JoiningLemmas
 pub mod GrowingLemmas
 pub mod GrownLemmas
+pub mod HoldLemmas
 pub mod KeptLemmas
 pub mod KeyLemmas
 pub mod NewsLemmas
@@ -19,3 +20,11 @@ pub mod UnlikeLemmas
 pub mod ValueLemmas
 pub mod TidyLemmas
 pub mod TransferLemmas
+pub mod SwappedLemmas
+
+pub mod WithdrawnLemmas
+pub mod RetellLemmas
+pub mod RetoldLemmas
+pub mod FreshLemmas
+pub mod AgainLemmas
+pub mod WholeLemmas

@@ -34,17 +34,17 @@ use Rattle.ytold.proofs.UnlikeLemmas.{parts_way}
 -- ---- rows of which the labels stay
 
 -- a row on the way has the same labels, whatever stands at its end
-labels_same : (frame : Frame) (way : Way) (f g : Branches) → row (tree_of (around (frame ∷ way) f)) ≡ row (tree_of (around (frame ∷ way) g))
+pub labels_same : (frame : Frame) (way : Way) (f g : Branches) → row (tree_of (around (frame ∷ way) f)) ≡ row (tree_of (around (frame ∷ way) g))
 labels_same frame way f g =
     ap row (tree_join frame.before (node frame.label (around way f) frame.after))
     ∙ (same_labels (tree_of frame.before) (stored_of frame.label) (tree_of (around way f)) (tree_of (around way g)) (tree_of frame.after)
     ∙ ap row (sym (tree_join frame.before (node frame.label (around way g) frame.after))))
 
 module _ (schema : Schema) (above : Option ℕ) (t u : Tree) (same : row t ≡ row u) where
-  absences_same : absences_in_row schema above t ≡ absences_in_row schema above u
+  pub absences_same : absences_in_row schema above t ≡ absences_in_row schema above u
   absences_same = ap (λ (ss : List Stored). absences_in (λ number. count_by (λ (s : Stored). eqb s.schema_number number) ss) [] (row_at schema above)) same
 
-  few_same : IsFewIn schema above t → IsFewIn schema above u
+  pub few_same : IsFewIn schema above t → IsFewIn schema above u
   few_same few = subst (λ (ss : List Stored). length (referred schema (defaults_in (λ number. count_by (λ (s : Stored). eqb s.schema_number number) ss) [] (row_at schema above))) ≤ 2 ^ 32) same few
 
 -- ---- nodes

@@ -78,7 +78,7 @@ joined_view gone come held distinct number slot =
     ∙ (view_or (key_in slot_of come number slot) (left slot_of gone held number slot)
     ∙ ap₂ (λ (o p : Option Key). option_or o p) (key_same come number slot) (left_view gone held number slot))
 
-no_view : (o : Option rust.Key) → option_map key_view o ≡ None → o ≡ None
+pub no_view : (o : Option rust.Key) → option_map key_view o ≡ None → o ≡ None
 no_view None e = refl
 no_view (Some k) e = absurd (none-some (key_view k) (sym e))
 

@@ -1,5 +1,7 @@
 -- What stays while nodes leave keys and join them, and while instances come and go.
-use Rattle.std.specs.Prelude.{◌≡◌, ℕ, ◌<◌, true, List, Option, Some, None, is_some}
+use Rattle.std.specs.Prelude.{◌≡◌, ℕ, ◌+◌, ◌-◌, ◌^◌, ◌<◌, ◌≤◌, true, List, Option, Some, None, is_some}
+use Rattle.yspec.specs.types.Types.{Val}
+use Rattle.ymodel.specs.declared.node.SchemaId.{SchemaId}
 use Rattle.ystore.specs.Store.{held_at, entry_at, instances_at, node_count, total_at}
 use Rattle.ystore.specs.declared.row.NodeId.{NodeId}
 use Rattle.ystore.specs.declared.row.Row.{Row}
@@ -10,7 +12,7 @@ use Rattle.yshape.specs.Hanging.{Branches, shape_at, times}
 use Rattle.ytell.specs.Totals.{room_at, told_at, StandsIn, Totals}
 use Rattle.ytell.specs.Keys.{Agrees, Keys, Own, SameKeys, own_at, flag_of}
 use Rattle.ytold.specs.Standing.{Every}
-use Rattle.ytold.specs.Growing.{awaited_at}
+use Rattle.ytold.specs.Growing.{AreThere, awaited_at}
 pub use Rattle.ytold.specs.Growing.{times_valued}
 
 -- shapes of rows and their room, and the number of nodes
@@ -61,3 +63,9 @@ pub record Follows (keys : Keys) (f : Branches) (before after : Nodes) : Type 0 
   pub top : told_at after Top ≡ told_at before Top
   pub beside : (id : NodeId) → times id.0 f ≡ 0 → told_at after (Below id) ≡ told_at before (Below id)
   pub totals_beside : (id : NodeId) → times id.0 f ≡ 0 → total_at after (Below id) ≡ total_at before (Below id)
+
+-- There is an entry for each value that comes, none has too many instances then, and no more go than are there then.
+pub record WithdrawsValues (nodes : Nodes) (comes goes : List (SchemaId × Val)) : Type 0 where
+  pub there : AreThere nodes comes
+  pub most : (key : Key) → instances_at nodes key + times_valued key comes ≤ 2 ^ 64 - 1
+  pub few : (key : Key) → times_valued key goes ≤ instances_at nodes key + times_valued key comes

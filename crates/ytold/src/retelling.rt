@@ -1,0 +1,83 @@
+//! A change of a row of a document, and of all that is told of it.
+
+ghost use Rattle.std.specs.Prelude.{◌≡◌, ◌≤◌, ◌^◌, ◌+◌, ℕ, Option};
+ghost use Rattle.yspec.specs.Forest.{end, size};
+ghost use Rattle.yspec.specs.schema.Schema.{Schema, row_at};
+ghost use Rattle.ystore.specs.Store.{instances_at, same_key};
+ghost use Rattle.ystore.specs.Views.{store_of, lent};
+ghost use Rattle.ystore.specs.declared.key.Key as rust;
+ghost use Rattle.yshape.specs.Hanging.{Branches, Keeps};
+ghost use Rattle.yshape.specs.Copies.{ids_of};
+ghost use Rattle.yshape.specs.Ways.{around, end_of};
+ghost use Rattle.ystore.specs.declared.row.Row.TheVariants.{Top};
+ghost use Rattle.ytell.specs.Keys.{Agrees, Keys, slot_of};
+ghost use Rattle.ytell.specs.Totals.{IsTree, Totals};
+ghost use Rattle.ytold.specs.Assigned.{CanLeave, left};
+ghost use Rattle.ytold.specs.Growing.{AreAwaited, AreThere, times_valued};
+ghost use Rattle.ytold.specs.Joins.{Follows, KeepsAwaited, KeepsRows, WithdrawsValues};
+ghost use Rattle.ytold.specs.IsTold.{IsFresh, IsTold};
+ghost use Rattle.ytold.specs.Plans.{IsReady, Plans};
+ghost use Rattle.ytold.specs.Standing.{Every, standing};
+
+use crate::changing::change_row;
+use crate::joining::{join_all, leave_all};
+use crate::planning::Plan;
+use crate::telling::tell_all;
+use crate::tidying::tidy_all;
+use crate::values::{add_all, take_all};
+use yshape::Swap;
+use ymodel::SchemaId;
+use ystore::{Counted, Key, NodeId};
+use ytype::Val;
+
+/// Changes a row as planned, and all that is told of the document; nothing grows. These are the numbers of the nodes that go.
+pub fn change(counted: &mut Counted<'_>, swap: Swap, plan: Plan, old: &[NodeId])
+    requires ready { IsReady swap (store_of counted.old) }
+    requires awaited { AreAwaited (store_of counted.old) plan.joins.items }
+    ensures keeps { (r : IsReady swap (store_of counted.old)) → ids_of r.left ≡ old.now
+        → Keeps (store_of counted.new) (around r.way r.g) swap.above end }
+    ensures told { (schema : Schema) (r : IsReady swap (store_of counted.old)) → ids_of r.left ≡ old.now
+        → IsTold schema (store_of counted.old) (around r.way r.f)
+        → Every (IsFresh schema (store_of counted.old)) (standing (end_of Top r.way) r.loose)
+        → Plans schema r.way r.f r.loose r.g r.left plan
+        → AreThere (store_of counted.old) plan.comes.items
+        → size (around r.way r.g) ≤ 2 ^ 28 → ((above : Option ℕ) → size (row_at schema above) ≤ 2 ^ 32)
+        → IsTold schema (store_of counted.new) (around r.way r.g) }
+    ensures same_reference { lent counted.new ≡ lent counted.old }
+{
+    let Plan {
+        leaves,
+        joins,
+        goes,
+        comes,
+        absences,
+        news,
+    } = plan;
+    withdraw(counted, &leaves, comes, goes);
+    change_row(counted, swap, absences, old);
+    tell_all(counted, news);
+    join_all(counted, &joins);
+    tidy_all(counted, &leaves);
+}
+
+/// Nodes leave their keys, and instances come and go; the document and what no key tells of it stay.
+fn withdraw(
+    counted: &mut Counted<'_>,
+    leaves: &[(Key, NodeId)],
+    comes: Vec<(SchemaId, Val)>,
+    goes: Vec<(SchemaId, Val)>,
+)
+    ensures follows { WithdrawsValues (store_of counted.old) comes.items goes.items → (held : Keys) (f : Branches) → IsTree (store_of counted.old) f
+        → Agrees (store_of counted.old) held f → Totals (store_of counted.old) f
+        → CanLeave slot_of same_key held leaves.now
+        → Follows (left slot_of leaves.now held) f (store_of counted.old) (store_of counted.new) }
+    ensures instances { WithdrawsValues (store_of counted.old) comes.items goes.items → (key : rust.Key)
+        → instances_at (store_of counted.new) key + times_valued key goes.items ≡ instances_at (store_of counted.old) key + times_valued key comes.items }
+    ensures kept { KeepsRows (store_of counted.old) (store_of counted.new) }
+    ensures awaited { KeepsAwaited (store_of counted.old) (store_of counted.new) }
+    ensures same_reference { lent counted.new ≡ lent counted.old }
+{
+    leave_all(counted, leaves);
+    add_all(counted, comes);
+    take_all(counted, goes);
+}
