@@ -134,7 +134,7 @@ fn numbers_of(counted: &mut Counted<'_>) -> Option<Vec<NodeId>> {
 
 fn text_of(alloc: Global, schema: &Schema, document: &str) -> Option<String> {
     let tree = read(alloc, schema, document.as_bytes()).ok()?;
-    let mut nodes: Nodes = store_of_tree(alloc, &tree).ok()?;
+    let mut nodes: Nodes = store_of_tree(alloc, schema, &tree).ok()?;
     let mut counted = nodes.counted();
     let mut text = String::new(alloc);
     add_row(&mut counted, schema, Row::Top, None, &mut text)?;
