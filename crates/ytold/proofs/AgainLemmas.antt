@@ -85,7 +85,7 @@ ready_on swap before after keeps r =
 
 -- ---- the top
 
-play_by : (o : Option Held) → option_map_or (λ (h : Held). h.told.play) o [] ≡ option_map_or (λ (t : Told). t.play) (option_map (λ (h : Held). h.told) o) []
+pub play_by : (o : Option Held) → option_map_or (λ (h : Held). h.told.play) o [] ≡ option_map_or (λ (t : Told). t.play) (option_map (λ (h : Held). h.told) o) []
 play_by (Some h) = refl
 play_by None = refl
 

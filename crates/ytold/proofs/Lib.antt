@@ -28,3 +28,4 @@ pub mod FreshLemmas
 pub mod AgainLemmas
 pub mod WholeLemmas
 pub mod StillLemmas
+pub mod BeginLemmas

@@ -35,7 +35,7 @@ use Rattle.ytold.proofs.RetellLemmas.{can_leave_all, withdraws}
 use Rattle.ytold.proofs.RetoldLemmas.{are_new_then, no_faults}
 use Rattle.ytold.proofs.SwappedLemmas.{few_come}
 
-length_views : (ps : List (FaultCode × SchemaId)) → length (absence_views ps) ≡ length ps
+pub length_views : (ps : List (FaultCode × SchemaId)) → length (absence_views ps) ≡ length ps
 length_views [] = refl
 length_views (p ∷ ps) = ap suc (length_views ps)
 

@@ -3,6 +3,7 @@ pub mod Assigned
 pub mod Bare
 pub mod Changed
 pub mod Each
+pub mod Empty
 pub mod Growing
 pub mod IsTold
 pub mod Joins

@@ -3,6 +3,7 @@
 
 mod account;
 mod bare;
+mod beginning;
 mod changing;
 mod growing;
 mod joining;
@@ -14,6 +15,7 @@ mod values;
 
 pub use account::{Account, News, enter_new_nodes, enter_node, enter_nodes, enter_row, enter_way};
 pub use bare::kept_tops;
+pub use beginning::begin;
 pub use changing::change_row;
 pub use growing::{awaited_nodes, entries_there, grow, grown_stores};
 pub use joining::{join_all, leave_all};

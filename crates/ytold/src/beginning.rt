@@ -1,0 +1,34 @@
+//! What is told of an empty document.
+
+ghost use Rattle.std.specs.Prelude.{◌≡◌, ◌≤◌, ◌^◌, ℕ, Option, OnOk};
+ghost use Rattle.yspec.specs.Forest.{end, size};
+ghost use Rattle.yspec.specs.schema.Schema.{row_at};
+ghost use Rattle.ymodel.specs.View as schema_view;
+ghost use Rattle.ystore.specs.Views.{store_of, lent};
+ghost use Rattle.ystore.specs.declared.row.Row.TheVariants.{Top};
+ghost use Rattle.yshape.specs.Hanging.{Keeps};
+ghost use Rattle.ytold.specs.Empty.{IsEmpty};
+ghost use Rattle.ytold.specs.IsTold.{IsTold};
+
+use crate::account::{Account, enter_row};
+use crate::growing::await_values;
+use crate::values::add_all;
+use std::alloc::AllocError;
+use ymodel::Schema;
+use ystore::{Counted, Row};
+use ytell::tell_play;
+
+/// Tells of an empty document what isn't stored at its top, and counts the defaults that are in use there.
+pub fn begin(counted: &mut Counted<'_>, schema: &Schema) -> Result<(), AllocError>
+    ensures told { let s = schema_view.view schema.now in IsEmpty (store_of counted.old)
+        → ((above : Option ℕ) → size (row_at s above) ≤ 2 ^ 32) → OnOk result (IsTold s (store_of counted.new) end) }
+    ensures keeps { IsEmpty (store_of counted.old) → OnOk result (Keeps (store_of counted.new) end Top end) }
+    ensures same_reference { lent counted.new ≡ lent counted.old }
+{
+    let mut account = Account::new(counted.alloc());
+    let absences = enter_row(counted, schema, Row::Top, None, &mut account)?;
+    await_values(counted, &account.values)?;
+    add_all(counted, account.values);
+    tell_play(counted, Row::Top, absences);
+    Ok(())
+}
