@@ -1,5 +1,5 @@
 -- An empty document is told of once what isn't stored at its top is.
-use Rattle.std.proofs.Common.{◌≡◌, ℕ, suc, ◌+◌, ◌-◌, ◌^◌, ◌<◌, ◌≤◌, Bool, true, false, List, [], ◌∷◌, length, Option, Some, None, is_some, option_map, refl, sym, ap, ◌∙◌, arith, subst, cond}
+use Rattle.std.proofs.Common.{◌≡◌, ℕ, suc, ◌+◌, ◌-◌, ◌^◌, ◌≤◌, true, List, [], ◌∷◌, length, Option, Some, None, option_map, refl, sym, ap, ◌∙◌, arith, subst}
 use Rattle.std.specs.Prelude.{IfSome, count_by}
 use Rattle.std.specs.Option.{option_map_or}
 use Rattle.std.proofs.lemmas.Option.{none-some}
@@ -12,7 +12,7 @@ use Rattle.yspec.specs.document.Instances.{times_below, times_in}
 use Rattle.ycheck.specs.declared.fault.FaultCode.{FaultCode}
 use Rattle.ymodel.specs.declared.node.SchemaId.{SchemaId}
 use Rattle.ystore.specs.Held.{Held, Told, nothing_held, with_play}
-use Rattle.ystore.specs.Store.{entry_at, held_at, holders_at, instances_at, play_at, same_key, total_at}
+use Rattle.ystore.specs.Store.{held_at, holders_at, instances_at, same_key}
 use Rattle.ystore.specs.declared.row.Row.{Row}
 use Rattle.ystore.specs.declared.row.Row.TheVariants.{Top, Below}
 use Rattle.ystore.specs.declared.key.Key as rust
@@ -24,9 +24,8 @@ use Rattle.yshape.proofs.FrameLemmas.{keeps_same}
 use Rattle.yshape.proofs.OpenLemmas.{keeps_nothing}
 use Rattle.yplay.specs.Absences.{Default, is_default}
 use Rattle.yplay.proofs.AbsenceLemmas.{few_absences}
-use Rattle.yfacts.specs.Given.{given_view, is_referred}
+use Rattle.yfacts.specs.Given.{given_view}
 use Rattle.yfacts.specs.InPlay.{absence_views}
-use Rattle.yfacts.specs.Keys.{value_key, key_view}
 use Rattle.ytell.specs.Keys.{Agrees, Keys}
 use Rattle.ytell.specs.Totals.{ChangesTold, IsFew, IsTree, StandsIn, Totals, number_of, told_at}
 use Rattle.ytell.proofs.AgreeLemmas.{agrees_empty, agrees_play}
@@ -34,7 +33,7 @@ use Rattle.ytell.proofs.LawLemmas.{faults_shapes, silent_document, tree_kept}
 use Rattle.ytold.specs.Bare.{IsBare}
 use Rattle.ytold.specs.Empty.{IsEmpty}
 use Rattle.ytold.specs.Growing.{AreThere, Grows, times_valued}
-use Rattle.ytold.specs.IsTold.{IsTold, is_counted}
+use Rattle.ytold.specs.IsTold.{IsTold}
 use Rattle.ytold.specs.Joins.{Follows, KeepsRows}
 use Rattle.ytold.specs.Standing.{Every, IsFewIn, absences_in_row, defaults_in_row}
 use Rattle.ytold.proofs.AgainLemmas.{play_by}

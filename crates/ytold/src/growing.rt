@@ -38,7 +38,10 @@ pub fn grow(counted: &mut Counted<'_>, plan: &Plan) -> Result<(), AllocError>
 }
 
 /// Makes an entry for each value.
-pub(crate) fn await_values(counted: &mut Counted<'_>, values: &[(SchemaId, Val)]) -> Result<(), AllocError>
+pub(crate) fn await_values(
+    counted: &mut Counted<'_>,
+    values: &[(SchemaId, Val)],
+) -> Result<(), AllocError>
     ensures there { OnOk result (AreThere (store_of counted.new) values.now) }
     ensures awaited { (key : rust.Key) → awaited_at (store_of counted.new) key ≡ awaited_at (store_of counted.old) key }
     ensures others { OnOk result ((key : rust.Key) → times_valued key values.now ≡ 0
