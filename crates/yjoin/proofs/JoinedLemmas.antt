@@ -40,7 +40,8 @@ use Rattle.ytell.specs.Totals.{IsTree}
 use Rattle.ytold.specs.Each.{Each}
 use Rattle.ytold.specs.IsTold.{IsTold, TellsOwn}
 use Rattle.ytold.specs.Keyed.{HasKeys}
-use Rattle.yjoin.proofs.FlagLemmas.{counts_same, flags_are}
+use Rattle.ytold.proofs.HoldLemmas.{counts_same}
+use Rattle.yjoin.proofs.FlagLemmas.{flags_are}
 use Rattle.yjoin.proofs.HolderLemmas.{shared_is}
 use Rattle.yjoin.proofs.JudgedLemmas.{judged_is}
 

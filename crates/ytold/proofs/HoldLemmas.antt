@@ -39,7 +39,8 @@ kinds_same config (list tuples amount) = omega arith
 kinds_same config (choice default_case is_mandatory) = refl
 kinds_same config case = refl
 
-counts_same : (schema : Schema) (number : ℕ) → shape.flag_count schema number ≡ flags_of schema number
+-- so many flags has a node
+pub counts_same : (schema : Schema) (number : ℕ) → shape.flag_count schema number ≡ flags_of schema number
 counts_same schema number = by (node_at schema number)
   where
     by : (n : Option SchemaNode) → option_map_or (λ (n : SchemaNode). shape.kind_flags n.kind n.config) n 0 ≡ option_map_or (λ (n : SchemaNode). kind_flags n.config n.kind) n 0
