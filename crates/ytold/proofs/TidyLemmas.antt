@@ -1,12 +1,14 @@
 -- Entries that are given back.
-use Rattle.std.proofs.Common.{◌≡◌, Bool, true, false, ◌&&◌, length, Option, Some, None, option_map, refl, sym, ap, ◌∙◌, cond, eqb}
+use Rattle.std.proofs.Common.{◌≡◌, List, [], ◌∷◌, ◌++◌, subst, Bool, true, false, ◌&&◌, length, Option, Some, None, option_map, refl, sym, ap, ◌∙◌, cond, eqb}
 use Rattle.std.specs.Option.{option_map_or}
 use Rattle.std.proofs.lemmas.Bool.{eqb-true, false≢true}
+use Rattle.std.proofs.lemmas.List.{append_assoc, append-nil}
 use Rattle.ystore.specs.Entries.{Entry, is_idle}
 use Rattle.ystore.specs.Held.{Held}
 use Rattle.ystore.specs.Index.{tidied}
 use Rattle.ystore.specs.declared.row.Row.TheVariants.{Top, Below}
 use Rattle.ystore.specs.Store.{entry_at, same_key, ChangesEntry}
+use Rattle.ystore.specs.declared.row.NodeId.{NodeId}
 use Rattle.ystore.specs.declared.key.Key.{Key}
 use Rattle.ystore.specs.declared.nodes.Nodes.{Nodes}
 use Rattle.yshape.specs.Hanging.{Branches}
@@ -15,7 +17,10 @@ use Rattle.ytell.proofs.AgreeLemmas.{keys_on, agrees_told}
 use Rattle.ytell.proofs.LawLemmas.{held_faults}
 use Rattle.ytell.proofs.TotalLemmas.{totals_same}
 use Rattle.ytold.specs.Growing.{awaited_of, awaited_at}
-use Rattle.ytold.specs.Joins.{Follows, KeepsRows, Tidies}
+use Rattle.ytold.specs.Joins.{Follows, IsTidy, KeepsRows, Tidies}
+use Rattle.ytold.specs.Standing.{Every}
+use Rattle.ytold.proofs.EachLemmas.{every_join}
+use Rattle.ytold.proofs.UnlikeLemmas.{every_map}
 
 -- an entry that is given back awaited nothing
 idle_awaits : (e : Entry) (b : Bool) → is_idle e ≡ b → awaited_of (cond b None (Some e)) ≡ e.awaited
@@ -72,3 +77,49 @@ tidied_follows held f first before after follows tidies =
       beside = λ id none. ap (option_map (λ (h : Held). h.told)) (tidies.held (Below id)) ∙ follows.beside id none;
       totals_beside = λ id none. ap (λ (o : Option Held). option_map_or (λ (h : Held). h.total) o 0) (tidies.held (Below id)) ∙ follows.totals_beside id none;
     }
+
+-- ---- no entry is idle
+
+tidied_twice : (o : Option Entry) → tidied (tidied o) ≡ tidied o
+tidied_twice None = refl
+tidied_twice (Some e) = by (is_idle e) refl
+  where
+    by : (b : Bool) → is_idle e ≡ b → tidied (cond b None (Some e)) ≡ cond b None (Some e)
+    by true is = refl
+    by false is = ap (λ b. cond b None (Some e)) is
+
+pub tidy_itself : (key : Key) (before after : Nodes) → ChangesEntry key tidied before after → IsTidy after key
+tidy_itself key before after changes = ap tidied changes.changed ∙ (tidied_twice (entry_at before key) ∙ sym changes.changed)
+
+pub tidy_on : (laws : AreKeys) (key : Key) (before after : Nodes) → ChangesEntry key tidied before after → (other : Key) → IsTidy before other → IsTidy after other
+tidy_on laws key before after changes other is = by (same_key key other) refl
+  where
+    by : (b : Bool) → same_key key other ≡ b → IsTidy after other
+    by true e =
+        let same : entry_at after other ≡ tidied (entry_at before other) =
+        sym (laws.found after key other e) ∙ (changes.changed ∙ ap tidied (laws.found before key other e)) in
+        ap tidied same ∙ (tidied_twice (entry_at before other) ∙ sym same)
+    by false e = ap tidied (changes.others other e) ∙ (is ∙ sym (changes.others other e))
+
+-- those so far, and the others
+pub record TidySoFar (nodes : Nodes) (rest keys : List (Key × NodeId)) : Type 0 where
+  pub done : List (Key × NodeId)
+  pub all : done ++ rest ≡ keys
+  pub tidy : Every (λ p. IsTidy nodes p.0) done
+
+pub tidy_more : (laws : AreKeys) (p : Key × NodeId) (rest next keys : List (Key × NodeId)) (before after : Nodes) → rest ≡ p ∷ next
+    → ChangesEntry p.0 tidied before after → TidySoFar before rest keys → TidySoFar after next keys
+tidy_more laws p rest next keys before after is changes so =
+    record {
+      done = so.done ++ p ∷ [];
+      all = append_assoc so.done (p ∷ []) next ∙ (ap (λ ps. so.done ++ ps) (sym is) ∙ so.all);
+      tidy =
+          every_join (λ (q : Key × NodeId). IsTidy after q.0) so.done (p ∷ [])
+          (every_map (λ (q : Key × NodeId). IsTidy before q.0) (λ (q : Key × NodeId). IsTidy after q.0) (λ q was. tidy_on laws p.0 before after changes q.0 was) so.done so.tidy)
+          (tidy_itself p.0 before after changes, tt);
+    }
+
+pub tidy_whole : (nodes : Nodes) (rest keys : List (Key × NodeId)) → rest ≡ [] → TidySoFar nodes rest keys → Every (λ p. IsTidy nodes p.0) keys
+tidy_whole nodes rest keys none so =
+    subst (λ (ps : List (Key × NodeId)). Every (λ p. IsTidy nodes p.0) ps)
+    (sym (append-nil so.done) ∙ (ap (λ ps. so.done ++ ps) (sym none) ∙ so.all)) so.tidy

@@ -3,6 +3,7 @@ use Rattle.std.specs.Prelude.{◌≡◌, ℕ, ◌+◌, ◌-◌, ◌^◌, ◌<◌
 use Rattle.yspec.specs.types.Types.{Val}
 use Rattle.ymodel.specs.declared.node.SchemaId.{SchemaId}
 use Rattle.ystore.specs.Store.{held_at, entry_at, instances_at, node_count, total_at}
+use Rattle.ystore.specs.Index.{tidied}
 use Rattle.ystore.specs.declared.row.NodeId.{NodeId}
 use Rattle.ystore.specs.declared.row.Row.{Row}
 use Rattle.ystore.specs.declared.row.Row.TheVariants.{Top, Below}
@@ -63,6 +64,10 @@ pub record Follows (keys : Keys) (f : Branches) (before after : Nodes) : Type 0 
   pub top : told_at after Top ≡ told_at before Top
   pub beside : (id : NodeId) → times id.0 f ≡ 0 → told_at after (Below id) ≡ told_at before (Below id)
   pub totals_beside : (id : NodeId) → times id.0 f ≡ 0 → total_at after (Below id) ≡ total_at before (Below id)
+
+-- the entry of a key isn't one that holds and awaits nothing
+abbrev pub IsTidy : Nodes → Key → Type 0
+IsTidy nodes key = tidied (entry_at nodes key) ≡ entry_at nodes key
 
 -- There is an entry for each value that comes, none has too many instances then, and no more go than are there then.
 pub record WithdrawsValues (nodes : Nodes) (comes goes : List (SchemaId × Val)) : Type 0 where

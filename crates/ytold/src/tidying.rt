@@ -2,7 +2,10 @@
 
 ghost use Rattle.std.specs.Prelude.{◌≡◌};
 ghost use Rattle.ystore.specs.Views.{store_of, lent};
-ghost use Rattle.ytold.specs.Joins.{Tidies};
+ghost use Rattle.ystore.specs.Index.{tidied};
+ghost use Rattle.ystore.specs.Store.{ChangesEntry};
+ghost use Rattle.ytold.specs.Joins.{IsTidy, Tidies};
+ghost use Rattle.ytold.specs.Standing.{Every};
 
 use ystore::{Counted, Key, NodeId};
 use ytell::{keys_alike, same_entries};
@@ -10,6 +13,7 @@ use ytell::{keys_alike, same_entries};
 /// Gives back the entry of a key, if it holds and awaits nothing.
 pub fn tidy(counted: &mut Counted<'_>, key: &Key)
     ensures tidies { Tidies (store_of counted.old) (store_of counted.new) }
+    ensures entry { ChangesEntry key.now tidied (store_of counted.old) (store_of counted.new) }
     ensures same_reference { lent counted.new ≡ lent counted.old }
 {
     keys_alike();
@@ -20,8 +24,10 @@ pub fn tidy(counted: &mut Counted<'_>, key: &Key)
 /// The same of each of some keys.
 pub fn tidy_all(counted: &mut Counted<'_>, keys: &[(Key, NodeId)])
     ensures tidies { Tidies (store_of counted.old) (store_of counted.new) }
+    ensures entries { Every (λ p. IsTidy (store_of counted.new) p.0) keys.now }
     ensures same_reference { lent counted.new ≡ lent counted.old }
 {
+    keys_alike();
     same_entries();
     for at in 0..keys.len() {
         let pair = &keys[at];

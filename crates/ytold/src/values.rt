@@ -11,7 +11,7 @@ ghost use Rattle.ystore.specs.declared.key.Key.TheVariants.{Value};
 ghost use Rattle.ytell.specs.Keys.{Agrees, ChangesKey, Keys};
 ghost use Rattle.ytell.specs.Totals.{IsTree, Totals};
 ghost use Rattle.ytold.specs.Growing.{AreThere};
-ghost use Rattle.ytold.specs.Joins.{Follows, KeepsRows, KeepsAwaited, Tidies, times_valued};
+ghost use Rattle.ytold.specs.Joins.{Follows, IsTidy, KeepsRows, KeepsAwaited, Tidies, times_valued};
 
 use crate::tidying::tidy;
 use ymodel::SchemaId;
@@ -75,6 +75,7 @@ fn take_pair(counted: &mut Counted<'_>, pair: (SchemaId, Val))
         → Follows held f (store_of counted.old) (store_of counted.new) }
     ensures kept { (mid : Nodes) × ChangesKey (Value pair.0 pair.1) without_instance (store_of counted.old) mid
         × Tidies mid (store_of counted.new) }
+    ensures entry { IsTidy (store_of counted.new) (Value pair.0 pair.1) }
     ensures same_reference { lent counted.new ≡ lent counted.old }
 {
     let key = Key::Value(pair.0, pair.1);
