@@ -29,3 +29,4 @@ pub mod AgainLemmas
 pub mod WholeLemmas
 pub mod StillLemmas
 pub mod BeginLemmas
+pub mod FewLemmas

@@ -1,8 +1,7 @@
 //! What is told of an empty document.
 
-ghost use Rattle.std.specs.Prelude.{◌≡◌, ◌≤◌, ◌^◌, ℕ, Option, OnOk};
-ghost use Rattle.yspec.specs.Forest.{end, size};
-ghost use Rattle.yspec.specs.schema.Schema.{row_at};
+ghost use Rattle.std.specs.Prelude.{◌≡◌, OnOk};
+ghost use Rattle.yspec.specs.Forest.{end};
 ghost use Rattle.ymodel.specs.View as schema_view;
 ghost use Rattle.ystore.specs.Views.{store_of, lent};
 ghost use Rattle.ystore.specs.declared.row.Row.TheVariants.{Top};
@@ -21,7 +20,7 @@ use ytell::tell_play;
 /// Tells of an empty document what isn't stored at its top, and counts the defaults that are in use there.
 pub fn begin(counted: &mut Counted<'_>, schema: &Schema) -> Result<(), AllocError>
     ensures told { let s = schema_view.view schema.now in IsEmpty (store_of counted.old)
-        → ((above : Option ℕ) → size (row_at s above) ≤ 2 ^ 32) → OnOk result (IsTold s (store_of counted.new) end) }
+        → OnOk result (IsTold s (store_of counted.new) end) }
     ensures keeps { IsEmpty (store_of counted.old) → OnOk result (Keeps (store_of counted.new) end Top end) }
     ensures same_reference { lent counted.new ≡ lent counted.old }
 {

@@ -48,7 +48,7 @@ pub fn retell(
     ensures told { let s = schema_view.view schema.now in (p : Prepared swap (store_of counted.old) old.now new.now)
         → IsTold s (store_of counted.old) (around p.ready.way p.ready.f)
         → Every (IsFresh s (store_of counted.old)) (standing (end_of Top p.ready.way) p.ready.loose)
-        → size (around p.ready.way p.ready.g) ≤ 2 ^ 28 → ((above : Option ℕ) → size (row_at s above) ≤ 2 ^ 32)
+        → size (around p.ready.way p.ready.g) ≤ 2 ^ 28
         → OnOk result (IsTold s (store_of counted.new) (around p.ready.way p.ready.g)) }
     ensures keeps { (p : Prepared swap (store_of counted.old) old.now new.now)
         → OnOk result (Keeps (store_of counted.new) (around p.ready.way p.ready.g) swap.above end) }

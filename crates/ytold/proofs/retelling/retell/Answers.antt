@@ -8,6 +8,7 @@ use Rattle.ytold.specs.Standing.{standing}
 use Rattle.ytold.proofs.GrownLemmas.{grown_keeps, grown_keys, grown_ready}
 use Rattle.ytold.proofs.PlanLemmas.{keeps_read, ready_read}
 use Rattle.ytold.proofs.StillLemmas.{fresh_still, on_err, told_still}
+use Rattle.ytold.proofs.FewLemmas.{few_rows_of}
 use Rattle.ytold.proofs.retelling.retell.Goals as goal
 
 pub returns-in_err-plan-clause-told_still : goal.returns-in_err-plan-clause-told_still
@@ -43,7 +44,7 @@ change-requires-clause-ready c =
     (ready_read c.args.swap (store_of c.args.counted.now) planned c.plan_of.ensures.kept c.requires.ready)
 
 pub returns-clause-told : goal.returns-clause-told
-returns-clause-told c p is fresh size_new few_rows =
+returns-clause-told c p is fresh size_new =
     let start = store_of c.args.counted.now in
     let planned = store_of c.plan_of.new.counted in
     let grown = store_of c.grow.new.counted in
@@ -52,7 +53,7 @@ returns-clause-told c p is fresh size_new few_rows =
     c.change.ensures.told s (grown_ready planned grown c.grow.ensures.grows c.args.swap (ready_read c.args.swap start planned c.plan_of.ensures.kept p.ready)) p.are_old
     (told_still start grown (λ row. c.grow.ensures.grows.held row ∙ c.plan_of.ensures.kept.held row) same s _ is)
     (fresh_still start grown (λ row. c.grow.ensures.grows.held row ∙ c.plan_of.ensures.kept.held row) same s (standing (end_of Top p.ready.way) p.ready.loose) fresh)
-    (c.in_ok-plan.ensures.plan p) c.in_ok-grow.ensures.there size_new few_rows
+    (c.in_ok-plan.ensures.plan p) c.in_ok-grow.ensures.there size_new (few_rows_of c.args.schema.now)
 
 pub returns-clause-keeps : goal.returns-clause-keeps
 returns-clause-keeps c p =
