@@ -10,13 +10,13 @@ use ystore::{Counted, Judged, Key, NodeId, Nodes, Row};
 use ytext::parse;
 use ytree::read;
 
-// A reference `R` with its target; an item `I` with its leaf-list; a tuple `T` with its list, its number and its length.
+// A `leafref` with its target; an `item` with its leaf-list; a `tuple` with its list, its number and its length.
 fn key_word(alloc: Global, key: &Key) -> Option<String> {
     match key {
-        Key::Value(target, _) => format!(in alloc; "R{} ", target.0).ok(),
-        Key::Item(_, list, _) => format!(in alloc; "I{} ", list.0).ok(),
+        Key::Value(target, _) => format!(in alloc; "leafref{} ", target.0).ok(),
+        Key::Item(_, list, _) => format!(in alloc; "item{} ", list.0).ok(),
         Key::Tuple(_, list, number, values) => {
-            format!(in alloc; "T{}.{}.{} ", list.0, number, values.len()).ok()
+            format!(in alloc; "tuple{}.{}.{} ", list.0, number, values.len()).ok()
         }
         Key::Texts(..) => None,
     }
@@ -176,7 +176,7 @@ fn plain_documents(rt: HostRuntime) {
 }
 
 const HOSTS: &str = r#"{} => V6@1 
-{"ex-net:net":{"host":[{"auto":[null],"name":"a","uplink":"b"},{"addr":"x","name":"b","use-port":80}]}} => 0:0 1:2 T1.0.1 *4 2:0 =2 5:0 R2 9:0 1:2 T1.0.1 T1.1.2 V4@7 *4 2:0 =2 3:0 6:0 R4 
+{"ex-net:net":{"host":[{"auto":[null],"name":"a","uplink":"b"},{"addr":"x","name":"b","use-port":80}]}} => 0:0 1:2 tuple1.0.1 *4 2:0 =2 5:0 leafref2 9:0 1:2 tuple1.0.1 tuple1.1.2 V4@7 *4 2:0 =2 3:0 6:0 leafref4 
 {"ex-net:net":{"host":[{"auto":[null],"port":5000,"speed":1},{"auto":[null],"name":"123456789"},{"auto":[null]},{"auto":[null]}]}} => 0:0 V7@1 1:2 V2@2 V5@7 4:0 V1:bad-port 9:0 11:0 1:2 *4 2:0 V1 9:0 1:2 V2@2 *4 9:0 1:2 V2@2 *4 9:0 "#;
 
 #[test]
@@ -186,7 +186,7 @@ fn hosts(rt: HostRuntime) {
 
 const CHOICES: &str = r#"{} => *2 
 {"k:boost":1} => 4:0 
-{"k:rate":1,"k:want":1} => 2:0 =2 5:0 R2 
+{"k:rate":1,"k:want":1} => 2:0 =2 5:0 leafref2 
 {"k:boost":1,"k:rate":2} => V5@0 2:0 =2 4:0 "#;
 
 #[test]
@@ -195,12 +195,12 @@ fn choices(rt: HostRuntime) {
 }
 
 const ITEMS: &str =
-    r#"{"v:e":[{"id":2,"in":{"x":"a"},"m":[1,1,300]},{"id":1}]} => 0:2 T0.0.1 T0.1.1 1:0 2:0 3:0 4:1 I4 4:1 I4 4:1 V1 0:2 T0.0.1 1:0 "#;
+    r#"{"v:e":[{"id":2,"in":{"x":"a"},"m":[1,1,300]},{"id":1}]} => 0:2 tuple0.0.1 tuple0.1.1 1:0 2:0 3:0 4:1 item4 4:1 item4 4:1 V1 0:2 tuple0.0.1 1:0 "#;
 
 #[test]
 fn items(rt: HostRuntime) {
     assert!(rt; hold(rt.alloc(), ENTRIES, ITEMS) == Some(true));
     let state =
-        r#"{"w:c":{"tag":["b","a"]},"w:log":[{},{"at":"1"}]} => 0:0 1:1 I1 1:1 I1 3:1 V3@4 3:1 4:0 "#;
+        r#"{"w:c":{"tag":["b","a"]},"w:log":[{},{"at":"1"}]} => 0:0 1:1 item1 1:1 item1 3:1 V3@4 3:1 4:0 "#;
     assert!(rt; hold(rt.alloc(), STATE, state) == Some(true));
 }
