@@ -26,7 +26,7 @@ target_at schema above f last = record { above = above; row = tree_of f; last = 
 -- want of memory nothing is said.
 abbrev pub Locates : Schema → Tree → List Step → Result Target EditRefusal → Nodes → Result Place EditFault → Type 0
 Locates schema tree so_far answer nodes (Ok place) = (more : List Step) × (f : Branches)
-    × IsAt nodes tree (so_far ++ more) place.above f
+    × IsAt schema nodes tree (so_far ++ more) place.above f
     × (answer ≡ Ok (target_at schema more f place.last))
 Locates schema tree so_far answer nodes (Err (Refused code doc)) = answer ≡ Err (refusal_view code doc)
 Locates schema tree so_far answer nodes (Err Memory) = Unit {0}

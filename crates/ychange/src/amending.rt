@@ -5,6 +5,7 @@ ghost use Rattle.yspec.specs.Forest.{end, node, size};
 ghost use Rattle.yspec.specs.schema.Schema as schemas;
 ghost use Rattle.yspec.specs.document.Document as document;
 ghost use Rattle.yspec.specs.document.Document.{Step};
+ghost use Rattle.yspec.specs.document.Sorting.{IsSorted};
 ghost use Rattle.yspec.specs.edit.Editing as spec;
 ghost use Rattle.ymodel.specs.View as schema_view;
 ghost use Rattle.ypath.specs.Binding.{node_of};
@@ -12,10 +13,10 @@ ghost use Rattle.ypath.specs.EditView.{edit_view, path_view, predicate_view};
 ghost use Rattle.ystore.specs.Store.{node_count};
 ghost use Rattle.ystore.specs.Views.{store_of, lent};
 ghost use Rattle.ystore.specs.declared.row.Row as rows;
-ghost use Rattle.yshape.specs.Hanging.{Branches, Hangs, Holds, Numbered, Stands};
+ghost use Rattle.yshape.specs.Hanging.{Branches, Hangs, Numbered, Stands};
 ghost use Rattle.yshape.specs.Copies.{ids_of};
 ghost use Rattle.yshape.specs.Parts.{OnlyReads};
-ghost use Rattle.ychange.specs.Places.{Amends, IsAt};
+ghost use Rattle.ychange.specs.Places.{Amends, HoldsSorted, HoldsTold, IsAt, IsSomewhere};
 ghost use Rattle.ychange.specs.Locating.{Locates, target_at};
 
 use crate::instances::instance_meant;
@@ -28,12 +29,14 @@ use ypath::{Edit, EditCode, EditFault, Path, bind_path, refused};
 use yshape::copy_part;
 use ystore::{Counted, NodeId};
 
-/// Does an edit of the document that a store holds, or tells the first refusal, as the definition of edits gives them. Where
-/// memory runs out the document stays as it was, perhaps with nodes beside it that hang on nothing.
+/// Does an edit of the document that a store holds, and tells anew what is told of it; or tells the first refusal, as the
+/// definition of edits gives them. Where memory runs out the document stays as it was, perhaps with nodes beside it that hang
+/// on nothing.
 pub fn amend(counted: &mut Counted<'_>, schema: &Schema, edit: &Edit) -> Result<(), EditFault>
-    ensures amends { (tree : document.Tree) → Holds (store_of counted.old) tree
-        → Amends tree (spec.applied (schema_view.view schema.now) tree (edit_view edit.now))
-        (store_of counted.new) result }
+    requires { HoldsSorted (schema_view.view schema.now) (store_of counted.old) }
+    ensures amends { let s = schema_view.view schema.now in
+        (tree : document.Tree) → HoldsTold s (store_of counted.old) tree → IsSorted tree
+        → Amends s tree (spec.applied s tree (edit_view edit.now)) (store_of counted.new) result }
     ensures same_reference { lent counted.new ≡ lent counted.old }
 {
     match edit {
@@ -60,7 +63,7 @@ fn place_of<'e>(
     path: &'e Path,
 ) -> Result<Place<'e>, EditFault>
     ensures place { let s = schema_view.view schema.now in
-        (tree : document.Tree) → Holds (store_of counted.old) tree
+        (tree : document.Tree) → HoldsTold s (store_of counted.old) tree → IsSorted tree
         → Locates s tree [] (spec.target_of s tree is_create (path_view path.entry.now))
         (store_of counted.new) result }
     ensures from_one { IfOk result (λ place. spec.is_zero (predicate_view place.last.predicate.now)
@@ -81,10 +84,11 @@ fn create(
     place: Place<'_>,
     value: &str,
 ) -> Result<(), EditFault>
+    requires at { IsSomewhere (schema_view.view schema.now) (store_of counted.old) place.entry.above }
     ensures amends { let s = schema_view.view schema.now in
         (tree : document.Tree) (above : List Step) (f : Branches)
-        → IsAt (store_of counted.old) tree above place.entry.above f
-        → Amends tree (spec.created s tree value.now (target_at s above f place.entry.last))
+        → IsAt s (store_of counted.old) tree above place.entry.above f
+        → Amends s tree (spec.created s tree value.now (target_at s above f place.entry.last))
         (store_of counted.new) result }
     ensures same_reference { lent counted.new ≡ lent counted.old }
 {
@@ -125,11 +129,12 @@ fn replace(
     place: Place<'_>,
     value: &str,
 ) -> Result<(), EditFault>
-    requires { spec.is_zero (predicate_view place.last.predicate.now) ≡ false }
+    requires from_one { spec.is_zero (predicate_view place.last.predicate.now) ≡ false }
+    requires at { IsSomewhere (schema_view.view schema.now) (store_of counted.old) place.entry.above }
     ensures amends { let s = schema_view.view schema.now in
         (tree : document.Tree) (above : List Step) (f : Branches)
-        → IsAt (store_of counted.old) tree above place.entry.above f
-        → Amends tree (spec.replaced s tree value.now (target_at s above f place.entry.last))
+        → IsAt s (store_of counted.old) tree above place.entry.above f
+        → Amends s tree (spec.replaced s tree value.now (target_at s above f place.entry.last))
         (store_of counted.new) result }
     ensures same_reference { lent counted.new ≡ lent counted.old }
 {
@@ -147,18 +152,28 @@ fn replace(
 
 /// E5 to E7.
 fn remove(counted: &mut Counted<'_>, schema: &Schema, place: Place<'_>) -> Result<(), EditFault>
-    requires { spec.is_zero (predicate_view place.last.predicate.now) ≡ false }
+    requires from_one { spec.is_zero (predicate_view place.last.predicate.now) ≡ false }
+    requires at { IsSomewhere (schema_view.view schema.now) (store_of counted.old) place.entry.above }
     ensures amends { let s = schema_view.view schema.now in
         (tree : document.Tree) (above : List Step) (f : Branches)
-        → IsAt (store_of counted.old) tree above place.entry.above f
-        → Amends tree (spec.removed s tree (target_at s above f place.entry.last))
+        → IsAt s (store_of counted.old) tree above place.entry.above f
+        → Amends s tree (spec.removed s tree (target_at s above f place.entry.last))
         (store_of counted.new) result }
     ensures same_reference { lent counted.new ≡ lent counted.old }
 {
     match instance_meant(counted, schema, EditCode::E7, place.above, place.last) {
         Ok(instance) => {
             let numbers = numbers_of(counted, instance.node)?;
-            take_part(counted, place.above, place.last.id, instance.node, &numbers);
+            let before = instance.position.unwrap_or(1).saturating_sub(1);
+            take_part(
+                counted,
+                schema,
+                place.above,
+                place.last.id,
+                before,
+                instance.node,
+                &numbers,
+            )?;
             Ok(())
         }
         Err(fault) => Err(fault),

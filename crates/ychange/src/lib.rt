@@ -5,7 +5,9 @@ mod amending;
 mod instances;
 mod keys;
 mod locating;
+mod opening;
 mod parts;
 
 pub use amending::amend;
+pub use opening::told_store;
 pub use parts::{add_part, put_part, take_part};

@@ -3,14 +3,15 @@
 ghost use Rattle.std.specs.Prelude.{◌≡◌, false, List, [], IfOk};
 ghost use Rattle.yspec.specs.document.Document as document;
 ghost use Rattle.yspec.specs.document.Document.{Step};
+ghost use Rattle.yspec.specs.document.Sorting.{IsSorted};
 ghost use Rattle.yspec.specs.edit.Editing as spec;
 ghost use Rattle.ymodel.specs.View as schema_view;
 ghost use Rattle.ypath.specs.Binding.{steps_view};
 ghost use Rattle.ypath.specs.EditView.{predicate_view};
 ghost use Rattle.ystore.specs.Views.{store_of, lent};
-ghost use Rattle.yshape.specs.Hanging.{Branches, Holds, tree_of};
+ghost use Rattle.yshape.specs.Hanging.{Branches, tree_of};
 ghost use Rattle.yshape.specs.Parts.{OnlyReads};
-ghost use Rattle.ychange.specs.Places.{IsAt};
+ghost use Rattle.ychange.specs.Places.{HoldsTold, IsAt};
 ghost use Rattle.ychange.specs.Locating.{CountFromOne, Locates};
 
 use crate::instances::instance_meant;
@@ -33,7 +34,7 @@ pub(crate) fn locate<'e>(
 ) -> Result<Place<'e>, EditFault>
     requires { CountFromOne (steps_view (schema_view.view schema.now) steps.now) }
     ensures place { let s = schema_view.view schema.now in
-        (tree : document.Tree) → Holds (store_of counted.old) tree
+        (tree : document.Tree) → HoldsTold s (store_of counted.old) tree → IsSorted tree
         → Locates s tree [] (spec.target s tree (steps_view s steps.now)) (store_of counted.new)
         result }
     ensures from_one { IfOk result (λ place. spec.is_zero (predicate_view place.last.predicate.now)
@@ -54,7 +55,7 @@ fn locate_below<'e>(
     requires { CountFromOne (steps_view (schema_view.view schema.now) steps.now) }
     ensures place { let s = schema_view.view schema.now in
         (tree : document.Tree) (so_far : List Step) (f : Branches)
-        → IsAt (store_of counted.old) tree so_far above f
+        → IsAt s (store_of counted.old) tree so_far above f
         → Locates s tree so_far (spec.target s (tree_of f) (steps_view s steps.now))
         (store_of counted.new) result }
     ensures from_one { IfOk result (λ place. spec.is_zero (predicate_view place.last.predicate.now)

@@ -1,49 +1,89 @@
 //! A part of a document: put into a row, in the place of another, or taken out.
 
-ghost use Rattle.std.specs.Prelude.{◌≡◌, List};
+ghost use Rattle.std.specs.Prelude.{◌≡◌, ◌≤◌, ◌^◌, ℕ, List, OnErr, OnOk};
+ghost use Rattle.yspec.specs.Forest.{end, size};
 ghost use Rattle.yspec.specs.document.Document as document;
 ghost use Rattle.yspec.specs.document.Document.{Step};
 ghost use Rattle.yspec.specs.document.Sorting.{IsSorted};
-ghost use Rattle.yspec.specs.edit.Edit.{edit_at};
+ghost use Rattle.yspec.specs.edit.Edit.{edit_at, instance_index};
 ghost use Rattle.yspec.specs.edit.Editing.{with_branch, with_instead, within_limit, without};
+ghost use Rattle.ymodel.specs.View as schema_view;
 ghost use Rattle.ytree.specs.View.{view};
 ghost use Rattle.ystore.specs.Views.{store_of, lent};
-ghost use Rattle.yshape.specs.Hanging.{Branches, Holds};
-ghost use Rattle.ychange.specs.Places.{Amends, IsAt, IsPart, branch_of};
+ghost use Rattle.ystore.specs.declared.row.Row as rows;
+ghost use Rattle.ystore.specs.declared.row.Row.TheVariants.{Top};
+ghost use Rattle.yshape.specs.Hanging.{Branches, Keeps};
+ghost use Rattle.yshape.specs.Ways.{around, end_of};
+ghost use Rattle.ytold.specs.IsTold.{IsFresh, IsTold};
+ghost use Rattle.ytold.specs.Standing.{Every, standing};
+ghost use Rattle.ychange.specs.Places.{Amends, HangsPart, HoldsTold, IsAt, IsPart, IsPartThere, IsSomewhere, Shows, Swapping, branch_of};
 
+use std::alloc::AllocError;
 use ymodel::{Schema, SchemaId};
 use ypath::{EditCode, EditFault, refused};
-use yshape::{insert_part, remove_nodes};
+use yshape::{Change, Swap, insert_part, remove_nodes};
 use ystore::{Counted, NodeId, Row};
+use ytold::retell;
 use ytree::{DOCUMENT_LIMIT, Stored};
 
 /// Adds a part to a row, behind the nodes of its schema node and of those before it; E11 where the document has no room for
-/// it. Where memory runs out the document stays as it was, with nodes beside it that hang on nothing.
+/// it. Where memory runs out the document stays as it was, perhaps with nodes beside it that hang on nothing.
 pub fn add_part(
     counted: &mut Counted<'_>,
     schema: &Schema,
     above: Row,
     part: &Stored,
 ) -> Result<(), EditFault>
-    ensures amends { (tree : document.Tree) (steps : List Step) (f : Branches)
-        → IsAt (store_of counted.old) tree steps above f → IsSorted (view part.now).1
-        → Amends tree (within_limit (edit_at steps (with_branch (branch_of part.now)) tree))
+    requires at { IsSomewhere (schema_view.view schema.now) (store_of counted.old) above }
+    requires sorted { IsSorted (view part.now).1 }
+    ensures amends { let s = schema_view.view schema.now in
+        (tree : document.Tree) (steps : List Step) (f : Branches)
+        → IsAt s (store_of counted.old) tree steps above f
+        → Amends s tree (within_limit (edit_at steps (with_branch (branch_of part.now)) tree))
+        (store_of counted.new) result }
+    ensures same_reference { lent counted.new ≡ lent counted.old }
+{
+    match hang_part(counted, schema, above, part, DOCUMENT_LIMIT)? {
+        true => Ok(()),
+        false => Err(refused(EditCode::E11)),
+    }
+}
+
+/// The same, and false where there would be more nodes than `most` in the document.
+pub(crate) fn hang_part(
+    counted: &mut Counted<'_>,
+    schema: &Schema,
+    above: Row,
+    part: &Stored,
+    most: usize,
+) -> Result<bool, AllocError>
+    requires at { IsSomewhere (schema_view.view schema.now) (store_of counted.old) above }
+    requires sorted { IsSorted (view part.now).1 }
+    requires most { most ≤ 2 ^ 28 }
+    ensures hangs { let s = schema_view.view schema.now in
+        (tree : document.Tree) (steps : List Step) (f : Branches)
+        → IsAt s (store_of counted.old) tree steps above f
+        → HangsPart s most tree (edit_at steps (with_branch (branch_of part.now)) tree)
         (store_of counted.new) result }
     ensures same_reference { lent counted.new ≡ lent counted.old }
 {
     let mut numbers = Vec::new(counted.alloc());
-    let id = insert_part(counted, schema, above, part, &mut numbers)?;
-    if counted.node_count() > DOCUMENT_LIMIT {
+    let new = insert_part(counted, schema, above, part, &mut numbers)?;
+    if counted.node_count() > most {
         remove_nodes(counted, &numbers);
-        return Err(refused(EditCode::E11));
+        return Ok(false);
     }
-    counted.reserve_child(above)?;
-    counted.add_child(above, part.id(), id);
-    Ok(())
+    let swap = Swap {
+        above,
+        schema: part.id(),
+        change: Change::Add { new },
+    };
+    change_row(counted, schema, swap, &[], &numbers)?;
+    Ok(true)
 }
 
 /// Puts a part in the place of one of the same schema node, of which these are the numbers; E11 where the document has no
-/// room for it. Where memory runs out the document stays as it was, with nodes beside it that hang on nothing.
+/// room for it. Where memory runs out the document stays as it was, perhaps with nodes beside it that hang on nothing.
 pub fn put_part(
     counted: &mut Counted<'_>,
     schema: &Schema,
@@ -52,37 +92,84 @@ pub fn put_part(
     old_numbers: &[NodeId],
     part: &Stored,
 ) -> Result<(), EditFault>
-    ensures amends { (tree : document.Tree) (steps : List Step) (f : Branches) (step : Step) (of : SchemaId)
-        → IsAt (store_of counted.old) tree steps above f → IsPart step of old old_numbers.now f
-        → (view part.now).0.schema_number ≡ of.0 → IsSorted (view part.now).1
-        → Amends tree (within_limit (edit_at steps (with_instead step (branch_of part.now)) tree))
+    requires at { (index : ℕ) × IsPartThere (schema_view.view schema.now) (store_of counted.old) above
+        (view part.now).0.schema_number index old old_numbers.now }
+    requires sorted { IsSorted (view part.now).1 }
+    ensures amends { let s = schema_view.view schema.now in
+        (tree : document.Tree) (steps : List Step) (f : Branches) (step : Step) (of : SchemaId)
+        → IsAt s (store_of counted.old) tree steps above f → IsPart step of old old_numbers.now f
+        → (view part.now).0.schema_number ≡ of.0
+        → Amends s tree (within_limit (edit_at steps (with_instead step (branch_of part.now)) tree))
         (store_of counted.new) result }
     ensures same_reference { lent counted.new ≡ lent counted.old }
 {
     let mut numbers = Vec::new(counted.alloc());
-    let id = insert_part(counted, schema, above, part, &mut numbers)?;
+    let new = insert_part(counted, schema, above, part, &mut numbers)?;
     if counted.node_count().saturating_sub(old_numbers.len()) > DOCUMENT_LIMIT {
         remove_nodes(counted, &numbers);
         return Err(refused(EditCode::E11));
     }
-    counted.put_child(above, part.id(), old, id);
-    remove_nodes(counted, old_numbers);
+    let swap = Swap {
+        above,
+        schema: part.id(),
+        change: Change::Put { old, new },
+    };
+    change_row(counted, schema, swap, old_numbers, &numbers)?;
     Ok(())
 }
 
-/// Takes a part out of a row, of which these are the numbers.
+/// Takes a part out of a row, of which these are the numbers, and which has so many of its schema node before it. Where memory
+/// runs out the document stays as it was.
 pub fn take_part(
     counted: &mut Counted<'_>,
+    schema: &Schema,
     above: Row,
-    schema: SchemaId,
+    of: SchemaId,
+    place: usize,
     old: NodeId,
     old_numbers: &[NodeId],
-)
-    ensures taken { (tree : document.Tree) (steps : List Step) (f : Branches) (step : Step)
-        → IsAt (store_of counted.old) tree steps above f → IsPart step schema old old_numbers.now f
-        → Holds (store_of counted.new) (edit_at steps (without step) tree) }
+) -> Result<(), AllocError>
+    requires at { IsPartThere (schema_view.view schema.now) (store_of counted.old) above of.0 place old old_numbers.now }
+    ensures taken { let s = schema_view.view schema.now in
+        (tree : document.Tree) (steps : List Step) (f : Branches) (step : Step)
+        → IsAt s (store_of counted.old) tree steps above f → IsPart step of old old_numbers.now f
+        → instance_index step ≡ place
+        → OnOk result (HoldsTold s (store_of counted.new) (edit_at steps (without step) tree)) }
+    ensures shows { let s = schema_view.view schema.now in (tree : document.Tree) (steps : List Step) (f : Branches)
+        → IsAt s (store_of counted.old) tree steps above f
+        → OnErr result (Shows (store_of counted.new) tree) }
     ensures same_reference { lent counted.new ≡ lent counted.old }
 {
-    counted.take_child(above, schema, old);
-    remove_nodes(counted, old_numbers);
+    let swap = Swap {
+        above,
+        schema: of,
+        change: Change::Take { old, place },
+    };
+    change_row(counted, schema, swap, old_numbers, &[])
+}
+
+/// Changes a row of a document, given the numbers of the nodes that go and of those that come, and all that is told of it. Where
+/// memory runs out the document stays as it was.
+fn change_row(
+    counted: &mut Counted<'_>,
+    schema: &Schema,
+    swap: Swap,
+    old: &[NodeId],
+    new: &[NodeId],
+) -> Result<(), AllocError>
+    requires { Swapping swap (store_of counted.old) old.now new.now }
+    ensures told { let s = schema_view.view schema.now in
+        (p : Swapping swap (store_of counted.old) old.now new.now)
+        → IsTold s (store_of counted.old) (around p.way p.f)
+        → Every (IsFresh s (store_of counted.old)) (standing (end_of Top p.way) p.loose)
+        → size (around p.way p.g) ≤ 2 ^ 28
+        → OnOk result (IsTold s (store_of counted.new) (around p.way p.g)) }
+    ensures keeps { (p : Swapping swap (store_of counted.old) old.now new.now)
+        → OnOk result (Keeps (store_of counted.new) (around p.way p.g) swap.above end) }
+    ensures keeps_still { OnErr result ((tree : Branches) (above : rows.Row) (loose : Branches)
+        → Keeps (store_of counted.old) tree above loose → Keeps (store_of counted.new) tree above loose) }
+    ensures same_reference { lent counted.new ≡ lent counted.old }
+{
+    counted.reserve_child(swap.above)?;
+    retell(counted, schema, swap, old, new)
 }

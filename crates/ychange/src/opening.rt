@@ -1,0 +1,35 @@
+//! Documents put into stores, with all that is told of them.
+
+ghost use Rattle.std.specs.Prelude.{◌≡◌, IfOk};
+ghost use Rattle.yspec.specs.document.Sorting.{IsSorted};
+ghost use Rattle.ymodel.specs.View as schema_view;
+ghost use Rattle.ytree.specs.View.{tree_view};
+ghost use Rattle.ychange.specs.Places.{HoldsTold};
+
+use crate::parts::hang_part;
+use std::alloc::{AllocError, Global};
+use ymodel::Schema;
+use ystore::{Nodes, Row};
+use ytold::begin;
+use ytree::Tree;
+
+/// As many nodes as a store can tell of.
+const MOST_NODES: usize = 1 << 28;
+
+/// A store that holds a document, and tells of it what is told of it. A document of more than 2^28 nodes is too large for it,
+/// which counts as want of memory.
+pub fn told_store(alloc: Global, schema: &Schema, tree: &Tree) -> Result<Nodes, AllocError>
+    requires { IsSorted (tree_view tree.now) }
+    ensures { IfOk result (λ nodes. HoldsTold (schema_view.view schema.now) nodes
+        (tree_view tree.now)) }
+{
+    let mut nodes = Nodes::new(alloc);
+    let mut counted = nodes.counted();
+    begin(&mut counted, schema)?;
+    for stored in tree.roots() {
+        if !hang_part(&mut counted, schema, Row::Top, stored, MOST_NODES)? {
+            return Err(AllocError);
+        }
+    }
+    Ok(nodes)
+}
