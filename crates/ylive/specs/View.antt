@@ -1,23 +1,25 @@
 -- Live documents, and what comes of edits, as the specification's.
-use Rattle.std.specs.Prelude.{List, map, Some, None, is_none}
+use Rattle.std.specs.Prelude.{List, map, Some, None}
 use Rattle.yspec.specs.edit.Live as spec
 use Rattle.yspec.specs.edit.EditText as text
 use Rattle.yspec.specs.edit.Editing.{Decision}
 use Rattle.ymodel.specs.View as schema_view
-use Rattle.ytree.specs.View.{tree_view}
 use Rattle.ypath.specs.EditView.{edit_view}
 use Rattle.ypath.specs.Applying.{refusal_view}
 use Rattle.ypath.specs.declared.edit.Edit.{Edit}
-use Rattle.ylive.specs.declared.live.Live.{Live}
+use Rattle.ystore.specs.Store.{node_count}
+use Rattle.ystore.specs.declared.row.Row.TheVariants.{Top}
+use Rattle.yshape.specs.Copies.{listed_below}
+use Rattle.ylive.specs.Kept.{Parts}
 use Rattle.ylive.specs.declared.outcome.Outcome.{Outcome}
 use Rattle.ylive.specs.declared.outcome.Outcome.TheVariants.{Accepted, Refused}
 
--- where no number of faults is kept it is stale
-abbrev pub view : Live → spec.Live
+-- what it stores is what its store lists, from the top down
+abbrev pub view : Parts → spec.Live
 view live = record {
   schema = schema_view.view live.schema;
-  tree = tree_view live.tree;
-  is_stale = is_none live.faults;
+  tree = listed_below (node_count live.nodes) live.nodes Top;
+  is_stale = live.is_stale;
 }
 
 abbrev pub outcome_view : Outcome → Decision

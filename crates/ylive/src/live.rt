@@ -1,39 +1,55 @@
-//! A document under a schema, with the number of its faults.
+//! A document under a schema, in a store that knows its faults.
 
-ghost use Rattle.std.specs.Prelude.{◌≡◌, true, length, IfSome, IfOk};
-ghost use Rattle.std.proofs.Props.{props};
+ghost use Rattle.std.specs.Prelude.{◌≡◌, length, IfOk};
+ghost use Rattle.yspec.specs.document.Document as document;
 ghost use Rattle.yspec.specs.document.Faults.{faults_of};
+ghost use Rattle.yspec.specs.document.Fitting.{Fits};
 ghost use Rattle.ymodel.specs.View as schema_view;
-ghost use Rattle.ytree.specs.View.{tree_view};
-ghost use Rattle.ylive.specs.Kept.{fits};
+ghost use Rattle.ypath.specs.EditView.{edit_view};
+ghost use Rattle.ystore.specs.Views.{store_of, lent};
+ghost use Rattle.ychange.specs.Places.{HoldsTold};
+ghost use Rattle.ylive.specs.Kept.{AppliesIn};
 
 use crate::outcome::{Applied, ListFault, Refused};
 use std::alloc::{AllocError, Global};
-use ycheck::{Fault, faults};
-use yinst::{Edit, EditFault, Tree, apply};
+use std::marker::Model;
+use ychange::{amend, told_store};
+use ycheck::Fault;
+use yinst::{Edit, EditFault, Tree};
+use ylist::list;
 use ymodel::Schema;
+use yshape::copy_tree;
+use ystore::{Counted, Nodes, Row};
 
-/// A document under a schema, which edits change. It knows how many faults it has, unless it is stale: then memory ran
-/// out at an edit, and until it is rebuilt neither edits nor lists of faults are answered.
+/// A document under a schema, which edits change. It knows its faults, unless it is stale: then memory ran out at an edit, and
+/// until it is rebuilt neither edits nor lists of faults are answered.
 #[derive(Drop)]
 pub struct Live {
     alloc: Global,
     schema: Schema,
-    tree: Tree,
-    faults: Option<usize>,
-    ghost fitting: { fits (schema_view.view schema) (tree_view tree) ≡ true },
-    ghost counted: { IfSome faults (λ n. n ≡ length (faults_of (schema_view.view schema) (tree_view tree))) } by { Prim.hlevel props },
+    nodes: Nodes,
+    is_stale: bool,
+}
+
+impl Model for Live {
+    ghost use Rattle.ymodel.specs.View as schema_view;
+    ghost use Rattle.ylive.specs.Kept.{Parts, IsLive};
+
+    ghost Value = { Parts };
+
+    ghost view = { λ a. record { schema = a.schema; nodes = a.nodes; is_stale = a.is_stale } };
+
+    ghost invariant = { λ a. IsLive (schema_view.view a.schema) a.nodes a.is_stale };
 }
 
 impl Live {
     ghost use Rattle.std.specs.Prelude.{◌≡◌, true, is_none, IfOk, IfErr, OnOk, OnErr};
     ghost use Rattle.yspec.specs.document.Fitting.{Fits};
     ghost use Rattle.yspec.specs.edit.Live.{opened, made_stale, made_anew};
-    ghost use Rattle.yspec.specs.Results.{Gives};
-    ghost use Rattle.ypath.specs.Applying.{told_by};
     ghost use Rattle.ypath.specs.EditView.{edit_view};
+    ghost use Rattle.ytree.specs.View.{tree_view};
     ghost use Rattle.ylive.specs.View.{view};
-    ghost use Rattle.ylive.specs.Answers.{Edits, Lists, answer_to, known_count};
+    ghost use Rattle.ylive.specs.Answers.{Edits, Lists, known_count};
 
     /// A document with its schema, under which it was read or made. Where memory runs out both are given back.
     pub fn open(alloc: Global, schema: Schema, tree: Tree) -> Result<Live, (Schema, Tree)>
@@ -43,12 +59,12 @@ impl Live {
         ensures schema { IfErr result (λ given. given.0 ≡ schema) }
         ensures tree { IfErr result (λ given. given.1 ≡ tree) }
     {
-        match count_of(alloc, &schema, &tree) {
-            Ok(count) => Ok(Live {
+        match told_store(alloc, &schema, &tree) {
+            Ok(nodes) => Ok(Live {
                 alloc,
                 schema,
-                tree,
-                faults: Some(count),
+                nodes,
+                is_stale: false,
             }),
             Err(_) => Err((schema, tree)),
         }
@@ -59,47 +75,27 @@ impl Live {
     pub fn edit(&mut self, edit: &Edit) -> Result<Applied, Refused>
         ensures { Edits (view self.old) (edit_view edit.now) result (view self.new) }
     {
-        let Some(before) = self.faults else {
+        if self.is_stale {
             return Err(Refused::Stale);
-        };
-        match self.edited_tree(edit) {
-            Ok(tree) => match count_of(self.alloc, &self.schema, &tree) {
-                Ok(after) => {
-                    self.tree = tree;
-                    self.faults = Some(after);
-                    Ok(Applied { before, after })
-                }
-                Err(_) => {
-                    self.faults = None;
-                    Err(Refused::Memory)
-                }
-            },
+        }
+        match edit_in(&mut self.nodes.counted(), &self.schema, edit) {
+            Ok(applied) => Ok(applied),
             Err(EditFault::Memory) => {
-                self.faults = None;
+                self.is_stale = true;
                 Err(Refused::Memory)
             }
             Err(fault) => Err(Refused::Edit(fault)),
         }
     }
 
-    /// The document after an edit, or why it is refused.
-    fn edited_tree(&self, edit: &Edit) -> Result<Tree, EditFault>
-        ensures answer { Gives tree_view told_by result
-            (answer_to (edit_view edit.now) (view self.now)) }
-        ensures fitting { IfOk result
-            (λ tree. fits (schema_view.view self.now.schema) (tree_view tree) ≡ true) }
-    {
-        apply(self.alloc, &self.schema, &self.tree, edit)
-    }
-
     /// All faults of the document, in order.
     pub fn list(&self) -> Result<Vec<Fault>, ListFault>
         ensures { Lists (view self.now) result }
     {
-        if self.is_stale() {
+        if self.is_stale {
             return Err(ListFault::Stale);
         }
-        match faults(self.alloc, &self.schema, &self.tree) {
+        match list(self.alloc, &self.schema, self.nodes.view()) {
             Ok(found) => Ok(found),
             Err(_) => Err(ListFault::Memory),
         }
@@ -110,7 +106,7 @@ impl Live {
         ensures copy { IfOk result (λ tree. tree_view tree ≡ (view self.now).tree) }
         ensures fitting { IfOk result (λ tree. Fits (view self.now).schema (tree_view tree)) }
     {
-        self.tree.clone()
+        copy_tree(self.alloc, self.nodes.view())
     }
 
     /// The schema of the document.
@@ -120,39 +116,50 @@ impl Live {
         &self.schema
     }
 
-    /// The schema of the document, and what it stores, also of a stale one.
-    pub fn into_parts(self) -> (Schema, Tree)
-        ensures schema { schema_view.view result.0 ≡ (view self).schema }
-        ensures tree { tree_view result.1 ≡ (view self).tree }
-        ensures fitting { Fits (view self).schema (tree_view result.1) }
+    /// The schema of the document, and what it stores, also of a stale one. Where memory runs out the document is given back.
+    pub fn into_parts(self) -> Result<(Schema, Tree), Live>
+        ensures schema { IfOk result (λ parts. schema_view.view parts.0 ≡ (view self).schema) }
+        ensures tree { IfOk result (λ parts. tree_view parts.1 ≡ (view self).tree) }
+        ensures fitting { IfOk result (λ parts. Fits (view self).schema (tree_view parts.1)) }
+        ensures err { IfErr result (λ live. live ≡ self) }
     {
-        let Live { schema, tree, .. } = self;
-        (schema, tree)
+        match self.tree() {
+            Ok(tree) => {
+                let Live { schema, .. } = self;
+                Ok((schema, tree))
+            }
+            Err(_) => Err(self),
+        }
     }
 
     /// How many faults the document has; nothing of a stale one.
     pub fn fault_count(&self) -> Option<usize>
         ensures { result ≡ known_count (view self.now) }
     {
-        self.faults
+        if self.is_stale {
+            return None;
+        }
+        Some(self.nodes.view().total(Row::Top))
     }
 
     /// Whether memory ran out at an edit, so that nobody knows the faults until the document is rebuilt.
     pub fn is_stale(&self) -> bool
         ensures { result ≡ (view self.now).is_stale }
     {
-        self.faults.is_none()
+        self.is_stale
     }
 
-    /// Looks for the faults of a stale document again, so that it is stale no more. Where memory runs out it stays as it
-    /// was. Of a document that isn't stale nothing changes.
+    /// Looks for the faults of a stale document again, so that it is stale no more: what it stores is copied, and put into a
+    /// new store. Where memory runs out it stays as it was. Of a document that isn't stale nothing changes.
     pub fn rebuild(&mut self) -> Result<(), AllocError>
         ensures ok { OnOk result (view self.new ≡ made_anew (view self.old)) }
         ensures was_stale { OnErr result ((view self.old).is_stale ≡ true) }
         ensures err { OnErr result (view self.new ≡ view self.old) }
     {
-        if self.is_stale() {
-            self.faults = Some(count_of(self.alloc, &self.schema, &self.tree)?);
+        if self.is_stale {
+            let tree = self.tree()?;
+            self.nodes = told_store(self.alloc, &self.schema, &tree)?;
+            self.is_stale = false;
         }
         Ok(())
     }
@@ -163,18 +170,26 @@ impl Live {
     }
 
     /// Makes the document stale.
-    pub(crate) fn forget_faults(&mut self)
+    pub(crate) fn mark_stale(&mut self)
         ensures { view self.new ≡ made_stale (view self.old) }
     {
-        self.faults = None;
+        self.is_stale = true;
     }
 }
 
-/// How many faults a document has that fits its schema.
-fn count_of(alloc: Global, schema: &Schema, tree: &Tree) -> Result<usize, AllocError>
-    requires { fits (schema_view.view schema.now) (tree_view tree.now) ≡ true }
-    ensures { IfOk result (λ n. n
-        ≡ length (faults_of (schema_view.view schema.now) (tree_view tree.now))) }
+/// Does an edit of a document in a store, and tells how many faults it had and has. It calls nothing of the store but what a
+/// `Counted` has.
+fn edit_in(counted: &mut Counted<'_>, schema: &Schema, edit: &Edit) -> Result<Applied, EditFault>
+    requires { (tree : document.Tree) × HoldsTold (schema_view.view schema.now) (store_of counted.old) tree
+        × Fits (schema_view.view schema.now) tree }
+    ensures applies { let s = schema_view.view schema.now in (tree : document.Tree) → HoldsTold s (store_of counted.old) tree
+        → Fits s tree → AppliesIn s tree (edit_view edit.now) (store_of counted.new) result }
+    ensures same_reference { lent counted.new ≡ lent counted.old }
 {
-    Ok(faults(alloc, schema, tree)?.len())
+    let before = counted.total(Row::Top);
+    amend(counted, schema, edit)?;
+    Ok(Applied {
+        before,
+        after: counted.total(Row::Top),
+    })
 }

@@ -27,7 +27,7 @@ impl Live {
         let mut outcomes = match Vec::with_capacity(self.alloc(), edits.len()) {
             Ok(outcomes) => outcomes,
             Err(_) => {
-                self.forget_faults();
+                self.mark_stale();
                 return Err(out_of_memory(0));
             }
         };
