@@ -33,9 +33,14 @@ pub struct Live {
 
 impl Model for Live {
     ghost use Rattle.ymodel.specs.View as schema_view;
+    ghost use Rattle.ymodel.specs.contracts.schema.Schema as schemas;
+    ghost use Rattle.ystore.specs.contracts.nodes.Nodes as stores;
     ghost use Rattle.ylive.specs.Kept.{Parts, IsLive};
+    ghost use Rattle.std.specs.Coded.{codes};
 
     ghost Value = { Parts };
+
+    ghost coded = { Prim.hlevel (codes, schemas.the_row.coded, stores.the_row.coded) };
 
     ghost view = { λ a. record { schema = a.schema; nodes = a.nodes; is_stale = a.is_stale } };
 
