@@ -17,13 +17,14 @@ use Rattle.ystore.specs.declared.nodes.Nodes.{Nodes}
 use Rattle.ymodel.specs.declared.node.SchemaId.{SchemaId}
 use Rattle.ystore.specs.Store.{node_count}
 use Rattle.ystore.specs.declared.row.NodeId.{NodeId}
-use Rattle.yshape.specs.Hanging.{Branches, Holds, Numbered, Stands}
+use Rattle.yshape.specs.Hanging.{Branches, Numbered, Stands}
 use Rattle.yshape.specs.Copies.{ids_of}
 use Rattle.yshape.specs.Parts.{OnlyReads}
 use Rattle.yshape.proofs.FrameLemmas.{keeps_same}
 use Rattle.yshape.proofs.HangingLemmas.{stands_second, weigh_join, weigh_around, size_weigh}
 use Rattle.yshape.specs.Ways.{Found, around}
-use Rattle.ychange.specs.Places.{Amends, IsAt, IsPart, Shows}
+use Rattle.ychange.specs.Places.{Amends, HoldsTold, IsAt, IsPart, Shows}
+use Rattle.ychange.proofs.BesideLemmas.{told_read}
 use Rattle.ychange.specs.Locating.{Locates}
 use Rattle.ychange.proofs.LocatingLemmas.{hangs_at, same_shapes}
 
@@ -31,20 +32,20 @@ pub there_is : (many kind : Bool) (count k : ℕ) → many ≡ false → many �
 there_is many kind count k none is same = ap (ltb 0) same ∙ ap (λ b. not b && nat_lt 0 k) (sym none ∙ is)
 
 -- a document that stands so is held
-pub holds_at : (nodes : Nodes) (tree : Tree) (steps : List Step) (above : Row) (f : Branches) → IsAt nodes tree steps above f → Holds nodes tree
-holds_at nodes tree steps above f at = record { branches = around at.way f; is_tree = at.is_tree; keeps = at.keeps }
+pub holds_at : (s : Schema) (nodes : Nodes) (tree : Tree) (steps : List Step) (above : Row) (f : Branches) → IsAt s nodes tree steps above f → HoldsTold s nodes tree
+holds_at s nodes tree steps above f at = record { branches = around at.way f; is_tree = at.is_tree; keeps = at.keeps; told = at.told }
 
 -- and hangs there
-pub shows_at : (nodes : Nodes) (tree : Tree) (steps : List Step) (above : Row) (f : Branches) → IsAt nodes tree steps above f → Shows nodes tree
-shows_at nodes tree steps above f at =
+pub shows_at : (s : Schema) (nodes : Nodes) (tree : Tree) (steps : List Step) (above : Row) (f : Branches) → IsAt s nodes tree steps above f → Shows nodes tree
+shows_at s nodes tree steps above f at =
     let all = at.keeps.all in
     record { branches = around at.way f; is_tree = at.is_tree; hangs = at.keeps.hangs; within = omega (arith, all) }
 
 -- a fault that tells the definition's refusal, or want of memory
-pub amends_fault : (X : Type 0) (nodes : Nodes) (tree : Tree) (answer : Result Tree spec.EditRefusal) (fault : EditFault) → Fails (told_by fault) answer → Holds nodes tree → Shows nodes tree
-    → Amends {X = X} tree answer nodes (Err fault)
-amends_fault X nodes tree answer (Refused code doc) fails holds there = (fails, holds)
-amends_fault X nodes tree answer Memory fails holds there = there
+pub amends_fault : (X : Type 0) (s : Schema) (nodes : Nodes) (tree : Tree) (answer : Result Tree spec.EditRefusal) (fault : EditFault) → Fails (told_by fault) answer
+    → HoldsTold s nodes tree → Shows nodes tree → Amends {X = X} s tree answer nodes (Err fault)
+amends_fault X s nodes tree answer (Refused code doc) fails holds there = (fails, holds)
+amends_fault X s nodes tree answer Memory fails holds there = there
 
 pub fails_on : {A B : Type 0} (told : Option spec.EditRefusal) (answer : Result A spec.EditRefusal) (next : A → Result B spec.EditRefusal) → Fails told answer → Fails told (answer >>= next)
 fails_on (Some refusal) answer next fails = ap (λ a. a >>= next) fails
@@ -55,30 +56,31 @@ fails_same told a b is fails = subst (Fails told) (sym is) fails
 
 -- no path leads there
 pub amends_unplaced : (X : Type 0) (s : Schema) (nodes : Nodes) (tree : Tree) (answer : Result spec.Target spec.EditRefusal) (next : spec.Target → Result Tree spec.EditRefusal) (fault : EditFault)
-    → Locates s tree [] answer nodes (Err fault) → Holds nodes tree → Amends {X = X} tree (answer >>= next) nodes (Err fault)
+    → Locates s tree [] answer nodes (Err fault) → HoldsTold s nodes tree → Amends {X = X} s tree (answer >>= next) nodes (Err fault)
 amends_unplaced X s nodes tree answer next (Refused code doc) e holds = (ap (λ a. a >>= next) e, holds)
 amends_unplaced X s nodes tree answer next Memory e holds =
     let all = holds.keeps.all in
     record { branches = holds.branches; is_tree = holds.is_tree; hangs = holds.keeps.hangs; within = omega (arith, all) }
 
-pub holds_read : (before after : Nodes) (tree : Tree) → OnlyReads before after → Holds before tree → Holds after tree
-holds_read before after tree only holds = record {
+pub holds_read : (s : Schema) (before after : Nodes) (tree : Tree) → OnlyReads before after → HoldsTold s before tree → HoldsTold s after tree
+holds_read s before after tree only holds = record {
   branches = holds.branches;
   is_tree = holds.is_tree;
   keeps = keeps_same before after (same_shapes before after only) holds.branches Top end holds.keeps;
+  told = told_read s before after holds.branches only holds.told;
 }
 
 -- ---- parts
 
 -- the part that a found node is, by its numbers
-pub part_at : (nodes : Nodes) (tree : Tree) (steps : List Step) (above : Row) (f : Branches) (step : Step) (schema : SchemaId) (id : NodeId) (numbers : List NodeId)
-    → IsAt nodes tree steps above f → (found : Found schema (instance_index step) id f) → schema.0 ≡ step.schema_number
+pub part_at : (s : Schema) (nodes : Nodes) (tree : Tree) (steps : List Step) (above : Row) (f : Branches) (step : Step) (schema : SchemaId) (id : NodeId) (numbers : List NodeId)
+    → IsAt s nodes tree steps above f → (found : Found schema (instance_index step) id f) → schema.0 ≡ step.schema_number
     → ((row : Row) (n : Numbered) (below : Branches) → n.id ≡ id → Stands nodes row (node n below end) → size (node n below end) ≤ node_count nodes
     → numbers ≡ ids_of (node n below end)) → IsPart step schema id numbers f
-part_at nodes tree steps above f step schema id numbers at found same listed =
+part_at s nodes tree steps above f step schema id numbers at found same listed =
     let n = found.frame.label in
     let below = found.below in
-    let here = hangs_at nodes tree steps above f at in
+    let here = hangs_at s nodes tree steps above f at in
     let stands = stands_second nodes above found.frame.before (node n below found.frame.after) (subst (Stands nodes above) found.is_row here.stands) in
     let whole : size f ≡ size (join found.frame.before (node n below found.frame.after)) = ap size found.is_row in
     let parts = weigh_join (λ _. 1) found.frame.before (node n below found.frame.after) in

@@ -1,5 +1,6 @@
-pub mod InstanceLemmas
 pub mod AmendLemmas
+pub mod BesideLemmas
+pub mod InstanceLemmas
 pub mod LocatingLemmas
 pub mod OrderLemmas
 pub mod PartLemmas

@@ -11,6 +11,7 @@ use Rattle.std.proofs.lemmas.List.{append-nil, append_assoc}
 use Rattle.std.proofs.lemmas.List.Sums.{sum_by-cons}
 use Rattle.yspec.specs.Forest.{end, node, join, row}
 use Rattle.yspec.specs.document.Document.{Stored, Tree, Step, instances_in}
+use Rattle.yspec.specs.document.Sorting.{IsSorted}
 use Rattle.yspec.specs.edit.Edit.{instance_index}
 use Rattle.yspec.specs.edit.Editing as spec
 use Rattle.yspec.specs.edit.Editing.{row_at}
@@ -19,7 +20,7 @@ use Rattle.ystore.specs.declared.row.NodeId.{NodeId}
 use Rattle.ystore.specs.declared.row.Row.{Row}
 use Rattle.ystore.specs.declared.row.Row.TheVariants.{Top, Below}
 use Rattle.ystore.specs.declared.nodes.Nodes.{Nodes}
-use Rattle.yshape.specs.Hanging.{Branches, Hangs, Holds, Keeps, stored_of, tree_of}
+use Rattle.yshape.specs.Hanging.{Branches, Hangs, Keeps, stored_of, tree_of}
 use Rattle.yshape.specs.Changes.{SameShapes}
 use Rattle.yshape.specs.Parts.{OnlyReads}
 use Rattle.yshape.specs.Ways.{Found, around}
@@ -27,7 +28,9 @@ use Rattle.yshape.proofs.FrameLemmas.{keeps_same}
 use Rattle.yshape.proofs.GrowLemmas.{tree_join}
 use Rattle.yshape.proofs.HangingLemmas.{at_end}
 use Rattle.yshape.proofs.FoundLemmas.{around_more, end_more, goes_more}
-use Rattle.ychange.specs.Places.{IsAt}
+use Rattle.ytold.specs.IsTold.{IsTold}
+use Rattle.ychange.specs.Places.{HoldsTold, IsAt}
+use Rattle.ychange.proofs.BesideLemmas.{told_read}
 use Rattle.ychange.specs.Locating.{Locates}
 use Rattle.ychange.specs.declared.locating.Place.{Place}
 
@@ -36,22 +39,32 @@ use Rattle.ychange.specs.declared.locating.Place.{Place}
 pub same_shapes : (before after : Nodes) → OnlyReads before after → SameShapes before after
 same_shapes before after only = record { shapes = λ above. ap (option_map (λ held. held.shape)) (only.held above); all = only.node_count }
 
-pub at_read : (before after : Nodes) (tree : Tree) (steps : List Step) (above : Row) (f : Branches) → IsAt before tree steps above f → OnlyReads before after
-    → IsAt after tree steps above f
-at_read before after tree steps above f at only = record {
+pub at_read : (s : Schema) (before after : Nodes) (tree : Tree) (steps : List Step) (above : Row) (f : Branches) → IsAt s before tree steps above f
+    → OnlyReads before after → IsAt s after tree steps above f
+at_read s before after tree steps above f at only = record {
   way = at.way;
   keeps = keeps_same before after (same_shapes before after only) (around at.way f) Top end at.keeps;
+  told = told_read s before after (around at.way f) only at.told;
   is_tree = at.is_tree;
+  sorted = at.sorted;
   goes = at.goes;
   ends = at.ends;
 }
 
-pub hangs_at : (nodes : Nodes) (tree : Tree) (steps : List Step) (above : Row) (f : Branches) → IsAt nodes tree steps above f → Hangs nodes above f
-hangs_at nodes tree steps above f at = subst (λ r. Hangs nodes r f) at.ends (at_end nodes Top at.way f at.keeps.hangs)
+pub hangs_at : (s : Schema) (nodes : Nodes) (tree : Tree) (steps : List Step) (above : Row) (f : Branches) → IsAt s nodes tree steps above f → Hangs nodes above f
+hangs_at s nodes tree steps above f at = subst (λ r. Hangs nodes r f) at.ends (at_end nodes Top at.way f at.keeps.hangs)
 
 -- a document that is held stands at the top
-pub at_start : (nodes : Nodes) (tree : Tree) (holds : Holds nodes tree) → IsAt nodes tree [] Top holds.branches
-at_start nodes tree holds = record { way = []; keeps = holds.keeps; is_tree = holds.is_tree; goes = tt; ends = refl }
+pub at_start : (s : Schema) (nodes : Nodes) (tree : Tree) (holds : HoldsTold s nodes tree) → IsSorted tree → IsAt s nodes tree [] Top holds.branches
+at_start s nodes tree holds sorted = record {
+  way = [];
+  keeps = holds.keeps;
+  told = holds.told;
+  is_tree = holds.is_tree;
+  sorted = subst IsSorted (sym holds.is_tree) sorted;
+  goes = tt;
+  ends = refl;
+}
 
 -- ---- a step further
 
@@ -93,15 +106,17 @@ row_found s k id f found =
     (ap (λ (i : SchemaId). i.0) found.is_schema) found.is_index)
 
 -- and there steps lead on
-pub at_further : (nodes : Nodes) (tree : Tree) (steps : List Step) (above : Row) (f : Branches) (step : Step) (s : SchemaId) (id : NodeId)
-    → IsAt nodes tree steps above f → (found : Found s (instance_index step) id f) → s.0 ≡ step.schema_number
-    → IsAt nodes tree (steps ++ step ∷ []) (Below id) found.below
-at_further nodes tree steps above f step s id at found same =
+pub at_further : (schema : Schema) (nodes : Nodes) (tree : Tree) (steps : List Step) (above : Row) (f : Branches) (step : Step) (s : SchemaId) (id : NodeId)
+    → IsAt schema nodes tree steps above f → (found : Found s (instance_index step) id f) → s.0 ≡ step.schema_number
+    → IsAt schema nodes tree (steps ++ step ∷ []) (Below id) found.below
+at_further schema nodes tree steps above f step s id at found same =
     let whole : around (at.way ++ found.frame ∷ []) found.below ≡ around at.way f = around_more at.way found.frame found.below ∙ ap (around at.way) (sym found.is_row) in
     record {
       way = at.way ++ found.frame ∷ [];
       keeps = subst (λ g. Keeps nodes g Top end) (sym whole) at.keeps;
+      told = subst (λ g. IsTold schema nodes g) (sym whole) at.told;
       is_tree = ap tree_of whole ∙ at.is_tree;
+      sorted = subst (λ g. IsSorted (tree_of g)) (sym whole) at.sorted;
       goes = goes_more steps at.way step found.frame at.goes (ap (λ (i : SchemaId). i.0) found.is_schema ∙ same)
           (ap (instances_in (tree_of found.frame.before)) (sym same) ∙ found.is_index);
       ends = end_more Top at.way found.frame ∙ ap (λ (i : NodeId). Below i) found.is_id;
@@ -115,18 +130,18 @@ none_left (x ∷ xs) less = absurd (omega (arith, less))
 
 -- the last step's row is found
 pub last_located : (s : Schema) (nodes : Nodes) (tree : Tree) (so_far : List Step) (above : Row) (f : Branches) (b : spec.BoundStep) (steps : List spec.BoundStep)
-    → steps ≡ b ∷ [] → IsAt nodes tree so_far above f
-    → (more : List Step) × (g : Branches) × IsAt nodes tree (so_far ++ more) above g
+    → steps ≡ b ∷ [] → IsAt s nodes tree so_far above f
+    → (more : List Step) × (g : Branches) × IsAt s nodes tree (so_far ++ more) above g
     × (spec.target s (tree_of f) steps ≡ Ok (record { above = more; row = tree_of g; last = b }))
 last_located s nodes tree so_far above f b steps e at =
-    ([], f, subst (λ xs. IsAt nodes tree xs above f) (sym (append-nil so_far)) at, ap (spec.target s (tree_of f)) e)
+    ([], f, subst (λ xs. IsAt s nodes tree xs above f) (sym (append-nil so_far)) at, ap (spec.target s (tree_of f)) e)
 
 lowered : (s : Schema) (nodes : Nodes) (tree : Tree) (so_far : List Step) (step : Step) (answer : Result spec.Target spec.EditRefusal) (r : Result Place EditFault)
     → Locates s tree (so_far ++ step ∷ []) answer nodes r → Locates s tree so_far (answer >>= (λ t. Ok (spec.lower step t))) nodes r
 lowered s nodes tree so_far step answer (Ok place) (more, g, at, e) = (
   step ∷ more,
   g,
-  subst (λ xs. IsAt nodes tree xs place.above g) (append_assoc so_far (step ∷ []) more) at,
+  subst (λ xs. IsAt s nodes tree xs place.above g) (append_assoc so_far (step ∷ []) more) at,
   ap (λ a. a >>= (λ t. Ok (spec.lower step t))) e,
 )
 lowered s nodes tree so_far step answer (Err (Refused code doc)) e = ap (λ a. a >>= (λ t. Ok (spec.lower step t))) e

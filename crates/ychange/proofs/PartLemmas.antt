@@ -1,18 +1,19 @@
--- Parts of a document in its store: put into a row, in the place of another, and taken out.
-use Rattle.std.proofs.Common.{◌≡◌, List, [], ◌∷◌, option_map, refl, sym, ap, ap₂, ◌∙◌, arith, subst}
-use Rattle.std.specs.Prelude.{◌+◌, ◌<◌, ◌≤◌, None, Result, Ok, Err, IsErrAnd, length}
+-- Parts of a document in its store: put into a row, in the place of another, and taken out, with all that is told of it.
+use Rattle.std.proofs.Common.{◌≡◌, List, [], ◌∷◌, refl, sym, ap, ap₂, ◌∙◌, arith, subst, true, false}
+use Rattle.std.specs.Prelude.{◌+◌, ◌^◌, ◌<◌, ◌≤◌, ℕ, None, Result, Ok, Err, IsErrAnd, OnErr, length}
 use Rattle.std.proofs.lemmas.Bool.{lt-ltb, le-ltb}
 use Rattle.std.proofs.lemmas.List.{append-nil}
 use Rattle.yspec.specs.Forest.{end, node, join, size}
+use Rattle.yspec.specs.schema.Schema.{Schema}
 use Rattle.yspec.specs.document.Document.{Stored, Tree, Step, instances_in, document_limit}
 use Rattle.yspec.proofs.LinkingProofs.LinkedLemmas.{relabelled-size}
 use Rattle.yspec.specs.document.Sorting.{IsSorted}
-use Rattle.yspec.specs.edit.Edit.{edit_at}
+use Rattle.yspec.specs.edit.Edit.{edit_at, instance_index}
 use Rattle.yspec.specs.edit.Editing.{Branch, EditRefusal, with_branch, with_instead, within_limit, without}
 use Rattle.ymodel.specs.declared.node.SchemaId.{SchemaId}
 use Rattle.ystore.specs.Rows as rows
-use Rattle.ystore.specs.Held.{with_children}
-use Rattle.ystore.specs.Store.{node_count, ChangesRow, MakesRoom}
+use Rattle.ystore.specs.Store.{node_count, MakesRoom}
+use Rattle.ystore.proofs.CallerLemmas.{room_is_there}
 use Rattle.ypath.specs.declared.edit.EditFault.{EditFault}
 use Rattle.ypath.specs.declared.edit.EditFault.TheVariants.{Refused, Memory}
 use Rattle.ypath.specs.declared.edit.EditCode.TheVariants.{E11}
@@ -20,24 +21,29 @@ use Rattle.ystore.specs.declared.row.NodeId.{NodeId}
 use Rattle.ystore.specs.declared.row.Row.{Row}
 use Rattle.ystore.specs.declared.row.Row.TheVariants.{Top}
 use Rattle.ystore.specs.declared.nodes.Nodes.{Nodes}
-use Rattle.yshape.specs.Hanging.{Numbered, Branches, stored_of, tree_of, child_of, children_of, Keeps, Holds}
+use Rattle.yshape.specs.Hanging.{Numbered, Branches, stored_of, tree_of, children_of, Keeps}
 use Rattle.yshape.specs.Ways.{Way, Goes, around, end_of}
 use Rattle.yshape.specs.Changes.{with_node}
 use Rattle.yshape.specs.Copies.{laid, ids_of}
-use Rattle.yshape.specs.Growing.{Grows, Inserts, Removes}
+use Rattle.yshape.specs.Growing.{Grows, Inserts, Removes, Freshens}
+use Rattle.yshape.specs.declared.swapping.Swap.{Swap}
+use Rattle.yshape.specs.declared.swapping.Change.TheVariants.{Add, Put, Take}
 use Rattle.yshape.proofs.FrameLemmas.{room_same, keeps_same}
 use Rattle.yshape.proofs.OpenLemmas.{hangs_on, keeps_inserted, laid_sorted}
 use Rattle.yshape.proofs.HangingLemmas.{weigh_join, weigh_around, weigh_put, size_weigh}
 use Rattle.yshape.proofs.GrowLemmas.{ids_node}
 use Rattle.yshape.proofs.RemoveLemmas.{given_back, length_ids}
-use Rattle.yshape.proofs.ChangeLemmas as change
 use Rattle.yshape.proofs.DocumentLemmas as document
-use Rattle.ychange.specs.Places.{Amends, IsAt, IsPart, Shows}
+use Rattle.ytold.specs.IsTold.{IsFresh, IsTold}
+use Rattle.ytold.specs.Standing.{Every, standing}
+use Rattle.ytold.specs.Plans.{Prepared}
+use Rattle.ychange.specs.Places.{Amends, HangsPart, HoldsTold, IsAt, IsPart, Shows, Swapping}
+use Rattle.ychange.proofs.BesideLemmas.{fresh_inserted, told_inserted, told_removed}
 
 -- a document that is held hangs in a store that only grew
-pub shows : (before after : Nodes) (tree : Tree) (steps : List Step) (above : Row) (f : Branches) → IsAt before tree steps above f → Grows before after
+pub shows : (s : Schema) (before after : Nodes) (tree : Tree) (steps : List Step) (above : Row) (f : Branches) → IsAt s before tree steps above f → Grows before after
     → Shows after tree
-shows before after tree steps above f at grows =
+shows s before after tree steps above f at grows =
     let all = at.keeps.all in
     let more = grows.count in record {
       branches = around at.way f;
@@ -46,33 +52,44 @@ shows before after tree steps above f at grows =
       within = omega (arith, all, more);
     }
 
-pub wanting : {X : Type 0} (r : Result X EditFault) (tree : Tree) (answer : Result Tree EditRefusal) (nodes : Nodes) → IsErrAnd r (λ e. e ≡ Memory) → Shows nodes tree
-    → Amends tree answer nodes r
-wanting (Ok x) tree answer nodes is there = absurd is
-wanting {X} (Err e) tree answer nodes is there = subst (λ f. Amends {X = X} tree answer nodes (Err f)) (sym is) there
+-- and in one where other branches stand beside it
+pub shows_beside : (nodes : Nodes) (tree : Tree) (branches : Branches) (above : Row) (loose : Branches) → tree_of branches ≡ tree → Keeps nodes branches above loose
+    → Shows nodes tree
+shows_beside nodes tree branches above loose is keeps =
+    let all = keeps.all in
+    record { branches = branches; is_tree = is; hangs = keeps.hangs; within = omega (arith, all) }
+
+pub wanting : {X : Type 0} (s : Schema) (r : Result X EditFault) (tree : Tree) (answer : Result Tree EditRefusal) (nodes : Nodes) → IsErrAnd r (λ e. e ≡ Memory)
+    → Shows nodes tree → Amends s tree answer nodes r
+wanting s (Ok x) tree answer nodes is there = absurd is
+wanting {X} s (Err e) tree answer nodes is there = subst (λ f. Amends {X = X} s tree answer nodes (Err f)) (sym is) there
 
 -- where nothing stands beside a tree, it stands in no row
-at_top : (nodes : Nodes) (tree : Branches) (above : Row) → Keeps nodes tree above end → Keeps nodes tree Top end
+pub at_top : (nodes : Nodes) (tree : Branches) (above : Row) → Keeps nodes tree above end → Keeps nodes tree Top end
 at_top nodes tree above keeps = record { hangs = keeps.hangs; stands = tt; once = keeps.once; all = keeps.all }
 
+at_row : (nodes : Nodes) (tree : Branches) (above : Row) → Keeps nodes tree Top end → Keeps nodes tree above end
+at_row nodes tree above keeps = record { hangs = keeps.hangs; stands = tt; once = keeps.once; all = keeps.all }
+
+-- the row at the end of a way in a document in order is in order
+sorted_below : (before : Branches) (n : Numbered) (below after : Branches) → IsSorted (tree_of (join before (node n below after))) → IsSorted (tree_of below)
+sorted_below end n below after sorted = sorted.1
+sorted_below (node m under rest) n below after sorted = sorted_below rest n below after sorted.2
+
+sorted_end : (way : Way) (f : Branches) → IsSorted (tree_of (around way f)) → IsSorted (tree_of f)
+sorted_end [] f sorted = sorted
+sorted_end (frame ∷ way) f sorted = sorted_end way f (sorted_below frame.before frame.label (around way f) frame.after sorted)
+
 -- the document once the row at the end of a way is another
-held : (nodes : Nodes) (tree : Tree) (steps : List Step) (way : Way) (to : Tree → Tree) (f g : Branches) (above : Row) → Goes steps way
-    → tree_of (around way f) ≡ tree → to (tree_of f) ≡ tree_of g → Keeps nodes (around way g) above end → Holds nodes (edit_at steps to tree)
-held nodes tree steps way to f g above goes is changed keeps = record {
+held : (s : Schema) (nodes : Nodes) (tree : Tree) (steps : List Step) (way : Way) (to : Tree → Tree) (f g : Branches) (above : Row) → Goes steps way
+    → tree_of (around way f) ≡ tree → to (tree_of f) ≡ tree_of g → Keeps nodes (around way g) above end → IsTold s nodes (around way g)
+    → HoldsTold s nodes (edit_at steps to tree)
+held s nodes tree steps way to f g above goes is changed keeps told = record {
   branches = around way g;
   is_tree = sym (document.along steps way to f g goes changed) ∙ ap (edit_at steps to) is;
   keeps = at_top nodes (around way g) above keeps;
+  told = told;
 }
-
-module _ (above : Row) (id : NodeId) (label : Stored) (below : Tree) (before mid : Nodes) (had has : List NodeId)
-    (made : Inserts above id label below before mid had has) (sorted : IsSorted below) where
-  -- what was put in is the part
-  part_is : (λ (n : Numbered) (b : Branches). let r : Branch = record { label = stored_of n; below = tree_of b } in r) made.root (laid made.branches)
-      ≡ record { label = label; below = below }
-  part_is = ap₂ (λ (l : Stored) (t : Tree). let r : Branch = record { label = l; below = t } in r) made.is_label
-      (ap tree_of (laid_sorted made.branches (subst IsSorted (sym made.is_below) sorted)) ∙ made.is_below)
-
--- ---- room
 
 -- a change of a row takes as many nodes as it gives more
 size_around : (way : Way) (f g : Branches) → size (around way g) + size f ≡ size (around way f) + size g
@@ -85,80 +102,112 @@ size_around way f g =
     let h = size_weigh (around way g) in
     omega (arith, a, b, c, d, e, h)
 
-within : (t : Tree) → size t ≤ document_limit → within_limit t ≡ Ok t
+-- and its size is that of the document
+size_along : (s : Schema) (nodes : Nodes) (tree : Tree) (steps : List Step) (above : Row) (f g : Branches) (at : IsAt s nodes tree steps above f) (to : Tree → Tree)
+    → to (tree_of f) ≡ tree_of g → size (edit_at steps to tree) ≡ size (around at.way g)
+size_along s nodes tree steps above f g at to is =
+    ap size (ap (edit_at steps to) (sym at.is_tree) ∙ document.along steps at.way to f g at.goes is) ∙ relabelled-size stored_of (around at.way g)
+
+pub within : (t : Tree) → size t ≤ document_limit → within_limit t ≡ Ok t
 within t few = rw (le-ltb document_limit (size t) few) refl
 
-over : (t : Tree) → document_limit < size t → within_limit t ≡ Err (record { code = 11; document_code = None })
+pub over : (t : Tree) → document_limit < size t → within_limit t ≡ Err (record { code = 11; document_code = None })
 over t many = rw (lt-ltb document_limit (size t) many) refl
 
--- what was put in beside a document is given back, and the change is refused
-refused_over : (X : Type 0) (mid after : Nodes) (tree changed : Tree) (branches : Branches) (above : Row) (n : Numbered) (g : Branches) (numbers : List NodeId) (fault : EditFault)
-    → tree_of branches ≡ tree → Keeps mid branches above (node n g end) → numbers ≡ ids_of (node n g end) → Removes numbers mid after → document_limit < size changed
-    → fault ≡ Refused E11 None → Amends {X = X} tree (within_limit changed) after (Err fault)
-refused_over X mid after tree changed branches above n g numbers fault is keeps are removes many told =
-    subst (λ f. Amends {X = X} tree (within_limit changed) after (Err f)) (sym told) (
-      over changed many,
-      record {
-        branches = branches;
-        is_tree = is;
-        keeps = at_top after branches above (given_back mid after branches above (node n g end) keeps (subst (λ ids. Removes ids mid after) are removes));
-      },
-    )
+-- what was put in beside a document is given back
+kept : (s : Schema) (mid after : Nodes) (tree : Tree) (branches : Branches) (above : Row) (loose : Branches) (numbers : List NodeId)
+    → tree_of branches ≡ tree → Keeps mid branches above loose → IsTold s mid branches → numbers ≡ ids_of loose → Removes numbers mid after → HoldsTold s after tree
+kept s mid after tree branches above loose numbers is keeps told are removes =
+    let gone = subst (λ ids. Removes ids mid after) are removes in record {
+      branches = branches;
+      is_tree = is;
+      keeps = at_top after branches above (given_back mid after branches above loose keeps gone);
+      told = told_removed s mid after branches above loose keeps gone told;
+    }
 
-module _ (before mid : Nodes) (tree : Tree) (steps : List Step) (above : Row) (f : Branches) (id : NodeId) (label : Stored) (below : Tree) (has : List NodeId)
-    (made : Inserts above id label below before mid [] has) (at : IsAt before tree steps above f) (sorted : IsSorted below) where
+by_number : (s t : SchemaId) → s.0 ≡ t.0 → s ≡ t
+by_number s t e = ap (λ k. let u : SchemaId = record { 0 = k } in u) e
+
+module _ (s : Schema) (before mid : Nodes) (tree : Tree) (steps : List Step) (above : Row) (f : Branches) (id : NodeId) (label : Stored) (below : Tree) (has : List NodeId)
+    (made : Inserts above id label below before mid [] has) (fresh : Freshens s before mid) (at : IsAt s before tree steps above f) (sorted : IsSorted below) where
   abbrev pub b : Branch
   b = record { label = label; below = below }
 
   abbrev pub g : Branches
   g = laid made.branches
 
+  -- what was put in is the part
+  part_is : (λ (n : Numbered) (b : Branches). let r : Branch = record { label = stored_of n; below = tree_of b } in r) made.root g ≡ b
+  part_is = ap₂ (λ (l : Stored) (t : Tree). let r : Branch = record { label = l; below = t } in r) made.is_label
+      (ap tree_of (laid_sorted made.branches (subst IsSorted (sym made.is_below) sorted)) ∙ made.is_below)
+
   pub beside : Keeps mid (around at.way f) above (node made.root g end)
   beside = keeps_inserted above id label below before mid [] has (around at.way f) made at.keeps
 
-  pub numbers_are : has ≡ ids_of (node made.root g end)
+  pub told_mid : IsTold s mid (around at.way f)
+  told_mid = told_inserted s before mid (around at.way f) at.keeps.hangs made.grows fresh at.told
+
+  pub fresh_mid : Every (IsFresh s mid) (standing (end_of Top at.way) (node made.root g end))
+  fresh_mid = fresh_inserted s above id label below before mid [] has made fresh (end_of Top at.way)
+
+  numbers_are : has ≡ ids_of (node made.root g end)
   numbers_are = made.numbers ∙ (ap (λ h. made.root.id ∷ ids_of h) (sym (laid_sorted made.branches (subst IsSorted (sym made.is_below) sorted)))
       ∙ (ap (λ xs. made.root.id ∷ xs) (sym (append-nil (ids_of g))) ∙ sym (ids_node made.root g end)))
 
-  pub branch_is : with_branch b (tree_of f) ≡ tree_of (with_node made.root g f)
-  branch_is = ap (λ c. with_branch c (tree_of f)) (sym (part_is above id label below before mid [] has made sorted)) ∙ sym (document.added made.root g f)
+  root_schema : (own : SchemaId) → own.0 ≡ label.schema_number → made.root.schema ≡ own
+  root_schema own number = by_number made.root.schema own (ap (λ (l : Stored). l.schema_number) made.is_label ∙ sym number)
+
+  -- ---- behind those of its schema node
+
+  abbrev pub more : Branches
+  more = with_node made.root g f
+
+  branch_is : with_branch b (tree_of f) ≡ tree_of more
+  branch_is = ap (λ c. with_branch c (tree_of f)) (sym part_is) ∙ sym (document.added made.root g f)
 
   -- the document with the part has as many nodes as the store once the part is put in
-  pub added_size : size (edit_at steps (with_branch b) tree) ≡ node_count mid
-  added_size =
-      let now : size (edit_at steps (with_branch b) tree) ≡ size (around at.way (with_node made.root g f)) =
-      ap size (ap (edit_at steps (with_branch b)) (sym at.is_tree) ∙ document.along steps at.way (with_branch b) f (with_node made.root g f) at.goes branch_is)
-      ∙ relabelled-size stored_of (around at.way (with_node made.root g f)) in
-      let more = size_around at.way f (with_node made.root g f) in
+  pub more_size : size (around at.way more) ≡ node_count mid
+  more_size =
+      let change = size_around at.way f more in
       let put = weigh_put (λ _. 1) (rows.end_place made.root.schema (children_of f)) made.root g f in
-      let whole = size_weigh (with_node made.root g f) in
+      let whole = size_weigh more in
       let one = size_weigh f in
       let two = size_weigh g in
       let all = beside.all in
-      now ∙ omega (arith, more, put, whole, one, two, all)
+      omega (arith, change, put, whole, one, two, all)
 
-  pub added_over : (X : Type 0) (after : Nodes) (fault : EditFault) → document_limit < node_count mid → Removes has mid after → fault ≡ Refused E11 None
-      → Amends {X = X} tree (within_limit (edit_at steps (with_branch b) tree)) after (Err fault)
-  added_over X after fault many removes told =
-      refused_over X mid after tree (edit_at steps (with_branch b) tree) (around at.way f) above made.root g has fault at.is_tree beside numbers_are removes
-      (subst (λ k. document_limit < k) (sym added_size) many) told
+  added_size : size (edit_at steps (with_branch b) tree) ≡ node_count mid
+  added_size = size_along s before tree steps above f more at (with_branch b) branch_is ∙ more_size
 
-  pub added_part : (ready after : Nodes) (schema : SchemaId) → MakesRoom above mid ready → schema.0 ≡ label.schema_number
-      → ChangesRow above (option_map (with_children (rows.added (schema, id)))) ready after → node_count mid ≤ document_limit
-      → (changed : Tree) × (within_limit (edit_at steps (with_branch b) tree) ≡ Ok changed) × Holds after changed
-  added_part ready after schema room number changes few =
-      let n = made.root in
-      let way = at.way in
-      let with_room = keeps_same mid ready (room_same above mid ready room.room room.changed) (around way f) above (node n g end) beside in
-      let child : child_of n ≡ (schema, id) =
-      ap₂ (λ (s : SchemaId) (i : NodeId). (s, i)) (ap (λ k. let s : SchemaId = record { 0 = k } in s) (ap (λ (s : Stored). s.schema_number) made.is_label ∙ sym number)) made.is_id in
-      let row = subst (λ d. ChangesRow above (option_map (with_children (rows.added d))) ready after) (sym child) changes in
-      let keeps = change.added ready after way f n g (subst (λ r. Keeps ready (around way f) r (node n g end)) (sym at.ends) with_room)
-      (subst (λ r. ChangesRow r (option_map (with_children (rows.added (child_of n)))) ready after) (sym at.ends) row) in (
-        edit_at steps (with_branch b) tree,
-        within (edit_at steps (with_branch b) tree) (subst (λ k. k ≤ document_limit) (sym added_size) few),
-        held after tree steps way (with_branch b) f (with_node n g f) (end_of Top way) at.goes at.is_tree branch_is keeps,
-      )
+  pub adding : (own : SchemaId) → own.0 ≡ label.schema_number → Swapping (record { above = above; schema = own; change = Add id }) mid [] has
+  adding own number =
+      record {
+        way = at.way;
+        f = f;
+        loose = node made.root g end;
+        g = more;
+        left = end;
+        at = at.ends;
+        swaps = record { label = made.root; below = g; is_new = made.is_id; is_schema = root_schema own number; beside = refl; row = refl; none = refl };
+        sorted = sorted_end at.way f at.sorted;
+        keeps = beside;
+        are_old = refl;
+        are_new = sym numbers_are;
+      }
+
+  pub hangs : (E : Type 0) (most : ℕ) (after : Nodes) → node_count mid ≤ most → Keeps after (around at.way more) above end → IsTold s after (around at.way more)
+      → HangsPart {E = E} s most tree (edit_at steps (with_branch b) tree) after (Ok true)
+  hangs E most after few keeps told = (
+    subst (λ k. k ≤ most) (sym added_size) few,
+    held s after tree steps at.way (with_branch b) f more above at.goes at.is_tree branch_is keeps told,
+  )
+
+  pub hangs_not : (E : Type 0) (most : ℕ) (after : Nodes) → most < node_count mid → Removes has mid after
+      → HangsPart {E = E} s most tree (edit_at steps (with_branch b) tree) after (Ok false)
+  hangs_not E most after many removes = (
+    subst (λ k. most < k) (sym added_size) many,
+    kept s mid after tree (around at.way f) above (node made.root g end) has at.is_tree beside told_mid numbers_are removes,
+  )
 
   -- ---- in the place of another
 
@@ -175,80 +224,160 @@ module _ (before mid : Nodes) (tree : Tree) (steps : List Step) (above : Row) (f
     abbrev pub under : Branches
     under = part.found.below
 
-    pub instead_is : with_instead step b (tree_of f) ≡ tree_of (join first (node made.root g rest))
+    abbrev pub other : Branches
+    other = join first (node made.root g rest)
+
+    instead_is : with_instead step b (tree_of f) ≡ tree_of other
     instead_is =
-        ap (λ c. with_instead step c (tree_of f)) (sym (part_is above id label below before mid [] has made sorted))
+        ap (λ c. with_instead step c (tree_of f)) (sym part_is)
         ∙ (ap (λ h. with_instead step (record { label = stored_of made.root; below = tree_of g }) (tree_of h)) part.found.is_row
-        ∙ document.put step first rest m under made.root g (ap (λ (s : SchemaId). s.0) part.found.is_schema ∙ part.is_schema)
+        ∙ document.put step first rest m under made.root g (ap (λ (i : SchemaId). i.0) part.found.is_schema ∙ part.is_schema)
         (ap (λ k. instances_in (tree_of first) k) (sym part.is_schema) ∙ part.found.is_index))
 
-    pub put_size : size (edit_at steps (with_instead step b) tree) + length numbers ≡ node_count mid
-    put_size =
-        let now : size (edit_at steps (with_instead step b) tree) ≡ size (around at.way (join first (node made.root g rest))) =
-        ap size (ap (edit_at steps (with_instead step b)) (sym at.is_tree)
-        ∙ document.along steps at.way (with_instead step b) f (join first (node made.root g rest)) at.goes instead_is)
-        ∙ relabelled-size stored_of (around at.way (join first (node made.root g rest))) in
-        let more = size_around at.way f (join first (node made.root g rest)) in
+    pub other_size : size (around at.way other) + length numbers ≡ node_count mid
+    other_size =
+        let change = size_around at.way f other in
         let new = weigh_join (λ _. 1) first (node made.root g rest) in
         let was = weigh_join (λ _. 1) first (node m under rest) in
         let row : size f ≡ size (join first (node m under rest)) = ap size part.found.is_row in
-        let w1 = size_weigh (join first (node made.root g rest)) in
+        let w1 = size_weigh other in
         let w2 = size_weigh (join first (node m under rest)) in
         let w3 = size_weigh g in
         let w4 = size_weigh under in
         let count : length numbers ≡ size (node m under end) = ap length part.are_numbers ∙ length_ids (node m under end) in
         let all = beside.all in
-        omega (arith, now, more, new, was, row, w1, w2, w3, w4, count, all)
+        omega (arith, change, new, was, row, w1, w2, w3, w4, count, all)
 
-    pub put_over : (X : Type 0) (after : Nodes) (fault : EditFault) → document_limit + length numbers < node_count mid → Removes has mid after → fault ≡ Refused E11 None
-        → Amends {X = X} tree (within_limit (edit_at steps (with_instead step b) tree)) after (Err fault)
-    put_over X after fault many removes told =
-        let size_is = put_size in
-        refused_over X mid after tree (edit_at steps (with_instead step b) tree) (around at.way f) above made.root g has fault at.is_tree beside numbers_are removes
-        (omega (arith, many, size_is)) told
+    put_size : size (edit_at steps (with_instead step b) tree) ≡ size (around at.way other)
+    put_size = size_along s before tree steps above f other at (with_instead step b) instead_is
 
-    pub put_part : (next after : Nodes) (own : SchemaId) → own.0 ≡ label.schema_number → label.schema_number ≡ schema.0
-        → ChangesRow above (option_map (with_children (rows.put (own, old) id))) mid next → Removes numbers next after
-        → node_count mid ≤ document_limit + length numbers
-        → (changed : Tree) × (within_limit (edit_at steps (with_instead step b) tree) ≡ Ok changed) × Holds after changed
-    put_part next after own number same changes removes few =
-        let n = made.root in
-        let way = at.way in
-        let here = subst (λ r. Keeps mid (around way f) r (node n g end)) (sym at.ends) beside in
-        let there = subst (λ h. Keeps mid (around way h) (end_of Top way) (node n g end)) part.found.is_row here in
-        let by_number : (s : SchemaId) → s.0 ≡ schema.0 → s ≡ schema = λ s e. ap (λ k. let t : SchemaId = record { 0 = k } in t) e in
-        let owns : own ≡ schema = by_number own (number ∙ same) in
-        let root_schema : n.schema ≡ schema = by_number n.schema (ap (λ (s : Stored). s.schema_number) made.is_label ∙ same) in
-        let child : child_of m ≡ (own, old) = ap₂ (λ (s : SchemaId) (i : NodeId). (s, i)) (part.found.is_schema ∙ sym owns) part.found.is_id in
-        let put = subst (λ d. ChangesRow above (option_map (with_children (rows.put d n.id))) mid next) (sym child)
-        (subst (λ i. ChangesRow above (option_map (with_children (rows.put (own, old) i))) mid next) (sym made.is_id) changes) in
-        let changed = change.put mid next way first rest m under n g there (part.found.is_schema ∙ sym root_schema)
-        (subst (λ r. ChangesRow r (option_map (with_children (rows.put (child_of m) n.id))) mid next) (sym at.ends) put) in
-        let last = given_back next after (around way (join first (node n g rest))) (end_of Top way) (node m under end) changed
-        (subst (λ ids. Removes ids next after) part.are_numbers removes) in
-        let size_is = put_size in (
+    pub putting : (own : SchemaId) → own.0 ≡ label.schema_number → label.schema_number ≡ schema.0
+        → Swapping (record { above = above; schema = own; change = Put old id }) mid numbers has
+    putting own number same =
+        record {
+          way = at.way;
+          f = f;
+          loose = node made.root g end;
+          g = other;
+          left = node m under end;
+          at = at.ends;
+          swaps = record {
+            before = first;
+            from = m;
+            under = under;
+            to = made.root;
+            below = g;
+            after = rest;
+            is_old = part.found.is_id;
+            is_new = made.is_id;
+            is_schema = part.found.is_schema ∙ sym (by_number own schema (number ∙ same));
+            same_schema = root_schema own number;
+            was = part.found.is_row;
+            beside = refl;
+            row = refl;
+            goes = refl;
+          };
+          sorted = sorted_end at.way f at.sorted;
+          keeps = beside;
+          are_old = sym part.are_numbers;
+          are_new = sym numbers_are;
+        }
+
+    pub put_part : (after : Nodes) → node_count mid ≤ document_limit + length numbers → Keeps after (around at.way other) above end → IsTold s after (around at.way other)
+        → (changed : Tree) × (within_limit (edit_at steps (with_instead step b) tree) ≡ Ok changed) × HoldsTold s after changed
+    put_part after few keeps told =
+        let size_is = other_size in
+        let is = put_size in (
           edit_at steps (with_instead step b) tree,
-          within (edit_at steps (with_instead step b) tree) (omega (arith, few, size_is)),
-          held after tree steps way (with_instead step b) f (join first (node n g rest)) (end_of Top way) at.goes at.is_tree instead_is last,
+          within (edit_at steps (with_instead step b) tree) (omega (arith, few, size_is, is)),
+          held s after tree steps at.way (with_instead step b) f other above at.goes at.is_tree instead_is keeps told,
         )
 
-pub taken_part : (before mid after : Nodes) (tree : Tree) (steps : List Step) (above : Row) (f : Branches) (step : Step) (schema : SchemaId) (old : NodeId) (numbers : List NodeId)
-    → IsAt before tree steps above f → IsPart step schema old numbers f → ChangesRow above (option_map (with_children (rows.taken (schema, old)))) before mid
-    → Removes numbers mid after → Holds after (edit_at steps (without step) tree)
-taken_part before mid after tree steps above f step schema old numbers at part changes removes =
-    let found = part.found in
-    let first = found.frame.before in
-    let rest = found.frame.after in
-    let m = found.frame.label in
-    let under = found.below in
-    let way = at.way in
-    let keeps = subst (λ g. Keeps before (around way g) Top end) found.is_row at.keeps in
-    let at_end : Keeps before (around way (join first (node m under rest))) (end_of Top way) end =
-    record { hangs = keeps.hangs; stands = tt; once = keeps.once; all = keeps.all } in
-    let child : child_of m ≡ (schema, old) = ap₂ (λ (s : SchemaId) (i : NodeId). (s, i)) found.is_schema found.is_id in
-    let row = subst (λ d. ChangesRow above (option_map (with_children (rows.taken d))) before mid) (sym child) changes in
-    let beside = change.taken before mid way first rest m under at_end (subst (λ r. ChangesRow r (option_map (with_children (rows.taken (child_of m)))) before mid) (sym at.ends) row) in
-    let last = given_back mid after (around way (join first rest)) (end_of Top way) (node m under end) beside (subst (λ ids. Removes ids mid after) part.are_numbers removes) in
-    held after tree steps way (without step) f (join first rest) (end_of Top way) at.goes at.is_tree
-    (ap (λ g. without step (tree_of g)) found.is_row
-    ∙ document.taken step first rest m under (ap (λ (s : SchemaId). s.0) found.is_schema ∙ part.is_schema) (ap (λ k. instances_in (tree_of first) k) (sym part.is_schema) ∙ found.is_index)) last
+    pub put_over : (X : Type 0) (after : Nodes) (fault : EditFault) → document_limit + length numbers < node_count mid → Removes has mid after → fault ≡ Refused E11 None
+        → Amends {X = X} s tree (within_limit (edit_at steps (with_instead step b) tree)) after (Err fault)
+    put_over X after fault many removes told =
+        let size_is = other_size in
+        let is = put_size in
+        subst (λ e. Amends {X = X} s tree (within_limit (edit_at steps (with_instead step b) tree)) after (Err e)) (sym told) (
+          over (edit_at steps (with_instead step b) tree) (omega (arith, many, size_is, is)),
+          kept s mid after tree (around at.way f) above (node made.root g end) has at.is_tree beside told_mid numbers_are removes,
+        )
+
+-- ---- out of a row
+
+module _ (s : Schema) (before : Nodes) (tree : Tree) (steps : List Step) (above : Row) (f : Branches) (step : Step) (of : SchemaId) (old : NodeId) (numbers : List NodeId)
+    (at : IsAt s before tree steps above f) (part : IsPart step of old numbers f) where
+  abbrev pub less : Branches
+  less = join part.found.frame.before part.found.frame.after
+
+  pub taking : (place : ℕ) → instance_index step ≡ place → Swapping (record { above = above; schema = of; change = Take old place }) before numbers []
+  taking place is =
+      record {
+        way = at.way;
+        f = f;
+        loose = end;
+        g = less;
+        left = node part.found.frame.label part.found.below end;
+        at = at.ends;
+        swaps = record {
+          before = part.found.frame.before;
+          from = part.found.frame.label;
+          under = part.found.below;
+          after = part.found.frame.after;
+          is_old = part.found.is_id;
+          is_schema = part.found.is_schema;
+          is_place = part.found.is_index ∙ is;
+          was = part.found.is_row;
+          none = refl;
+          row = refl;
+          goes = refl;
+        };
+        sorted = sorted_end at.way f at.sorted;
+        keeps = at_row before (around at.way f) above at.keeps;
+        are_old = sym part.are_numbers;
+        are_new = refl;
+      }
+
+  pub less_size : size (around at.way less) ≤ 2 ^ 28
+  less_size =
+      let change = size_around at.way f less in
+      let now = weigh_join (λ _. 1) part.found.frame.before part.found.frame.after in
+      let was = weigh_join (λ _. 1) part.found.frame.before (node part.found.frame.label part.found.below part.found.frame.after) in
+      let row : size f ≡ size (join part.found.frame.before (node part.found.frame.label part.found.below part.found.frame.after)) = ap size part.found.is_row in
+      let w1 = size_weigh less in
+      let w2 = size_weigh (join part.found.frame.before (node part.found.frame.label part.found.below part.found.frame.after)) in
+      let few = at.told.totals.small.few in
+      omega (arith, change, now, was, row, w1, w2, few)
+
+  pub taken : (after : Nodes) → Keeps after (around at.way less) above end → IsTold s after (around at.way less) → HoldsTold s after (edit_at steps (without step) tree)
+  taken after keeps told =
+      held s after tree steps at.way (without step) f less above at.goes at.is_tree
+      (ap (λ h. without step (tree_of h)) part.found.is_row
+      ∙ document.taken step part.found.frame.before part.found.frame.after part.found.frame.label part.found.below
+      (ap (λ (i : SchemaId). i.0) part.found.is_schema ∙ part.is_schema) (ap (λ k. instances_in (tree_of part.found.frame.before) k) (sym part.is_schema) ∙ part.found.is_index))
+      keeps told
+
+-- ---- a row with room
+
+pub prepared : (swap : Swap) (before after : Nodes) (old new : List NodeId) → Swapping swap before old new → MakesRoom swap.above before after → Prepared swap after old new
+prepared swap before after old new p room =
+    record {
+      ready = record {
+        way = p.way;
+        f = p.f;
+        loose = p.loose;
+        g = p.g;
+        left = p.left;
+        at = p.at;
+        swaps = p.swaps;
+        sorted = p.sorted;
+        keeps = keeps_same before after (room_same swap.above before after room.room room.changed) (around p.way p.f) swap.above p.loose p.keeps;
+        room = room_is_there before after swap.above room;
+      };
+      are_old = p.are_old;
+      are_new = p.are_new;
+    }
+
+pub err_then : {T E P Q : Type 0} (r : Result T E) → (P → Q) → OnErr r P → OnErr r Q
+err_then (Ok x) next so = tt
+err_then (Err e) next so = next so

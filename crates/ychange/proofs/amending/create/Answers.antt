@@ -22,11 +22,11 @@ returns-then-is_there-clause-amends c = λ tree above f at.
     let old = store_of c.args.counted.now in
     let mid = store_of c.is_there.new.counted in
     let t = target_at s above f c.args.place.last in
-    let at_mid = at_read old mid tree above row f at c.is_there.ensures.kept in
-    let there = sym (c.is_there.ensures.there above f (hangs_at old tree above row f at)) ∙ c.if-is_there.true in
-    subst (λ fault. Amends {X = Unit {0}} tree (spec.created s tree c.args.value.now t) mid (Err fault)) (sym c.refused.ensures) (
+    let at_mid = at_read s old mid tree above row f at c.is_there.ensures.kept in
+    let there = sym (c.is_there.ensures.there above f (hangs_at s old tree above row f at)) ∙ c.if-is_there.true in
+    subst (λ fault. Amends {X = Unit {0}} s tree (spec.created s tree c.args.value.now t) mid (Err fault)) (sym c.refused.ensures) (
       ap (λ b. if b then spec.refused 8 else (spec.branch_of s t.last.schema_node.number c.args.value.now >>= (λ x. spec.within_limit (edit_at t.above (spec.with_branch x) tree)))) there,
-      holds_at mid tree above row f at_mid,
+      holds_at s mid tree above row f at_mid,
     )
 
 pub returns-in-Ok-clause-amends : goal.returns-in-Ok-clause-amends
@@ -37,11 +37,11 @@ returns-in-Ok-clause-amends c = λ tree above f at.
     let old = store_of c.args.counted.now in
     let mid = store_of c.is_there.new.counted in
     let t = target_at s above f c.args.place.last in
-    let at_mid = at_read old mid tree above row f at c.is_there.ensures.kept in
-    let none = sym (c.is_there.ensures.there above f (hangs_at old tree above row f at)) ∙ c.if-is_there.false in
+    let at_mid = at_read s old mid tree above row f at c.is_there.ensures.kept in
+    let none = sym (c.is_there.ensures.there above f (hangs_at s old tree above row f at)) ∙ c.if-is_there.false in
     let order = value_in_order s id.0 c.args.value.now (branch_of c.in-Ok.part) (numbered c.args.schema.now) c.in-Ok.ensures in
     let value = ap (λ k. spec.branch_of s k c.args.value.now) (number_is s id.0) ∙ c.in-Ok.ensures in
-    subst (λ a. Amends tree a (store_of c.add_part.new.counted) c.add_part.result) (sym (created_is s tree c.args.value.now t (branch_of c.in-Ok.part) none value))
+    subst (λ a. Amends s tree a (store_of c.add_part.new.counted) c.add_part.result) (sym (created_is s tree c.args.value.now t (branch_of c.in-Ok.part) none value))
     (c.add_part.ensures.amends tree above f at_mid order.1)
 
 pub returns-in-Err-clause-amends : goal.returns-in-Err-clause-amends
@@ -51,13 +51,13 @@ returns-in-Err-clause-amends c = λ tree above f at.
     let old = store_of c.args.counted.now in
     let mid = store_of c.is_there.new.counted in
     let t = target_at s above f c.args.place.last in
-    let at_mid = at_read old mid tree above row f at c.is_there.ensures.kept in
-    let none = sym (c.is_there.ensures.there above f (hangs_at old tree above row f at)) ∙ c.if-is_there.false in
+    let at_mid = at_read s old mid tree above row f at c.is_there.ensures.kept in
+    let none = sym (c.is_there.ensures.there above f (hangs_at s old tree above row f at)) ∙ c.if-is_there.false in
     let told = told_by c.in-Err.fault in
     let fails = fails_same told (spec.branch_of s t.last.schema_node.number c.args.value.now) (spec.branch_of s c.args.place.last.id.0 c.args.value.now)
     (ap (λ k. spec.branch_of s k c.args.value.now) (number_is s c.args.place.last.id.0)) c.in-Err.ensures in
-    amends_fault (Unit {0}) mid tree (spec.created s tree c.args.value.now t) c.in-Err.fault
+    amends_fault (Unit {0}) s mid tree (spec.created s tree c.args.value.now t) c.in-Err.fault
     (fails_same told (spec.created s tree c.args.value.now t) _
     (ap (λ b. if b then spec.refused 8 else (spec.branch_of s t.last.schema_node.number c.args.value.now >>= (λ x. spec.within_limit (edit_at t.above (spec.with_branch x) tree)))) none)
     (fails_on told (spec.branch_of s t.last.schema_node.number c.args.value.now) (λ x. spec.within_limit (edit_at t.above (spec.with_branch x) tree)) fails))
-    (holds_at mid tree above row f at_mid) (shows_at mid tree above row f at_mid)
+    (holds_at s mid tree above row f at_mid) (shows_at s mid tree above row f at_mid)

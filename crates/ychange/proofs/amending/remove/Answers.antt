@@ -19,7 +19,7 @@ returns-in_err-numbers-in-Ok-clause-amends c = λ tree above f at.
     let mid = store_of c.instance_meant.new.counted in
     let last = store_of c.numbers_of.new.counted in
     wanting c.from_residual.result tree _ last c.from_residual.ensures.1
-    (shows_at last tree above c.args.place.above f (at_read old last tree above c.args.place.above f at (reads_on old mid last c.in-Ok.ensures.kept c.numbers_of.ensures.kept)))
+    (shows_at s last tree above c.args.place.above f (at_read s old last tree above c.args.place.above f at (reads_on old mid last c.in-Ok.ensures.kept c.numbers_of.ensures.kept)))
 
 pub returns-in_ok-numbers-in-Ok-clause-amends : goal.returns-in_ok-numbers-in-Ok-clause-amends
 returns-in_ok-numbers-in-Ok-clause-amends c = λ tree above f at.
@@ -29,14 +29,14 @@ returns-in_ok-numbers-in-Ok-clause-amends c = λ tree above f at.
     let old = store_of c.args.counted.now in
     let mid = store_of c.instance_meant.new.counted in
     let last = store_of c.numbers_of.new.counted in
-    let here = hangs_at old tree above row f at in
+    let here = hangs_at s old tree above row f at in
     let step : Step = instance_view id.0 c.in-Ok.instance in
-    let at_mid = at_read old mid tree above row f at c.in-Ok.ensures.kept in
-    let part = part_at mid tree above row f step id c.in-Ok.instance.node _ at_mid (c.in-Ok.ensures.found f here) refl
+    let at_mid = at_read s old mid tree above row f at c.in-Ok.ensures.kept in
+    let part = part_at s mid tree above row f step id c.in-Ok.instance.node _ at_mid (c.in-Ok.ensures.found f here) refl
     (λ r n below same stands fits. c.deref.ensures.value ∙ c.in_ok-numbers-in-Ok.ensures.numbers r n below same stands fits) in (
       edit_at above (spec.without step) tree,
       removed_is s tree (target_at s above f c.args.place.last) step (c.in-Ok.ensures.answer f here),
-      c.take_part.ensures.taken tree above f step (at_read mid last tree above row f at_mid c.numbers_of.ensures.kept) part,
+      c.take_part.ensures.taken tree above f step (at_read s mid last tree above row f at_mid c.numbers_of.ensures.kept) part,
     )
 
 pub returns-in-Err-clause-amends : goal.returns-in-Err-clause-amends
@@ -45,7 +45,7 @@ returns-in-Err-clause-amends c = λ tree above f at.
     let row = c.args.place.above in
     let old = store_of c.args.counted.now in
     let mid = store_of c.instance_meant.new.counted in
-    let at_mid = at_read old mid tree above row f at c.in-Err.ensures.kept in
-    amends_fault (Unit {0}) mid tree (spec.removed s tree (target_at s above f c.args.place.last)) c.in-Err.fault
-    (fails_on (told_by c.in-Err.fault) (spec.last_meant s (target_at s above f c.args.place.last)) _ (c.in-Err.ensures.answer f (hangs_at old tree above row f at)))
-    (holds_at mid tree above row f at_mid) (shows_at mid tree above row f at_mid)
+    let at_mid = at_read s old mid tree above row f at c.in-Err.ensures.kept in
+    amends_fault (Unit {0}) s mid tree (spec.removed s tree (target_at s above f c.args.place.last)) c.in-Err.fault
+    (fails_on (told_by c.in-Err.fault) (spec.last_meant s (target_at s above f c.args.place.last)) _ (c.in-Err.ensures.answer f (hangs_at s old tree above row f at)))
+    (holds_at s mid tree above row f at_mid) (shows_at s mid tree above row f at_mid)

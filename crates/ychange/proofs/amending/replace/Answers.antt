@@ -24,7 +24,7 @@ returns-in_err-numbers-in-Ok-part-clause-amends c = λ tree above f at.
     let mid = store_of c.instance_meant.new.counted in
     let last = store_of c.numbers_of.new.counted in
     wanting c.from_residual.result tree _ last c.from_residual.ensures.1
-    (shows_at last tree above c.args.place.above f (at_read old last tree above c.args.place.above f at (reads_on old mid last c.in-Ok.ensures.kept c.numbers_of.ensures.kept)))
+    (shows_at s last tree above c.args.place.above f (at_read s old last tree above c.args.place.above f at (reads_on old mid last c.in-Ok.ensures.kept c.numbers_of.ensures.kept)))
 
 pub returns-in_ok-numbers-in-Ok-part-clause-amends : goal.returns-in_ok-numbers-in-Ok-part-clause-amends
 returns-in_ok-numbers-in-Ok-part-clause-amends c = λ tree above f at.
@@ -35,16 +35,16 @@ returns-in_ok-numbers-in-Ok-part-clause-amends c = λ tree above f at.
     let mid = store_of c.instance_meant.new.counted in
     let last = store_of c.numbers_of.new.counted in
     let t = target_at s above f c.args.place.last in
-    let here = hangs_at old tree above row f at in
+    let here = hangs_at s old tree above row f at in
     let step : Step = instance_view id.0 c.in-Ok.instance in
-    let at_mid = at_read old mid tree above row f at c.in-Ok.ensures.kept in
-    let part = part_at mid tree above row f step id c.in-Ok.instance.node _ at_mid (c.in-Ok.ensures.found f here) refl
+    let at_mid = at_read s old mid tree above row f at c.in-Ok.ensures.kept in
+    let part = part_at s mid tree above row f step id c.in-Ok.instance.node _ at_mid (c.in-Ok.ensures.found f here) refl
     (λ r n below same stands fits. c.deref.ensures.value ∙ c.in_ok-numbers-in-Ok-part.ensures.numbers r n below same stands fits) in
     let order = value_in_order s id.0 c.args.value.now (branch_of c.in-Ok-part.part) (numbered c.args.schema.now) c.in-Ok-part.ensures in
     let value = ap (λ k. spec.branch_of s k c.args.value.now) (number_is s id.0) ∙ c.in-Ok-part.ensures in
-    subst (λ a. Amends tree a (store_of c.put_part.new.counted) c.put_part.result)
+    subst (λ a. Amends s tree a (store_of c.put_part.new.counted) c.put_part.result)
     (sym (replaced_is s tree c.args.value.now t step (branch_of c.in-Ok-part.part) (c.in-Ok.ensures.answer f here) value))
-    (c.put_part.ensures.amends tree above f step id (at_read mid last tree above row f at_mid c.numbers_of.ensures.kept) part order.0 order.1)
+    (c.put_part.ensures.amends tree above f step id (at_read s mid last tree above row f at_mid c.numbers_of.ensures.kept) part order.0 order.1)
 
 pub returns-in-Err-part-clause-amends : goal.returns-in-Err-part-clause-amends
 returns-in-Err-part-clause-amends c = λ tree above f at.
@@ -54,16 +54,16 @@ returns-in-Err-part-clause-amends c = λ tree above f at.
     let mid = store_of c.instance_meant.new.counted in
     let t = target_at s above f c.args.place.last in
     let step : Step = instance_view c.args.place.last.id.0 c.in-Ok.instance in
-    let at_mid = at_read old mid tree above row f at c.in-Ok.ensures.kept in
+    let at_mid = at_read s old mid tree above row f at c.in-Ok.ensures.kept in
     let told = told_by c.in-Err-part.fault in
     let value = spec.branch_of s t.last.schema_node.number c.args.value.now in
     let fails = fails_same told value (spec.branch_of s c.args.place.last.id.0 c.args.value.now)
     (ap (λ k. spec.branch_of s k c.args.value.now) (number_is s c.args.place.last.id.0)) c.in-Err-part.ensures in
-    amends_fault (Unit {0}) mid tree (spec.replaced s tree c.args.value.now t) c.in-Err-part.fault
+    amends_fault (Unit {0}) s mid tree (spec.replaced s tree c.args.value.now t) c.in-Err-part.fault
     (fails_same told (spec.replaced s tree c.args.value.now t) _
-    (ap (λ a. a >>= (λ st. value >>= (λ x. spec.within_limit (edit_at t.above (spec.with_instead st x) tree)))) (c.in-Ok.ensures.answer f (hangs_at old tree above row f at)))
+    (ap (λ a. a >>= (λ st. value >>= (λ x. spec.within_limit (edit_at t.above (spec.with_instead st x) tree)))) (c.in-Ok.ensures.answer f (hangs_at s old tree above row f at)))
     (fails_on told value (λ x. spec.within_limit (edit_at t.above (spec.with_instead step x) tree)) fails))
-    (holds_at mid tree above row f at_mid) (shows_at mid tree above row f at_mid)
+    (holds_at s mid tree above row f at_mid) (shows_at s mid tree above row f at_mid)
 
 pub returns-in-Err-clause-amends : goal.returns-in-Err-clause-amends
 returns-in-Err-clause-amends c = λ tree above f at.
@@ -71,7 +71,7 @@ returns-in-Err-clause-amends c = λ tree above f at.
     let row = c.args.place.above in
     let old = store_of c.args.counted.now in
     let mid = store_of c.instance_meant.new.counted in
-    let at_mid = at_read old mid tree above row f at c.in-Err.ensures.kept in
-    amends_fault (Unit {0}) mid tree (spec.replaced s tree c.args.value.now (target_at s above f c.args.place.last)) c.in-Err.fault
-    (fails_on (told_by c.in-Err.fault) (spec.last_meant s (target_at s above f c.args.place.last)) _ (c.in-Err.ensures.answer f (hangs_at old tree above row f at)))
-    (holds_at mid tree above row f at_mid) (shows_at mid tree above row f at_mid)
+    let at_mid = at_read s old mid tree above row f at c.in-Err.ensures.kept in
+    amends_fault (Unit {0}) s mid tree (spec.replaced s tree c.args.value.now (target_at s above f c.args.place.last)) c.in-Err.fault
+    (fails_on (told_by c.in-Err.fault) (spec.last_meant s (target_at s above f c.args.place.last)) _ (c.in-Err.ensures.answer f (hangs_at s old tree above row f at)))
+    (holds_at s mid tree above row f at_mid) (shows_at s mid tree above row f at_mid)

@@ -20,11 +20,11 @@ pub returns-in-Ok-clause-place : goal.returns-in-Ok-clause-place
 returns-in-Ok-clause-place t c = λ tree so_far f at.
     let s = schema_view.view c.args.schema.now in
     let b = c.in-Some.step.now in
-    let here = hangs_at (store_of c.args.counted.now) tree so_far c.args.above f at in
+    let here = hangs_at s (store_of c.args.counted.now) tree so_far c.args.above f at in
     let step : Step = instance_view b.id.0 c.in-Ok.instance in
     let found = c.in-Ok.ensures.found f here in
     let mid = store_of c.instance_meant.new.counted in
-    let on = at_further mid tree so_far c.args.above f step b.id c.in-Ok.instance.node (at_read (store_of c.args.counted.now) mid tree so_far c.args.above f at c.in-Ok.ensures.kept) found refl in
+    let on = at_further s mid tree so_far c.args.above f step b.id c.in-Ok.instance.node (at_read s (store_of c.args.counted.now) mid tree so_far c.args.above f at c.in-Ok.ensures.kept) found refl in
     let e : c.args.steps.now ≡ c.in-Some.step.now ∷ c.in-Some.more.now = search rules in
     let long = length-map c.in-Some.more.now (step_view s) in
     let least = c.in-Some.len_at_least in
@@ -35,7 +35,7 @@ returns-in-Ok-clause-place t c = λ tree so_far f at.
 pub returns-in-Err-clause-place : goal.returns-in-Err-clause-place
 returns-in-Err-clause-place t c = λ tree so_far f at.
     let s = schema_view.view c.args.schema.now in
-    let here = hangs_at (store_of c.args.counted.now) tree so_far c.args.above f at in
+    let here = hangs_at s (store_of c.args.counted.now) tree so_far c.args.above f at in
     let e : c.args.steps.now ≡ c.in-Some.step.now ∷ c.in-Some.more.now = search rules in
     let long = length-map c.in-Some.more.now (step_view s) in
     let least = c.in-Some.len_at_least in
