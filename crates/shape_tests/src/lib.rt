@@ -2,6 +2,4 @@
 #![tactic(auto)]
 
 #[cfg(test)]
-mod amending;
-#[cfg(test)]
 mod stores;
