@@ -3,3 +3,5 @@ pub mod AmendLemmas
 pub mod LocatingLemmas
 pub mod OrderLemmas
 pub mod PartLemmas
+pub mod BesideLemmas
+pub mod OpeningLemmas
