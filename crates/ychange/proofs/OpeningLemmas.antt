@@ -59,7 +59,7 @@ sorted_second (node s below after) u sorted = sorted_second after u sorted.2
 
 module _ (rows : List rust.Stored) (i : ℕ) (s : rust.Stored) (t whole : Tree) (within : i < length rows) (is : s ≡ get_or rows i s)
     (so : join t (row_view (drop i rows)) ≡ whole) (sorted : IsSorted whole) where
-  rest : Tree
+  abbrev rest : Tree
   rest = row_view (drop (i + 1) rows)
 
   all_sorted : IsSorted (join t (node (view s).0 (view s).1 rest))
