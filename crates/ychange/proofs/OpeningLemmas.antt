@@ -9,11 +9,7 @@ use Rattle.yspec.specs.edit.Editing.{Branch, with_branch}
 use Rattle.yspec.proofs.ForestLemmas.{join_assoc}
 use Rattle.ytree.specs.View.{view, row_view}
 use Rattle.ytree.specs.declared.tree.Stored as rust
-use Rattle.ystore.specs.Held.{nothing_held}
-use Rattle.ystore.specs.Store.{held_at, entry_at, node_count}
-use Rattle.ystore.specs.declared.row.NodeId.{NodeId}
-use Rattle.ystore.specs.declared.row.Row.TheVariants.{Top, Below}
-use Rattle.ystore.specs.declared.key.Key.{Key}
+use Rattle.ystore.specs.declared.row.Row.TheVariants.{Top}
 use Rattle.ystore.specs.declared.nodes.Nodes.{Nodes}
 use Rattle.yshape.specs.Hanging.{Keeps}
 use Rattle.yshape.proofs.OpenLemmas.{all_stored, next_stored}

@@ -1,5 +1,5 @@
-use Rattle.std.proofs.Common.{arith, rules, refl, sym, subst, ◌∙◌, ◌+◌, drop, []}
-use Rattle.yspec.specs.Forest.{end, join}
+use Rattle.std.proofs.Common.{arith, rules, refl, sym, subst, ◌∙◌, []}
+use Rattle.yspec.specs.Forest.{end}
 use Rattle.yspec.specs.edit.Editing.{with_branch}
 use Rattle.ytree.specs.View.{tree_view}
 use Rattle.ymodel.specs.View as schema_view
