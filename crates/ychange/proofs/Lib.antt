@@ -4,3 +4,5 @@ pub mod InstanceLemmas
 pub mod LocatingLemmas
 pub mod OrderLemmas
 pub mod PartLemmas
+pub mod BesideLemmas
+pub mod OpeningLemmas
