@@ -1,6 +1,6 @@
 -- Parts of a document in its store: put into a row, in the place of another, and taken out, with all that is told of it.
 use Rattle.std.proofs.Common.{◌≡◌, List, [], ◌∷◌, refl, sym, ap, ap₂, ◌∙◌, arith, subst, true, false}
-use Rattle.std.specs.Prelude.{◌+◌, ◌^◌, ◌<◌, ◌≤◌, ℕ, None, Result, Ok, Err, IsErrAnd, OnErr, length}
+use Rattle.std.specs.Prelude.{◌+◌, ◌^◌, ◌<◌, ◌≤◌, ℕ, None, Result, Ok, Err, IsErrAnd, OnErr, OnOk, length}
 use Rattle.std.proofs.lemmas.Bool.{lt-ltb, le-ltb}
 use Rattle.std.proofs.lemmas.List.{append-nil}
 use Rattle.yspec.specs.Forest.{end, node, join, size}
@@ -125,7 +125,7 @@ kept s mid after tree branches above loose numbers is keeps told are removes =
       told = told_removed s mid after branches above loose keeps gone told;
     }
 
-by_number : (s t : SchemaId) → s.0 ≡ t.0 → s ≡ t
+pub by_number : (s t : SchemaId) → s.0 ≡ t.0 → s ≡ t
 by_number s t e = ap (λ k. let u : SchemaId = record { 0 = k } in u) e
 
 module _ (s : Schema) (before mid : Nodes) (tree : Tree) (steps : List Step) (above : Row) (f : Branches) (id : NodeId) (label : Stored) (below : Tree) (has : List NodeId)
@@ -381,3 +381,7 @@ prepared swap before after old new p room =
 pub err_then : {T E P Q : Type 0} (r : Result T E) → (P → Q) → OnErr r P → OnErr r Q
 err_then (Ok x) next so = tt
 err_then (Err e) next so = next so
+
+pub ok_both : {T E P Q R : Type 0} (r : Result T E) → (P → Q → R) → OnOk r P → OnOk r Q → OnOk r R
+ok_both (Ok x) next so also = next so also
+ok_both (Err e) next so also = tt

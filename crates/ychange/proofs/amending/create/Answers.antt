@@ -42,7 +42,7 @@ returns-in-Ok-clause-amends c = λ tree above f at.
     let order = value_in_order s id.0 c.args.value.now (branch_of c.in-Ok.part) (numbered c.args.schema.now) c.in-Ok.ensures in
     let value = ap (λ k. spec.branch_of s k c.args.value.now) (number_is s id.0) ∙ c.in-Ok.ensures in
     subst (λ a. Amends s tree a (store_of c.add_part.new.counted) c.add_part.result) (sym (created_is s tree c.args.value.now t (branch_of c.in-Ok.part) none value))
-    (c.add_part.ensures.amends tree above f at_mid order.1)
+    (c.add_part.ensures.amends tree above f at_mid)
 
 pub returns-in-Err-clause-amends : goal.returns-in-Err-clause-amends
 returns-in-Err-clause-amends c = λ tree above f at.

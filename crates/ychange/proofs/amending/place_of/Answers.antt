@@ -16,7 +16,7 @@ locate-requires c =
     (bound_from_one s c.args.is_create (path_view c.args.path.now) (steps_view s c.in-Ok.bound.steps.items) c.in-Ok.ensures)
 
 pub returns-in-Ok-clause-place : goal.returns-in-Ok-clause-place
-returns-in-Ok-clause-place c = λ tree holds.
+returns-in-Ok-clause-place c = λ tree holds sorted.
     let s = schema_view.view c.args.schema.now in
     subst (λ a. Locates s tree [] (a >>= spec.target s tree) (store_of c.locate.new.counted) c.locate.result) (sym c.in-Ok.ensures)
-    (subst (λ bs. Locates s tree [] (spec.target s tree (steps_view s bs)) (store_of c.locate.new.counted) c.locate.result) c.as_slice.ensures.value (c.locate.ensures.place tree holds))
+    (subst (λ bs. Locates s tree [] (spec.target s tree (steps_view s bs)) (store_of c.locate.new.counted) c.locate.result) c.as_slice.ensures.value (c.locate.ensures.place tree holds sorted))

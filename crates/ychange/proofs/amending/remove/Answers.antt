@@ -18,7 +18,8 @@ returns-in_err-numbers-in-Ok-clause-amends c = λ tree above f at.
     let old = store_of c.args.counted.now in
     let mid = store_of c.instance_meant.new.counted in
     let last = store_of c.numbers_of.new.counted in
-    wanting c.from_residual.result tree _ last c.from_residual.ensures.1
+    let s = schema_view.view c.args.schema.now in
+    wanting s c.from_residual.result tree _ last c.from_residual.ensures.1
     (shows_at s last tree above c.args.place.above f (at_read s old last tree above c.args.place.above f at (reads_on old mid last c.in-Ok.ensures.kept c.numbers_of.ensures.kept)))
 
 pub returns-in_ok-numbers-in-Ok-clause-amends : goal.returns-in_ok-numbers-in-Ok-clause-amends

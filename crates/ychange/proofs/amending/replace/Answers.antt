@@ -23,7 +23,8 @@ returns-in_err-numbers-in-Ok-part-clause-amends c = λ tree above f at.
     let old = store_of c.args.counted.now in
     let mid = store_of c.instance_meant.new.counted in
     let last = store_of c.numbers_of.new.counted in
-    wanting c.from_residual.result tree _ last c.from_residual.ensures.1
+    let s = schema_view.view c.args.schema.now in
+    wanting s c.from_residual.result tree _ last c.from_residual.ensures.1
     (shows_at s last tree above c.args.place.above f (at_read s old last tree above c.args.place.above f at (reads_on old mid last c.in-Ok.ensures.kept c.numbers_of.ensures.kept)))
 
 pub returns-in_ok-numbers-in-Ok-part-clause-amends : goal.returns-in_ok-numbers-in-Ok-part-clause-amends
@@ -44,7 +45,7 @@ returns-in_ok-numbers-in-Ok-part-clause-amends c = λ tree above f at.
     let value = ap (λ k. spec.branch_of s k c.args.value.now) (number_is s id.0) ∙ c.in-Ok-part.ensures in
     subst (λ a. Amends s tree a (store_of c.put_part.new.counted) c.put_part.result)
     (sym (replaced_is s tree c.args.value.now t step (branch_of c.in-Ok-part.part) (c.in-Ok.ensures.answer f here) value))
-    (c.put_part.ensures.amends tree above f step id (at_read s mid last tree above row f at_mid c.numbers_of.ensures.kept) part order.0 order.1)
+    (c.put_part.ensures.amends tree above f step id (at_read s mid last tree above row f at_mid c.numbers_of.ensures.kept) part order.0)
 
 pub returns-in-Err-part-clause-amends : goal.returns-in-Err-part-clause-amends
 returns-in-Err-part-clause-amends c = λ tree above f at.

@@ -1,4 +1,4 @@
-use Rattle.std.proofs.Common.{subst, arith, ◌∙◌}
+use Rattle.std.proofs.Common.{[], subst, arith, refl, ◌∙◌}
 use Rattle.yspec.specs.Forest.{end, node}
 use Rattle.ymodel.specs.View as schema_view
 use Rattle.ytree.specs.View.{view}
@@ -12,3 +12,63 @@ pub returns-in_err-new-clause-hangs : goal.returns-in_err-new-clause-hangs
 returns-in_err-new-clause-hangs c = λ tree steps f at.
     let s = schema_view.view c.args.schema.now in
     part.shows s (store_of c.args.counted.now) (store_of c.insert_part.new.counted) tree steps c.args.above f at c.insert_part.ensures.grows
+
+pub returns-then-node_count-gt-most-clause-hangs : goal.returns-then-node_count-gt-most-clause-hangs
+returns-then-node_count-gt-most-clause-hangs c = λ tree steps f at.
+    let s = schema_view.view c.args.schema.now in
+    let old = store_of c.args.counted.now in
+    let mid = store_of c.insert_part.new.counted in
+    let label = (view c.args.part.now).0 in
+    let below = (view c.args.part.now).1 in
+    let made = subst (λ had. Inserts c.args.above c.in_ok-new.new label below old mid had c.insert_part.new.numbers.items) c.new-numbers.ensures.items c.in_ok-new.ensures.ok in
+    let many = c.if-node_count-gt-most.true in
+    let count = c.node_count.ensures in
+    part.hangs_not s old mid tree steps c.args.above f c.in_ok-new.new label below c.insert_part.new.numbers.items made c.insert_part.ensures.fresh at c.requires.sorted _ c.args.most
+    (store_of c.remove_nodes.new.counted) (omega (arith, many, count)) (subst (λ xs. Removes xs mid (store_of c.remove_nodes.new.counted)) c.deref.ensures.value c.remove_nodes.ensures.store)
+
+pub change_row-requires : goal.change_row-requires
+change_row-requires c =
+    let s = schema_view.view c.args.schema.now in
+    let old = store_of c.args.counted.now in
+    let mid = store_of c.insert_part.new.counted in
+    let label = (view c.args.part.now).0 in
+    let below = (view c.args.part.now).1 in
+    let made = subst (λ had. Inserts c.args.above c.in_ok-new.new label below old mid had c.insert_part.new.numbers.items) c.new-numbers.ensures.items c.in_ok-new.ensures.ok in
+    let at = c.requires.at in
+    part.adding s old mid at.tree at.steps c.args.above at.f c.in_ok-new.new label below c.insert_part.new.numbers.items made c.insert_part.ensures.fresh at.at c.requires.sorted
+    c.id.result c.id.ensures
+
+pub returns-clause-hangs : goal.returns-clause-hangs
+returns-clause-hangs c = λ tree steps f at.
+    let s = schema_view.view c.args.schema.now in
+    let old = store_of c.args.counted.now in
+    let mid = store_of c.insert_part.new.counted in
+    let label = (view c.args.part.now).0 in
+    let below = (view c.args.part.now).1 in
+    let has = c.insert_part.new.numbers.items in
+    let made = subst (λ had. Inserts c.args.above c.in_ok-new.new label below old mid had has) c.new-numbers.ensures.items c.in_ok-new.ensures.ok in
+    let fresh = c.insert_part.ensures.fresh in
+    let sorted = c.requires.sorted in
+    let few = c.if-node_count-gt-most.false in
+    let count = c.node_count.ensures in
+    let most = c.requires.most in
+    let more_size = part.more_size s old mid tree steps c.args.above f c.in_ok-new.new label below has made fresh at sorted in
+    let p = part.adding s old mid tree steps c.args.above f c.in_ok-new.new label below has made fresh at sorted c.id.result c.id.ensures in
+    part.hangs s old mid tree steps c.args.above f c.in_ok-new.new label below has made fresh at sorted _ c.args.most (store_of c.change_row.new.counted) (omega (arith, few, count))
+    (c.in_ok-change_row.ensures.keeps p)
+    (c.in_ok-change_row.ensures.told p (part.told_mid s old mid tree steps c.args.above f c.in_ok-new.new label below has made fresh at sorted)
+    (part.fresh_mid s old mid tree steps c.args.above f c.in_ok-new.new label below has made fresh at sorted) (omega (arith, few, count, most, more_size)))
+
+pub returns-in_err-change_row-clause-hangs : goal.returns-in_err-change_row-clause-hangs
+returns-in_err-change_row-clause-hangs c = λ tree steps f at.
+    let s = schema_view.view c.args.schema.now in
+    let old = store_of c.args.counted.now in
+    let mid = store_of c.insert_part.new.counted in
+    let label = (view c.args.part.now).0 in
+    let below = (view c.args.part.now).1 in
+    let has = c.insert_part.new.numbers.items in
+    let made = subst (λ had. Inserts c.args.above c.in_ok-new.new label below old mid had has) c.new-numbers.ensures.items c.in_ok-new.ensures.ok in
+    let loose = node made.root (part.g s old mid tree steps c.args.above f c.in_ok-new.new label below has made c.insert_part.ensures.fresh at c.requires.sorted) end in
+    part.shows_beside (store_of c.change_row.new.counted) tree (around at.way f) c.args.above loose at.is_tree
+    (c.in_err-change_row.ensures.keeps_still (around at.way f) c.args.above loose
+    (part.beside s old mid tree steps c.args.above f c.in_ok-new.new label below has made c.insert_part.ensures.fresh at c.requires.sorted))

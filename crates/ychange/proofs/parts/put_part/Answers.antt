@@ -1,37 +1,78 @@
-use Rattle.std.proofs.Common.{subst, arith}
+use Rattle.std.proofs.Common.{[], sym, subst, arith, ◌∙◌}
+use Rattle.yspec.specs.Forest.{end, node}
+use Rattle.ymodel.specs.View as schema_view
 use Rattle.ytree.specs.View.{view}
 use Rattle.ystore.specs.Views.{store_of}
 use Rattle.yshape.specs.Growing.{Inserts, Removes}
+use Rattle.yshape.specs.Ways.{around}
 use Rattle.ychange.proofs.PartLemmas as part
 use Rattle.ychange.proofs.parts.put_part.Goals as goal
 
-pub returns-in_err-id-clause-amends : goal.returns-in_err-id-clause-amends
-returns-in_err-id-clause-amends c = λ tree steps f step schema at is same sorted.
-    part.wanting c.from_residual.result tree _ (store_of c.insert_part.new.counted) c.from_residual.ensures.1
-    (part.shows (store_of c.args.counted.now) (store_of c.insert_part.new.counted) tree steps c.args.above f at c.insert_part.ensures.grows)
+pub returns-in_err-new-clause-amends : goal.returns-in_err-new-clause-amends
+returns-in_err-new-clause-amends c = λ tree steps f step schema at is same.
+    let s = schema_view.view c.args.schema.now in
+    part.wanting s c.from_residual.result tree _ (store_of c.insert_part.new.counted) c.from_residual.ensures.1
+    (part.shows s (store_of c.args.counted.now) (store_of c.insert_part.new.counted) tree steps c.args.above f at c.insert_part.ensures.grows)
 
 pub returns-then-saturating_sub-gt-DOCUMENT_LIMIT-clause-amends : goal.returns-then-saturating_sub-gt-DOCUMENT_LIMIT-clause-amends
-returns-then-saturating_sub-gt-DOCUMENT_LIMIT-clause-amends c = λ tree steps f step schema at is same sorted.
+returns-then-saturating_sub-gt-DOCUMENT_LIMIT-clause-amends c = λ tree steps f step schema at is same.
+    let s = schema_view.view c.args.schema.now in
     let old = store_of c.args.counted.now in
     let mid = store_of c.insert_part.new.counted in
     let label = (view c.args.part.now).0 in
     let below = (view c.args.part.now).1 in
-    let made = subst (λ had. Inserts c.args.above c.in_ok-id.id label below old mid had c.insert_part.new.numbers.items) c.new-numbers.ensures.items c.in_ok-id.ensures.ok in
+    let made = subst (λ had. Inserts c.args.above c.in_ok-new.new label below old mid had c.insert_part.new.numbers.items) c.new-numbers.ensures.items c.in_ok-new.ensures.ok in
     let many = c.if-saturating_sub-gt-DOCUMENT_LIMIT.true in
     let count = c.node_count.ensures in
     let less = c.saturating_sub.ensures in
-    part.put_over old mid tree steps c.args.above f c.in_ok-id.id label below c.insert_part.new.numbers.items made at sorted step schema c.args.old c.args.old_numbers.now is (Unit {0})
-    (store_of c.remove_nodes.new.counted) c.refused.result (omega (arith, many, less, count)) (subst (λ xs. Removes xs mid (store_of c.remove_nodes.new.counted)) c.deref.ensures.value c.remove_nodes.ensures.store) c.refused.ensures
+    part.put_over s old mid tree steps c.args.above f c.in_ok-new.new label below c.insert_part.new.numbers.items made c.insert_part.ensures.fresh at c.requires.sorted step schema c.args.old
+    c.args.old_numbers.now is _ (store_of c.remove_nodes.new.counted) c.refused.result (omega (arith, many, less, count))
+    (subst (λ xs. Removes xs mid (store_of c.remove_nodes.new.counted)) c.deref.ensures.value c.remove_nodes.ensures.store) c.refused.ensures
 
-pub returns-clause-amends : goal.returns-clause-amends
-returns-clause-amends c = λ tree steps f step schema at is same sorted.
+pub change_row-requires : goal.change_row-requires
+change_row-requires c =
+    let s = schema_view.view c.args.schema.now in
     let old = store_of c.args.counted.now in
     let mid = store_of c.insert_part.new.counted in
     let label = (view c.args.part.now).0 in
     let below = (view c.args.part.now).1 in
-    let made = subst (λ had. Inserts c.args.above c.in_ok-id.id label below old mid had c.insert_part.new.numbers.items) c.new-numbers.ensures.items c.in_ok-id.ensures.ok in
+    let made = subst (λ had. Inserts c.args.above c.in_ok-new.new label below old mid had c.insert_part.new.numbers.items) c.new-numbers.ensures.items c.in_ok-new.ensures.ok in
+    let p = c.requires.at.1 in
+    part.putting s old mid p.tree p.steps c.args.above p.f c.in_ok-new.new label below c.insert_part.new.numbers.items made c.insert_part.ensures.fresh p.at c.requires.sorted
+    p.step p.of c.args.old c.args.old_numbers.now p.part c.id.result c.id.ensures (sym p.is_number)
+
+pub returns-clause-amends : goal.returns-clause-amends
+returns-clause-amends c = λ tree steps f step schema at is same.
+    let s = schema_view.view c.args.schema.now in
+    let old = store_of c.args.counted.now in
+    let mid = store_of c.insert_part.new.counted in
+    let label = (view c.args.part.now).0 in
+    let below = (view c.args.part.now).1 in
+    let has = c.insert_part.new.numbers.items in
+    let made = subst (λ had. Inserts c.args.above c.in_ok-new.new label below old mid had has) c.new-numbers.ensures.items c.in_ok-new.ensures.ok in
+    let fresh = c.insert_part.ensures.fresh in
+    let sorted = c.requires.sorted in
     let few = c.if-saturating_sub-gt-DOCUMENT_LIMIT.false in
     let count = c.node_count.ensures in
     let less = c.saturating_sub.ensures in
-    part.put_part old mid tree steps c.args.above f c.in_ok-id.id label below c.insert_part.new.numbers.items made at sorted step schema c.args.old c.args.old_numbers.now is
-    (store_of c.put_child.new.self) (store_of c.remove_nodes-2.new.counted) c.id.result c.id.ensures same c.put_child.ensures.store c.remove_nodes-2.ensures.store (omega (arith, few, less, count))
+    let p = part.putting s old mid tree steps c.args.above f c.in_ok-new.new label below has made fresh at sorted step schema c.args.old c.args.old_numbers.now is c.id.result c.id.ensures same in
+    let other_size = part.other_size s old mid tree steps c.args.above f c.in_ok-new.new label below has made fresh at sorted step schema c.args.old c.args.old_numbers.now is in
+    part.put_part s old mid tree steps c.args.above f c.in_ok-new.new label below has made fresh at sorted step schema c.args.old c.args.old_numbers.now is (store_of c.change_row.new.counted)
+    (omega (arith, few, less, count)) (c.in_ok-change_row.ensures.keeps p)
+    (c.in_ok-change_row.ensures.told p (part.told_mid s old mid tree steps c.args.above f c.in_ok-new.new label below has made fresh at sorted)
+    (part.fresh_mid s old mid tree steps c.args.above f c.in_ok-new.new label below has made fresh at sorted) (omega (arith, few, less, count, other_size)))
+
+pub returns-in_err-change_row-clause-amends : goal.returns-in_err-change_row-clause-amends
+returns-in_err-change_row-clause-amends c = λ tree steps f step schema at is same.
+    let s = schema_view.view c.args.schema.now in
+    let old = store_of c.args.counted.now in
+    let mid = store_of c.insert_part.new.counted in
+    let label = (view c.args.part.now).0 in
+    let below = (view c.args.part.now).1 in
+    let has = c.insert_part.new.numbers.items in
+    let made = subst (λ had. Inserts c.args.above c.in_ok-new.new label below old mid had has) c.new-numbers.ensures.items c.in_ok-new.ensures.ok in
+    let loose = node made.root (part.g s old mid tree steps c.args.above f c.in_ok-new.new label below has made c.insert_part.ensures.fresh at c.requires.sorted) end in
+    part.wanting s c.from_residual-in_err-change_row.result tree _ (store_of c.change_row.new.counted) c.from_residual-in_err-change_row.ensures.1
+    (part.shows_beside (store_of c.change_row.new.counted) tree (around at.way f) c.args.above loose at.is_tree
+    (c.in_err-change_row.ensures.keeps_still (around at.way f) c.args.above loose
+    (part.beside s old mid tree steps c.args.above f c.in_ok-new.new label below has made c.insert_part.ensures.fresh at c.requires.sorted)))
