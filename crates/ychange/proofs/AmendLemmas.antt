@@ -23,10 +23,11 @@ use Rattle.yshape.specs.Parts.{OnlyReads}
 use Rattle.yshape.proofs.FrameLemmas.{keeps_same}
 use Rattle.yshape.proofs.HangingLemmas.{stands_second, weigh_join, weigh_around, size_weigh}
 use Rattle.yshape.specs.Ways.{Found, around}
-use Rattle.ychange.specs.Places.{Amends, HoldsTold, IsAt, IsPart, Shows}
+use Rattle.ychange.specs.Places.{Amends, HoldsTold, IsAt, IsPart, IsSomewhere, Shows}
 use Rattle.ychange.proofs.BesideLemmas.{told_read}
 use Rattle.ychange.specs.Locating.{Locates}
-use Rattle.ychange.proofs.LocatingLemmas.{hangs_at, same_shapes}
+use Rattle.ychange.specs.declared.locating.Place.{Place}
+use Rattle.ychange.proofs.LocatingLemmas.{at_read, hangs_at, same_shapes}
 
 pub there_is : (many kind : Bool) (count k : ℕ) → many ≡ false → many ≡ kind → count ≡ k → ltb 0 count ≡ (not kind && nat_lt 0 k)
 there_is many kind count k none is same = ap (ltb 0) same ∙ ap (λ b. not b && nat_lt 0 k) (sym none ∙ is)
@@ -95,6 +96,15 @@ part_at s nodes tree steps above f step schema id numbers at found same listed =
       is_schema = same;
       are_numbers = listed above n below found.is_id (stands.0, stands.1, tt) (omega (arith, whole, parts, w1, w2, w3, w4, out, all));
     }
+
+-- where a path leads there is a row
+pub somewhere_placed : (s : Schema) (nodes : Nodes) (tree : Tree) (answer : Result spec.Target spec.EditRefusal) (place : Place) → Locates s tree [] answer nodes (Ok place)
+    → IsSomewhere s nodes place.above
+somewhere_placed s nodes tree answer place placed = record { tree = tree; steps = placed.0; f = placed.1; at = placed.2 }
+
+pub somewhere_read : (s : Schema) (before after : Nodes) (above : Row) → OnlyReads before after → IsSomewhere s before above → IsSomewhere s after above
+somewhere_read s before after above only there =
+    record { tree = there.tree; steps = there.steps; f = there.f; at = at_read s before after there.tree there.steps above there.f there.at only }
 
 -- ---- answers
 

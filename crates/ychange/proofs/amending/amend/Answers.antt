@@ -8,7 +8,7 @@ use Rattle.ypath.specs.EditView.{edit_view, path_view}
 use Rattle.ystore.specs.Views.{store_of}
 use Rattle.ychange.specs.Locating.{target_at}
 use Rattle.ychange.specs.Places.{Amends}
-use Rattle.ychange.proofs.AmendLemmas.{amends_unplaced, holds_read}
+use Rattle.ychange.proofs.AmendLemmas.{amends_unplaced, holds_read, somewhere_placed}
 use Rattle.ychange.proofs.amending.amend.Goals as goal
 
 pub returns-in-Ok-clause-amends : goal.returns-in-Ok-clause-amends
@@ -69,3 +69,15 @@ returns-in-Err-place_of-2-clause-amends c = λ tree holds sorted.
     subst (λ e. Amends {X = Unit {0}} s tree (applied s tree (edit_view e)) after (Err c.in-Err-place_of-2.fault)) (sym c.in-Remove.is)
     (amends_unplaced (Unit {0}) s after tree (spec.target_of s tree false (path_view c.in-Remove.path)) (spec.removed s tree) c.in-Err-place_of-2.fault (c.in-Err-place_of-2.ensures.place tree holds sorted)
     (holds_read s (store_of c.args.counted.now) after tree c.in-Err-place_of-2.ensures.kept holds))
+
+pub create-requires-clause-at : goal.create-requires-clause-at
+create-requires-clause-at c =
+    somewhere_placed (schema_view.view c.args.schema.now) _ c.requires.tree _ c.in-Ok.place (c.in-Ok.ensures.place c.requires.tree c.requires.holds c.requires.sorted)
+
+pub replace-requires-clause-at : goal.replace-requires-clause-at
+replace-requires-clause-at c =
+    somewhere_placed (schema_view.view c.args.schema.now) _ c.requires.tree _ c.in-Ok-place_of.place (c.in-Ok-place_of.ensures.place c.requires.tree c.requires.holds c.requires.sorted)
+
+pub remove-requires-clause-at : goal.remove-requires-clause-at
+remove-requires-clause-at c =
+    somewhere_placed (schema_view.view c.args.schema.now) _ c.requires.tree _ c.in-Ok-place_of-2.place (c.in-Ok-place_of-2.ensures.place c.requires.tree c.requires.holds c.requires.sorted)

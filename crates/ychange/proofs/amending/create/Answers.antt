@@ -10,7 +10,7 @@ use Rattle.ystore.specs.Views.{store_of}
 use Rattle.yinst.proofs.LocatingLemmas.{number_is}
 use Rattle.ychange.specs.Locating.{target_at}
 use Rattle.ychange.specs.Places.{Amends, branch_of}
-use Rattle.ychange.proofs.AmendLemmas.{amends_fault, created_is, fails_on, fails_same, holds_at, shows_at}
+use Rattle.ychange.proofs.AmendLemmas.{amends_fault, created_is, fails_on, fails_same, holds_at, shows_at, somewhere_read}
 use Rattle.ychange.proofs.LocatingLemmas.{at_read, hangs_at}
 use Rattle.ychange.proofs.OrderLemmas.{value_in_order}
 use Rattle.ychange.proofs.amending.create.Goals as goal
@@ -61,3 +61,11 @@ returns-in-Err-clause-amends c = λ tree above f at.
     (ap (λ b. if b then spec.refused 8 else (spec.branch_of s t.last.schema_node.number c.args.value.now >>= (λ x. spec.within_limit (edit_at t.above (spec.with_branch x) tree)))) none)
     (fails_on told (spec.branch_of s t.last.schema_node.number c.args.value.now) (λ x. spec.within_limit (edit_at t.above (spec.with_branch x) tree)) fails))
     (holds_at s mid tree above row f at_mid) (shows_at s mid tree above row f at_mid)
+
+pub add_part-requires-clause-at : goal.add_part-requires-clause-at
+add_part-requires-clause-at c =
+    somewhere_read (schema_view.view c.args.schema.now) (store_of c.args.counted.now) (store_of c.is_there.new.counted) c.args.place.above c.is_there.ensures.kept c.requires.at
+
+pub add_part-requires-clause-sorted : goal.add_part-requires-clause-sorted
+add_part-requires-clause-sorted c =
+    (value_in_order (schema_view.view c.args.schema.now) c.args.place.last.id.0 c.args.value.now (branch_of c.in-Ok.part) (numbered c.args.schema.now) c.in-Ok.ensures).1

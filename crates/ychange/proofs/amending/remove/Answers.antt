@@ -1,4 +1,4 @@
-use Rattle.std.proofs.Common.{refl, ◌∙◌}
+use Rattle.std.proofs.Common.{◌-◌, ap, refl, sym, ◌∙◌}
 use Rattle.yspec.specs.document.Document.{Step}
 use Rattle.yspec.specs.edit.Edit.{edit_at}
 use Rattle.yspec.specs.edit.Editing as spec
@@ -22,8 +22,32 @@ returns-in_err-numbers-in-Ok-clause-amends c = λ tree above f at.
     wanting s c.from_residual.result tree _ last c.from_residual.ensures.1
     (shows_at s last tree above c.args.place.above f (at_read s old last tree above c.args.place.above f at (reads_on old mid last c.in-Ok.ensures.kept c.numbers_of.ensures.kept)))
 
-pub returns-in_ok-numbers-in-Ok-clause-amends : goal.returns-in_ok-numbers-in-Ok-clause-amends
-returns-in_ok-numbers-in-Ok-clause-amends c = λ tree above f at.
+pub take_part-requires : goal.take_part-requires
+take_part-requires c =
+    let s = schema_view.view c.args.schema.now in
+    let id = c.args.place.last.id in
+    let row = c.args.place.above in
+    let old = store_of c.args.counted.now in
+    let mid = store_of c.instance_meant.new.counted in
+    let last = store_of c.numbers_of.new.counted in
+    let r = c.requires.at in
+    let step : Step = instance_view id.0 c.in-Ok.instance in
+    let at_mid = at_read s old mid r.tree r.steps row r.f r.at c.in-Ok.ensures.kept in
+    record {
+      tree = r.tree;
+      steps = r.steps;
+      f = r.f;
+      step = step;
+      of = id;
+      at = at_read s mid last r.tree r.steps row r.f at_mid c.numbers_of.ensures.kept;
+      part = part_at s mid r.tree r.steps row r.f step id c.in-Ok.instance.node _ at_mid (c.in-Ok.ensures.found r.f (hangs_at s old r.tree r.steps row r.f r.at)) refl
+          (λ above n below same stands fits. c.deref.ensures.value ∙ c.in_ok-numbers-in-Ok.ensures.numbers above n below same stands fits);
+      is_number = refl;
+      is_index = sym (c.saturating_sub-before.ensures ∙ ap (λ x. x - 1) c.unwrap_or.ensures);
+    }
+
+pub returns-in_ok-take_part-in-Ok-clause-amends : goal.returns-in_ok-take_part-in-Ok-clause-amends
+returns-in_ok-take_part-in-Ok-clause-amends c = λ tree above f at.
     let s = schema_view.view c.args.schema.now in
     let id = c.args.place.last.id in
     let row = c.args.place.above in
@@ -37,8 +61,20 @@ returns-in_ok-numbers-in-Ok-clause-amends c = λ tree above f at.
     (λ r n below same stands fits. c.deref.ensures.value ∙ c.in_ok-numbers-in-Ok.ensures.numbers r n below same stands fits) in (
       edit_at above (spec.without step) tree,
       removed_is s tree (target_at s above f c.args.place.last) step (c.in-Ok.ensures.answer f here),
-      c.take_part.ensures.taken tree above f step (at_read s mid last tree above row f at_mid c.numbers_of.ensures.kept) part,
+      c.in_ok-take_part-in-Ok.ensures.taken tree above f step (at_read s mid last tree above row f at_mid c.numbers_of.ensures.kept) part
+          (sym (c.saturating_sub-before.ensures ∙ ap (λ x. x - 1) c.unwrap_or.ensures)),
     )
+
+pub returns-in_err-take_part-in-Ok-clause-amends : goal.returns-in_err-take_part-in-Ok-clause-amends
+returns-in_err-take_part-in-Ok-clause-amends c = λ tree above f at.
+    let s = schema_view.view c.args.schema.now in
+    let row = c.args.place.above in
+    let old = store_of c.args.counted.now in
+    let mid = store_of c.instance_meant.new.counted in
+    let last = store_of c.numbers_of.new.counted in
+    let at_mid = at_read s old mid tree above row f at c.in-Ok.ensures.kept in
+    wanting s c.from_residual-in_err-take_part.result tree _ (store_of c.take_part.new.counted) c.from_residual-in_err-take_part.ensures.1
+    (c.in_err-take_part-in-Ok.ensures.shows tree above f (at_read s mid last tree above row f at_mid c.numbers_of.ensures.kept))
 
 pub returns-in-Err-clause-amends : goal.returns-in-Err-clause-amends
 returns-in-Err-clause-amends c = λ tree above f at.

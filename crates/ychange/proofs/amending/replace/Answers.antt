@@ -1,7 +1,7 @@
 use Rattle.std.proofs.Common.{ap, refl, sym, subst, ◌∙◌}
 use Rattle.yspec.specs.Results.{◌>>=◌}
 use Rattle.yspec.specs.document.Document.{Step}
-use Rattle.yspec.specs.edit.Edit.{edit_at}
+use Rattle.yspec.specs.edit.Edit.{edit_at, instance_index}
 use Rattle.yspec.specs.edit.Editing as spec
 use Rattle.ymodel.specs.View as schema_view
 use Rattle.ymodel.proofs.CallerLemmas.{numbered}
@@ -76,3 +76,34 @@ returns-in-Err-clause-amends c = λ tree above f at.
     amends_fault (Unit {0}) s mid tree (spec.replaced s tree c.args.value.now (target_at s above f c.args.place.last)) c.in-Err.fault
     (fails_on (told_by c.in-Err.fault) (spec.last_meant s (target_at s above f c.args.place.last)) _ (c.in-Err.ensures.answer f (hangs_at s old tree above row f at)))
     (holds_at s mid tree above row f at_mid) (shows_at s mid tree above row f at_mid)
+
+pub put_part-requires-clause-at : goal.put_part-requires-clause-at
+put_part-requires-clause-at c =
+    let s = schema_view.view c.args.schema.now in
+    let id = c.args.place.last.id in
+    let row = c.args.place.above in
+    let old = store_of c.args.counted.now in
+    let mid = store_of c.instance_meant.new.counted in
+    let last = store_of c.numbers_of.new.counted in
+    let r = c.requires.at in
+    let step : Step = instance_view id.0 c.in-Ok.instance in
+    let at_mid = at_read s old mid r.tree r.steps row r.f r.at c.in-Ok.ensures.kept in
+    let order = value_in_order s id.0 c.args.value.now (branch_of c.in-Ok-part.part) (numbered c.args.schema.now) c.in-Ok-part.ensures in (
+      instance_index step,
+      record {
+        tree = r.tree;
+        steps = r.steps;
+        f = r.f;
+        step = step;
+        of = id;
+        at = at_read s mid last r.tree r.steps row r.f at_mid c.numbers_of.ensures.kept;
+        part = part_at s mid r.tree r.steps row r.f step id c.in-Ok.instance.node _ at_mid (c.in-Ok.ensures.found r.f (hangs_at s old r.tree r.steps row r.f r.at)) refl
+            (λ above n below same stands fits. c.deref.ensures.value ∙ c.in_ok-numbers-in-Ok-part.ensures.numbers above n below same stands fits);
+        is_number = sym order.0;
+        is_index = refl;
+      },
+    )
+
+pub put_part-requires-clause-sorted : goal.put_part-requires-clause-sorted
+put_part-requires-clause-sorted c =
+    (value_in_order (schema_view.view c.args.schema.now) c.args.place.last.id.0 c.args.value.now (branch_of c.in-Ok-part.part) (numbered c.args.schema.now) c.in-Ok-part.ensures).1
