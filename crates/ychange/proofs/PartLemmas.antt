@@ -1,6 +1,6 @@
 -- Parts of a document in its store: put into a row, in the place of another, and taken out, with all that is told of it.
-use Rattle.std.proofs.Common.{◌≡◌, List, [], ◌∷◌, refl, sym, ap, ap₂, ◌∙◌, arith, subst, true, false}
-use Rattle.std.specs.Prelude.{◌+◌, ◌^◌, ◌<◌, ◌≤◌, ℕ, None, Result, Ok, Err, IsErrAnd, OnErr, OnOk, length}
+use Rattle.std.proofs.Common.{◌≡◌, List, [], ◌∷◌, option_map, refl, sym, ap, ap₂, ◌∙◌, arith, subst, true, false}
+use Rattle.std.specs.Prelude.{Bool, ◌+◌, ◌^◌, ◌<◌, ◌≤◌, ℕ, None, Result, Ok, Err, IsErrAnd, OnErr, OnOk, length}
 use Rattle.std.proofs.lemmas.Bool.{lt-ltb, le-ltb}
 use Rattle.std.proofs.lemmas.List.{append-nil}
 use Rattle.yspec.specs.Forest.{end, node, join, size}
@@ -12,7 +12,7 @@ use Rattle.yspec.specs.edit.Edit.{edit_at, instance_index}
 use Rattle.yspec.specs.edit.Editing.{Branch, EditRefusal, with_branch, with_instead, within_limit, without}
 use Rattle.ymodel.specs.declared.node.SchemaId.{SchemaId}
 use Rattle.ystore.specs.Rows as rows
-use Rattle.ystore.specs.Store.{node_count, MakesRoom}
+use Rattle.ystore.specs.Store.{node_count, MakesRoom, Stays}
 use Rattle.ystore.proofs.CallerLemmas.{room_is_there}
 use Rattle.ypath.specs.declared.edit.EditFault.{EditFault}
 use Rattle.ypath.specs.declared.edit.EditFault.TheVariants.{Refused, Memory}
@@ -23,7 +23,7 @@ use Rattle.ystore.specs.declared.row.Row.TheVariants.{Top}
 use Rattle.ystore.specs.declared.nodes.Nodes.{Nodes}
 use Rattle.yshape.specs.Hanging.{Numbered, Branches, stored_of, tree_of, children_of, Keeps}
 use Rattle.yshape.specs.Ways.{Way, Goes, around, end_of}
-use Rattle.yshape.specs.Changes.{with_node}
+use Rattle.yshape.specs.Changes.{with_node, SameShapes}
 use Rattle.yshape.specs.Copies.{laid, ids_of}
 use Rattle.yshape.specs.Growing.{Grows, Inserts, Removes, Freshens}
 use Rattle.yshape.specs.declared.swapping.Swap.{Swap}
@@ -179,8 +179,9 @@ module _ (s : Schema) (before mid : Nodes) (tree : Tree) (steps : List Step) (ab
   added_size : size (edit_at steps (with_branch b) tree) ≡ node_count mid
   added_size = size_along s before tree steps above f more at (with_branch b) branch_is ∙ more_size
 
-  pub adding : (own : SchemaId) → own.0 ≡ label.schema_number → Swapping (record { above = above; schema = own; change = Add id }) mid [] has
-  adding own number =
+  abbrev pub adding : (all : List NodeId) → all ≡ has → (own : SchemaId) → own.0 ≡ label.schema_number
+      → Swapping (record { above = above; schema = own; change = Add id }) mid [] all
+  adding all is own number =
       record {
         way = at.way;
         f = f;
@@ -192,7 +193,7 @@ module _ (s : Schema) (before mid : Nodes) (tree : Tree) (steps : List Step) (ab
         sorted = sorted_end at.way f at.sorted;
         keeps = beside;
         are_old = refl;
-        are_new = sym numbers_are;
+        are_new = sym (is ∙ numbers_are);
       }
 
   pub hangs : (E : Type 0) (most : ℕ) (after : Nodes) → node_count mid ≤ most → Keeps after (around at.way more) above end → IsTold s after (around at.way more)
@@ -251,9 +252,9 @@ module _ (s : Schema) (before mid : Nodes) (tree : Tree) (steps : List Step) (ab
     put_size : size (edit_at steps (with_instead step b) tree) ≡ size (around at.way other)
     put_size = size_along s before tree steps above f other at (with_instead step b) instead_is
 
-    pub putting : (own : SchemaId) → own.0 ≡ label.schema_number → label.schema_number ≡ schema.0
-        → Swapping (record { above = above; schema = own; change = Put old id }) mid numbers has
-    putting own number same =
+    abbrev pub putting : (all : List NodeId) → all ≡ has → (own : SchemaId) → own.0 ≡ label.schema_number → label.schema_number ≡ schema.0
+        → Swapping (record { above = above; schema = own; change = Put old id }) mid numbers all
+    putting all is own number same =
         record {
           way = at.way;
           f = f;
@@ -280,7 +281,7 @@ module _ (s : Schema) (before mid : Nodes) (tree : Tree) (steps : List Step) (ab
           sorted = sorted_end at.way f at.sorted;
           keeps = beside;
           are_old = sym part.are_numbers;
-          are_new = sym numbers_are;
+          are_new = sym (is ∙ numbers_are);
         }
 
     pub put_part : (after : Nodes) → node_count mid ≤ document_limit + length numbers → Keeps after (around at.way other) above end → IsTold s after (around at.way other)
@@ -310,7 +311,7 @@ module _ (s : Schema) (before : Nodes) (tree : Tree) (steps : List Step) (above 
   abbrev pub less : Branches
   less = join part.found.frame.before part.found.frame.after
 
-  pub taking : (place : ℕ) → instance_index step ≡ place → Swapping (record { above = above; schema = of; change = Take old place }) before numbers []
+  abbrev pub taking : (place : ℕ) → instance_index step ≡ place → Swapping (record { above = above; schema = of; change = Take old place }) before numbers []
   taking place is =
       record {
         way = at.way;
@@ -385,3 +386,22 @@ err_then (Err e) next so = next so
 pub ok_both : {T E P Q R : Type 0} (r : Result T E) → (P → Q → R) → OnOk r P → OnOk r Q → OnOk r R
 ok_both (Ok x) next so also = next so also
 ok_both (Err e) next so also = tt
+
+pub stays_same : (before after : Nodes) → Stays before after → SameShapes before after
+stays_same before after stays = record { shapes = λ above. ap (option_map (λ held. held.shape)) (stays.held above); all = stays.node_count }
+
+-- ---- answers
+
+pub hangs_wanting : {E : Type 0} (P : E → Type 0) (s : Schema) (most : ℕ) (tree changed : Tree) (nodes : Nodes) (r : Result Bool E) → IsErrAnd r P → Shows nodes tree
+    → HangsPart s most tree changed nodes r
+hangs_wanting P s most tree changed nodes (Ok b) is there = absurd is
+hangs_wanting P s most tree changed nodes (Err e) is there = there
+
+pub hung : (E : Type 0) (s : Schema) (tree changed : Tree) (nodes : Nodes) → HangsPart {E = E} s document_limit tree changed nodes (Ok true)
+    → (t : Tree) × (within_limit changed ≡ Ok t) × HoldsTold s nodes t
+hung E s tree changed nodes so = (changed, within changed so.0, so.1)
+
+pub no_room : (E : Type 0) (s : Schema) (tree changed : Tree) (nodes : Nodes) (fault : EditFault) → fault ≡ Refused E11 None
+    → HangsPart {E = E} s document_limit tree changed nodes (Ok false) → Amends {X = Unit {0}} s tree (within_limit changed) nodes (Err fault)
+no_room E s tree changed nodes fault told so =
+    subst (λ e. Amends {X = Unit {0}} s tree (within_limit changed) nodes (Err e)) (sym told) (over changed so.0, so.1)

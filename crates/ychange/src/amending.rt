@@ -84,7 +84,7 @@ fn create(
     place: Place<'_>,
     value: &str,
 ) -> Result<(), EditFault>
-    requires at { IsSomewhere (schema_view.view schema.now) (store_of counted.old) place.entry.above }
+    requires { IsSomewhere (schema_view.view schema.now) (store_of counted.old) place.above }
     ensures amends { let s = schema_view.view schema.now in
         (tree : document.Tree) (above : List Step) (f : Branches)
         → IsAt s (store_of counted.old) tree above place.entry.above f
@@ -130,7 +130,7 @@ fn replace(
     value: &str,
 ) -> Result<(), EditFault>
     requires from_one { spec.is_zero (predicate_view place.last.predicate.now) ≡ false }
-    requires at { IsSomewhere (schema_view.view schema.now) (store_of counted.old) place.entry.above }
+    requires at { IsSomewhere (schema_view.view schema.now) (store_of counted.old) place.above }
     ensures amends { let s = schema_view.view schema.now in
         (tree : document.Tree) (above : List Step) (f : Branches)
         → IsAt s (store_of counted.old) tree above place.entry.above f
@@ -153,7 +153,7 @@ fn replace(
 /// E5 to E7.
 fn remove(counted: &mut Counted<'_>, schema: &Schema, place: Place<'_>) -> Result<(), EditFault>
     requires from_one { spec.is_zero (predicate_view place.last.predicate.now) ≡ false }
-    requires at { IsSomewhere (schema_view.view schema.now) (store_of counted.old) place.entry.above }
+    requires at { IsSomewhere (schema_view.view schema.now) (store_of counted.old) place.above }
     ensures amends { let s = schema_view.view schema.now in
         (tree : document.Tree) (above : List Step) (f : Branches)
         → IsAt s (store_of counted.old) tree above place.entry.above f

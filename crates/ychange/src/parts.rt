@@ -129,7 +129,8 @@ pub fn take_part(
     old: NodeId,
     old_numbers: &[NodeId],
 ) -> Result<(), AllocError>
-    requires at { IsPartThere (schema_view.view schema.now) (store_of counted.old) above of.0 place old old_numbers.now }
+    requires { IsPartThere (schema_view.view schema.now) (store_of counted.old) above of.0 place old
+        old_numbers.now }
     ensures taken { let s = schema_view.view schema.now in
         (tree : document.Tree) (steps : List Step) (f : Branches) (step : Step)
         → IsAt s (store_of counted.old) tree steps above f → IsPart step of old old_numbers.now f

@@ -70,8 +70,8 @@ returns-in-Err-place_of-2-clause-amends c = λ tree holds sorted.
     (amends_unplaced (Unit {0}) s after tree (spec.target_of s tree false (path_view c.in-Remove.path)) (spec.removed s tree) c.in-Err-place_of-2.fault (c.in-Err-place_of-2.ensures.place tree holds sorted)
     (holds_read s (store_of c.args.counted.now) after tree c.in-Err-place_of-2.ensures.kept holds))
 
-pub create-requires-clause-at : goal.create-requires-clause-at
-create-requires-clause-at c =
+pub create-requires : goal.create-requires
+create-requires c =
     somewhere_placed (schema_view.view c.args.schema.now) _ c.requires.tree _ c.in-Ok.place (c.in-Ok.ensures.place c.requires.tree c.requires.holds c.requires.sorted)
 
 pub replace-requires-clause-at : goal.replace-requires-clause-at

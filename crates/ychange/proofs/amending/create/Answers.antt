@@ -64,7 +64,7 @@ returns-in-Err-clause-amends c = λ tree above f at.
 
 pub add_part-requires-clause-at : goal.add_part-requires-clause-at
 add_part-requires-clause-at c =
-    somewhere_read (schema_view.view c.args.schema.now) (store_of c.args.counted.now) (store_of c.is_there.new.counted) c.args.place.above c.is_there.ensures.kept c.requires.at
+    somewhere_read (schema_view.view c.args.schema.now) (store_of c.args.counted.now) (store_of c.is_there.new.counted) c.args.place.above c.is_there.ensures.kept c.requires
 
 pub add_part-requires-clause-sorted : goal.add_part-requires-clause-sorted
 add_part-requires-clause-sorted c =

@@ -1,6 +1,25 @@
 use Rattle.std.proofs.Common.{sym, subst, ◌∙◌}
-use Rattle.std.specs.Prelude.{true, false}
+use Rattle.std.specs.Prelude.{true, false, Ok, ap}
+use Rattle.yspec.specs.edit.Edit.{edit_at}
+use Rattle.yspec.specs.edit.Editing.{with_branch}
+use Rattle.yspec.specs.document.Document.{document_limit}
 use Rattle.ymodel.specs.View as schema_view
 use Rattle.ystore.specs.Views.{store_of}
+use Rattle.ychange.specs.Places.{HangsPart, branch_of}
 use Rattle.ychange.proofs.PartLemmas as part
 use Rattle.ychange.proofs.parts.add_part.Goals as goal
+
+pub returns-in_err-hang_part-clause-amends : goal.returns-in_err-hang_part-clause-amends
+returns-in_err-hang_part-clause-amends c = λ tree steps f at.
+    part.wanting (schema_view.view c.args.schema.now) c.from_residual.result tree _ (store_of c.hang_part.new.counted) c.from_residual.ensures.1
+    (c.in_err-hang_part.ensures.hangs tree steps f at)
+
+pub returns-in-true-clause-amends : goal.returns-in-true-clause-amends
+returns-in-true-clause-amends c = λ tree steps f at.
+    part.hung _ (schema_view.view c.args.schema.now) tree (edit_at steps (with_branch (branch_of c.args.part.now)) tree) (store_of c.hang_part.new.counted)
+    (c.in-true.ensures.hangs tree steps f at)
+
+pub returns-in-false-clause-amends : goal.returns-in-false-clause-amends
+returns-in-false-clause-amends c = λ tree steps f at.
+    part.no_room _ (schema_view.view c.args.schema.now) tree (edit_at steps (with_branch (branch_of c.args.part.now)) tree) (store_of c.hang_part.new.counted)
+    c.refused.result c.refused.ensures (c.in-false.ensures.hangs tree steps f at)

@@ -4,7 +4,8 @@ use Rattle.yshape.specs.Ways.{around, end_of}
 use Rattle.ystore.specs.declared.row.Row.TheVariants.{Top}
 use Rattle.ytold.specs.Standing.{standing}
 use Rattle.ychange.proofs.BesideLemmas.{fresh_roomed, told_roomed}
-use Rattle.ychange.proofs.PartLemmas.{err_then, prepared}
+use Rattle.ytold.proofs.StillLemmas.{on_err}
+use Rattle.ychange.proofs.PartLemmas.{err_then, prepared, stays_same}
 use Rattle.yshape.proofs.FrameLemmas.{keeps_same, room_same}
 use Rattle.ychange.proofs.parts.change_row.Goals as goal
 
@@ -12,8 +13,8 @@ pub retell-requires : goal.retell-requires
 retell-requires c =
     prepared c.args.swap (store_of c.args.counted.now) (store_of c.reserve_child.new.self) c.args.old.now c.args.new.now c.requires c.in_ok-reserve_child.ensures.ok
 
-pub returns-in_ok-reserve_child-clause-told : goal.returns-in_ok-reserve_child-clause-told
-returns-in_ok-reserve_child-clause-told c = λ p told fresh few.
+pub returns-clause-told : goal.returns-clause-told
+returns-clause-told c = λ p told fresh few.
     let s = schema_view.view c.args.schema.now in
     let old = store_of c.args.counted.now in
     let mid = store_of c.reserve_child.new.self in
@@ -21,15 +22,21 @@ returns-in_ok-reserve_child-clause-told c = λ p told fresh few.
     c.retell.ensures.told (prepared c.args.swap old mid c.args.old.now c.args.new.now p room) (told_roomed s old mid c.args.swap.above (around p.way p.f) room told)
     (fresh_roomed s old mid c.args.swap.above (standing (end_of Top p.way) p.loose) room fresh) few
 
-pub returns-in_ok-reserve_child-clause-keeps : goal.returns-in_ok-reserve_child-clause-keeps
-returns-in_ok-reserve_child-clause-keeps c = λ p.
+pub returns-clause-keeps : goal.returns-clause-keeps
+returns-clause-keeps c = λ p.
     c.retell.ensures.keeps (prepared c.args.swap (store_of c.args.counted.now) (store_of c.reserve_child.new.self) c.args.old.now c.args.new.now p c.in_ok-reserve_child.ensures.ok)
 
-pub returns-in_ok-reserve_child-clause-keeps_still : goal.returns-in_ok-reserve_child-clause-keeps_still
-returns-in_ok-reserve_child-clause-keeps_still c =
+pub returns-clause-keeps_still : goal.returns-clause-keeps_still
+returns-clause-keeps_still c =
     let old = store_of c.args.counted.now in
     let mid = store_of c.reserve_child.new.self in
     let room = c.in_ok-reserve_child.ensures.ok in
     err_then c.retell.result
     (λ still tree above loose keeps. still tree above loose (keeps_same old mid (room_same c.args.swap.above old mid room.room room.changed) tree above loose keeps))
     c.retell.ensures.keeps_still
+
+pub returns-in_err-reserve_child-clause-keeps_still : goal.returns-in_err-reserve_child-clause-keeps_still
+returns-in_err-reserve_child-clause-keeps_still c =
+    let old = store_of c.args.counted.now in
+    let new = store_of c.reserve_child.new.self in
+    on_err c.from_residual.result (λ tree above loose keeps. keeps_same old new (stays_same old new c.in_err-reserve_child.ensures.err) tree above loose keeps)

@@ -26,7 +26,7 @@ returns-then-saturating_sub-gt-DOCUMENT_LIMIT-clause-amends c = λ tree steps f 
     let count = c.node_count.ensures in
     let less = c.saturating_sub.ensures in
     part.put_over s old mid tree steps c.args.above f c.in_ok-new.new label below c.insert_part.new.numbers.items made c.insert_part.ensures.fresh at c.requires.sorted step schema c.args.old
-    c.args.old_numbers.now is _ (store_of c.remove_nodes.new.counted) c.refused.result (omega (arith, many, less, count))
+    c.args.old_numbers.now is (Unit {0}) (store_of c.remove_nodes.new.counted) c.refused.result (omega (arith, many, less, count))
     (subst (λ xs. Removes xs mid (store_of c.remove_nodes.new.counted)) c.deref.ensures.value c.remove_nodes.ensures.store) c.refused.ensures
 
 pub change_row-requires : goal.change_row-requires
@@ -39,7 +39,7 @@ change_row-requires c =
     let made = subst (λ had. Inserts c.args.above c.in_ok-new.new label below old mid had c.insert_part.new.numbers.items) c.new-numbers.ensures.items c.in_ok-new.ensures.ok in
     let p = c.requires.at.1 in
     part.putting s old mid p.tree p.steps c.args.above p.f c.in_ok-new.new label below c.insert_part.new.numbers.items made c.insert_part.ensures.fresh p.at c.requires.sorted
-    p.step p.of c.args.old c.args.old_numbers.now p.part c.id.result c.id.ensures (sym p.is_number)
+    p.step p.of c.args.old c.args.old_numbers.now p.part c.deref-2.result.now c.deref-2.ensures.value c.id.result c.id.ensures (sym p.is_number)
 
 pub returns-clause-amends : goal.returns-clause-amends
 returns-clause-amends c = λ tree steps f step schema at is same.
@@ -55,7 +55,7 @@ returns-clause-amends c = λ tree steps f step schema at is same.
     let few = c.if-saturating_sub-gt-DOCUMENT_LIMIT.false in
     let count = c.node_count.ensures in
     let less = c.saturating_sub.ensures in
-    let p = part.putting s old mid tree steps c.args.above f c.in_ok-new.new label below has made fresh at sorted step schema c.args.old c.args.old_numbers.now is c.id.result c.id.ensures same in
+    let p = part.putting s old mid tree steps c.args.above f c.in_ok-new.new label below has made fresh at sorted step schema c.args.old c.args.old_numbers.now is c.deref-2.result.now c.deref-2.ensures.value c.id.result c.id.ensures same in
     let other_size = part.other_size s old mid tree steps c.args.above f c.in_ok-new.new label below has made fresh at sorted step schema c.args.old c.args.old_numbers.now is in
     part.put_part s old mid tree steps c.args.above f c.in_ok-new.new label below has made fresh at sorted step schema c.args.old c.args.old_numbers.now is (store_of c.change_row.new.counted)
     (omega (arith, few, less, count)) (c.in_ok-change_row.ensures.keeps p)
