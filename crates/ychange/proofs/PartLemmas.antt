@@ -68,7 +68,7 @@ wanting {X} s (Err e) tree answer nodes is there = subst (λ f. Amends {X = X} s
 pub at_top : (nodes : Nodes) (tree : Branches) (above : Row) → Keeps nodes tree above end → Keeps nodes tree Top end
 at_top nodes tree above keeps = record { hangs = keeps.hangs; stands = tt; once = keeps.once; all = keeps.all }
 
-at_row : (nodes : Nodes) (tree : Branches) (above : Row) → Keeps nodes tree Top end → Keeps nodes tree above end
+pub at_row : (nodes : Nodes) (tree : Branches) (above : Row) → Keeps nodes tree Top end → Keeps nodes tree above end
 at_row nodes tree above keeps = record { hangs = keeps.hangs; stands = tt; once = keeps.once; all = keeps.all }
 
 -- the row at the end of a way in a document in order is in order
@@ -76,7 +76,7 @@ sorted_below : (before : Branches) (n : Numbered) (below after : Branches) → I
 sorted_below end n below after sorted = sorted.1
 sorted_below (node m under rest) n below after sorted = sorted_below rest n below after sorted.2
 
-sorted_end : (way : Way) (f : Branches) → IsSorted (tree_of (around way f)) → IsSorted (tree_of f)
+pub sorted_end : (way : Way) (f : Branches) → IsSorted (tree_of (around way f)) → IsSorted (tree_of f)
 sorted_end [] f sorted = sorted
 sorted_end (frame ∷ way) f sorted = sorted_end way f (sorted_below frame.before frame.label (around way f) frame.after sorted)
 
@@ -150,11 +150,11 @@ module _ (s : Schema) (before mid : Nodes) (tree : Tree) (steps : List Step) (ab
   pub fresh_mid : Every (IsFresh s mid) (standing (end_of Top at.way) (node made.root g end))
   fresh_mid = fresh_inserted s above id label below before mid [] has made fresh (end_of Top at.way)
 
-  numbers_are : has ≡ ids_of (node made.root g end)
+  pub numbers_are : has ≡ ids_of (node made.root g end)
   numbers_are = made.numbers ∙ (ap (λ h. made.root.id ∷ ids_of h) (sym (laid_sorted made.branches (subst IsSorted (sym made.is_below) sorted)))
       ∙ (ap (λ xs. made.root.id ∷ xs) (sym (append-nil (ids_of g))) ∙ sym (ids_node made.root g end)))
 
-  root_schema : (own : SchemaId) → own.0 ≡ label.schema_number → made.root.schema ≡ own
+  pub root_schema : (own : SchemaId) → own.0 ≡ label.schema_number → made.root.schema ≡ own
   root_schema own number = by_number made.root.schema own (ap (λ (l : Stored). l.schema_number) made.is_label ∙ sym number)
 
   -- ---- behind those of its schema node
@@ -360,7 +360,7 @@ module _ (s : Schema) (before : Nodes) (tree : Tree) (steps : List Step) (above 
 
 -- ---- a row with room
 
-pub prepared : (swap : Swap) (before after : Nodes) (old new : List NodeId) → Swapping swap before old new → MakesRoom swap.above before after → Prepared swap after old new
+abbrev pub prepared : (swap : Swap) (before after : Nodes) (old new : List NodeId) → Swapping swap before old new → MakesRoom swap.above before after → Prepared swap after old new
 prepared swap before after old new p room =
     record {
       ready = record {
@@ -397,11 +397,13 @@ pub hangs_wanting : {E : Type 0} (P : E → Type 0) (s : Schema) (most : ℕ) (t
 hangs_wanting P s most tree changed nodes (Ok b) is there = absurd is
 hangs_wanting P s most tree changed nodes (Err e) is there = there
 
-pub hung : (E : Type 0) (s : Schema) (tree changed : Tree) (nodes : Nodes) → HangsPart {E = E} s document_limit tree changed nodes (Ok true)
+pub hung : (E : Type 0) (s : Schema) (tree changed : Tree) (nodes : Nodes) (b : Bool) → b ≡ true → HangsPart {E = E} s document_limit tree changed nodes (Ok b)
     → (t : Tree) × (within_limit changed ≡ Ok t) × HoldsTold s nodes t
-hung E s tree changed nodes so = (changed, within changed so.0, so.1)
+hung E s tree changed nodes true is so = (changed, within changed so.0, so.1)
+hung E s tree changed nodes false is so = absurd cc
 
-pub no_room : (E : Type 0) (s : Schema) (tree changed : Tree) (nodes : Nodes) (fault : EditFault) → fault ≡ Refused E11 None
-    → HangsPart {E = E} s document_limit tree changed nodes (Ok false) → Amends {X = Unit {0}} s tree (within_limit changed) nodes (Err fault)
-no_room E s tree changed nodes fault told so =
+pub no_room : (E : Type 0) (s : Schema) (tree changed : Tree) (nodes : Nodes) (fault : EditFault) (b : Bool) → b ≡ false → fault ≡ Refused E11 None
+    → HangsPart {E = E} s document_limit tree changed nodes (Ok b) → Amends {X = Unit {0}} s tree (within_limit changed) nodes (Err fault)
+no_room E s tree changed nodes fault true is told so = absurd cc
+no_room E s tree changed nodes fault false is told so =
     subst (λ e. Amends {X = Unit {0}} s tree (within_limit changed) nodes (Err e)) (sym told) (over changed so.0, so.1)

@@ -73,7 +73,7 @@ returns-in_err-take_part-in-Ok-clause-amends c = λ tree above f at.
     let mid = store_of c.instance_meant.new.counted in
     let last = store_of c.numbers_of.new.counted in
     let at_mid = at_read s old mid tree above row f at c.in-Ok.ensures.kept in
-    wanting s c.from_residual-in_err-take_part.result tree _ (store_of c.take_part.new.counted) c.from_residual-in_err-take_part.ensures.1
+    wanting s c.from_residual-in_err-take_part-in-Ok.result tree _ (store_of c.take_part.new.counted) c.from_residual-in_err-take_part-in-Ok.ensures.1
     (c.in_err-take_part-in-Ok.ensures.shows tree above f (at_read s mid last tree above row f at_mid c.numbers_of.ensures.kept))
 
 pub returns-in-Err-clause-amends : goal.returns-in-Err-clause-amends

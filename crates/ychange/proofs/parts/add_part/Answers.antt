@@ -1,11 +1,8 @@
-use Rattle.std.proofs.Common.{sym, subst, ◌∙◌}
-use Rattle.std.specs.Prelude.{true, false, Ok, ap}
 use Rattle.yspec.specs.edit.Edit.{edit_at}
 use Rattle.yspec.specs.edit.Editing.{with_branch}
-use Rattle.yspec.specs.document.Document.{document_limit}
 use Rattle.ymodel.specs.View as schema_view
 use Rattle.ystore.specs.Views.{store_of}
-use Rattle.ychange.specs.Places.{HangsPart, branch_of}
+use Rattle.ychange.specs.Places.{branch_of}
 use Rattle.ychange.proofs.PartLemmas as part
 use Rattle.ychange.proofs.parts.add_part.Goals as goal
 
@@ -17,9 +14,9 @@ returns-in_err-hang_part-clause-amends c = λ tree steps f at.
 pub returns-in-true-clause-amends : goal.returns-in-true-clause-amends
 returns-in-true-clause-amends c = λ tree steps f at.
     part.hung _ (schema_view.view c.args.schema.now) tree (edit_at steps (with_branch (branch_of c.args.part.now)) tree) (store_of c.hang_part.new.counted)
-    (c.in-true.ensures.hangs tree steps f at)
+    c.in_ok-hang_part.field-0 c.in-true.is (c.in_ok-hang_part.ensures.hangs tree steps f at)
 
 pub returns-in-false-clause-amends : goal.returns-in-false-clause-amends
 returns-in-false-clause-amends c = λ tree steps f at.
     part.no_room _ (schema_view.view c.args.schema.now) tree (edit_at steps (with_branch (branch_of c.args.part.now)) tree) (store_of c.hang_part.new.counted)
-    c.refused.result c.refused.ensures (c.in-false.ensures.hangs tree steps f at)
+    c.refused.result c.in_ok-hang_part.field-0 c.in-false.is c.refused.ensures (c.in_ok-hang_part.ensures.hangs tree steps f at)

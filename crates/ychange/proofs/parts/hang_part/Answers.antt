@@ -24,7 +24,7 @@ returns-then-node_count-most-clause-hangs c = λ tree steps f at.
     let made = subst (λ had. Inserts c.args.above c.in_ok-new.new label below old mid had c.insert_part.new.numbers.items) c.new-numbers.ensures.items c.in_ok-new.ensures.ok in
     let many = c.if-node_count-most.true in
     let count = c.node_count.ensures in
-    part.hangs_not s old mid tree steps c.args.above f c.in_ok-new.new label below c.insert_part.new.numbers.items made c.insert_part.ensures.fresh at c.requires.sorted _ c.args.most
+    part.hangs_not s old mid tree steps c.args.above f c.in_ok-new.new label below c.insert_part.new.numbers.items made c.insert_part.ensures.fresh at c.requires.sorted (Unit {0}) c.args.most
     (store_of c.remove_nodes.new.counted) (omega (arith, many, count)) (subst (λ xs. Removes xs mid (store_of c.remove_nodes.new.counted)) c.deref.ensures.value c.remove_nodes.ensures.store)
 
 pub change_row-requires : goal.change_row-requires
@@ -55,7 +55,7 @@ returns-clause-hangs c = λ tree steps f at.
     let most = c.requires.most in
     let more_size = part.more_size s old mid tree steps c.args.above f c.in_ok-new.new label below has made fresh at sorted in
     let p = part.adding s old mid tree steps c.args.above f c.in_ok-new.new label below has made fresh at sorted c.deref-2.result.now c.deref-2.ensures.value c.id.result c.id.ensures in
-    part.hangs s old mid tree steps c.args.above f c.in_ok-new.new label below has made fresh at sorted _ c.args.most (store_of c.change_row.new.counted) (omega (arith, few, count))
+    part.hangs s old mid tree steps c.args.above f c.in_ok-new.new label below has made fresh at sorted (Unit {0}) c.args.most (store_of c.change_row.new.counted) (omega (arith, few, count))
     (c.in_ok-change_row.ensures.keeps p)
     (c.in_ok-change_row.ensures.told p (part.told_mid s old mid tree steps c.args.above f c.in_ok-new.new label below has made fresh at sorted)
     (part.fresh_mid s old mid tree steps c.args.above f c.in_ok-new.new label below has made fresh at sorted) (omega (arith, few, count, most, more_size)))
