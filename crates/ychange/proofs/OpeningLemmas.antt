@@ -93,10 +93,10 @@ somewhere schema nodes tree holds sorted =
     record { tree = tree; steps = []; f = holds.branches; at = at_top schema nodes tree holds sorted }
 
 -- a part that was hung in it
-pub hung : (E : Type 0) (schema : Schema) (most : ℕ) (tree changed : Tree) (after : Nodes) (b : Bool) → b ≡ true
-    → HangsPart {E = E} schema most tree changed after (Ok b) → HoldsTold schema after changed
-hung E schema most tree changed after true e hangs = hangs.1
-hung E schema most tree changed after false e hangs = absurd (false≢true e)
+pub hung : (schema : Schema) (most : ℕ) (tree changed : Tree) (after : Nodes) (b : Bool) → b ≡ true
+    → HangsPart schema most tree changed after b → HoldsTold schema after changed
+hung schema most tree changed after true e hangs = hangs.1
+hung schema most tree changed after false e hangs = absurd (false≢true e)
 
 -- an empty document
 pub holds_nothing : (schema : Schema) (nodes : Nodes) → IsTold schema nodes end → Keeps nodes end Top end → HoldsTold schema nodes end

@@ -1,6 +1,6 @@
 -- Parts of a document in its store: put into a row, in the place of another, and taken out, with all that is told of it.
 use Rattle.std.proofs.Common.{◌≡◌, List, [], ◌∷◌, option_map, refl, sym, ap, ap₂, ◌∙◌, arith, subst, true, false}
-use Rattle.std.specs.Prelude.{Bool, ◌+◌, ◌^◌, ◌<◌, ◌≤◌, ℕ, None, Result, Ok, Err, IsErrAnd, OnErr, OnOk, length}
+use Rattle.std.specs.Prelude.{Bool, ◌+◌, ◌^◌, ◌<◌, ◌≤◌, ℕ, None, Result, Ok, Err, IfOk, IsErrAnd, OnErr, OnOk, length}
 use Rattle.std.proofs.lemmas.Bool.{lt-ltb, le-ltb}
 use Rattle.std.proofs.lemmas.List.{append-nil}
 use Rattle.yspec.specs.Forest.{end, node, join, size}
@@ -196,16 +196,16 @@ module _ (s : Schema) (before mid : Nodes) (tree : Tree) (steps : List Step) (ab
         are_new = sym (is ∙ numbers_are);
       }
 
-  pub hangs : (E : Type 0) (most : ℕ) (after : Nodes) → node_count mid ≤ most → Keeps after (around at.way more) above end → IsTold s after (around at.way more)
-      → HangsPart {E = E} s most tree (edit_at steps (with_branch b) tree) after (Ok true)
-  hangs E most after few keeps told = (
+  pub hangs : (most : ℕ) (after : Nodes) → node_count mid ≤ most → Keeps after (around at.way more) above end → IsTold s after (around at.way more)
+      → HangsPart s most tree (edit_at steps (with_branch b) tree) after true
+  hangs most after few keeps told = (
     subst (λ k. k ≤ most) (sym added_size) few,
     held s after tree steps at.way (with_branch b) f more above at.goes at.is_tree branch_is keeps told,
   )
 
-  pub hangs_not : (E : Type 0) (most : ℕ) (after : Nodes) → most < node_count mid → Removes has mid after
-      → HangsPart {E = E} s most tree (edit_at steps (with_branch b) tree) after (Ok false)
-  hangs_not E most after many removes = (
+  pub hangs_not : (most : ℕ) (after : Nodes) → most < node_count mid → Removes has mid after
+      → HangsPart s most tree (edit_at steps (with_branch b) tree) after false
+  hangs_not most after many removes = (
     subst (λ k. most < k) (sym added_size) many,
     kept s mid after tree (around at.way f) above (node made.root g end) has at.is_tree beside told_mid numbers_are removes,
   )
@@ -392,18 +392,17 @@ stays_same before after stays = record { shapes = λ above. ap (option_map (λ h
 
 -- ---- answers
 
-pub hangs_wanting : {E : Type 0} (P : E → Type 0) (s : Schema) (most : ℕ) (tree changed : Tree) (nodes : Nodes) (r : Result Bool E) → IsErrAnd r P → Shows nodes tree
-    → HangsPart s most tree changed nodes r
-hangs_wanting P s most tree changed nodes (Ok b) is there = absurd is
-hangs_wanting P s most tree changed nodes (Err e) is there = there
+pub if_err : {T E : Type 0} (P : E → Type 0) (Q : T → Type 0) (r : Result T E) → IsErrAnd r P → IfOk r Q
+if_err P Q (Ok x) is = absurd is
+if_err P Q (Err e) is = tt
 
-pub hung : (E : Type 0) (s : Schema) (tree changed : Tree) (nodes : Nodes) (b : Bool) → b ≡ true → HangsPart {E = E} s document_limit tree changed nodes (Ok b)
+pub hung : (s : Schema) (tree changed : Tree) (nodes : Nodes) (b : Bool) → b ≡ true → HangsPart s document_limit tree changed nodes b
     → (t : Tree) × (within_limit changed ≡ Ok t) × HoldsTold s nodes t
-hung E s tree changed nodes true is so = (changed, within changed so.0, so.1)
-hung E s tree changed nodes false is so = absurd cc
+hung s tree changed nodes true is so = (changed, within changed so.0, so.1)
+hung s tree changed nodes false is so = absurd cc
 
-pub no_room : (E : Type 0) (s : Schema) (tree changed : Tree) (nodes : Nodes) (fault : EditFault) (b : Bool) → b ≡ false → fault ≡ Refused E11 None
-    → HangsPart {E = E} s document_limit tree changed nodes (Ok b) → Amends {X = Unit {0}} s tree (within_limit changed) nodes (Err fault)
-no_room E s tree changed nodes fault true is told so = absurd cc
-no_room E s tree changed nodes fault false is told so =
+pub no_room : (s : Schema) (tree changed : Tree) (nodes : Nodes) (fault : EditFault) (b : Bool) → b ≡ false → fault ≡ Refused E11 None
+    → HangsPart s document_limit tree changed nodes b → Amends {X = Unit {0}} s tree (within_limit changed) nodes (Err fault)
+no_room s tree changed nodes fault true is told so = absurd cc
+no_room s tree changed nodes fault false is told so =
     subst (λ e. Amends {X = Unit {0}} s tree (within_limit changed) nodes (Err e)) (sym told) (over changed so.0, so.1)

@@ -57,12 +57,11 @@ Amends schema tree answer after (Ok x) = (changed : document.Tree) × (answer �
 Amends schema tree answer after (Err (Refused code doc)) = (answer ≡ Err (refusal_view code doc)) × HoldsTold schema after tree
 Amends schema tree answer after (Err Memory) = Shows after tree
 
--- What came of a part that was to hang in a document, which may have so many nodes: the store holds the document with it; or
--- the one that it held, for want of room in it; or memory was wanting.
-abbrev pub HangsPart : {E : Type 0} → Schema → ℕ → document.Tree → document.Tree → Nodes → Result Bool E → Type 0
-HangsPart schema most tree changed after (Ok true) = (size changed ≤ most) × HoldsTold schema after changed
-HangsPart schema most tree changed after (Ok false) = (most < size changed) × HoldsTold schema after tree
-HangsPart schema most tree changed after (Err e) = Shows after tree
+-- Whether a part came to hang in a document, which may have so many nodes: the store holds the document with it; or the one
+-- that it held, for want of room in it.
+abbrev pub HangsPart : Schema → ℕ → document.Tree → document.Tree → Nodes → Bool → Type 0
+HangsPart schema most tree changed after true = (size changed ≤ most) × HoldsTold schema after changed
+HangsPart schema most tree changed after false = (most < size changed) × HoldsTold schema after tree
 
 -- ---- places
 

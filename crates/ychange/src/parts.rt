@@ -1,6 +1,6 @@
 //! A part of a document: put into a row, in the place of another, or taken out.
 
-ghost use Rattle.std.specs.Prelude.{◌≡◌, ◌≤◌, ◌^◌, ℕ, List, OnErr, OnOk};
+ghost use Rattle.std.specs.Prelude.{◌≡◌, ◌≤◌, ◌^◌, ℕ, List, IfOk, OnErr, OnOk};
 ghost use Rattle.yspec.specs.Forest.{end, size};
 ghost use Rattle.yspec.specs.document.Document as document;
 ghost use Rattle.yspec.specs.document.Document.{Step};
@@ -63,8 +63,11 @@ pub(crate) fn hang_part(
     ensures hangs { let s = schema_view.view schema.now in
         (tree : document.Tree) (steps : List Step) (f : Branches)
         → IsAt s (store_of counted.old) tree steps above f
-        → HangsPart s most tree (edit_at steps (with_branch (branch_of part.now)) tree)
-        (store_of counted.new) result }
+        → IfOk result (HangsPart s most tree (edit_at steps (with_branch (branch_of part.now)) tree)
+        (store_of counted.new)) }
+    ensures shows { let s = schema_view.view schema.now in (tree : document.Tree) (steps : List Step) (f : Branches)
+        → IsAt s (store_of counted.old) tree steps above f
+        → OnErr result (Shows (store_of counted.new) tree) }
     ensures same_reference { lent counted.new ≡ lent counted.old }
 {
     let mut numbers = Vec::new(counted.alloc());

@@ -43,7 +43,7 @@ loop-stored-preserved c =
       c.in_ok-hang_part.ensures.same_reference ∙ so.0,
       with_branch (branch_of part) so.1,
       so_on rows i part so.1 (tree_view c.args.tree.now) (omega arith) c.stored-item.is so.2 c.requires,
-      hung _ s _ so.1 (with_branch (branch_of part) so.1) (store_of c.hang_part.new.counted) _ refl
+      hung s _ so.1 (with_branch (branch_of part) so.1) (store_of c.hang_part.new.counted) c.in_ok-hang_part.field-0 (cc)
           (c.in_ok-hang_part.ensures.hangs so.1 [] so.3.branches (at_top s (store_of c.loop-stored.counted) so.1 so.3 sorted)),
     )
 

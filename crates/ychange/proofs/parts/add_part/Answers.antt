@@ -9,14 +9,14 @@ use Rattle.ychange.proofs.parts.add_part.Goals as goal
 pub returns-in_err-hang_part-clause-amends : goal.returns-in_err-hang_part-clause-amends
 returns-in_err-hang_part-clause-amends c = λ tree steps f at.
     part.wanting (schema_view.view c.args.schema.now) c.from_residual.result tree _ (store_of c.hang_part.new.counted) c.from_residual.ensures.1
-    (c.in_err-hang_part.ensures.hangs tree steps f at)
+    (c.in_err-hang_part.ensures.shows tree steps f at)
 
 pub returns-in-true-clause-amends : goal.returns-in-true-clause-amends
 returns-in-true-clause-amends c = λ tree steps f at.
-    part.hung _ (schema_view.view c.args.schema.now) tree (edit_at steps (with_branch (branch_of c.args.part.now)) tree) (store_of c.hang_part.new.counted)
+    part.hung (schema_view.view c.args.schema.now) tree (edit_at steps (with_branch (branch_of c.args.part.now)) tree) (store_of c.hang_part.new.counted)
     c.in_ok-hang_part.field-0 c.in-true.is (c.in_ok-hang_part.ensures.hangs tree steps f at)
 
 pub returns-in-false-clause-amends : goal.returns-in-false-clause-amends
 returns-in-false-clause-amends c = λ tree steps f at.
-    part.no_room _ (schema_view.view c.args.schema.now) tree (edit_at steps (with_branch (branch_of c.args.part.now)) tree) (store_of c.hang_part.new.counted)
+    part.no_room (schema_view.view c.args.schema.now) tree (edit_at steps (with_branch (branch_of c.args.part.now)) tree) (store_of c.hang_part.new.counted)
     c.refused.result c.in_ok-hang_part.field-0 c.in-false.is c.refused.ensures (c.in_ok-hang_part.ensures.hangs tree steps f at)

@@ -5,13 +5,14 @@ use Rattle.ytree.specs.View.{view}
 use Rattle.ystore.specs.Views.{store_of}
 use Rattle.yshape.specs.Growing.{Inserts, Removes}
 use Rattle.yshape.specs.Ways.{around}
+use Rattle.ytold.proofs.StillLemmas.{on_err}
 use Rattle.ychange.proofs.PartLemmas as part
 use Rattle.ychange.proofs.parts.hang_part.Goals as goal
 
-pub returns-in_err-new-clause-hangs : goal.returns-in_err-new-clause-hangs
-returns-in_err-new-clause-hangs c = λ tree steps f at.
+pub returns-in_err-new-clause-shows : goal.returns-in_err-new-clause-shows
+returns-in_err-new-clause-shows c = λ tree steps f at.
     let s = schema_view.view c.args.schema.now in
-    part.hangs_wanting _ s c.args.most tree _ (store_of c.insert_part.new.counted) c.from_residual.result c.from_residual.ensures.1
+    on_err c.from_residual.result
     (part.shows s (store_of c.args.counted.now) (store_of c.insert_part.new.counted) tree steps c.args.above f at c.insert_part.ensures.grows)
 
 pub returns-then-node_count-most-clause-hangs : goal.returns-then-node_count-most-clause-hangs
@@ -24,7 +25,7 @@ returns-then-node_count-most-clause-hangs c = λ tree steps f at.
     let made = subst (λ had. Inserts c.args.above c.in_ok-new.new label below old mid had c.insert_part.new.numbers.items) c.new-numbers.ensures.items c.in_ok-new.ensures.ok in
     let many = c.if-node_count-most.true in
     let count = c.node_count.ensures in
-    part.hangs_not s old mid tree steps c.args.above f c.in_ok-new.new label below c.insert_part.new.numbers.items made c.insert_part.ensures.fresh at c.requires.sorted (Unit {0}) c.args.most
+    part.hangs_not s old mid tree steps c.args.above f c.in_ok-new.new label below c.insert_part.new.numbers.items made c.insert_part.ensures.fresh at c.requires.sorted c.args.most
     (store_of c.remove_nodes.new.counted) (omega (arith, many, count)) (subst (λ xs. Removes xs mid (store_of c.remove_nodes.new.counted)) c.deref.ensures.value c.remove_nodes.ensures.store)
 
 pub change_row-requires : goal.change_row-requires
@@ -55,13 +56,13 @@ returns-clause-hangs c = λ tree steps f at.
     let most = c.requires.most in
     let more_size = part.more_size s old mid tree steps c.args.above f c.in_ok-new.new label below has made fresh at sorted in
     let p = part.adding s old mid tree steps c.args.above f c.in_ok-new.new label below has made fresh at sorted c.deref-2.result.now c.deref-2.ensures.value c.id.result c.id.ensures in
-    part.hangs s old mid tree steps c.args.above f c.in_ok-new.new label below has made fresh at sorted (Unit {0}) c.args.most (store_of c.change_row.new.counted) (omega (arith, few, count))
+    part.hangs s old mid tree steps c.args.above f c.in_ok-new.new label below has made fresh at sorted c.args.most (store_of c.change_row.new.counted) (omega (arith, few, count))
     (c.in_ok-change_row.ensures.keeps p)
     (c.in_ok-change_row.ensures.told p (part.told_mid s old mid tree steps c.args.above f c.in_ok-new.new label below has made fresh at sorted)
     (part.fresh_mid s old mid tree steps c.args.above f c.in_ok-new.new label below has made fresh at sorted) (omega (arith, few, count, most, more_size)))
 
-pub returns-in_err-change_row-clause-hangs : goal.returns-in_err-change_row-clause-hangs
-returns-in_err-change_row-clause-hangs c = λ tree steps f at.
+pub returns-in_err-change_row-clause-shows : goal.returns-in_err-change_row-clause-shows
+returns-in_err-change_row-clause-shows c = λ tree steps f at.
     let s = schema_view.view c.args.schema.now in
     let old = store_of c.args.counted.now in
     let mid = store_of c.insert_part.new.counted in
@@ -70,7 +71,13 @@ returns-in_err-change_row-clause-hangs c = λ tree steps f at.
     let has = c.insert_part.new.numbers.items in
     let made = subst (λ had. Inserts c.args.above c.in_ok-new.new label below old mid had has) c.new-numbers.ensures.items c.in_ok-new.ensures.ok in
     let loose = node made.root (part.g s old mid tree steps c.args.above f c.in_ok-new.new label below has made c.insert_part.ensures.fresh at c.requires.sorted) end in
-    part.hangs_wanting _ s c.args.most tree _ (store_of c.change_row.new.counted) c.from_residual-in_err-change_row.result c.from_residual-in_err-change_row.ensures.1
+    on_err c.from_residual-in_err-change_row.result
     (part.shows_beside (store_of c.change_row.new.counted) tree (around at.way f) c.args.above loose at.is_tree
     (c.in_err-change_row.ensures.keeps_still (around at.way f) c.args.above loose
     (part.beside s old mid tree steps c.args.above f c.in_ok-new.new label below has made c.insert_part.ensures.fresh at c.requires.sorted)))
+
+pub returns-in_err-new-clause-hangs : goal.returns-in_err-new-clause-hangs
+returns-in_err-new-clause-hangs c = λ tree steps f at. part.if_err _ _ c.from_residual.result c.from_residual.ensures.1
+
+pub returns-in_err-change_row-clause-hangs : goal.returns-in_err-change_row-clause-hangs
+returns-in_err-change_row-clause-hangs c = λ tree steps f at. part.if_err _ _ c.from_residual-in_err-change_row.result c.from_residual-in_err-change_row.ensures.1
