@@ -27,7 +27,8 @@ pub fn told_store(alloc: Global, schema: &Schema, tree: &Tree) -> Result<Nodes, 
     let mut counted = nodes.counted();
     begin(&mut counted, schema)?;
     for stored in tree.roots() {
-        if !hang_part(&mut counted, schema, Row::Top, stored, MOST_NODES)? {
+        let is_hung = hang_part(&mut counted, schema, Row::Top, stored, MOST_NODES)?;
+        if !is_hung {
             return Err(AllocError);
         }
     }

@@ -40,11 +40,11 @@ loop-stored-preserved c =
     let part = c.stored-item.result in
     let so = c.loop-stored.invariant in
     let sorted = so_far_sorted rows i so.1 (tree_view c.args.tree.now) so.2 c.requires in (
-      c.in_ok-hang_part.ensures.same_reference ∙ so.0,
+      c.in_ok-is_hung.ensures.same_reference ∙ so.0,
       with_branch (branch_of part) so.1,
       so_on rows i part so.1 (tree_view c.args.tree.now) (omega arith) c.stored-item.is so.2 c.requires,
-      hung s _ so.1 (with_branch (branch_of part) so.1) (store_of c.hang_part.new.counted) c.in_ok-hang_part.field-0 (cc)
-          (c.in_ok-hang_part.ensures.hangs so.1 [] so.3.branches (at_top s (store_of c.loop-stored.counted) so.1 so.3 sorted)),
+      hung s _ so.1 (with_branch (branch_of part) so.1) (store_of c.hang_part.new.counted) c.in_ok-is_hung.is_hung c.if-not-is_hung.false
+          (c.in_ok-is_hung.ensures.hangs so.1 [] so.3.branches (at_top s (store_of c.loop-stored.counted) so.1 so.3 sorted)),
     )
 
 pub returns : goal.returns
