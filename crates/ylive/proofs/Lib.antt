@@ -1,2 +1,2 @@
-pub mod FittingTestLemmas
+pub mod LiveLemmas
 pub mod RunLemmas

@@ -85,11 +85,13 @@ impl Live {
         }
         match edit_in(&mut self.nodes.counted(), &self.schema, edit) {
             Ok(applied) => Ok(applied),
+            Err(EditFault::Refused { code, doc }) => {
+                Err(Refused::Edit(EditFault::Refused { code, doc }))
+            }
             Err(EditFault::Memory) => {
                 self.is_stale = true;
                 Err(Refused::Memory)
             }
-            Err(fault) => Err(Refused::Edit(fault)),
         }
     }
 
@@ -192,9 +194,11 @@ fn edit_in(counted: &mut Counted<'_>, schema: &Schema, edit: &Edit) -> Result<Ap
     ensures same_reference { lent counted.new ≡ lent counted.old }
 {
     let before = counted.total(Row::Top);
-    amend(counted, schema, edit)?;
-    Ok(Applied {
-        before,
-        after: counted.total(Row::Top),
-    })
+    match amend(counted, schema, edit) {
+        Ok(()) => Ok(Applied {
+            before,
+            after: counted.total(Row::Top),
+        }),
+        Err(fault) => Err(fault),
+    }
 }

@@ -1,12 +1,8 @@
-use Rattle.ymodel.specs.View as schema_view
-use Rattle.ytree.specs.View.{tree_view}
-use Rattle.ylive.specs.View.{view}
-use Rattle.ylive.proofs.FittingTestLemmas.{sorted_is}
-use Rattle.ylive.proofs.RunLemmas.{is_fresh}
+use Rattle.ycheck.specs.View.{views}
+use Rattle.ystore.specs.Viewed.{viewed}
+use Rattle.ylive.proofs.LiveLemmas.{lists_all}
 use Rattle.ylive.proofs.live.Live.list.Goals as goal
 
 pub returns-in-Ok : goal.returns-in-Ok
-returns-in-Ok c = (
-  is_fresh (view c.args.self.now) c.is_stale.result c.is_stale.ensures c.if-is_stale.false,
-  c.in-Ok.ensures (sorted_is (schema_view.view c.args.self.now.schema) (tree_view c.args.self.now.tree) c.args.self.now.fitting),
-)
+returns-in-Ok c = lists_all c.self.inside.schema c.self.inside.nodes (viewed c.view.result) c.self.inside.is_stale c.args.self.now (views c.in-Ok.found.items)
+    c.self.view_is c.view.ensures c.self.invariant c.if-self.false c.in-Ok.ensures.listed

@@ -1,11 +1,12 @@
-use Rattle.std.proofs.Common.{subst, sym}
-use Rattle.std.proofs.lemmas.Result.{MatchResult-weaker}
-use Rattle.yspec.specs.document.Fitting.{Fits}
-use Rattle.ymodel.specs.View as schema_view
 use Rattle.ytree.specs.View.{tree_view}
-use Rattle.ylive.proofs.FittingTestLemmas.{fits_is}
+use Rattle.ystore.specs.Viewed.{viewed}
+use Rattle.ylive.proofs.LiveLemmas.{copy_fits, copy_is}
 use Rattle.ylive.proofs.live.Live.tree.Goals as goal
 
+pub returns-clause-copy : goal.returns-clause-copy
+returns-clause-copy c = copy_is c.self.inside.nodes (viewed c.view.result) tree_view c.view.ensures c.self.inside.schema c.self.inside.is_stale c.args.self.now
+    c.copy_tree.result c.self.view_is c.copy_tree.ensures.listed
+
 pub returns-clause-fitting : goal.returns-clause-fitting
-returns-clause-fitting c = MatchResult-weaker c.clone.result c.clone.ensures.cases
-    (λ tree same. subst (Fits (schema_view.view c.args.self.now.schema)) (sym same) (fits_is (schema_view.view c.args.self.now.schema) (tree_view c.args.self.now.tree) c.args.self.now.fitting)) (λ fault no. tt)
+returns-clause-fitting c = copy_fits c.self.inside.nodes (viewed c.view.result) tree_view c.view.ensures c.self.inside.schema c.self.inside.is_stale c.args.self.now
+    c.copy_tree.result c.self.view_is c.self.invariant c.copy_tree.ensures.listed
