@@ -117,12 +117,14 @@ fn run_script(mut live: Live, script: &Script) -> Result<Document, AllocError>
     match live.run(script.edits()) {
         Ok(outcomes) => {
             let refused = script.refused(&outcomes)?;
-            let (schema, tree) = live.into_parts();
-            Ok(Document {
-                schema,
-                tree,
-                refused,
-            })
+            match live.into_parts() {
+                Ok((schema, tree)) => Ok(Document {
+                    schema,
+                    tree,
+                    refused,
+                }),
+                Err(_) => Err(AllocError),
+            }
         }
         Err(_) => Err(AllocError),
     }
