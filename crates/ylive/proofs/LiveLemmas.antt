@@ -1,5 +1,5 @@
 -- What a live document keeps is the document that it stores, and what its store tells are the faults of that.
-use Rattle.std.proofs.Common.{◌≡◌, ℕ, ◌≤◌, Bool, true, false, cond, List, length, Option, Some, None, Result, Ok, Err, refl, sym, ap, ◌∙◌, subst, arith}
+use Rattle.std.proofs.Common.{◌≡◌, ℕ, ◌≤◌, Bool, true, false, List, length, Option, Some, None, Result, Ok, Err, refl, sym, ap, ◌∙◌, subst, arith}
 use Rattle.std.specs.Prelude.{if◌then◌else◌, IfOk}
 use Rattle.yspec.specs.Forest.{end, size}
 use Rattle.yspec.specs.schema.Schema.{Schema}
@@ -173,7 +173,7 @@ pub lists_all : (schema : rust.Schema) (nodes shown : Nodes) (is_stale : Bool) (
 lists_all schema nodes shown is_stale old fs is same live fresh told =
     let s = schema_view.view schema in
     let all : fs ≡ faults_of s (document nodes) = told
-        ∙ (ap (list_told s) same ∙ all_are schema nodes (document nodes) (told_kept s nodes is_stale live fresh) (fits_kept s nodes is_stale live)) in
+    ∙ (ap (list_told s) same ∙ all_are schema nodes (document nodes) (told_kept s nodes is_stale live fresh) (fits_kept s nodes is_stale live)) in
     subst (λ (p : Parts). ((view p).is_stale ≡ false) × (fs ≡ faults_in (view p))) is (fresh, all)
 
 -- and their number
@@ -182,8 +182,8 @@ pub known_is : (schema : rust.Schema) (nodes shown : Nodes) (is_stale : Bool) (o
 known_is schema nodes shown is_stale old n is same live fresh total =
     let s = schema_view.view schema in
     let count : n ≡ length (faults_of s (document nodes)) = total
-        ∙ (ap (λ (n : Nodes). total_at n Top) same
-        ∙ total_is schema nodes (document nodes) (told_kept s nodes is_stale live fresh) (fits_kept s nodes is_stale live)) in
+    ∙ (ap (λ (n : Nodes). total_at n Top) same
+    ∙ total_is schema nodes (document nodes) (told_kept s nodes is_stale live fresh) (fits_kept s nodes is_stale live)) in
     subst (λ (p : Parts). Some n ≡ known_count (view p)) is
     (ap (λ (k : ℕ). Some k) count ∙ sym (ap (λ (b : Bool). if b then None else Some (length (faults_of s (document nodes)))) fresh))
 
@@ -226,8 +226,7 @@ pub applies_in : (schema : rust.Schema) (first read amended last : Nodes) (t : T
     → AppliesIn (schema_view.view schema) t e last (Ok counts)
 applies_in schema first read amended last t e counts once again holds fits before after amends =
     let s = schema_view.view schema in
-    let done = amends (holds_read s first read t once holds) (in_order s t fits) in
-    (
+    let done = amends (holds_read s first read t once holds) (in_order s t fits) in (
       done.0,
       done.1,
       holds_read s amended last done.0 again done.2,
