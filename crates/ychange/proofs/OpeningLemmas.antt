@@ -1,5 +1,5 @@
 -- A document that is told of is put together in a store, a top node after another.
-use Rattle.std.proofs.Common.{◌≡◌, ℕ, ◌+◌, ◌<◌, ◌≤◌, Bool, true, false, List, [], length, drop, get_or, Ok, refl, sym, ap, ◌∙◌, arith, subst, cond}
+use Rattle.std.proofs.Common.{◌≡◌, ℕ, ◌+◌, ◌<◌, ◌≤◌, Bool, true, false, List, [], length, drop, get_or, refl, sym, ap, ◌∙◌, arith, subst, cond}
 use Rattle.std.proofs.lemmas.Bool.{false≢true, le-ltb}
 use Rattle.yspec.specs.Forest.{end, node, join}
 use Rattle.yspec.specs.schema.Schema.{Schema}

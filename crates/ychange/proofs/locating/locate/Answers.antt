@@ -1,4 +1,4 @@
-use Rattle.std.proofs.Common.{[], sym, subst}
+use Rattle.std.proofs.Common.{[], subst}
 use Rattle.ymodel.specs.View as schema_view
 use Rattle.yspec.specs.edit.Editing as spec
 use Rattle.ypath.specs.Binding.{steps_view}

@@ -1,4 +1,4 @@
-use Rattle.std.proofs.Common.{[], subst, arith, refl, ◌∙◌}
+use Rattle.std.proofs.Common.{subst, arith}
 use Rattle.yspec.specs.Forest.{end, node}
 use Rattle.ymodel.specs.View as schema_view
 use Rattle.ytree.specs.View.{view}
