@@ -1,8 +1,7 @@
 //! A document under a schema, in a store that knows its faults.
 
-ghost use Rattle.std.specs.Prelude.{◌≡◌, length, IfOk};
+ghost use Rattle.std.specs.Prelude.{◌≡◌};
 ghost use Rattle.yspec.specs.document.Document as document;
-ghost use Rattle.yspec.specs.document.Faults.{faults_of};
 ghost use Rattle.yspec.specs.document.Fitting.{Fits};
 ghost use Rattle.ymodel.specs.View as schema_view;
 ghost use Rattle.ypath.specs.EditView.{edit_view};
@@ -48,7 +47,7 @@ impl Model for Live {
 }
 
 impl Live {
-    ghost use Rattle.std.specs.Prelude.{◌≡◌, true, is_none, IfOk, IfErr, OnOk, OnErr};
+    ghost use Rattle.std.specs.Prelude.{◌≡◌, true, IfOk, IfErr, OnOk, OnErr};
     ghost use Rattle.yspec.specs.document.Fitting.{Fits};
     ghost use Rattle.yspec.specs.edit.Live.{opened, made_stale, made_anew};
     ghost use Rattle.ypath.specs.EditView.{edit_view};
