@@ -7,15 +7,14 @@ use crate::edits::push_edit;
 use crate::random::Random;
 use crate::trouble::Trouble;
 use std::alloc::Global;
+use std::mem;
 use ychange::{amend, told_store};
 use ycheck::{Fault, faults};
 use yinst::{Edit, EditFault, Predicate, Tree, apply, read, write};
 use ylist::list;
 use ylive::{Live, Refused};
 use ymodel::Schema;
-use yschema::compile;
 use ystore::Nodes;
-use ytext::Module;
 
 /// What a trial is made by.
 #[derive(Clone, Copy, Debug)]
@@ -43,6 +42,8 @@ fn lines_of(alloc: Global, found: &[Fault]) -> Result<String, Trouble> {
 struct Pair {
     live: Live,
     nodes: Nodes,
+    /// Whether the store is changed too.
+    is_beside: bool,
     tree: Tree,
     count: usize,
 }
@@ -89,13 +90,16 @@ fn compare(
     if !are_rows_same(tree.roots(), pair.tree.roots()) {
         return Ok(Some("the tree"));
     }
-    let told = list(alloc, schema, pair.nodes.view())?;
-    if !are_faults_same(&told, &meant) {
-        return Ok(Some("the list of the store beside it"));
-    }
     let size = size_of_row(pair.tree.roots());
     if size > counts.largest {
         counts.largest = size;
+    }
+    if !pair.is_beside {
+        return Ok(None);
+    }
+    let told = list(alloc, schema, pair.nodes.view())?;
+    if !are_faults_same(&told, &meant) {
+        return Ok(Some("the list of the store beside it"));
     }
     if pair.nodes.view().node_count() != size {
         return Ok(Some("the number of nodes in the store"));
@@ -103,19 +107,24 @@ fn compare(
     Ok(None)
 }
 
-/// Does an edit, and compares what comes of it.
+/// Does an edit, and compares what comes of it. Where it is accepted the tree before it is given back.
 fn step(
     alloc: Global,
     pair: &mut Pair,
     edit: &Edit,
     counts: &mut Counts,
+    old: &mut Option<Tree>,
 ) -> Result<Option<&'static str>, Trouble> {
     let meant = apply(alloc, pair.live.schema(), &pair.tree, edit);
     let answer = pair.live.edit(edit);
-    let beside = amend(&mut pair.nodes.counted(), pair.live.schema(), edit);
+    let beside = if pair.is_beside {
+        amend(&mut pair.nodes.counted(), pair.live.schema(), edit)
+    } else {
+        Ok(())
+    };
     match (meant, answer) {
         (Ok(tree), Ok(applied)) => {
-            pair.tree = tree;
+            *old = Some(mem::replace(&mut pair.tree, tree));
             let before = pair.count;
             pair.count = applied.after;
             counts.accepted += 1;
@@ -138,7 +147,7 @@ fn step(
             if code != told || doc != because {
                 return Ok(Some("the code of the refusal"));
             }
-            if beside != Err(EditFault::Refused { code, doc }) {
+            if pair.is_beside && beside != Err(EditFault::Refused { code, doc }) {
                 return Ok(Some("the refusal of the store beside it"));
             }
             Ok(None)
@@ -180,8 +189,12 @@ fn tell(
     number: usize,
     what: &str,
     line: &str,
-    before: &Tree,
+    old: &Option<Tree>,
 ) -> Result<(), Trouble> {
+    let before = match old {
+        Some(tree) => tree,
+        None => &pair.tree,
+    };
     let text = write(alloc, pair.live.schema(), before)?;
     println!(rt; "DIFFERS: {} at edit {number} of seed {} size {}", what, plan.seed, plan.size)?;
     println!(rt; "BEFORE {}", text.as_str())?;
@@ -189,20 +202,16 @@ fn tell(
     Ok(())
 }
 
-/// A run: whether all was the same.
+/// A run: whether all was the same. It takes one of two schemas, and gives it back.
 pub fn check_run(
     rt: &impl Print,
     alloc: Global,
-    modules: &[Module],
+    schemas: &mut Vec<Schema>,
     plan: Plan,
     counts: &mut Counts,
 ) -> Result<bool, Trouble> {
-    let schema = match compile(alloc, modules) {
-        Ok(schema) => schema,
-        Err(fault) => {
-            println!(rt; "{fault:?}")?;
-            return Err(Trouble::Said("the modules are refused"));
-        }
+    let Some(schema) = schemas.pop() else {
+        return Err(Trouble::Said("no schema is left"));
     };
     let wide = if plan.size < 400 { 2 + plan.size / 20 } else { plan.size / 20 };
     let scale = if plan.size < 400 { plan.seed as usize % 3 } else { plan.size / 12 };
@@ -238,6 +247,7 @@ pub fn check_run(
     let mut pair = Pair {
         live,
         nodes,
+        is_beside: plan.seed % 2 == 0,
         tree: copy,
         count,
     };
@@ -265,32 +275,38 @@ pub fn check_run(
             edit = unspelled(&mut maker.random, edit, alloc);
             line.push_str("  (CHANGED)")?;
         }
-        let before = pair.tree.clone()?;
-        let mut wrong = step(alloc, &mut pair, &edit, counts)?;
+        let mut old = None;
+        let mut wrong = step(alloc, &mut pair, &edit, counts, &mut old)?;
         if wrong.is_none() && number % plan.every == 0 {
             wrong = compare(rt, alloc, &mut pair, counts)?;
             comparisons += 1;
             if wrong.is_none() && comparisons % plan.anew == 0 {
-                wrong = open_anew(alloc, modules, &pair, counts)?;
+                wrong = open_anew(alloc, schemas, &pair, counts)?;
             }
         }
         if let Some(what) = wrong {
-            tell(rt, alloc, plan, &pair, number, what, line.as_str(), &before)?;
+            tell(rt, alloc, plan, &pair, number, what, line.as_str(), &old)?;
             return Ok(false);
         }
     }
-    empty_out(rt, alloc, plan, &mut maker, &mut pair, counts)
+    let is_same = empty_out(rt, alloc, plan, &mut maker, &mut pair, counts)?;
+    let Pair { live, .. } = pair;
+    match live.into_parts() {
+        Ok((schema, _)) => schemas.push(schema)?,
+        Err(_) => return Err(Trouble::Memory),
+    }
+    Ok(is_same)
 }
 
 /// Whether a document that is opened anew has the same faults.
 fn open_anew(
     alloc: Global,
-    modules: &[Module],
+    schemas: &mut Vec<Schema>,
     pair: &Pair,
     counts: &mut Counts,
 ) -> Result<Option<&'static str>, Trouble> {
-    let Ok(schema) = compile(alloc, modules) else {
-        return Err(Trouble::Said("the modules are refused"));
+    let Some(schema) = schemas.pop() else {
+        return Err(Trouble::Said("no schema is left"));
     };
     let Ok(live) = Live::open(alloc, schema, pair.live.tree()?) else {
         return Err(Trouble::Memory);
@@ -299,7 +315,12 @@ fn open_anew(
     let (Ok(one), Ok(other)) = (live.list(), pair.live.list()) else {
         return Ok(Some("the list of the document that is opened anew is refused"));
     };
-    if are_faults_same(&one, &other) {
+    let is_same = are_faults_same(&one, &other);
+    match live.into_parts() {
+        Ok((schema, _)) => schemas.push(schema)?,
+        Err(_) => return Err(Trouble::Memory),
+    }
+    if is_same {
         Ok(None)
     } else {
         Ok(Some("the list of the document that is opened anew"))
@@ -338,14 +359,14 @@ fn empty_out(
         let Ok(Some(edit)) = Edit::parse(alloc, line.as_str()) else {
             return Err(Trouble::Said("an edit isn't read"));
         };
-        let before = pair.tree.clone()?;
-        let mut wrong = step(alloc, pair, &edit, counts)?;
+        let mut old = None;
+        let mut wrong = step(alloc, pair, &edit, counts, &mut old)?;
         counts.edits += 1;
         if wrong.is_none() && (plan.size < 1000 || number % 50 == 0) {
             wrong = compare(rt, alloc, pair, counts)?;
         }
         if let Some(what) = wrong {
-            tell(rt, alloc, plan, pair, number, what, line.as_str(), &before)?;
+            tell(rt, alloc, plan, pair, number, what, line.as_str(), &old)?;
             return Ok(false);
         }
     }

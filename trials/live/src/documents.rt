@@ -101,7 +101,7 @@ impl Maker {
         let is_over = self.left == 0;
         let percent = match &child.node().kind {
             Kind::Leaf { absence, .. } => match absence {
-                Absence::Key => 98,
+                Absence::Key => 99,
                 Absence::Mandatory => 92,
                 _ => if is_over { 10 } else { 60 },
             },

@@ -18,6 +18,7 @@ use std::rt::Files;
 use std::{env, fs};
 use timing::time_edits;
 use trouble::Trouble;
+use yschema::compile;
 use ytext::{Module, parse};
 
 fn number_at(words: &[String], at: usize) -> Result<usize, Trouble> {
@@ -51,6 +52,16 @@ fn check(rt: &HostRuntime, words: &[String]) -> Result<bool, Trouble> {
     let size = number_at(words, 4)?;
     let every = number_at(words, 5)?;
     let modules = modules_at(rt, words, 6)?;
+    let mut schemas = Vec::new(rt.alloc());
+    for _ in 0..2 {
+        match compile(rt.alloc(), &modules) {
+            Ok(schema) => schemas.push(schema)?,
+            Err(fault) => {
+                println!(rt; "{fault:?}")?;
+                return Err(Trouble::Said("the modules are refused"));
+            }
+        }
+    }
     let mut counts = Counts::new();
     let mut is_same = true;
     for run in 0..runs {
@@ -61,11 +72,16 @@ fn check(rt: &HostRuntime, words: &[String]) -> Result<bool, Trouble> {
             every,
             anew: 40,
         };
-        if !check_run(rt, rt.alloc(), &modules, plan, &mut counts)? {
+        if !check_run(rt, rt.alloc(), &mut schemas, plan, &mut counts)? {
             is_same = false;
             break;
         }
     }
+    print_counts(rt, &counts)?;
+    Ok(is_same)
+}
+
+fn print_counts(rt: &HostRuntime, counts: &Counts) -> Result<(), Trouble> {
     println!(rt; "edits {} unread {} accepted {} compared {} reopened {} largest {}", counts.edits, counts.unread, counts.accepted, counts.compared, counts.reopened, counts.largest)?;
     for code in 1..12 {
         print!(rt; "E{}:{} ", code, counts.refused[code])?;
@@ -74,7 +90,7 @@ fn check(rt: &HostRuntime, words: &[String]) -> Result<bool, Trouble> {
         print!(rt; "V{}:{} ", code, counts.faults[code])?;
     }
     println!(rt; "")?;
-    Ok(is_same)
+    Ok(())
 }
 
 fn run(rt: &HostRuntime) -> Result<bool, Trouble> {

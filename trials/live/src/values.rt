@@ -29,7 +29,7 @@ pub fn push_value(
     word: &str,
     out: &mut String,
 ) -> Result<(), AllocError> {
-    if random.chance(2) {
+    if random.chance(1) {
         return push_odd(random, out);
     }
     match word {
