@@ -118,11 +118,14 @@ fn run_script(mut live: Live, script: &Script) -> Result<Document, AllocError>
         Ok(outcomes) => {
             let refused = script.refused(&outcomes)?;
             match live.into_parts() {
-                Ok((schema, tree)) => Ok(Document {
-                    schema,
-                    tree,
-                    refused,
-                }),
+                Ok(parts) => {
+                    let (schema, tree) = parts;
+                    Ok(Document {
+                        schema,
+                        tree,
+                        refused,
+                    })
+                }
                 Err(_) => Err(AllocError),
             }
         }
