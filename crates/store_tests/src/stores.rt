@@ -93,6 +93,9 @@ pub(crate) fn rows(alloc: Global) -> Option<bool> {
         && counted.child_of(row, FIRST, 1) == Some(other)
         && counted.child_of(row, FIRST, 2) == None
         && counted.count_of(row, FIRST) == 2
+        && counted.place_of(row, FIRST, other) == 1
+        && counted.place_of(row, FIRST, second) == 2
+        && counted.place_of(row, SECOND, second) == 0
         && counted.schema(first) == Some(FIRST)
         && counted.parent(first) == Some(row)
         && matches!(counted.value(first), Some(Raw::Text(value)) if value.as_str() == "a");

@@ -22,7 +22,7 @@ instances-cons n below after number b e =
     sum_by-cons (λ (x : Stored). cond (eqb x.schema_number number) 1 0) (stored_of n) (row (tree_of after))
     ∙ ap (λ x. cond x 1 0 + instances_in (tree_of after) number) e
 
-of_schema-cons : (s : SchemaId) (c : Child) (cs : List Child) (b : Bool) → eqb c.0.0 s.0 ≡ b → of_schema s (c ∷ cs) ≡ cond b (c.1 ∷ of_schema s cs) (of_schema s cs)
+pub of_schema-cons : (s : SchemaId) (c : Child) (cs : List Child) (b : Bool) → eqb c.0.0 s.0 ≡ b → of_schema s (c ∷ cs) ≡ cond b (c.1 ∷ of_schema s cs) (of_schema s cs)
 of_schema-cons s c cs true e = ap (λ b. map (λ (c : Child). c.1) (cond b (c ∷ filter (λ (d : Child). eqb d.0.0 s.0) cs) (filter (λ (d : Child). eqb d.0.0 s.0) cs))) e
 of_schema-cons s c cs false e = ap (λ b. map (λ (c : Child). c.1) (cond b (c ∷ filter (λ (d : Child). eqb d.0.0 s.0) cs) (filter (λ (d : Child). eqb d.0.0 s.0) cs))) e
 

@@ -1,13 +1,14 @@
 -- Rows whose schema numbers ascend.
-use Rattle.std.proofs.Common.{◌≡◌, ℕ, zero, suc, ◌+◌, ◌-◌, ◌<◌, ◌≤◌, Bool, true, false, cond, List, [], ◌∷◌, length, get_or, set, take, drop, refl, sym, ap, ◌∙◌, arith, ltb, leb, eqb, filter, insert, remove, min, slice_get, option_map, None, zero-add, suc-add, one-add, length-drop}
+use Rattle.std.proofs.Common.{◌≡◌, ℕ, zero, suc, ◌+◌, ◌-◌, ◌<◌, ◌≤◌, Bool, true, false, cond, List, [], ◌∷◌, length, get_or, set, take, drop, refl, sym, ap, ◌∙◌, arith, ltb, leb, eqb, filter, insert, remove, min, not, slice_get, option_map, Some, None, zero-add, suc-add, one-add, length-drop}
 use Rattle.std.specs.List.{list_all, prefix_len}
 use Rattle.std.specs.List.Sorted.{IsNonDecreasingBy, IsPartitionPoint}
 use Rattle.std.proofs.lemmas.Bool.{and_parts, and_from, leb-true, leb-false, ltb-true, ltb-false, le-leb, le-ltb, eq-eqb, ne_eqb, eqb-true}
 use Rattle.std.proofs.lemmas.List.Sums.{prefix_len_is, prefix_len-le-length, passes_at_first}
 use Rattle.std.proofs.lemmas.List.{length-take-le, length-map}
-use Rattle.std.proofs.lemmas.Option.{slice_get-map, slice_get_past}
+use Rattle.std.proofs.lemmas.Option.{slice_get-map, slice_get_past, none-some, same_Some}
 use Rattle.ymodel.specs.declared.node.SchemaId.{SchemaId}
 use Rattle.ystore.specs.Rows.{Child, ascends, first_place, end_place, of_schema, place_of, is_child, added, brought, put}
+use Rattle.ystore.specs.Entries as entries
 use Rattle.ystore.specs.declared.row.NodeId.{NodeId}
 
 abbrev pub number : Child → ℕ
@@ -263,3 +264,35 @@ place_among_is s row place all =
       λ within. omega (arith, many, within),
       λ past. omega (arith, many, past, order),
     )
+
+-- ---- the place of a node
+
+pub first_is : (node : NodeId) (ids : List NodeId) (k : ℕ) → ((j : ℕ) → j < k → slice_get ids j ≡ Some node → ⊥) → slice_get ids k ≡ Some node
+    → entries.place_of node ids ≡ k
+first_is node [] k before here = absurd (none-some node here)
+first_is node (x ∷ ids) zero before here =
+    ap (λ b. cond (not b) (1 + entries.place_of node ids) 0) (eq-eqb x.0 node.0 (ap (λ (n : NodeId). n.0) (same_Some x node here)))
+first_is node (x ∷ ids) (suc k) before here = by (eqb x.0 node.0) refl (first_is node ids k (λ j less. before (suc j) (omega (arith, less))) here)
+  where
+    by : (b : Bool) → eqb x.0 node.0 ≡ b → entries.place_of node ids ≡ k → entries.place_of node (x ∷ ids) ≡ suc k
+    by true e rest = absurd (before zero (omega arith) (ap (λ (m : ℕ). let n : NodeId = record { 0 = m } in Some n) (eqb-true x.0 node.0 e)))
+    by false e rest = ap (λ b. cond (not b) (1 + entries.place_of node ids) 0) e ∙ (ap (λ m. 1 + m) rest ∙ one-add k)
+
+pub none_is : (node : NodeId) (ids : List NodeId) → ((j : ℕ) → j < length ids → slice_get ids j ≡ Some node → ⊥) → entries.place_of node ids ≡ length ids
+none_is node [] none = refl
+none_is node (x ∷ ids) none = by (eqb x.0 node.0) refl (none_is node ids (λ j less. none (suc j) (omega (arith, less))))
+  where
+    by : (b : Bool) → eqb x.0 node.0 ≡ b → entries.place_of node ids ≡ length ids → entries.place_of node (x ∷ ids) ≡ length (x ∷ ids)
+    by true e rest = absurd (none zero (omega arith) (ap (λ (m : ℕ). let n : NodeId = record { 0 = m } in Some n) (eqb-true x.0 node.0 e)))
+    by false e rest = ap (λ b. cond (not b) (1 + entries.place_of node ids) 0) e ∙ (ap (λ m. 1 + m) rest ∙ one-add (length ids))
+
+pub none_yet : (node : NodeId) (ids : List NodeId) (p : ℕ) → ((k : ℕ) → k < p → slice_get ids k ≡ Some node → ⊥) → (slice_get ids p ≡ Some node → ⊥)
+    → (k : ℕ) → k < p + 1 → slice_get ids k ≡ Some node → ⊥
+none_yet node ids p before here k less held = by (ltb k p) refl
+  where
+    by : (b : Bool) → ltb k p ≡ b → ⊥
+    by true e = before k (ltb-true k p e) held
+    by false e =
+        let past = ltb-false k p e in
+        let same : k ≡ p = omega (arith, past, less) in
+        here (ap (slice_get ids) (sym same) ∙ held)

@@ -18,6 +18,7 @@ impl Children {
     ghost use Rattle.std.specs.Prelude.{◌≡◌, ◌+◌, ◌<◌, ◌≤◌, [], length, min, option_map, slice_get, IfOk, OnOk, OnErr};
     ghost use Rattle.ystore.specs.Children.{nodes_of, room_of};
     ghost use Rattle.ystore.specs.Rows as rows;
+    ghost use Rattle.ystore.specs.Entries as entries;
 
     /// None, with room for so many.
     pub fn with_capacity(alloc: Global, room: usize) -> Result<Children, AllocError>
@@ -105,6 +106,20 @@ impl Children {
         } else {
             None
         }
+    }
+
+    /// The place of a node among those of a schema node, or their number.
+    pub fn index_of(&self, schema: SchemaId, node: NodeId) -> usize
+        ensures { result ≡ entries.place_of node (rows.of_schema schema (nodes_of self.now)) }
+    {
+        let first = self.first_place(schema);
+        let count = self.end_place(schema) - first;
+        for place in 0..count {
+            if self.get(first + place) == Some(node) {
+                return place;
+            }
+        }
+        count
     }
 
     /// The place in the row of a place among those of a schema node, or that behind them.

@@ -162,6 +162,19 @@ impl<'a> Counted<'a> {
         }
     }
 
+    /// The place of a node among those of a schema node in a row, or their number.
+    pub fn place_of(&mut self, row: Row, schema: SchemaId, node: NodeId) -> usize
+        ensures place { result
+            ≡ entries.place_of node (rows.of_schema schema (store.children_at (store_of self.old) row)) }
+        ensures counted { IsRead self.old self.new }
+    {
+        self.nodes.count.rise();
+        match self.nodes.record(row) {
+            Some(record) => record.children.index_of(schema, node),
+            None => 0,
+        }
+    }
+
     // ---- reading calls on the index
 
     /// How many instances have a value.
