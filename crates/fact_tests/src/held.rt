@@ -10,7 +10,8 @@ use ystore::{Counted, Judged, Key, NodeId, Nodes, Row};
 use ytext::parse;
 use ytree::read;
 
-// A `leafref` with its target; an `item` with its leaf-list; a `tuple` with its list, its number and its length.
+// A `leafref` with its target; an `item` with its leaf-list; a `tuple` with its list, its number and its length; `texts` with
+// their list, and each of them.
 fn key_word(alloc: Global, key: &Key) -> Option<String> {
     match key {
         Key::Value(target, _) => format!(in alloc; "leafref{} ", target.0).ok(),
@@ -18,7 +19,15 @@ fn key_word(alloc: Global, key: &Key) -> Option<String> {
         Key::Tuple(_, list, number, values) => {
             format!(in alloc; "tuple{}.{}.{} ", list.0, number, values.len()).ok()
         }
-        Key::Texts(..) => None,
+        Key::Texts(_, list, texts) => {
+            let mut word = format!(in alloc; "texts{}", list.0).ok()?;
+            for text in texts {
+                word.push_str(":").ok()?;
+                word.push_str(text.as_str()).ok()?;
+            }
+            word.push_str(" ").ok()?;
+            Some(word)
+        }
     }
 }
 
@@ -176,7 +185,7 @@ fn plain_documents(rt: HostRuntime) {
 }
 
 const HOSTS: &str = r#"{} => V6@1 
-{"ex-net:net":{"host":[{"auto":[null],"name":"a","uplink":"b"},{"addr":"x","name":"b","use-port":80}]}} => 0:0 1:2 tuple1.0.1 *4 2:0 =2 5:0 leafref2 9:0 1:2 tuple1.0.1 tuple1.1.2 V4@7 *4 2:0 =2 3:0 6:0 leafref4 
+{"ex-net:net":{"host":[{"auto":[null],"name":"a","uplink":"b"},{"addr":"x","name":"b","use-port":80}]}} => 0:0 1:2 texts1:a tuple1.0.1 *4 2:0 =2 5:0 leafref2 9:0 1:2 texts1:b tuple1.0.1 tuple1.1.2 V4@7 *4 2:0 =2 3:0 6:0 leafref4 
 {"ex-net:net":{"host":[{"auto":[null],"port":5000,"speed":1},{"auto":[null],"name":"123456789"},{"auto":[null]},{"auto":[null]}]}} => 0:0 V7@1 1:2 V2@2 V5@7 4:0 V1:bad-port 9:0 11:0 1:2 *4 2:0 V1 9:0 1:2 V2@2 *4 9:0 1:2 V2@2 *4 9:0 "#;
 
 #[test]
@@ -195,7 +204,7 @@ fn choices(rt: HostRuntime) {
 }
 
 const ITEMS: &str =
-    r#"{"v:e":[{"id":2,"in":{"x":"a"},"m":[1,1,300]},{"id":1}]} => 0:2 tuple0.0.1 tuple0.1.1 1:0 2:0 3:0 4:1 item4 4:1 item4 4:1 V1 0:2 tuple0.0.1 1:0 "#;
+    r#"{"v:e":[{"id":2,"in":{"x":"a"},"m":[1,1,300]},{"id":1}]} => 0:2 texts0:2 tuple0.0.1 tuple0.1.1 1:0 2:0 3:0 4:1 item4 4:1 item4 4:1 V1 0:2 texts0:1 tuple0.0.1 1:0 "#;
 
 #[test]
 fn items(rt: HostRuntime) {

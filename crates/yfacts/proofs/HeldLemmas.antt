@@ -1,11 +1,12 @@
 -- At which slots nodes have keys, and how many have one.
-use Rattle.std.proofs.Common.{◌≡◌, ℕ, zero, suc, ◌+◌, ◌≤◌, Bool, true, false, cond, eqb, List, [], length, Option, Some, None, refl, sym, ap, ap₂, ◌∙◌, ◌&&◌, arith}
+use Rattle.std.proofs.Common.{◌≡◌, ℕ, zero, suc, ◌+◌, ◌≤◌, Bool, true, false, cond, eqb, List, [], ◌∷◌, length, Option, Some, None, refl, sym, ap, ap₂, ◌∙◌, ◌&&◌, arith}
 use Rattle.std.specs.Prelude.{option_map, option_and_then, unwrap_or}
 use Rattle.std.specs.Option.{option_map_or}
 use Rattle.std.proofs.lemmas.Bool.{eqb-true, eq-eqb, false≢true}
 use Rattle.std.proofs.lemmas.Bool.Decides.{nat_tests}
 use Rattle.std.proofs.lemmas.Option.{same_Some, none-some, slice_get_past}
 use Rattle.yspec.specs.Forest.{end, node}
+use Rattle.yspec.specs.text.Text.{Text}
 use Rattle.yspec.specs.types.Types.{Val}
 use Rattle.yspec.specs.types.Order.{same_value}
 use Rattle.yspec.specs.schema.Schema.{Schema, SchemaNode, Kind, container, leaf, leaf_list, list, choice, case, Tuples, LeafPath, node_at}
@@ -13,7 +14,7 @@ use Rattle.yspec.specs.document.Document.{Stored, Tree}
 use Rattle.yspec.specs.document.Instances.{Tuple, value_of, is_value, is_tuple, same_tuple, kind_tuple, tuple_of_paths, paths_of, tuples_in, items_in}
 use Rattle.ycheck.specs.Targets.{required_target}
 use Rattle.ystore.specs.declared.row.Row.{Row}
-use Rattle.yfacts.specs.Keys.{Key, value_key, item_key, tuple_key, slot_of, is_held, times_held, key_at, kind_key, item_key_at, kind_flags, slots_of, is_item, is_kind_item}
+use Rattle.yfacts.specs.Keys.{Key, value_key, item_key, tuple_key, texts_key, slot_of, is_held, times_held, texts_in, entry_key, first_key, kind_reference, reference_key, key_at, kind_key, item_key_at, kind_flags, slots_of, is_item, is_kind_item}
 use Rattle.yfacts.proofs.SameLemmas.{row_itself}
 
 -- ---- slots
@@ -26,11 +27,28 @@ referred_slot : (o : Option Val) (target : Option ℕ) (key : Key) → option_an
 referred_slot o None key is = absurd (none-some key is)
 referred_slot o (Some t) key is = made_slot (value_key t) 0 o key (λ v. refl) is
 
+abbrev is_of_value : Key → Bool
+is_of_value (value_key target v) = true
+is_of_value (item_key row number v) = false
+is_of_value (tuple_key row number u vs) = false
+is_of_value (texts_key row number texts) = false
+
 module _ (schema : Schema) (above : Row) (s : Stored) (below : Tree) where
-  reference_slot : (n : Option SchemaNode) (key : Key) → option_and_then (λ (m : SchemaNode). option_and_then (λ t. option_map (value_key t) (value_of schema s)) (required_target m.kind)) n ≡ Some key
-      → slot_of key ≡ Some 0
-  reference_slot None key is = absurd (none-some key is)
-  reference_slot (Some n) key is = referred_slot (value_of schema s) (required_target n.kind) key is
+  entry_slot : (numbers : List ℕ) (key : Key) → entry_key schema numbers above s below ≡ Some key → slot_of key ≡ Some 0
+  entry_slot [] key is = absurd (none-some key is)
+  entry_slot (number ∷ numbers) key is = made_slot (texts_key above s.schema_number) 0 (texts_in schema (number ∷ numbers) below) key (λ texts. refl) is
+
+  first_slot : (kind : Kind) (key : Key) → first_key schema kind above s below ≡ Some key → slot_of key ≡ Some 0
+  first_slot (container presence) key is = referred_slot (value_of schema s) (required_target (container presence)) key is
+  first_slot (leaf type absence) key is = referred_slot (value_of schema s) (required_target (leaf type absence)) key is
+  first_slot (leaf_list type defaults amount) key is = referred_slot (value_of schema s) (required_target (leaf_list type defaults amount)) key is
+  first_slot (list tuples amount) key is = entry_slot tuples.keys key is
+  first_slot (choice default_case is_mandatory) key is = referred_slot (value_of schema s) (required_target (choice default_case is_mandatory)) key is
+  first_slot case key is = referred_slot (value_of schema s) (required_target case) key is
+
+  node_slot : (n : Option SchemaNode) (key : Key) → option_and_then (λ (m : SchemaNode). first_key schema m.kind above s below) n ≡ Some key → slot_of key ≡ Some 0
+  node_slot None key is = absurd (none-some key is)
+  node_slot (Some n) key is = first_slot n.kind key is
 
   item_slot : (config : Bool) (u : ℕ) (key : Key) → item_key_at schema config above s u ≡ Some key → slot_of key ≡ Some (suc u)
   item_slot true zero key is = made_slot (item_key above s.schema_number) 1 (value_of schema s) key (λ v. refl) is
@@ -50,8 +68,51 @@ module _ (schema : Schema) (above : Row) (s : Stored) (below : Tree) where
   flagged_slot (Some n) u key is = kind_slot n.config n.kind u key is
 
   pub held_slot : (slot : ℕ) (key : Key) → key_at schema above s below slot ≡ Some key → slot_of key ≡ Some slot
-  held_slot zero key is = reference_slot (node_at schema s.schema_number) key is
+  held_slot zero key is = node_slot (node_at schema s.schema_number) key is
   held_slot (suc u) key is = flagged_slot (node_at schema s.schema_number) u key is
+
+  -- ---- what a node refers to
+
+  -- an entry refers to nothing
+  kind_refers : (kind : Kind) (key : Key) → kind_reference schema kind s ≡ Some key → first_key schema kind above s below ≡ Some key
+  kind_refers (container presence) key is = is
+  kind_refers (leaf type absence) key is = is
+  kind_refers (leaf_list type defaults amount) key is = is
+  kind_refers (list tuples amount) key is = absurd (none-some key is)
+  kind_refers (choice default_case is_mandatory) key is = is
+  kind_refers case key is = is
+
+  pub refers_first : (key : Key) → reference_key schema s ≡ Some key → key_at schema above s below 0 ≡ Some key
+  refers_first key is = by (node_at schema s.schema_number) is
+    where
+      by : (n : Option SchemaNode) → option_and_then (λ (m : SchemaNode). kind_reference schema m.kind s) n ≡ Some key
+          → option_and_then (λ (m : SchemaNode). first_key schema m.kind above s below) n ≡ Some key
+      by None e = absurd (none-some key e)
+      by (Some n) e = kind_refers n.kind key e
+
+  no_texts : (texts : Option (List Text)) (target : ℕ) (v : Val) → option_map (texts_key above s.schema_number) texts ≡ Some (value_key target v) → ⊥
+  no_texts None target v is = none-some (value_key target v) is
+  no_texts (Some texts) target v is = false≢true (ap (λ o. option_map_or is_of_value o false) is)
+
+  not_by_texts : (numbers : List ℕ) (target : ℕ) (v : Val) → entry_key schema numbers above s below ≡ Some (value_key target v) → ⊥
+  not_by_texts [] target v is = none-some (value_key target v) is
+  not_by_texts (number ∷ numbers) target v is = no_texts (texts_in schema (number ∷ numbers) below) target v is
+
+  kind_value_first : (kind : Kind) (target : ℕ) (v : Val) → first_key schema kind above s below ≡ Some (value_key target v) → kind_reference schema kind s ≡ Some (value_key target v)
+  kind_value_first (container presence) target v is = is
+  kind_value_first (leaf type absence) target v is = is
+  kind_value_first (leaf_list type defaults amount) target v is = is
+  kind_value_first (list tuples amount) target v is = absurd (not_by_texts tuples.keys target v is)
+  kind_value_first (choice default_case is_mandatory) target v is = is
+  kind_value_first case target v is = is
+
+  pub value_first : (target : ℕ) (v : Val) → key_at schema above s below 0 ≡ Some (value_key target v) → reference_key schema s ≡ Some (value_key target v)
+  value_first target v is = by (node_at schema s.schema_number) is
+    where
+      by : (n : Option SchemaNode) → option_and_then (λ (m : SchemaNode). first_key schema m.kind above s below) n ≡ Some (value_key target v)
+          → option_and_then (λ (m : SchemaNode). kind_reference schema m.kind s) n ≡ Some (value_key target v)
+      by None e = absurd (none-some (value_key target v) e)
+      by (Some n) e = kind_value_first n.kind target v e
 
   -- ---- none behind the flags
 

@@ -2,15 +2,13 @@
 use Rattle.std.proofs.Common.{◌≡◌, ℕ, zero, suc, ◌+◌, ◌-◌, ◌<◌, ◌≤◌, List, [], ◌∷◌, ◌++◌, Option, Some, None, refl, sym, ap, ◌∙◌, arith, append_assoc}
 use Rattle.std.specs.Prelude.{option_map, option_and_then, option_to_list}
 use Rattle.std.proofs.lemmas.List.{append-nil, map-append}
-use Rattle.yspec.specs.schema.Schema.{Schema, SchemaNode, Kind, node_at}
+use Rattle.yspec.specs.schema.Schema.{Schema, SchemaNode, node_at}
 use Rattle.yspec.specs.document.Document.{Stored, Tree}
-use Rattle.yspec.specs.document.Instances.{value_of}
 use Rattle.ymodel.specs.declared.node.SchemaId.{SchemaId}
-use Rattle.ycheck.specs.Targets.{required_target}
 use Rattle.ystore.specs.declared.row.NodeId.{NodeId}
 use Rattle.ystore.specs.declared.row.Row.{Row}
 use Rattle.ystore.specs.declared.key.Key as rust
-use Rattle.yfacts.specs.Keys.{Key, Holding, value_key, key_view, holdings, held_with, keys_from, key_at, flagged_key}
+use Rattle.yfacts.specs.Keys.{Key, Holding, key_view, holdings, held_with, keys_from, first_key, key_at, flagged_key}
 
 module _ (at : ℕ → Option Key) where
   -- the first of those that are left
@@ -55,14 +53,11 @@ pub flagged_at : (s : Schema) (above : Row) (st : Stored) (t : Tree) (slot : ℕ
 flagged_at s above st t zero less = absurd (omega (arith, less))
 flagged_at s above st t (suc u) less = let same : suc u - 1 ≡ u = omega arith in ap (flagged_key s above st t) same
 
-abbrev refers : Schema → Kind → Stored → Option Key
-refers s kind st = option_and_then (λ target. option_map (value_key target) (value_of s st)) (required_target kind)
-
 -- `stored` is the node by what is held of it
-pub referred_at : (s : Schema) (above : Row) (st stored : Stored) (t : Tree) (slot : ℕ) (of : SchemaId) (found : Option SchemaNode) (n : SchemaNode) → slot ≤ 0 → st.schema_number ≡ of.0
-    → stored ≡ st → found ≡ Some n → found ≡ node_at s of.0 → refers s n.kind stored ≡ key_at s above st t slot
-referred_at s above st stored t slot of found n first number same some is =
+pub first_at : (s : Schema) (above : Row) (st stored : Stored) (t : Tree) (slot : ℕ) (of : SchemaId) (found : Option SchemaNode) (n : SchemaNode) → slot ≤ 0 → st.schema_number ≡ of.0
+    → stored ≡ st → found ≡ Some n → found ≡ node_at s of.0 → first_key s n.kind above stored t ≡ key_at s above st t slot
+first_at s above st stored t slot of found n first number same some is =
     let zeroth : 0 ≡ slot = omega (arith, first) in
-    ap (refers s n.kind) same
-    ∙ (ap (option_and_then (λ (m : SchemaNode). refers s m.kind st)) (sym some ∙ (is ∙ ap (node_at s) (sym number)))
+    ap (λ x. first_key s n.kind above x t) same
+    ∙ (ap (option_and_then (λ (m : SchemaNode). first_key s m.kind above st t)) (sym some ∙ (is ∙ ap (node_at s) (sym number)))
     ∙ ap (key_at s above st t) zeroth)

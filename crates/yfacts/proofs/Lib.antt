@@ -1,3 +1,4 @@
+pub mod EntryLemmas
 pub mod GivenLemmas
 pub mod HeldLemmas
 pub mod KeyLemmas
@@ -5,4 +6,5 @@ pub mod PlayLemmas
 pub mod RowLemmas
 pub mod SameLemmas
 pub mod TellingLemmas
+pub mod TextLemmas
 pub mod TupleLemmas

@@ -127,7 +127,7 @@ module _ (times : Times) (row : RowTimes) where
     kind_told n (choice default_case is_mandatory) number value = refl
     kind_told n case number value = refl
 
-    judged_by_node : (n : SchemaNode) → node_at schema s.schema_number ≡ Some n → judged_at count schema above s below ≡ judged_as n.kind
+    judged_by_node : (n : SchemaNode) → node_at schema s.schema_number ≡ Some n → judged_at count schema s ≡ judged_as n.kind
     judged_by_node n e =
         ap (λ (o : Option SchemaNode). with_reference count
         (option_and_then (λ (m : SchemaNode). option_and_then (λ t. option_map (value_key t) (option_and_then (λ (m : SchemaNode). value_as m.kind) o)) (required_target m.kind)) o)
@@ -146,7 +146,7 @@ module _ (times : Times) (row : RowTimes) where
 
     by_node : (o : Option SchemaNode) → node_at schema s.schema_number ≡ o
         → option_map_or (λ (n : SchemaNode). own_faults times row n n.kind s.value (tuple schema s below)) o []
-        ≡ option_map_or (λ (n : SchemaNode). told_faults n (judged_at count schema above s below) (flags_at count schema above s below)) o []
+        ≡ option_map_or (λ (n : SchemaNode). told_faults n (judged_at count schema s) (flags_at count schema above s below)) o []
     by_node None e = refl
     by_node (Some n) e =
         ap (own_faults times row n n.kind s.value) (tuple_by_node n e)
@@ -154,5 +154,5 @@ module _ (times : Times) (row : RowTimes) where
         ∙ sym (ap₂ (told_faults n) (judged_by_node n e) (flags_by_node n e)))
 
     pub told_by_keys : faults_at times row schema s below
-        ≡ option_map_or (λ (n : SchemaNode). told_faults n (judged_at count schema above s below) (flags_at count schema above s below)) (node_at schema s.schema_number) []
+        ≡ option_map_or (λ (n : SchemaNode). told_faults n (judged_at count schema s) (flags_at count schema above s below)) (node_at schema s.schema_number) []
     told_by_keys = by_node (node_at schema s.schema_number) refl

@@ -1,5 +1,6 @@
--- The keys of indexes that stored nodes hold: what a leaf or item refers to, an item's value, and an entry's tuples.
-use Rattle.std.specs.Prelude.{ℕ, zero, suc, ◌+◌, ◌==◌, ◌&&◌, ◌++◌, Bool, false, List, [], map, length, bytes_eq, Option, Some, None, option_and_then, option_map, option_to_list, string_bytes, if◌then◌else◌}
+-- The keys of indexes that stored nodes hold: what a leaf or item refers to, an item's value, and an entry's tuples and
+-- texts.
+use Rattle.std.specs.Prelude.{ℕ, zero, suc, ◌+◌, ◌==◌, ◌&&◌, ◌++◌, Bool, false, List, [], ◌∷◌, map, length, bytes_eq, Option, Some, None, option_and_then, option_map, option_to_list, string_bytes, if◌then◌else◌}
 use Rattle.std.specs.Cmp.Lexicographic.{pointwise}
 use Rattle.std.specs.Option.{option_map_or}
 use Rattle.yspec.specs.Forest.{weigh_row}
@@ -7,8 +8,9 @@ use Rattle.yspec.specs.text.Text.{Text}
 use Rattle.yspec.specs.types.Types.{Val}
 use Rattle.yspec.specs.types.Order.{same_value}
 use Rattle.yspec.specs.schema.Schema.{Schema, Kind, leaf_list, list, node_at}
-use Rattle.yspec.specs.document.Document.{Stored, Tree}
+use Rattle.yspec.specs.document.Document.{Stored, Tree, stored_in}
 use Rattle.yspec.specs.document.Instances.{Tuple, value_of, same_tuple, tuple_of_paths, paths_of}
+use Rattle.yspec.specs.edit.Editing.{text_of}
 use Rattle.ycheck.specs.Targets.{required_target}
 use Rattle.ystore.specs.Store.{same_row}
 use Rattle.ystore.specs.declared.row.NodeId.{NodeId}
@@ -69,8 +71,28 @@ abbrev pub is_item : Schema → ℕ → Bool
 is_item schema number = option_map_or (λ n. is_kind_item n.config n.kind) (node_at schema number) false
 
 -- what a leaf or item refers to, where an instance of it is required
+abbrev pub kind_reference : Schema → Kind → Stored → Option Key
+kind_reference schema kind s = option_and_then (λ target. option_map (value_key target) (value_of schema s)) (required_target kind)
+
 abbrev pub reference_key : Schema → Stored → Option Key
-reference_key schema s = option_and_then (λ n. option_and_then (λ target. option_map (value_key target) (value_of schema s)) (required_target n.kind)) (node_at schema s.schema_number)
+reference_key schema s = option_and_then (λ n. kind_reference schema n.kind s) (node_at schema s.schema_number)
+
+-- the canonical texts of leafs in a row, where each is stored and valid
+abbrev pub texts_in : Schema → List ℕ → Tree → Option (List Text)
+texts_in schema [] t = Some []
+texts_in schema (number ∷ numbers) t = option_and_then (λ text. option_map (λ texts. text ∷ texts) (texts_in schema numbers t))
+    (option_and_then (text_of schema) (stored_in number t))
+
+-- by what a path finds an entry of a list with this key, if it has one
+abbrev pub entry_key : Schema → List ℕ → Row → Stored → Tree → Option Key
+entry_key schema [] above s below = None
+entry_key schema (number ∷ numbers) above s below =
+    option_map (texts_key above s.schema_number) (texts_in schema (number ∷ numbers) below)
+
+-- by what a path finds an entry, and what another node refers to
+abbrev pub first_key : Schema → Kind → Row → Stored → Tree → Option Key
+first_key schema (list tuples amount) above s below = entry_key schema tuples.keys above s below
+first_key schema kind above s below = kind_reference schema kind s
 
 -- the value of an item, which has one flag
 abbrev pub item_key_at : Schema → Bool → Row → Stored → ℕ → Option Key
@@ -88,9 +110,9 @@ kind_key schema config _ above s below u = None
 abbrev pub flagged_key : Schema → Row → Stored → Tree → ℕ → Option Key
 flagged_key schema above s below u = option_and_then (λ n. kind_key schema n.config n.kind above s below u) (node_at schema s.schema_number)
 
--- the key that a node of a row holds at a slot: first what it refers to, then what is flagged
+-- the key that a node of a row holds at a slot: first what it refers to or is found by, then what is flagged
 abbrev pub key_at : Schema → Row → Stored → Tree → ℕ → Option Key
-key_at schema above s below zero = reference_key schema s
+key_at schema above s below zero = option_and_then (λ n. first_key schema n.kind above s below) (node_at schema s.schema_number)
 key_at schema above s below (suc u) = flagged_key schema above s below u
 
 abbrev pub slots_of : Schema → ℕ → ℕ
@@ -112,7 +134,7 @@ abbrev pub slot_of : Key → Option ℕ
 slot_of (value_key target v) = Some 0
 slot_of (item_key row number v) = Some 1
 slot_of (tuple_key row number u vs) = Some (suc u)
-slot_of (texts_key row number texts) = None
+slot_of (texts_key row number texts) = Some 0
 
 -- whether a node has it, which has one at that slot, or none
 abbrev pub is_held : Key → Option Key → Bool

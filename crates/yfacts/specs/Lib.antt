@@ -4,3 +4,4 @@ pub mod Judging
 pub mod Keys
 pub mod Rows
 pub mod Telling
+pub mod Worked

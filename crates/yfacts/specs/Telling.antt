@@ -9,7 +9,7 @@ use Rattle.yspec.specs.document.Faults.{Times, RowTimes}
 use Rattle.ycheck.specs.Walk.{marks_told}
 use Rattle.ystore.specs.declared.row.Row.{Row}
 use Rattle.yfacts.specs.Judging.{Judged, right, wrong, missing, value_judged}
-use Rattle.yfacts.specs.Keys.{Key, value_key, item_key, tuple_key, texts_key, key_at, flagged_key, flags_of}
+use Rattle.yfacts.specs.Keys.{Key, value_key, item_key, tuple_key, texts_key, reference_key, flagged_key, flags_of}
 
 -- how often what a key holds is there, by answers of the document and of the row of a node that has it
 abbrev pub times_of : Times → RowTimes → Key → ℕ
@@ -35,8 +35,8 @@ abbrev pub flags_from : (ℕ → Bool) → ℕ → ℕ → List Bool
 flags_from is_set u zero = []
 flags_from is_set u (suc more) = is_set u ∷ flags_from is_set (u + 1) more
 
-abbrev pub judged_at : (Key → ℕ) → Schema → Row → Stored → Tree → Judged
-judged_at times schema above s below = with_reference times (key_at schema above s below 0) (value_judged schema s)
+abbrev pub judged_at : (Key → ℕ) → Schema → Stored → Judged
+judged_at times schema s = with_reference times (reference_key schema s) (value_judged schema s)
 
 abbrev pub flags_at : (Key → ℕ) → Schema → Row → Stored → Tree → List Bool
 flags_at times schema above s below =

@@ -1,11 +1,11 @@
 //! The keys of indexes that nodes hold.
 
-ghost use Rattle.std.specs.Prelude.{◌≡◌, ◌≤◌, ◌^◌, ◌++◌, IfOk, OnOk, option_and_then, option_map};
+ghost use Rattle.std.specs.Prelude.{◌≡◌, ◌≤◌, ◌^◌, ◌++◌, IfOk, OnOk, option_map};
 ghost use Rattle.std.specs.Option.{option_map_or};
 ghost use Rattle.yspec.specs.Forest.{end, node};
 ghost use Rattle.yspec.specs.schema.Schema.{node_at};
 ghost use Rattle.yspec.specs.document.Instances as spec;
-ghost use Rattle.ymodel.specs.Layout.{kind_view, number_of, tuples_view};
+ghost use Rattle.ymodel.specs.Layout.{kind_view, number_of, numbers_of, tuples_view};
 ghost use Rattle.ymodel.specs.View as schema_view;
 ghost use Rattle.ycheck.specs.Targets as targets;
 ghost use Rattle.ystore.specs.Views.{store_of, lent};
@@ -15,6 +15,7 @@ ghost use Rattle.yshape.specs.Parts.{OnlyReads};
 ghost use Rattle.yfacts.specs.Rows.{leaf_at};
 ghost use Rattle.yfacts.specs.Keys as words;
 
+use crate::texts::texts_of;
 use crate::tuples::tuple_of;
 use crate::values::value_as;
 use std::alloc::AllocError;
@@ -66,8 +67,7 @@ fn reference_key(
 ) -> Result<Option<Key>, AllocError>
     ensures key { let s = schema_view.view schema.now in
         IfOk result (λ key. option_map words.key_view key
-        ≡ option_and_then (λ target. option_map (words.value_key target) (spec.value_of s (leaf_at (store_of counted.old) of id)))
-        (targets.required_target (kind_view kind.now))) }
+        ≡ words.kind_reference s (kind_view kind.now) (leaf_at (store_of counted.old) of id)) }
     ensures kept { OnlyReads (store_of counted.old) (store_of counted.new) }
     ensures same_reference { lent counted.new ≡ lent counted.old }
 {
@@ -77,6 +77,53 @@ fn reference_key(
     match value_as(counted, schema, of, id)? {
         Some(value) => Ok(Some(Key::Value(target, value))),
         None => Ok(None),
+    }
+}
+
+/// By what a path finds an entry of a list with this key, if it has one.
+fn entry_key(
+    counted: &mut Counted<'_>,
+    schema: &Schema,
+    keys: &[SchemaId],
+    above: Row,
+    of: SchemaId,
+    id: NodeId,
+) -> Result<Option<Key>, AllocError>
+    ensures key { let s = schema_view.view schema.now in
+        IfOk result (λ key. (f : Branches) → Hangs (store_of counted.old) (Below id) f
+        → option_map words.key_view key
+        ≡ words.entry_key s (numbers_of keys.now) above (leaf_at (store_of counted.old) of id) (tree_of f)) }
+    ensures kept { OnlyReads (store_of counted.old) (store_of counted.new) }
+    ensures same_reference { lent counted.new ≡ lent counted.old }
+{
+    if keys.is_empty() {
+        return Ok(None);
+    }
+    match texts_of(counted, schema, keys, Row::Below(id))? {
+        Some(texts) => Ok(Some(Key::Texts(above, of, texts))),
+        None => Ok(None),
+    }
+}
+
+/// By what a path finds an entry, and what another node refers to.
+fn first_key(
+    counted: &mut Counted<'_>,
+    schema: &Schema,
+    kind: &Kind,
+    above: Row,
+    of: SchemaId,
+    id: NodeId,
+) -> Result<Option<Key>, AllocError>
+    ensures key { let s = schema_view.view schema.now in
+        IfOk result (λ key. (f : Branches) → Hangs (store_of counted.old) (Below id) f
+        → option_map words.key_view key
+        ≡ words.first_key s (kind_view kind.now) above (leaf_at (store_of counted.old) of id) (tree_of f)) }
+    ensures kept { OnlyReads (store_of counted.old) (store_of counted.new) }
+    ensures same_reference { lent counted.new ≡ lent counted.old }
+{
+    match kind {
+        Kind::List { tuples, .. } => entry_key(counted, schema, &tuples.keys, above, of, id),
+        _ => reference_key(counted, schema, kind, of, id),
     }
 }
 
@@ -155,7 +202,8 @@ fn flagged_key(
     }
 }
 
-/// The key that a node of a row holds at a slot: at 0 what it refers to, at 1 and above what is flagged at 0 and above.
+/// The key that a node of a row holds at a slot: at 0 what it refers to or is found by, at 1 and above what is flagged at
+/// 0 and above.
 pub fn key_at(
     counted: &mut Counted<'_>,
     schema: &Schema,
@@ -175,7 +223,7 @@ pub fn key_at(
         return flagged_key(counted, schema, above, of, id, slot - 1);
     }
     match schema.kind(of) {
-        Some(node) => reference_key(counted, schema, &node.kind, of, id),
+        Some(node) => first_key(counted, schema, &node.kind, above, of, id),
         None => Ok(None),
     }
 }

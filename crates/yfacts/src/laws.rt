@@ -1,13 +1,15 @@
 //! Keys that are the same, and how often values are given.
 
-ghost use Rattle.std.specs.Prelude.{◌≡◌, ◌↔◌, ◌==◌, ℕ, suc, ◌≤◌, [], Some, None, true, count_by, IsTrue, if◌then◌else◌};
+ghost use Rattle.std.specs.Prelude.{◌≡◌, ◌↔◌, ◌==◌, ℕ, suc, ◌≤◌, ◌<◌, List, [], length, map, Some, None, true, count_by, IsTrue, if◌then◌else◌};
 ghost use Rattle.std.specs.Option.{option_map_or};
 ghost use Rattle.yspec.specs.Forest.{Forest};
 ghost use Rattle.yspec.specs.types.Types.{Val};
-ghost use Rattle.yspec.specs.schema.Schema.{Schema, SchemaNode, node_at};
+ghost use Rattle.yspec.specs.schema.Schema.{Schema, SchemaNode, keys_in, node_at};
 ghost use Rattle.yspec.specs.document.Document.{Stored, Tree, instances_in};
 ghost use Rattle.yspec.specs.document.Instances.{Tuple, value_of, is_value, times_below, tuples_in, items_in};
 ghost use Rattle.yspec.specs.document.Faults.{Times, RowTimes, faults_at};
+ghost use Rattle.yspec.specs.edit.EditText as edit;
+ghost use Rattle.yspec.specs.edit.Editing.{key_text, fits_keys, positions_where};
 ghost use Rattle.yplay.specs.Absences.{defaults_in, is_default};
 ghost use Rattle.ystore.specs.Store.{same_key};
 ghost use Rattle.ystore.specs.declared.row.Row.{Row};
@@ -34,17 +36,36 @@ pub fn given_values()
         ≡ times_below schema number v children below }
 {}
 
-/// A node has the keys of a slot at that slot, and none behind its flags; as many nodes of a row have a tuple, or an item's
-/// value, as are counted of the row.
+/// A node has the keys of a slot at that slot, and none behind its flags; the key of a value that it has is of what it
+/// refers to; as many nodes of a row have a tuple, or an item's value, as are counted of the row.
 pub fn held_keys()
     ensures slots { (schema : Schema) (above : Row) (s : Stored) (below : Tree) (slot : ℕ) (key : words.Key)
         → words.key_at schema above s below slot ≡ Some key → words.slot_of key ≡ Some slot }
     ensures few { (schema : Schema) (above : Row) (s : Stored) (below : Tree) (slot : ℕ) → words.slots_of schema s.schema_number ≤ slot
         → words.key_at schema above s below slot ≡ None }
+    ensures references { (schema : Schema) (above : Row) (s : Stored) (below : Tree) (key : words.Key)
+        → words.reference_key schema s ≡ Some key → words.key_at schema above s below 0 ≡ Some key }
+    ensures values { (schema : Schema) (above : Row) (s : Stored) (below : Tree) (target : ℕ) (v : Val)
+        → words.key_at schema above s below 0 ≡ Some (words.value_key target v)
+        → words.reference_key schema s ≡ Some (words.value_key target v) }
     ensures tuples { (schema : Schema) (above : Row) (t : Tree) (number u : ℕ) (vs : Tuple)
         → words.times_held schema above t (suc u) (words.tuple_key above number u vs) ≡ tuples_in schema t number u vs }
     ensures items { (schema : Schema) (above : Row) (t : Tree) (number : ℕ) (v : Val) → words.is_item schema number ≡ true
         → words.times_held schema above t 1 (words.item_key above number v) ≡ items_in schema t number v }
+{}
+
+/// An entry of a list that has a key fits the keys of a path exactly where it holds the key of their texts, and as many
+/// nodes of a row hold that as entries fit the keys.
+pub fn found_entries()
+    ensures fits { (schema : Schema) (above : Row) (s : Stored) (below : Tree) (n : SchemaNode) (keys : List edit.Key)
+        → node_at schema s.schema_number ≡ Some n → 0 < length (keys_in n.kind)
+        → fits_keys schema (keys_in n.kind) keys below
+        ≡ words.is_held (words.texts_key above s.schema_number (map (key_text keys schema) (keys_in n.kind)))
+        (words.key_at schema above s below 0) }
+    ensures positions { (schema : Schema) (above : Row) (t : Tree) (number : ℕ) (n : SchemaNode) (keys : List edit.Key)
+        → node_at schema number ≡ Some n → 0 < length (keys_in n.kind)
+        → length (positions_where number (fits_keys schema (keys_in n.kind) keys) 1 t)
+        ≡ words.times_held schema above t 0 (words.texts_key above number (map (key_text keys schema) (keys_in n.kind))) }
 {}
 
 /// The faults at a node are what its type says of its value, what it refers to, and a flag for each key that another node of
@@ -52,6 +73,6 @@ pub fn held_keys()
 pub fn told_nodes()
     ensures { (times : Times) (row : RowTimes) (schema : Schema) (above : Row) (s : Stored) (below : Tree)
         → faults_at times row schema s below
-        ≡ option_map_or (λ n. telling.told_faults n (telling.judged_at (telling.times_of times row) schema above s below)
+        ≡ option_map_or (λ n. telling.told_faults n (telling.judged_at (telling.times_of times row) schema s)
         (telling.flags_at (telling.times_of times row) schema above s below)) (node_at schema s.schema_number) [] }
 {}

@@ -8,13 +8,16 @@ mod keys;
 mod laws;
 mod play;
 mod rows;
+mod texts;
 mod tuples;
 mod values;
+mod worked;
 
 pub use given::own_value_of;
 pub use judging::judged_of;
 pub use keys::{flag_count, key_at, keys_of};
-pub use laws::{given_values, held_keys, told_nodes, viewed_keys};
+pub use laws::{found_entries, given_values, held_keys, told_nodes, viewed_keys};
 pub use play::{InPlay, absences_of, defaults_of, in_play};
 pub use tuples::tuple_of;
 pub use values::{leaf_value, value_at, value_of};
+pub use worked::worked_keys;

@@ -88,7 +88,7 @@ module _ (nodes : Nodes) where
 -- what is told by keys, where the schema has the node
 module _ (schema : Schema) (above : Row) (s : Stored) (t : Tree) (count : Key → ℕ) where
   abbrev judged : Judged
-  judged = telling.judged_at count schema above s t
+  judged = telling.judged_at count schema s
 
   abbrev flags : List Bool
   flags = telling.flags_at count schema above s t
@@ -124,9 +124,9 @@ module _ (schema : Schema) (nodes : Nodes) (f : Branches) (tree : IsTree nodes f
       abbrev at : There (held_at nodes (Below n.id)) own.own
       at = there (held_at nodes (Below n.id)) own.own own.held
 
-      node_judged : judged_view at.held.told.judged ≡ telling.judged_at (times_of document row) schema here (stored_of n) (tree_of below)
+      node_judged : judged_view at.held.told.judged ≡ telling.judged_at (times_of document row) schema (stored_of n)
       node_judged =
-          judged_is schema nodes document told.values row (stored_of n) at.held.told.judged (told.held n.id.0 0) (keyed 0)
+          judged_is schema nodes document told.values row here (stored_of n) (tree_of below) at.held.told.judged (told.held n.id.0 0) (keyed 0)
           (subst (λ o. IsJudged nodes (told.held n.id.0 0) (option_map (λ t. t.judged) (option_map (λ h. h.told) o))) at.is (told.agrees.tells.judged n.id standing))
           (ap (λ o. o.wrong) at.is_own ∙ own.is_wrong)
 

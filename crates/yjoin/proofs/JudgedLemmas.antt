@@ -11,19 +11,22 @@ use Rattle.yspec.specs.text.Text.{Text}
 use Rattle.yspec.specs.types.Types.{Raw, Val, YangType, taken, app_tag_of}
 use Rattle.yspec.specs.schema.Schema.{Schema, SchemaNode, Kind, LeafType, node_at, type_in}
 use Rattle.yspec.specs.schema.References.{refers_to, target_in}
-use Rattle.yspec.specs.document.Document.{Stored}
+use Rattle.yspec.specs.document.Document.{Stored, Tree}
 use Rattle.yspec.specs.document.Instances.{value_of}
 use Rattle.yspec.specs.document.Faults.{Times, RowTimes, requires_instance}
 use Rattle.ycheck.specs.Targets.{required_target}
 use Rattle.ystore.specs.Store.{instances_at}
+use Rattle.ystore.specs.declared.row.Row.{Row}
 use Rattle.ystore.specs.declared.key.Key as rust
+use Rattle.ystore.specs.declared.key.Key.TheVariants.{Value, Item, Tuple as TupleKey, Texts}
 use Rattle.ystore.specs.declared.record.Judged as stored
 use Rattle.ystore.specs.declared.record.Judged.TheVariants.{Right, Wrong, Missing}
 use Rattle.ystore.specs.declared.nodes.Nodes.{Nodes}
 use Rattle.yfacts.specs.Given.{is_referred}
 use Rattle.yfacts.specs.Judging.{Judged, right, wrong, missing, judged_view, kind_judged, value_judged}
-use Rattle.yfacts.specs.Keys.{Key, value_key, key_view, reference_key}
+use Rattle.yfacts.specs.Keys.{Key, value_key, item_key, tuple_key, texts_key, key_view, slot_of, reference_key, key_at}
 use Rattle.yfacts.specs.Telling.{times_of, with_reference}
+use Rattle.yfacts.proofs.HeldLemmas.{held_slot, refers_first, value_first}
 use Rattle.ytell.specs.Keys as told
 use Rattle.ytell.specs.Keys.{IsJudged, wrong_of, is_missing}
 use Rattle.ytold.specs.IsTold.{wrong_in}
@@ -157,6 +160,23 @@ refers schema s key is = by (node_at schema s.schema_number) refl is
     by None found e = absurd (none-some key e)
     by (Some n) found e = on n found (required_target n.kind) refl e
 
+-- a node whose first key is of no value refers to nothing
+abbrev is_of_value : Key → Bool
+is_of_value (value_key target v) = true
+is_of_value (item_key row number v) = false
+is_of_value (tuple_key row number u vs) = false
+is_of_value (texts_key row number texts) = false
+
+unreferred : (schema : Schema) (above : Row) (s : Stored) (below : Tree)
+    → option_map_or is_of_value (key_at schema above s below 0) false ≡ false → reference_key schema s ≡ None
+unreferred schema above s below none = by (reference_key schema s) refl
+  where
+    by : (o : Option Key) → reference_key schema s ≡ o → o ≡ None
+    by None e = refl
+    by (Some key) e =
+        let to = refers schema s key e in
+        absurd (false≢true (sym none ∙ ap (λ o. option_map_or is_of_value o false) (refers_first schema above s below key e ∙ ap Some to.is_key)))
+
 -- ---- a node
 
 module _ (schema : Schema) (nodes : Nodes) (times : Times)
@@ -176,18 +196,42 @@ module _ (schema : Schema) (nodes : Nodes) (times : Times)
       by true = refl
       by false = refl
 
-  pub judged_is : (s : Stored) (j : stored.Judged) (o : Option rust.Key) → option_map key_view o ≡ reference_key schema s → IsJudged nodes o (Some j)
+  -- of a node that refers to nothing
+  unreferring : (s : Stored) (j : stored.Judged) → judged_view j ≡ value_judged schema s → reference_key schema s ≡ None
+      → judged_view j ≡ with_reference (times_of times row) (reference_key schema s) (value_judged schema s)
+  unreferring s j same none =
+      same ∙ sym (ap (λ o. with_reference (times_of times row) o (value_judged schema s)) none ∙ no_reference (times_of times row) (value_judged schema s))
+
+  -- of one that refers to a value
+  referring : (s : Stored) (j : stored.Judged) (k : rust.Key) → reference_key schema s ≡ Some (key_view k) → j ≡ told.judged_by (instances_at nodes k)
       → wrong_of j ≡ wrong_in (value_judged schema s)
       → judged_view j ≡ with_reference (times_of times row) (reference_key schema s) (value_judged schema s)
-  judged_is s j None key judged w =
-      record_is j (value_judged schema s) (plain schema s) w judged
-      ∙ sym (ap (λ o. with_reference (times_of times row) o (value_judged schema s)) (sym key) ∙ no_reference (times_of times row) (value_judged schema s))
-  judged_is s j (Some k) key judged w =
-      let same : j ≡ told.judged_by (instances_at nodes k) = same_Some j (told.judged_by (instances_at nodes k)) judged in
-      let to = refers schema s (key_view k) (sym key) in
+  referring s j k key same w =
+      let to = refers schema s (key_view k) key in
       let is_right : value_judged schema s ≡ right =
       right_is (value_judged schema s) (plain schema s) (sym w ∙ (ap wrong_of same ∙ not_wrong (instances_at nodes k))) in
       ap judged_view same
       ∙ (counted (instances_at nodes k)
       ∙ (ap (λ c. cond (eqb c 0) missing right) (values k to.number to.value to.is_key to.is_referred)
-      ∙ sym (ap₂ (λ o v. with_reference (times_of times row) o v) (sym key ∙ ap Some to.is_key) is_right)))
+      ∙ sym (ap₂ (λ o v. with_reference (times_of times row) o v) (key ∙ ap Some to.is_key) is_right)))
+
+  -- no node holds a key of another slot at its first one
+  other_slot : (above : Row) (s : Stored) (below : Tree) (key : Key) (u : ℕ) → slot_of key ≡ Some (suc u) → key_at schema above s below 0 ≡ Some key → ⊥
+  other_slot above s below key u slot is =
+      let same : 0 ≡ suc u = same_Some 0 (suc u) (sym (held_slot schema above s below 0 key is) ∙ slot) in omega (arith, same)
+
+  pub judged_is : (above : Row) (s : Stored) (below : Tree) (j : stored.Judged) (o : Option rust.Key) → option_map key_view o ≡ key_at schema above s below 0
+      → IsJudged nodes o (Some j) → wrong_of j ≡ wrong_in (value_judged schema s)
+      → judged_view j ≡ with_reference (times_of times row) (reference_key schema s) (value_judged schema s)
+  judged_is above s below j None key judged w =
+      unreferring s j (record_is j (value_judged schema s) (plain schema s) w judged)
+      (unreferred schema above s below (ap (λ o. option_map_or is_of_value o false) (sym key)))
+  judged_is above s below j (Some (Value target v)) key judged w =
+      referring s j (Value target v) (value_first schema above s below target.0 v (sym key)) (same_Some j (told.judged_by (instances_at nodes (Value target v))) judged) w
+  judged_is above s below j (Some (Texts r number texts)) key judged w =
+      let same : j ≡ Right = same_Some j Right judged in
+      unreferring s j (ap judged_view same ∙ sym (right_is (value_judged schema s) (plain schema s) (sym w ∙ ap wrong_of same)))
+      (unreferred schema above s below (ap (λ o. option_map_or is_of_value o false) (sym key)))
+  judged_is above s below j (Some (Item r number v)) key judged w = absurd (other_slot above s below (item_key r number.0 v) 0 refl (sym key))
+  judged_is above s below j (Some (TupleKey r number u vs)) key judged w =
+      absurd (other_slot above s below (tuple_key r number.0 u vs.items) u refl (sym key))

@@ -25,6 +25,7 @@ use Rattle.yshape.specs.Hanging.{Numbered, Branches, is_number, times}
 use Rattle.yshape.specs.Changes.{SameShapes}
 use Rattle.ytell.specs.Totals.{ChangesTold, IsFew, StandsIn, Totals, judged_at, number_of, told_at, TellsNothing, is_told}
 use Rattle.ytell.specs.Keys.{AreKeys, Agrees, ChangesKey, Indexes, IsSimilar, IsJudged, Keys, SameKeys, TellsNoKey, among, flag_at, has_key, is_missing, is_shared, judged_by, slot_of}
+use Rattle.ytell.proofs.KeyLemmas.{found_alike}
 use Rattle.ytell.proofs.TotalLemmas.{are_same, mark, told_same}
 use Rattle.ytell.proofs.TellLemmas.{flags_seen}
 use Rattle.ytell.proofs.IndexLemmas.{among-cons, holds, instances_same, key_stands, stands}
@@ -415,7 +416,7 @@ module _ (laws : AreKeys) (nodes : Nodes) where
 
   similar_judged : (o p : Option Key) (j : Option Judged) → IsSimilar o p → IsJudged nodes o j → IsJudged nodes p j
   similar_judged None None j is judged = judged
-  similar_judged (Some k) (Some l) j is judged = judged ∙ ap (λ o. Some (judged_by (option_map_or (λ e. e.instances) o 0))) (laws.found nodes k l is)
+  similar_judged (Some k) (Some l) j is judged = judged ∙ ap (λ n. Some (judged_by n)) (found_alike nodes k l is (laws.found nodes k l is))
   similar_judged None (Some l) j is judged = absurd is
   similar_judged (Some k) None j is judged = absurd is
 

@@ -18,6 +18,7 @@ use Rattle.yshape.specs.Hanging.{Branches, times}
 use Rattle.yshape.proofs.FrameLemmas.{same_rows}
 use Rattle.ytell.specs.Totals.{ChangesTold, IsTree, StandsIn, Totals, judged_at, told_at, OnlyFaults}
 use Rattle.ytell.specs.Keys.{AreKeys, Agrees, ChangesAt, IsJudged, Keys, Tells, among, flag_at, flag_of, has_key, is_missing, is_shared, is_touched, judged_by, own_at, own_of, slot_for, slot_of, with_key}
+use Rattle.ytell.proofs.KeyLemmas.{found_same}
 use Rattle.ytell.proofs.WayLemmas.{not_both, itself}
 use Rattle.ytell.proofs.LawLemmas.{faults_shapes}
 use Rattle.ytell.proofs.TotalLemmas.{mark, tree_same}
@@ -126,7 +127,7 @@ module _ (touched : Row → Bool) (u : ℕ) (b : Bool) (before after : Nodes) (t
 
 module _ (before after : Nodes) (keys : Keys) (f : Branches) where
   pub judged_same : (o : Option Key) (j i : Option Judged) → ((key : Key) → instances_at after key ≡ instances_at before key) → i ≡ j → IsJudged before o j → IsJudged after o i
-  judged_same (Some key) j i instances same is = same ∙ (is ∙ ap (λ n. Some (judged_by n)) (sym (instances key)))
+  judged_same (Some key) j i instances same is = same ∙ (is ∙ ap (λ n. Some (judged_by n)) (sym (found_same before after instances key)))
   judged_same None j i instances same is = ap (λ j. option_map_or is_missing j false) same ∙ is
 
   pub shared_same : (o : Option Key) → ((k : Key) → o ≡ Some k → holders_at after k ≡ holders_at before k) → is_shared after o ≡ is_shared before o

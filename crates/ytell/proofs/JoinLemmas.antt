@@ -19,8 +19,9 @@ use Rattle.yshape.specs.Hanging.{Branches, times}
 use Rattle.yshape.proofs.FrameLemmas.{same_rows}
 use Rattle.yshape.specs.Parts.{OnlyReads}
 use Rattle.ytell.specs.Totals.{IsTree, OnlyFaults, StandsIn, Totals, is_told, judged_at, told_at}
-use Rattle.ytell.specs.Keys.{AreKeys, Agrees, ChangesAt, ChangesKey, Follows, Indexes, IsJudged, Keys, Tells, among, flag_of, has_key, is_missing, is_shared, is_touched, judged_by, own_at, own_of, slot_for, slot_of, two_climbs, with_key, wrong_of}
+use Rattle.ytell.specs.Keys.{AreKeys, Agrees, ChangesAt, ChangesKey, Follows, Indexes, IsJudged, Keys, Tells, among, flag_of, found_at, has_key, is_missing, is_shared, is_touched, judged_by, own_at, own_of, slot_for, slot_of, two_climbs, with_key, wrong_of}
 pub use Rattle.yshape.proofs.PartLemmas.{reads_on}
+use Rattle.ytell.proofs.KeyLemmas.{found_alike, found_same}
 use Rattle.ytell.proofs.WayLemmas.{not_both, not_this, itself}
 use Rattle.ytell.proofs.TotalLemmas.{mark, totals_same, tree_same}
 use Rattle.ytell.proofs.LawLemmas.{held_faults}
@@ -234,7 +235,7 @@ module _ (laws : AreKeys) (key : Key) (id : NodeId) (keys : Keys) (f : Branches)
                 false≢true (sym not_held ∙ holds first keys f agrees.index key id.0
                 (subst (λ k. 1 ≤ among k (holders_at first key)) (sym (eqb-true id.0 y.0 same)) (first_among (holders_at first key) y e))))
 
-    pub joined_value : (b : Bool) → flag_of key ≡ None → judged_at first id ≡ Some Right → eqb (instances_at first key) 0 ≡ b
+    pub joined_value : (b : Bool) → flag_of key ≡ None → judged_at first id ≡ Some Right → eqb (found_at first key) 0 ≡ b
         → ChangesAt (λ row. b && same_row (Below id) row) (with_judged Missing) second third
         → (IsTree second f → Totals second f → StandsIn (Below id) f → option_map is_told (judged_at second id) ≡ Some false → Totals third f)
         → reads second ≤ reads first + 2 → (IsTree second f → StandsIn (Below id) f → (reads third ≤ reads second + levels f) × ((y : NodeId) → times y.0 f ≡ 0 → total_at third (Below y) ≡ total_at second (Below y)))
@@ -290,8 +291,8 @@ module _ (laws : AreKeys) (key : Key) (id : NodeId) (keys : Keys) (f : Branches)
             and_no false = refl
         judged x there true e =
             subst (λ o. IsJudged third o (judged_at third x)) (sym (with_here id.0 (slot_of key) (Some key) keys x.0 0 (sym (eqb-true id.0 x.0 e)) (sym slot_is)))
-            (subst (λ (y : NodeId). judged_at third y ≡ Some (judged_by (instances_at third key))) (ap (λ (i : ℕ). record { 0 = i }) (eqb-true id.0 x.0 e))
-            (by b refl ∙ sym (ap (λ n. Some (judged_by n)) (instances key) ∙ ap (λ c. Some (cond c Missing Right)) is_b)))
+            (subst (λ (y : NodeId). judged_at third y ≡ Some (judged_by (found_at third key))) (ap (λ (i : ℕ). record { 0 = i }) (eqb-true id.0 x.0 e))
+            (by b refl ∙ sym (ap (λ n. Some (judged_by n)) (found_same first third instances key) ∙ ap (λ c. Some (cond c Missing Right)) is_b)))
           where
             by : (c : Bool) → b ≡ c → judged_at third id ≡ Some (cond b Missing Right)
             by true c = judged_new (touched_if b) Missing first third since id Right (ap (λ d. d && same_row (Below id) (Below id)) c ∙ itself (Below id)) right ∙ sym (ap (λ d. Some (cond d Missing Right)) c)
@@ -437,7 +438,7 @@ module _ (laws : AreKeys) (key : Key) (id : NodeId) (keys : Keys) (f : Branches)
                 false≢true (sym not_now ∙ holds third (with_key id.0 (slot_of key) None keys) f index_left key id.0
                 (subst (λ k. 1 ≤ among k (holders_at third key)) (sym (eqb-true id.0 y.0 same)) (first_among (holders_at third key) y e))))
 
-    pub left_value : (b : Bool) → flag_of key ≡ None → eqb (instances_at first key) 0 ≡ b
+    pub left_value : (b : Bool) → flag_of key ≡ None → eqb (found_at first key) 0 ≡ b
         → ChangesAt (λ row. b && same_row (Below id) row) (with_judged Right) second third
         → (IsTree second f → Totals second f → StandsIn (Below id) f → option_map is_told (judged_at second id) ≡ Some b → Totals third f)
         → reads second ≤ reads first + 2 → (IsTree second f → StandsIn (Below id) f → (reads third ≤ reads second + levels f) × ((y : NodeId) → times y.0 f ≡ 0 → total_at third (Below y) ≡ total_at second (Below y)))
@@ -473,7 +474,7 @@ module _ (laws : AreKeys) (key : Key) (id : NodeId) (keys : Keys) (f : Branches)
         was : judged_at first id ≡ Some (cond b Missing Right)
         was =
             subst (λ o. IsJudged first o (judged_at first id)) (ap (keys id.0) (sym slot_is) ∙ its_key.1) (agrees.tells.judged id stood)
-            ∙ (ap (λ o. Some (judged_by (option_map_or (λ e. e.instances) o 0))) (sym (laws.found first key its_key.0 its_key.2))
+            ∙ (ap (λ n. Some (judged_by n)) (sym (found_alike first key its_key.0 its_key.2 (laws.found first key its_key.0 its_key.2)))
             ∙ ap (λ c. Some (cond c Missing Right)) is_b)
 
         own_right : (row : Row) → left_if b row ≡ true → option_map (λ t. wrong_of t.judged) (told_at first row) ≡ Some None

@@ -17,7 +17,8 @@ use Rattle.ystore.specs.declared.nodes.Nodes.{Nodes}
 use Rattle.yshape.specs.Hanging.{Branches, times}
 use Rattle.yshape.specs.Parts.{OnlyReads}
 use Rattle.ytell.specs.Totals.{ChangesTold, IsTree, OnlyFaults, StandsIn, Totals, is_told, judged_at, told_at}
-use Rattle.ytell.specs.Keys.{AreKeys, Agrees, ChangesAt, ChangesKey, Follows, Indexes, IsJudged, Keys, Tells, among, flag_of, has_key, is_holder, is_missing, judged_by, slot_for, slot_of, wrong_of, judging}
+use Rattle.ytell.specs.Keys.{AreKeys, Agrees, ChangesAt, ChangesKey, Follows, Indexes, IsJudged, Keys, Tells, among, flag_of, has_key, is_holder, is_missing, is_texts, judged_by, slot_for, slot_of, wrong_of, judging}
+use Rattle.ytell.proofs.KeyLemmas.{found_alike, found_still, found_value, texts_alike}
 use Rattle.ytell.proofs.WayLemmas.{not_both, not_this}
 use Rattle.ytell.proofs.ClimbLemmas.{read_told}
 use Rattle.ytell.proofs.TotalLemmas.{mark}
@@ -141,7 +142,7 @@ entry_held None k some = absurd (omega (arith, some))
 module _ (laws : AreKeys) (key : Key) (change : Entry → Entry) (step : ℕ → ℕ) (keys : Keys) (f : Branches) (first second third : Nodes) (only : OnlyFaults second third)
     (entered : Enters key change first second) (tree : IsTree first f) (agrees : Agrees first keys f) (all : Totals first f)
     (same_nodes : (e : Entry) → (change e).nodes ≡ e.nodes) (steps : (e : Entry) → (change e).instances ≡ step e.instances)
-    (is_value : flag_of key ≡ None) where
+    (is_value : flag_of key ≡ None) (not_texts : is_texts key ≡ false) where
   change_is : ChangesKey key change first third
   change_is = key_changed key change first second third entered only
 
@@ -171,7 +172,7 @@ module _ (laws : AreKeys) (key : Key) (change : Entry → Entry) (step : ℕ →
   judged_was x has =
       let slot = in_slot (keys x.0 (slot_of key)) key has in
       subst (λ o. IsJudged first o (judged_at first x)) (ap (keys x.0) (sym slot_is) ∙ slot.1) (agrees.tells.judged x (key_stands first keys f agrees.index x.0 key has))
-      ∙ ap (λ o. Some (judged_by (option_map_or (λ e. e.instances) o 0))) (sym (laws.found first key slot.0 slot.2))
+      ∙ ap (λ n. Some (judged_by n)) (sym (found_alike first key slot.0 slot.2 (laws.found first key slot.0 slot.2)) ∙ found_value first key not_texts)
 
   pub holder_is : (x : NodeId) (old : Judged) → judged_by (instances_at first key) ≡ old → 1 ≤ among x.0 (holders_at second key)
       → StandsIn (Below x) f × (among x.0 (holders_at second key) ≤ 1) × (judged_at second x ≡ Some old)
@@ -260,7 +261,7 @@ module _ (laws : AreKeys) (key : Key) (change : Entry → Entry) (step : ℕ →
       stays_judged : (x : NodeId) (o : Option Key) → has_key keys x.0 key ≡ false → ((k : Key) → o ≡ Some k → instances_at third k ≡ instances_at first k)
           → IsJudged first o (judged_at first x) → IsJudged third o (judged_at third x)
       stays_judged x (Some k) none same is =
-          judged_else (touched_if b) j first third since x (not_touched x none) ∙ (is ∙ ap (λ n. Some (judged_by n)) (sym (same k refl)))
+          judged_else (touched_if b) j first third since x (not_touched x none) ∙ (is ∙ ap (λ n. Some (judged_by n)) (sym (found_still first third k (same k refl))))
       stays_judged x None none same is = ap (λ j. option_map_or is_missing j false) (judged_else (touched_if b) j first third since x (not_touched x none)) ∙ is
 
       judged_now : (x : NodeId) → has_key keys x.0 key ≡ true → judged_at third x ≡ Some (judged_by (step (instances_at first key)))
@@ -275,7 +276,8 @@ module _ (laws : AreKeys) (key : Key) (change : Entry → Entry) (step : ℕ →
           let slot = in_slot (keys x.0 (slot_of key)) key has in
           let one = held first keys f agrees.index key x.0 has in
           subst (λ o. IsJudged third o (judged_at third x)) (sym (ap (keys x.0) (sym slot_is) ∙ slot.1))
-          (judged_now x has ∙ ap (λ n. Some (judged_by n)) (sym (instances_here slot.0 slot.2 (entry_held (entry_at first key) x.0 (omega (arith, one))))))
+          (judged_now x has ∙ ap (λ n. Some (judged_by n)) (sym (found_value third slot.0 (sym (texts_alike key slot.0 slot.2) ∙ not_texts)
+          ∙ instances_here slot.0 slot.2 (entry_held (entry_at first key) x.0 (omega (arith, one))))))
       judged x there false none =
           stays_judged x (keys x.0 0) none
           (λ k e. instances_else k (not_both (same_key key k) (λ same. false≢true (sym none ∙ held_slot first keys f agrees.index x.0 0 key k e same slot_is))))

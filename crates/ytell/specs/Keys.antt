@@ -23,7 +23,7 @@ use Rattle.ytell.specs.Totals.{Totals, told_at, room_at, judged_at}
 
 -- ---- slots
 
--- the number of the flag that a key sets at its nodes; a key of a value sets none
+-- the number of the flag that a key sets at its nodes; a key of a value sets none, and neither does one of texts
 abbrev pub flag_of : Key → Option ℕ
 flag_of (Value target v) = None
 flag_of (Item row list v) = Some 0
@@ -34,7 +34,7 @@ abbrev pub slot_for : Option ℕ → ℕ
 slot_for None = 0
 slot_for (Some u) = suc u
 
--- the slot of a node for a key: one for the value to which the node refers, and one for each flag
+-- the slot of a node for a key: one for the value to which the node refers, or the texts by which it is found, and one for each flag
 abbrev pub slot_of : Key → ℕ
 slot_of key = slot_for (flag_of key)
 
@@ -90,14 +90,25 @@ flag_at nodes id u = unwrap_or (slice_get (same_at nodes id) u) false
 abbrev pub judged_by : ℕ → Judged
 judged_by instances = if eqb instances 0 then Missing else Right
 
+-- whether a key is one of texts
+abbrev pub is_texts : Key → Bool
+is_texts (Value target v) = false
+is_texts (Item row list v) = false
+is_texts (Tuple row list u vs) = false
+is_texts (Texts row list texts) = true
+
+-- how many instances are found of what a key names: of a key of texts none is ever missing
+abbrev pub found_at : Nodes → Key → ℕ
+found_at nodes key = if is_texts key then 1 else instances_at nodes key
+
 abbrev pub is_missing : Judged → Bool
 is_missing Right = false
 is_missing (Wrong tag) = false
 is_missing Missing = true
 
--- a node that refers to a value is right where that has an instance, and at others no instance is missing
+-- a node that holds a key is judged by what is found of that, and at others no instance is missing
 abbrev pub IsJudged : Nodes → Option Key → Option Judged → Type 0
-IsJudged nodes (Some key) judged = judged ≡ Some (judged_by (instances_at nodes key))
+IsJudged nodes (Some key) judged = judged ≡ Some (judged_by (found_at nodes key))
 IsJudged nodes None judged = option_map_or is_missing judged false ≡ false
 
 -- What is told of the nodes of a forest is what an index tells of their keys.

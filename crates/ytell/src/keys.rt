@@ -10,8 +10,9 @@ ghost use Rattle.ystore.specs.Views.{store_of, lent};
 ghost use Rattle.ystore.specs.declared.row.NodeId as rust;
 ghost use Rattle.ystore.specs.declared.row.Row.TheVariants.{Below};
 ghost use Rattle.yshape.specs.Hanging.{Branches, times};
+ghost use Rattle.yshape.specs.Parts.{OnlyReads};
 ghost use Rattle.ytell.specs.Totals.{IsTree, OnlyFaults, StandsIn, Totals};
-ghost use Rattle.ytell.specs.Keys.{Agrees, CanHold, ChangesAt, ChangesKey, Follows, Keys, flag_of, has_key, is_touched, slot_of, two_climbs, with_key};
+ghost use Rattle.ytell.specs.Keys.{Agrees, CanHold, ChangesAt, ChangesKey, Follows, Keys, flag_of, found_at, has_key, is_touched, slot_of, two_climbs, with_key};
 
 use crate::alike::keys_alike;
 use crate::telling::{tell_judged, tell_same};
@@ -59,7 +60,7 @@ fn flag_number(key: &Key) -> Option<usize>
     }
 }
 
-/// Adds a node to those that refer to a value. If that has no instance, one is missing.
+/// Adds a node to those that refer to a value, or have the same texts. If a value has no instance, one is missing.
 fn join_value(counted: &mut Counted<'_>, key: &Key, id: NodeId)
     requires { is_awaited (store_of counted.old) key.now }
     ensures follows { flag_of key.now ≡ None → (keys : Keys) (f : Branches) → IsTree (store_of counted.old) f
@@ -72,10 +73,23 @@ fn join_value(counted: &mut Counted<'_>, key: &Key, id: NodeId)
 {
     keys_alike();
     counted.add_holder(key, id);
-    if counted.instance_count(key) > 0 {
+    if found_count(counted, key) > 0 {
         return;
     }
     tell_judged(counted, id, Judged::Missing, false);
+}
+
+/// How many instances are found of what a key names. Nothing is missing of a key of texts.
+fn found_count(counted: &mut Counted<'_>, key: &Key) -> usize
+    ensures found { result ≡ found_at (store_of counted.old) key.now }
+    ensures kept { OnlyReads (store_of counted.old) (store_of counted.new) }
+    ensures reads { reads (store_of counted.new) ≤ reads (store_of counted.old) + 1 }
+    ensures same_reference { lent counted.new ≡ lent counted.old }
+{
+    match key {
+        Key::Texts(_, _, _) => 1,
+        _ => counted.instance_count(key),
+    }
 }
 
 /// Adds a node to those that have the same values. With one other, both get the flag; with more, the new one does.
@@ -96,7 +110,7 @@ fn join_fellows(counted: &mut Counted<'_>, key: &Key, id: NodeId, number: usize)
     tell_fellows(counted, id, fellow, number, fellows, true);
 }
 
-/// Takes a node from those that refer to a value. No instance is missing of it any more.
+/// Takes a node from those that refer to a value, or have the same texts. No instance is missing of it any more.
 fn leave_value(counted: &mut Counted<'_>, key: &Key, id: NodeId)
     ensures follows { flag_of key.now ≡ None → (keys : Keys) (f : Branches) → IsTree (store_of counted.old) f
         → Agrees (store_of counted.old) keys f → Totals (store_of counted.old) f → has_key keys id.0 key.now ≡ true
@@ -106,7 +120,7 @@ fn leave_value(counted: &mut Counted<'_>, key: &Key, id: NodeId)
 {
     keys_alike();
     counted.take_holder(key, id);
-    if counted.instance_count(key) > 0 {
+    if found_count(counted, key) > 0 {
         return;
     }
     tell_judged(counted, id, Judged::Right, true);

@@ -1,6 +1,6 @@
 //! Instances of values that come and go, and what is told by them.
 
-ghost use Rattle.std.specs.Prelude.{◌≡◌, ◌+◌, ◌*◌, ◌≤◌, Some, None, eqb, length, if◌then◌else◌};
+ghost use Rattle.std.specs.Prelude.{◌≡◌, ◌+◌, ◌*◌, ◌≤◌, false, Some, None, eqb, length, if◌then◌else◌};
 ghost use Rattle.yspec.specs.Forest.{levels};
 ghost use Rattle.ystore.specs.Entries.{with_instance, without_instance};
 ghost use Rattle.ystore.specs.Held.{with_judged};
@@ -11,7 +11,7 @@ ghost use Rattle.ystore.specs.declared.row.Row.TheVariants.{Below};
 ghost use Rattle.ystore.specs.declared.record.Judged.TheVariants.{Right, Missing};
 ghost use Rattle.yshape.specs.Hanging.{Branches, times};
 ghost use Rattle.ytell.specs.Totals.{IsTree, OnlyFaults, StandsIn, Totals, judged_at};
-ghost use Rattle.ytell.specs.Keys.{Agrees, ChangesAt, ChangesKey, Follows, Keys, among, flag_of, is_holder, judging};
+ghost use Rattle.ytell.specs.Keys.{Agrees, ChangesAt, ChangesKey, Follows, Keys, among, flag_of, is_holder, is_texts, judging};
 
 use crate::alike::keys_alike;
 use crate::telling::tell_judged;
@@ -20,7 +20,7 @@ use ystore::{Counted, Judged, Key};
 /// Counts one instance more of a value. At the first one, all that refer to the value are right.
 pub fn add_value(counted: &mut Counted<'_>, key: &Key)
     ensures follows { (keys : Keys) (f : Branches) → IsTree (store_of counted.old) f
-        → Agrees (store_of counted.old) keys f → Totals (store_of counted.old) f → flag_of key.now ≡ None
+        → Agrees (store_of counted.old) keys f → Totals (store_of counted.old) f → flag_of key.now ≡ None → is_texts key.now ≡ false
         → Follows (judging (eqb (instances_at (store_of counted.old) key.now) 0) (holders_at (store_of counted.old) key.now) f)
         keys f (store_of counted.old) (store_of counted.new) }
     ensures kept { ChangesKey key.now with_instance (store_of counted.old) (store_of counted.new) }
@@ -38,7 +38,7 @@ pub fn add_value(counted: &mut Counted<'_>, key: &Key)
 /// Counts one instance less of a value. At the last one, it is missing at all that refer to it.
 pub fn take_value(counted: &mut Counted<'_>, key: &Key)
     ensures follows { (keys : Keys) (f : Branches) → IsTree (store_of counted.old) f
-        → Agrees (store_of counted.old) keys f → Totals (store_of counted.old) f → flag_of key.now ≡ None
+        → Agrees (store_of counted.old) keys f → Totals (store_of counted.old) f → flag_of key.now ≡ None → is_texts key.now ≡ false
         → 1 ≤ instances_at (store_of counted.old) key.now
         → Follows (judging (eqb (instances_at (store_of counted.old) key.now) 1) (holders_at (store_of counted.old) key.now) f)
         keys f (store_of counted.old) (store_of counted.new) }

@@ -8,10 +8,11 @@ use Rattle.std.proofs.lemmas.Option.{none-some}
 use Rattle.yspec.specs.text.Text.{Text}
 use Rattle.yspec.specs.types.Types.{Raw, Val, taken, app_tag_of}
 use Rattle.yspec.specs.schema.Schema.{Schema, SchemaNode, Kind, container, leaf, leaf_list, list, choice, case, type_in, node_at}
-use Rattle.yspec.specs.document.Document.{Stored}
-use Rattle.yspec.specs.document.Instances.{kind_value}
+use Rattle.yspec.specs.document.Document.{Stored, Tree}
+use Rattle.yspec.specs.document.Instances.{kind_value, value_of}
 use Rattle.ycheck.specs.Targets.{required_target}
 use Rattle.ystore.specs.declared.row.NodeId.{NodeId}
+use Rattle.ystore.specs.declared.row.Row.{Row}
 use Rattle.ystore.specs.declared.row.Row.TheVariants.{Below}
 use Rattle.ystore.specs.declared.key.Key as rust
 use Rattle.ystore.specs.declared.key.Key.TheVariants as variants
@@ -19,7 +20,7 @@ use Rattle.ystore.specs.declared.nodes.Nodes.{Nodes}
 use Rattle.yshape.specs.Growing as shape
 use Rattle.yshape.specs.Hanging.{Branches, stored_of, tree_of}
 use Rattle.yfacts.specs.Judging.{right, wrong, kind_judged, value_judged}
-use Rattle.yfacts.specs.Keys.{Key, value_key, Holding, key_view, holdings, held_with, reference_key, key_at, keys_from, kind_flags, flags_of, slots_of}
+use Rattle.yfacts.specs.Keys.{Key, value_key, Holding, key_view, holdings, held_with, first_key, key_at, keys_from, kind_flags, flags_of, slots_of}
 use Rattle.ytell.specs.Keys.{Own, own_at, flag_of}
 use Rattle.ytell.specs.Totals.{StandsIn}
 use Rattle.ytold.specs.IsTold.{TellsOwn, wrong_in}
@@ -64,19 +65,33 @@ module _ (key : Key) (target : ℕ) where
   valued (choice default_case is_mandatory) (Some raw) e = refl
   valued case (Some raw) e = refl
 
-referring_right : (schema : Schema) (s : Stored) (key : Key) → reference_key schema s ≡ Some key → value_judged schema s ≡ right
-referring_right schema s key is = by (node_at schema s.schema_number) is
-  where
-    to : (kind : Kind) (o : Option ℕ) → option_and_then (λ target. option_map (value_key target) (option_and_then (kind_value kind) s.value)) o ≡ Some key
-        → kind_judged (option_map (λ type. type.type) (type_in kind)) s.value ≡ right
-    to kind None e = absurd (none-some key e)
-    to kind (Some target) e = valued key target kind s.value e
+-- a node that holds a key at its first slot has no value, or a right one
+module _ (schema : Schema) (above : Row) (s : Stored) (below : Tree) (key : Key) where
+  referring : (kind : Kind) (value : Option Val) (o : Option ℕ) → value ≡ option_and_then (kind_value kind) s.value
+      → option_and_then (λ target. option_map (value_key target) value) o ≡ Some key
+      → kind_judged (option_map (λ type. type.type) (type_in kind)) s.value ≡ right
+  referring kind value None same e = absurd (none-some key e)
+  referring kind value (Some target) same e = valued key target kind s.value (sym (ap (option_map (value_key target)) same) ∙ e)
 
-    by : (o : Option SchemaNode)
-        → option_and_then (λ (n : SchemaNode). option_and_then (λ target. option_map (value_key target) (option_and_then (λ (m : SchemaNode). option_and_then (kind_value m.kind) s.value) o)) (required_target n.kind)) o ≡ Some key
-        → option_map_or (λ (n : SchemaNode). kind_judged (option_map (λ type. type.type) (type_in n.kind)) s.value) o right ≡ right
-    by None e = refl
-    by (Some n) e = to n.kind (required_target n.kind) e
+  first_kind : (kind : Kind) → value_of schema s ≡ option_and_then (kind_value kind) s.value → first_key schema kind above s below ≡ Some key
+      → kind_judged (option_map (λ type. type.type) (type_in kind)) s.value ≡ right
+  first_kind (leaf type absence) same e = referring (leaf type absence) (value_of schema s) (required_target (leaf type absence)) same e
+  first_kind (leaf_list type defaults amount) same e =
+      referring (leaf_list type defaults amount) (value_of schema s) (required_target (leaf_list type defaults amount)) same e
+  first_kind (container presence) same e = refl
+  first_kind (list tuples amount) same e = refl
+  first_kind (choice default_case is_mandatory) same e = refl
+  first_kind case same e = refl
+
+  first_right : key_at schema above s below 0 ≡ Some key → value_judged schema s ≡ right
+  first_right is = by (node_at schema s.schema_number) refl is
+    where
+      by : (o : Option SchemaNode) → node_at schema s.schema_number ≡ o
+          → option_and_then (λ (n : SchemaNode). first_key schema n.kind above s below) o ≡ Some key
+          → option_map_or (λ (n : SchemaNode). kind_judged (option_map (λ type. type.type) (type_in n.kind)) s.value) o right ≡ right
+      by None found e = refl
+      by (Some n) found e =
+          first_kind n.kind (ap (λ (o : Option SchemaNode). option_and_then (λ (m : SchemaNode). option_and_then (kind_value m.kind) s.value) o) found) e
 
 -- ---- by slots
 
@@ -117,7 +132,7 @@ module _ (nodes : Nodes) (f : Branches) where
   module _ (schema : Schema) where
     fits : (s : Standing) (tells : TellsOwn schema nodes s.row s.label s.below) (slot : ℕ) (key : Key)
         → key_at schema s.row (stored_of s.label) (tree_of s.below) slot ≡ Some key → slot < slots_of schema s.label.schema.0 → fits_slot slot tells.own
-    fits s tells zero key is less = tells.is_wrong ∙ ap wrong_in (referring_right schema (stored_of s.label) key is)
+    fits s tells zero key is less = tells.is_wrong ∙ ap wrong_in (first_right schema s.row (stored_of s.label) (tree_of s.below) key is)
     fits s tells (suc u) key is less = let flags = tells.are_flags ∙ counts_same schema s.label.schema.0 in omega (arith, flags, less)
 
     holds_at : (s : Standing) → StandsIn (Below s.label.id) f → TellsOwn schema nodes s.row s.label s.below → (slot : ℕ) (key : Key)

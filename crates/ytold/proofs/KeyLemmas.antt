@@ -4,15 +4,14 @@ use Rattle.std.specs.Prelude.{option_and_then, option_to_list, unwrap_or}
 use Rattle.std.specs.Option.{option_map_or, option_or}
 use Rattle.std.specs.List.{flat_map}
 use Rattle.std.proofs.lemmas.Bool.{eq-eqb, ne_eqb, eqb-true, ltb-true, ltb-false, false≢true}
-use Rattle.std.proofs.lemmas.Option.{none-some, same_Some}
-use Rattle.yspec.specs.types.Types.{Val}
+use Rattle.std.proofs.lemmas.Option.{same_Some}
 use Rattle.yspec.specs.schema.Schema.{Schema, SchemaNode, Kind, container, leaf, leaf_list, list, choice, case, LeafPath, Tuples, node_at}
 use Rattle.yspec.specs.document.Document.{Stored, Tree}
-use Rattle.yspec.specs.document.Instances.{Tuple, tuple_of_paths, paths_of, value_of}
-use Rattle.ycheck.specs.Targets.{required_target}
+use Rattle.yspec.specs.document.Instances.{tuple_of_paths, paths_of}
 use Rattle.ystore.specs.declared.row.NodeId.{NodeId}
 use Rattle.ystore.specs.declared.row.Row.{Row}
-use Rattle.yfacts.specs.Keys.{Key, value_key, item_key, tuple_key, Holding, held_with, item_key_at, kind_key, flagged_key, key_at, kind_flags, flags_of, slots_of, keys_from}
+use Rattle.yfacts.specs.Keys.{Key, value_key, item_key, tuple_key, texts_key, slot_of, Holding, held_with, item_key_at, kind_key, flagged_key, key_at, kind_flags, flags_of, slots_of, keys_from}
+use Rattle.yfacts.proofs.HeldLemmas.{held_slot}
 use Rattle.yshape.specs.Hanging.{stored_of, tree_of}
 use Rattle.ytold.specs.Assigned.{is_at, key_in}
 use Rattle.ytold.specs.Standing.{Standing, Every, keys_held}
@@ -20,51 +19,15 @@ use Rattle.ytold.specs.Unlike.{NotIn, Unlike, slot_in}
 
 -- ---- a key stands at its slot
 
+slot_from : (key : Key) (slot : ℕ) → slot_of key ≡ Some slot → slot_in key ≡ slot
+slot_from (value_key target v) slot e = same_Some 0 slot e
+slot_from (item_key row number v) slot e = same_Some 1 slot e
+slot_from (tuple_key row number u vs) slot e = same_Some (suc u) slot e
+slot_from (texts_key row number texts) slot e = same_Some 0 slot e
+
 module _ (schema : Schema) (above : Row) (s : Stored) (below : Tree) where
-  slot_flagged : (u : ℕ) (key : Key) → flagged_key schema above s below u ≡ Some key → slot_in key ≡ suc u
-  slot_flagged u key is = by (node_at schema s.schema_number) is
-    where
-      entry : (o : Option Tuple) → option_map (tuple_key above s.schema_number u) o ≡ Some key → slot_in key ≡ suc u
-      entry None e = absurd (none-some key e)
-      entry (Some vs) e = ap slot_in (sym (same_Some (tuple_key above s.schema_number u vs) key e))
-
-      one : (o : Option Val) → option_map (item_key above s.schema_number) o ≡ Some key → slot_in key ≡ 1
-      one None e = absurd (none-some key e)
-      one (Some v) e = ap slot_in (sym (same_Some (item_key above s.schema_number v) key e))
-
-      item : (config : Bool) (k : ℕ) → item_key_at schema config above s k ≡ Some key → slot_in key ≡ suc k
-      item true zero e = one (value_of schema s) e
-      item false zero e = absurd (none-some key e)
-      item config (suc k) e = absurd (none-some key e)
-
-      kinds : (config : Bool) (k : Kind) → kind_key schema config k above s below u ≡ Some key → slot_in key ≡ suc u
-      kinds config (list tuples amount) e = entry (tuple_of_paths schema below (paths_of tuples u)) e
-      kinds config (leaf_list type defaults amount) e = item config u e
-      kinds config (container presence) e = absurd (none-some key e)
-      kinds config (leaf type absence) e = absurd (none-some key e)
-      kinds config (choice default_case is_mandatory) e = absurd (none-some key e)
-      kinds config case e = absurd (none-some key e)
-
-      by : (o : Option SchemaNode) → option_and_then (λ n. kind_key schema n.config n.kind above s below u) o ≡ Some key → slot_in key ≡ suc u
-      by None e = absurd (none-some key e)
-      by (Some n) e = kinds n.config n.kind e
-
   pub slot_is : (slot : ℕ) (key : Key) → key_at schema above s below slot ≡ Some key → slot_in key ≡ slot
-  slot_is (suc u) key is = slot_flagged u key is
-  slot_is zero key is = by (node_at schema s.schema_number) is
-    where
-      valued : (target : ℕ) (o : Option Val) → option_map (value_key target) o ≡ Some key → slot_in key ≡ 0
-      valued target None e = absurd (none-some key e)
-      valued target (Some v) e = ap slot_in (sym (same_Some (value_key target v) key e))
-
-      to : (o : Option ℕ) → option_and_then (λ target. option_map (value_key target) (value_of schema s)) o ≡ Some key → slot_in key ≡ 0
-      to None e = absurd (none-some key e)
-      to (Some target) e = valued target (value_of schema s) e
-
-      by : (o : Option SchemaNode) → option_and_then (λ n. option_and_then (λ target. option_map (value_key target) (value_of schema s)) (required_target n.kind)) o ≡ Some key
-          → slot_in key ≡ 0
-      by None e = absurd (none-some key e)
-      by (Some n) e = to (required_target n.kind) e
+  slot_is slot key is = slot_from key slot (held_slot schema above s below slot key is)
 
   -- behind the slots of a node there are no keys
   none_behind : (u : ℕ) → flags_of schema s.schema_number ≤ u → flagged_key schema above s below u ≡ None

@@ -13,7 +13,7 @@ abbrev pub Unlike : List Standing → Type 0
 Unlike [] = Unit {0}
 Unlike (s ∷ ss) = NotIn s.label.id.0 ss × Unlike ss
 
--- at which slot a node holds a key: what it refers to, then what is flagged
+-- at which slot a node holds a key: first what it refers to or is found by, then what is flagged
 abbrev pub slot_in : Key → ℕ
 slot_in (value_key number v) = 0
 slot_in (item_key above number v) = 1

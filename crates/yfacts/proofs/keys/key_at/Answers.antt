@@ -7,7 +7,7 @@ use Rattle.ystore.specs.Views.{store_of}
 use Rattle.yshape.specs.Hanging.{stored_of, tree_of}
 use Rattle.yfacts.specs.Rows.{leaf_at}
 use Rattle.yfacts.specs.Keys.{flagged_key}
-use Rattle.yfacts.proofs.KeyLemmas.{flagged_at, referred_at}
+use Rattle.yfacts.proofs.KeyLemmas.{first_at, flagged_at}
 use Rattle.yfacts.proofs.RowLemmas.{hangs_below, node_is}
 use Rattle.yfacts.proofs.keys.key_at.Goals as goal
 
@@ -24,7 +24,8 @@ pub returns-in-Some-clause-key : goal.returns-in-Some-clause-key
 returns-in-Some-clause-key c =
     let s = schema_view.view c.args.schema.now in
     let old = store_of c.args.counted.now in
-    IfOk-weaker c.reference_key.result _ _ (λ key e n below same schema stands.
-    e ∙ referred_at s c.args.above (stored_of n) (leaf_at old c.args.of c.args.id) (tree_of below) c.args.slot c.args.of _ (node_view c.args.of.0 c.in-Some.node.now) (omega arith)
+    IfOk-weaker c.first_key.result _ _ (λ key e n below same schema stands.
+    e below (hangs_below old c.args.above n below c.args.id same stands)
+    ∙ first_at s c.args.above (stored_of n) (leaf_at old c.args.of c.args.id) (tree_of below) c.args.slot c.args.of _ (node_view c.args.of.0 c.in-Some.node.now) (omega arith)
     (ap (λ x. x.0) schema) (node_is old c.args.above n below c.args.id c.args.of same schema stands) (ap (option_map (λ x. node_view c.args.of.0 x.now)) c.in-Some.is) c.kind.ensures)
-    c.reference_key.ensures.key
+    c.first_key.ensures.key

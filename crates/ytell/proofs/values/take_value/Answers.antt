@@ -11,7 +11,7 @@ use Rattle.ytell.proofs.ValueLemmas.{valued, holder_is, last_one, one_is, one_le
 use Rattle.ytell.proofs.values.take_value.Goals as goal
 
 pub returns-then-instance_count-gt0-clause-follows : goal.returns-then-instance_count-gt0-clause-follows
-returns-then-instance_count-gt0-clause-follows c keys f tree agrees all is_value some_left =
+returns-then-instance_count-gt0-clause-follows c keys f tree agrees all is_value not_texts some_left =
     let key = c.args.key.now in
     let first = store_of c.args.counted.now in
     let taken = store_of c.take_instance.new.self in
@@ -22,13 +22,13 @@ returns-then-instance_count-gt0-clause-follows c keys f tree agrees all is_value
     let test : eqb (instances_at first key - 1) 0 ≡ false =
     ne_eqb (instances_at first key - 1) 0 (λ none. absurd (let more = c.if-instance_count-gt0.true in let e = counts in omega (arith, none, more, e))) in
     subst (λ b. Follows (judging b (holders_at first key) f) keys f first second) (sym test ∙ one_is (instances_at first key) some_left) (
-    valued c.keys_alike.ensures key without_instance (λ n. n - 1) keys f first second second (no_faults second) entered tree agrees all (λ e. refl) (λ e. refl) is_value false Missing
+    valued c.keys_alike.ensures key without_instance (λ n. n - 1) keys f first second second (no_faults second) entered tree agrees all (λ e. refl) (λ e. refl) is_value not_texts false Missing
     (sym (ap (λ b. cond b Missing (judged_by (instances_at first key))) test) ∙ last_one (instances_at first key) some_left) refl
     (λ row. refl) (λ t a. a)
     (let a = c.take_instance.ensures.store.reads in let b = c.instance_count.ensures.counted.store.counted in omega (arith, a, b)) (λ t h. (omega arith, λ y none. refl)))
 
 pub returns-clause-follows : goal.returns-clause-follows
-returns-clause-follows c keys f tree agrees all is_value some_left =
+returns-clause-follows c keys f tree agrees all is_value not_texts some_left =
     let key = c.args.key.now in
     let first = store_of c.args.counted.now in
     let taken = store_of c.take_instance.new.self in
@@ -39,8 +39,8 @@ returns-clause-follows c keys f tree agrees all is_value some_left =
     let test : eqb (instances_at first key - 1) 0 ≡ true =
     eq-eqb (instances_at first key - 1) 0 (let more = c.if-instance_count-gt0.false in let e = counts in omega (arith, more, e)) in
     subst (λ b. Follows (judging b (holders_at first key) f) keys f first (store_of c.judge_holders.new.counted)) (sym test ∙ one_is (instances_at first key) some_left) (
-    valued c.keys_alike.ensures key without_instance (λ n. n - 1) keys f first second (store_of c.judge_holders.new.counted) c.judge_holders.ensures.kept entered tree agrees all (λ e. refl) (λ e. refl) is_value true Missing
+    valued c.keys_alike.ensures key without_instance (λ n. n - 1) keys f first second (store_of c.judge_holders.new.counted) c.judge_holders.ensures.kept entered tree agrees all (λ e. refl) (λ e. refl) is_value not_texts true Missing
     (sym (ap (λ b. cond b Missing (judged_by (instances_at first key))) test) ∙ last_one (instances_at first key) some_left) refl
-    c.judge_holders.ensures.told (λ t a. c.judge_holders.ensures.totals f t a (λ x some. holder_is c.keys_alike.ensures key without_instance (λ n. n - 1) keys f first second (store_of c.judge_holders.new.counted) c.judge_holders.ensures.kept entered tree agrees all (λ e. refl) (λ e. refl) is_value x Right (ap (λ c. cond c Missing Right) (ne_eqb (instances_at first key) 0 (λ none. absurd (omega (arith, none, some_left))))) some))
+    c.judge_holders.ensures.told (λ t a. c.judge_holders.ensures.totals f t a (λ x some. holder_is c.keys_alike.ensures key without_instance (λ n. n - 1) keys f first second (store_of c.judge_holders.new.counted) c.judge_holders.ensures.kept entered tree agrees all (λ e. refl) (λ e. refl) is_value not_texts x Right (ap (λ c. cond c Missing Right) (ne_eqb (instances_at first key) 0 (λ none. absurd (omega (arith, none, some_left))))) some))
     (let a = c.take_instance.ensures.store.reads in let b = c.instance_count.ensures.counted.store.counted in omega (arith, a, b))
     (λ t h. (let more = c.judge_holders.ensures.reads f t h in omega (arith, more), c.judge_holders.ensures.beside f t h)))

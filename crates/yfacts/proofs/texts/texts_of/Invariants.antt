@@ -1,0 +1,16 @@
+use Rattle.std.proofs.Common.{◌≡◌}
+use Rattle.ymodel.specs.View as schema_view
+use Rattle.ystore.specs.Views.{store_of, lent}
+use Rattle.yshape.specs.Hanging.{Branches, Hangs, tree_of}
+use Rattle.yshape.specs.Parts.{OnlyReads}
+use Rattle.yfacts.proofs.TextLemmas.{SoFar}
+use Rattle.yfacts.proofs.texts.texts_of.Given as goal
+
+-- the texts so far with those of the leafs that are left
+abbrev pub invariant-loop-leaf : goal.invariant-loop-leaf
+invariant-loop-leaf l = record {
+  same_reference : lent l.counted ≡ lent l.fn.counted;
+  kept : OnlyReads (store_of l.fn.counted) (store_of l.counted);
+  texts : (f : Branches) → Hangs (store_of l.fn.counted) l.row f
+      → SoFar (schema_view.view l.schema) (tree_of f) l.leafs l.texts.items l.leaf-index;
+}
