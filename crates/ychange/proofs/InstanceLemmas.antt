@@ -1,21 +1,16 @@
 -- The instance that a step of a path means, in a row of a store.
-use Rattle.std.proofs.Common.{◌≡◌, ℕ, zero, suc, ◌+◌, ◌-◌, ◌<◌, ◌≤◌, Bool, true, false, cond, eqb, List, [], ◌∷◌, ◌++◌, length, drop, get_or, slice_get, Option, Some, None, option_map, Result, Ok, refl, sym, ap, ap₂, ◌∙◌, arith, subst}
-use Rattle.std.specs.Prelude.{ltb, unwrap_or, is_some, option_and_then, ◌&&◌}
-use Rattle.std.specs.Option.{option_map_or}
+use Rattle.std.proofs.Common.{◌≡◌, ℕ, zero, suc, ◌+◌, ◌-◌, ◌<◌, ◌≤◌, Bool, true, false, cond, eqb, List, [], ◌∷◌, ◌++◌, length, slice_get, Option, Some, None, Result, Ok, refl, sym, ap, ap₂, ◌∙◌, arith, subst}
+use Rattle.std.specs.Prelude.{ltb, unwrap_or, nat_lt, if◌then◌else◌}
 use Rattle.std.proofs.lemmas.Bool.{lt-ltb, le-ltb, ltb-true, ltb-false, false≢true, eq-eqb}
-use Rattle.std.proofs.lemmas.List.{drop_more, at_drop_all}
 use Rattle.std.proofs.lemmas.List.Sums.{sum_by-cons}
-use Rattle.std.proofs.lemmas.Option.{none-some, slice_get_within, slice_get_past}
+use Rattle.std.proofs.lemmas.Option.{none-some, slice_get_within}
 use Rattle.yspec.specs.Forest.{end, node, row, join}
-use Rattle.yspec.specs.Results.{Gives, Fails}
-use Rattle.yspec.specs.types.Types.{Raw}
-use Rattle.yspec.specs.schema.Schema.{Schema, keys_in}
-use Rattle.yspec.specs.document.Document as document
-use Rattle.yspec.specs.document.Document.{Stored, Tree, Step, step_at, instances_in}
+use Rattle.yspec.specs.Results.{Fails}
+use Rattle.yspec.specs.schema.Schema.{Schema}
+use Rattle.yspec.specs.document.Document.{Stored, Tree, step_at, instances_in}
 use Rattle.yspec.specs.edit.Edit.{instance_index}
-use Rattle.yspec.specs.edit.EditText.{Key, at_position}
-use Rattle.yspec.specs.edit.Editing.{EditRefusal, refused, is_zero, instance_meant, the_one, positions_where, fits_keys}
-use Rattle.ymodel.specs.Layout.{numbers_of}
+use Rattle.yspec.specs.edit.EditText.{at_position}
+use Rattle.yspec.specs.edit.Editing.{EditRefusal, refused, is_zero, instance_meant, the_one, positions_where}
 use Rattle.ymodel.specs.declared.node.SchemaId.{SchemaId}
 use Rattle.ypath.specs.Applying.{told_by, edit_number}
 use Rattle.ypath.specs.Binding.{node_of}
@@ -24,24 +19,17 @@ use Rattle.ypath.specs.declared.edit.Predicate.{Predicate}
 use Rattle.ypath.specs.declared.edit.EditCode.{EditCode}
 use Rattle.ypath.specs.declared.edit.EditFault.{EditFault}
 use Rattle.ypath.specs.declared.edit.EditFault.TheVariants.{Refused}
-use Rattle.ypath.proofs.AnswerLemmas.{answers_same}
-use Rattle.yinst.specs.Locating.{meant_in, fits_key, found_list}
+use Rattle.yinst.specs.Locating.{meant_in}
 use Rattle.yinst.proofs.LocatingLemmas.{meant_at}
-use Rattle.ystore.specs.Held.{Label}
 use Rattle.ystore.specs.Rows.{of_schema}
 use Rattle.ystore.specs.Store.{children_at}
 use Rattle.ystore.specs.declared.row.NodeId.{NodeId}
 use Rattle.ystore.specs.declared.row.Row.{Row}
-use Rattle.ystore.specs.declared.row.Row.TheVariants.{Below}
 use Rattle.ystore.specs.declared.nodes.Nodes.{Nodes}
-use Rattle.yshape.specs.Hanging.{Branches, Stands, Hangs, tree_of, stored_of}
-use Rattle.yshape.specs.Parts.{OnlyReads}
+use Rattle.yshape.specs.Hanging.{Branches, Hangs, tree_of, stored_of}
 use Rattle.yshape.specs.Ways.{Found}
 use Rattle.yshape.proofs.FoundLemmas.{found_at, counted_at}
-use Rattle.yshape.proofs.HangingLemmas.{stands_second, at_end}
-use Rattle.yshape.proofs.PartLemmas.{children_read, stands_read, label_is}
-use Rattle.ychange.specs.Instances.{instance_view, step_of, instance_in, rows_of, leaf_at}
-use Rattle.ychange.specs.declared.instances.Instance.{Instance}
+use Rattle.ychange.specs.Instances.{Meets, step_of, instance_in, rows_of}
 
 -- ---- answers
 
@@ -49,16 +37,10 @@ pub told_missing : {Y : Type 0} (code : EditCode) (fault : EditFault) (answer : 
     → Fails (told_by fault) answer
 told_missing code fault answer e is = subst (λ x. Fails (told_by x) answer) (sym e) is
 
-pub as_meant : (s : Schema) (missing : ℕ) (row : Tree) (i : ℕ) (p q : Predicate) (r : Result Instance EditFault) → p ≡ q
-    → Gives (instance_view i) told_by r (meant_in s missing row i (predicate_view q))
-    → Gives (instance_view i) told_by r (instance_meant s missing row (node_of s i) (predicate_view p))
-as_meant s missing row i p q r e =
-    answers_same (instance_view i) r (instance_meant s missing row (node_of s i) (predicate_view p)) (meant_in s missing row i (predicate_view q))
-    (meant_at s missing row i (predicate_view p) ∙ ap (λ x. meant_in s missing row i (predicate_view x)) e)
-
-pub no_some : (o : Option NodeId) → ((x : NodeId) → o ≡ Some x → ⊥) → is_some o ≡ false
-no_some None none = refl
-no_some (Some x) none = absurd (none x refl)
+pub as_meant : (s : Schema) (missing : ℕ) (f : Branches) (id : SchemaId) (p q : Predicate) (r : Result NodeId EditFault) → p ≡ q
+    → Meets id f (meant_in s missing (tree_of f) id.0 (predicate_view q)) r → Meets id f (instance_meant s missing (tree_of f) (node_of s id.0) (predicate_view p)) r
+as_meant s missing f id p q r e =
+    subst (λ a. Meets id f a r) (sym (meant_at s missing (tree_of f) id.0 (predicate_view p) ∙ ap (λ x. meant_in s missing (tree_of f) id.0 (predicate_view x)) e))
 
 -- ---- a position
 
@@ -83,7 +65,7 @@ position_is s missing row i (suc p) some = by (ltb p (instances_in row i)) refl
 
 -- ---- one child
 
-none_past : (xs : List NodeId) (k : ℕ) → slice_get xs k ≡ None → length xs ≤ k
+pub none_past : (xs : List NodeId) (k : ℕ) → slice_get xs k ≡ None → length xs ≤ k
 none_past [] k e = omega arith
 none_past (x ∷ xs) zero e = absurd (none-some x (sym e))
 none_past (x ∷ xs) (suc k) e = let rest = none_past xs k e in omega (arith, rest)
@@ -105,37 +87,12 @@ module _ (nodes : Nodes) (above : Row) (f : Branches) (id : SchemaId) (position 
       let count = counted_at nodes above f id hangs in
       is_past missing (tree_of f) id.0 position (omega (arith, past, count, same))
 
--- ---- a row that is only read
-
-pub hangs_read : (before after : Nodes) (above : Row) (f : Branches) → OnlyReads before after → Hangs before above f → Hangs after above f
-hangs_read before after above f only hangs =
-    record { listed = children_read before after above only ∙ hangs.listed; stands = stands_read before after above f only hangs.stands }
-
 -- ---- the instances of a schema node in a row
 
 one_more : (number : ℕ) (s : Stored) (below after : Tree) (b : Bool) → eqb s.schema_number number ≡ b
     → instances_in (node s below after) number ≡ cond b 1 0 + instances_in after number
 one_more number s below after b e =
     sum_by-cons (λ (x : Stored). cond (eqb x.schema_number number) 1 0) s (row after) ∙ ap (λ x. cond x 1 0 + instances_in after number) e
-
-none_stored : (number : ℕ) (t : Tree) → instances_in t number ≡ 0 → document.stored_in number t ≡ None
-none_stored number end none = refl
-none_stored number (node s below after) none = by (eqb s.schema_number number) refl (none_stored number after)
-  where
-    by : (b : Bool) → eqb s.schema_number number ≡ b → (instances_in after number ≡ 0 → document.stored_in number after ≡ None)
-        → cond b (Some s) (document.stored_in number after) ≡ None
-    by true e more = absurd (let one = one_more number s below after true e in omega (arith, one, none))
-    by false e more = more (let same = one_more number s below after false e in omega (arith, same, none))
-
-stored_first : (number : ℕ) (first : Tree) (s : Stored) (below rest : Tree) → s.schema_number ≡ number → instances_in first number ≡ 0
-    → document.stored_in number (join first (node s below rest)) ≡ Some s
-stored_first number end s below rest same none = ap (λ b. cond b (Some s) (document.stored_in number rest)) (eq-eqb s.schema_number number same)
-stored_first number (node m under after) s below rest same none = by (eqb m.schema_number number) refl (stored_first number after s below rest same)
-  where
-    by : (b : Bool) → eqb m.schema_number number ≡ b → (instances_in after number ≡ 0 → document.stored_in number (join after (node s below rest)) ≡ Some s)
-        → cond b (Some m) (document.stored_in number (join after (node s below rest))) ≡ Some s
-    by true e more = absurd (let one = one_more number m under after true e in omega (arith, one, none))
-    by false e more = more (let other = one_more number m under after false e in omega (arith, other, none))
 
 row_first : (number : ℕ) (first : Tree) (s : Stored) (below rest : Tree) → s.schema_number ≡ number
     → slice_get (rows_of number (join first (node s below rest))) (instances_in first number) ≡ Some below
@@ -170,7 +127,7 @@ abbrev pub passing : (Tree → Bool) → ℕ → List Tree → List ℕ
 passing test position [] = []
 passing test position (below ∷ rows) = cond (test below) (position ∷ []) [] ++ passing test (position + 1) rows
 
-positions : (number : ℕ) (test : Tree → Bool) (p : ℕ) (t : Tree) → positions_where number test p t ≡ passing test p (rows_of number t)
+pub positions : (number : ℕ) (test : Tree → Bool) (p : ℕ) (t : Tree) → positions_where number test p t ≡ passing test p (rows_of number t)
 positions number test p end = refl
 positions number test p (node s below after) = by (eqb s.schema_number number) (λ q. positions number test q after)
   where
@@ -184,129 +141,33 @@ tree_join : (f g : Branches) → tree_of (join f g) ≡ join (tree_of f) (tree_o
 tree_join end g = refl
 tree_join (node n below after) g = ap (node (stored_of n) (tree_of below)) (tree_join after g)
 
--- ---- a child that is found
+-- the row below a child that is found
+pub row_found : (f : Branches) (id : SchemaId) (k : ℕ) (child : NodeId) (at : Found id k child f) → slice_get (rows_of id.0 (tree_of f)) k ≡ Some (tree_of at.below)
+row_found f id k child at =
+    let rest = node at.frame.label at.below at.frame.after in
+    let tree = ap tree_of at.is_row ∙ tree_join at.frame.before rest in
+    ap₂ (λ t i. slice_get (rows_of id.0 t) i) tree (sym at.is_index)
+    ∙ row_first id.0 (tree_of at.frame.before) (stored_of at.frame.label) (tree_of at.below) (tree_of at.frame.after) (ap (λ (s : SchemaId). s.0) at.is_schema)
 
-module _ (nodes : Nodes) (above : Row) (f : Branches) (id : SchemaId) (k : ℕ) (child : NodeId) (hangs : Hangs nodes above f) (at : Found id k child f) where
-  tree_is : tree_of f ≡ join (tree_of at.frame.before) (node (stored_of at.frame.label) (tree_of at.below) (tree_of at.frame.after))
-  tree_is = ap tree_of at.is_row ∙ tree_join at.frame.before (node at.frame.label at.below at.frame.after)
+-- ---- a list of whose entries any fits
 
-  row_below : Hangs nodes (Below child) at.below
-  row_below = subst (λ (i : NodeId). Hangs nodes (Below i) at.below) at.is_id (at_end nodes above (at.frame ∷ []) at.below (subst (λ g. Hangs nodes above g) at.is_row hangs))
+module _ (missing number : ℕ) (test : Tree → Bool) (always : (below : Tree) → test below ≡ true) (t : Tree) where
+  pub any_of_several : 1 < instances_in t number → the_one missing number (positions_where number test 1 t) ≡ refused 6
+  any_of_several more =
+      ap (the_one missing number) (positions number test 1 t) ∙ by (rows_of number t) (let count = row_count number t in omega (arith, count, more))
+    where
+      by : (rows : List Tree) → 1 < length rows → the_one missing number (passing test 1 rows) ≡ refused 6
+      by [] more = absurd (omega (arith, more))
+      by (row ∷ []) more = absurd (omega (arith, more))
+      by (row ∷ other ∷ rows) more = rw (always row, always other) refl
 
-  row_found : slice_get (rows_of id.0 (tree_of f)) k ≡ Some (tree_of at.below)
-  row_found =
-      ap₂ (λ t i. slice_get (rows_of id.0 t) i) tree_is (sym at.is_index)
-      ∙ row_first id.0 (tree_of at.frame.before) (stored_of at.frame.label) (tree_of at.below) (tree_of at.frame.after) (ap (λ (s : SchemaId). s.0) at.is_schema)
-
-  label_is_leaf : stored_of at.frame.label ≡ leaf_at nodes id child
-  label_is_leaf =
-      let parts = stands_second nodes above at.frame.before (node at.frame.label at.below at.frame.after) (subst (λ g. Stands nodes above g) at.is_row hangs.stands) in
-      ap₂ (λ (i : ℕ) (v : Option Raw). let s : Stored = record { schema_number = i; value = v } in s) (ap (λ (s : SchemaId). s.0) at.is_schema)
-      (sym (ap (option_and_then (λ (l : Label). l.value)) (label_is nodes above at.frame.label at.below child at.is_id (parts.0, parts.1, tt))))
-
-  leaf_found : k ≡ 0 → document.stored_in id.0 (tree_of f) ≡ Some (leaf_at nodes id child)
-  leaf_found first =
-      ap (document.stored_in id.0) tree_is
-      ∙ (stored_first id.0 (tree_of at.frame.before) (stored_of at.frame.label) (tree_of at.below) (tree_of at.frame.after) (ap (λ (s : SchemaId). s.0) at.is_schema) (at.is_index ∙ first)
-      ∙ ap Some label_is_leaf)
-
-module _ (nodes mid : Nodes) (above : Row) (f : Branches) (id : SchemaId) (k : ℕ) (child : Option NodeId) (only : OnlyReads nodes mid) (hangs : Hangs nodes above f)
-    (is : child ≡ slice_get (of_schema id (children_at nodes above)) k) where
-  at_place : (found : NodeId) → child ≡ Some found → Found id k found f
-  at_place found some = found_at nodes above f id k found hangs (sym is ∙ some)
-
-  pub leaf_is : (leaf : NodeId) → k ≡ 0 → child ≡ Some leaf → document.stored_in id.0 (tree_of f) ≡ Some (leaf_at mid id leaf)
-  leaf_is leaf first some = leaf_found mid above f id k leaf (hangs_read nodes mid above f only hangs) (at_place leaf some) first
-
-  past : child ≡ None → instances_in (tree_of f) id.0 ≤ k
-  past none =
-      let none = none_past (of_schema id (children_at nodes above)) k (sym is ∙ none) in
-      let count = counted_at nodes above f id hangs in
-      omega (arith, none, count)
-
-  pub no_leaf : k ≡ 0 → child ≡ None → document.stored_in id.0 (tree_of f) ≡ None
-  no_leaf first none = none_stored id.0 (tree_of f) (let few = past none in omega (arith, few, first))
-
-  pub entry_fits : (test : Tree → Bool) (entry : NodeId) (fits : Bool) → child ≡ Some entry → ((g : Branches) → Hangs mid (Below entry) g → fits ≡ test (tree_of g))
-      → fits ≡ option_map_or test (slice_get (rows_of id.0 (tree_of f)) k) false
-  entry_fits test entry fits some each =
-      let at = at_place entry some in
-      each at.below (row_below mid above f id k entry (hangs_read nodes mid above f only hangs) at)
-      ∙ sym (ap (λ o. option_map_or test o false) (row_found nodes above f id k entry hangs at))
-
-  pub no_entry : (test : Tree → Bool) → child ≡ None → false ≡ option_map_or test (slice_get (rows_of id.0 (tree_of f)) k) false
-  no_entry test none =
-      let few = past none in
-      let count = row_count id.0 (tree_of f) in
-      sym (ap (λ o. option_map_or test o false) (slice_get_past (rows_of id.0 (tree_of f)) k (omega (arith, few, count))))
-
--- ---- keys
-
-pub next_key : (s : Schema) (ids : List SchemaId) (k : ℕ) (keys : List Key) (t : Tree) (d : SchemaId) (b : Bool) → k < length ids → b ≡ fits_key s (get_or ids k d).0 keys t
-    → fits_keys s (numbers_of (drop k ids)) keys t ≡ b && fits_keys s (numbers_of (drop (k + 1) ids)) keys t
-next_key s ids k keys t d b less is =
-    ap (λ (is : List SchemaId). fits_keys s (numbers_of is) keys t) (drop_more ids k d less)
-    ∙ ap (λ x. x && fits_keys s (numbers_of (drop (k + 1) ids)) keys t) (sym is)
-
--- ---- entries that pass a test
-
-passes_not : (test : Tree → Bool) (rows : List Tree) (k p : ℕ) → false ≡ option_map_or test (slice_get rows k) false
-    → passing test p (drop k rows) ≡ passing test (p + 1) (drop (suc k) rows)
-passes_not test [] zero p e = refl
-passes_not test [] (suc k) p e = refl
-passes_not test (r ∷ rows) zero p e = ap (λ b. cond b (p ∷ []) [] ++ passing test (p + 1) rows) (sym e)
-passes_not test (r ∷ rows) (suc k) p e = passes_not test rows k p e
-
-passes : (test : Tree → Bool) (rows : List Tree) (k p : ℕ) → true ≡ option_map_or test (slice_get rows k) false
-    → passing test p (drop k rows) ≡ p ∷ passing test (p + 1) (drop (suc k) rows)
-passes test [] zero p e = absurd (false≢true (sym e))
-passes test [] (suc k) p e = absurd (false≢true (sym e))
-passes test (r ∷ rows) zero p e = ap (λ b. cond b (p ∷ []) [] ++ passing test (p + 1) rows) (sym e)
-passes test (r ∷ rows) (suc k) p e = passes test rows k p e
-
-module _ (missing number : ℕ) (test : Tree → Bool) (rows : List Tree) (answer : Result Step EditRefusal) where
-  -- what was found, and what is found from a place on, is one entry as the whole row has
-  abbrev pub SoFar : Option (NodeId × ℕ) → ℕ → Type 0
-  SoFar found place = the_one missing number (found_list (option_map (λ p. p.1) found) ++ passing test (place + 1) (drop place rows)) ≡ answer
-
-  pub next_none : (found : Option (NodeId × ℕ)) (place : ℕ) → false ≡ option_map_or test (slice_get rows place) false → SoFar found place → SoFar found (place + 1)
-  next_none found place e so =
-      let index : place + 1 ≡ suc place = omega arith in
-      ap (λ k. the_one missing number (found_list (option_map (λ p. p.1) found) ++ passing test (place + 1 + 1) (drop k rows))) index
-      ∙ (sym (ap (λ ps. the_one missing number (found_list (option_map (λ p. p.1) found) ++ ps)) (passes_not test rows place (place + 1) e)) ∙ so)
-
-  pub next_some : (found : Option (NodeId × ℕ)) (entry : NodeId) (place : ℕ) → is_some found ≡ false → true ≡ option_map_or test (slice_get rows place) false
-      → SoFar found place → SoFar (Some (entry, place + 1)) (place + 1)
-  next_some (Some p) entry place none e so = absurd (false≢true (sym none))
-  next_some None entry place none e so =
-      let index : place + 1 ≡ suc place = omega arith in
-      ap (λ k. the_one missing number ((place + 1) ∷ passing test (place + 1 + 1) (drop k rows))) index
-      ∙ (sym (ap (the_one missing number) (passes test rows place (place + 1) e)) ∙ so)
-
-  pub second : (found : Option (NodeId × ℕ)) (place : ℕ) → is_some found ≡ true → true ≡ option_map_or test (slice_get rows place) false
-      → SoFar found place → answer ≡ refused 6
-  second None place some e so = absurd (false≢true some)
-  second (Some p) place some e so = sym so ∙ ap (λ ps. the_one missing number (p.1 ∷ ps)) (passes test rows place (place + 1) e)
-
-  pub ends_none : (found : Option (NodeId × ℕ)) (place : ℕ) → found ≡ None → length rows ≤ place → SoFar found place → answer ≡ refused missing
-  ends_none found place none all so =
-      sym so
-      ∙ (ap (λ (o : Option (NodeId × ℕ)). the_one missing number (found_list (option_map (λ p. p.1) o) ++ passing test (place + 1) (drop place rows))) none
-      ∙ at_drop_all (λ rs. the_one missing number (passing test (place + 1) rs)) rows place all)
-
-  pub ends_some : (found : Option (NodeId × ℕ)) (place : ℕ) (p : NodeId × ℕ) → found ≡ Some p → length rows ≤ place → SoFar found place → answer ≡ Ok (step_at number p.1)
-  ends_some found place p some all so =
-      sym so
-      ∙ (ap (λ (o : Option (NodeId × ℕ)). the_one missing number (found_list (option_map (λ p. p.1) o) ++ passing test (place + 1) (drop place rows))) some
-      ∙ at_drop_all (λ rs. the_one missing number (p.1 ∷ passing test (place + 1) rs)) rows place all)
-
--- the whole row
-pub is_asked : (s : Schema) (missing number : ℕ) (ids : List SchemaId) (keys : List Key) (t : Tree) → numbers_of ids ≡ keys_in (node_of s number).kind
-    → the_one missing number (positions_where number (fits_keys s (keys_in (node_of s number).kind) keys) 1 t)
-    ≡ the_one missing number (passing (fits_keys s (numbers_of ids) keys) 1 (rows_of number t))
-is_asked s missing number ids keys t e =
-    ap (the_one missing number) (positions number (fits_keys s (keys_in (node_of s number).kind) keys) 1 t ∙ ap (λ ns. passing (fits_keys s ns keys) 1 (rows_of number t)) (sym e))
-
-pub rows_are : (nodes : Nodes) (above : Row) (f : Branches) (id : SchemaId) (count : ℕ) → Hangs nodes above f → count ≡ length (of_schema id (children_at nodes above))
-    → length (rows_of id.0 (tree_of f)) ≡ count
-rows_are nodes above f id count hangs is = row_count id.0 (tree_of f) ∙ (sym (counted_at nodes above f id hangs) ∙ sym is)
+  pub only_entry : instances_in t number ≤ 1 → the_one missing number (positions_where number test 1 t) ≡ instance_in missing t number (Some 1)
+  only_entry few =
+      ap (the_one missing number) (positions number test 1 t)
+      ∙ (by (rows_of number t) (let count = row_count number t in omega (arith, count, few))
+      ∙ ap (λ k. if nat_lt 0 k then Ok (step_at number 1) else refused missing) (row_count number t))
+    where
+      by : (rows : List Tree) → length rows ≤ 1 → the_one missing number (passing test 1 rows) ≡ (if nat_lt 0 (length rows) then Ok (step_at number 1) else refused missing)
+      by [] few = refl
+      by (row ∷ []) few = rw (always row) refl
+      by (row ∷ other ∷ rows) few = absurd (omega (arith, few))

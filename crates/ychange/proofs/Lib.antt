@@ -1,7 +1,10 @@
 pub mod AmendLemmas
 pub mod BesideLemmas
+pub mod HolderLemmas
 pub mod InstanceLemmas
 pub mod LocatingLemmas
 pub mod OpeningLemmas
 pub mod OrderLemmas
 pub mod PartLemmas
+pub mod PlaceLemmas
+pub mod TextLemmas

@@ -27,6 +27,7 @@ use Rattle.yshape.specs.Ways.{Found, around}
 use Rattle.yshape.proofs.FrameLemmas.{keeps_same}
 use Rattle.yshape.proofs.GrowLemmas.{tree_join}
 use Rattle.yshape.proofs.HangingLemmas.{at_end}
+use Rattle.yshape.proofs.PartLemmas.{children_read, stands_read}
 use Rattle.yshape.proofs.FoundLemmas.{around_more, end_more, goes_more}
 use Rattle.ytold.specs.IsTold.{IsTold}
 use Rattle.ychange.specs.Places.{HoldsTold, IsAt}
@@ -53,6 +54,10 @@ at_read s before after tree steps above f at only = record {
 
 pub hangs_at : (s : Schema) (nodes : Nodes) (tree : Tree) (steps : List Step) (above : Row) (f : Branches) → IsAt s nodes tree steps above f → Hangs nodes above f
 hangs_at s nodes tree steps above f at = subst (λ r. Hangs nodes r f) at.ends (at_end nodes Top at.way f at.keeps.hangs)
+
+pub hangs_read : (before after : Nodes) (above : Row) (f : Branches) → OnlyReads before after → Hangs before above f → Hangs after above f
+hangs_read before after above f only hangs =
+    record { listed = children_read before after above only ∙ hangs.listed; stands = stands_read before after above f only hangs.stands }
 
 -- a document that is held stands at the top
 pub at_start : (s : Schema) (nodes : Nodes) (tree : Tree) (holds : HoldsTold s nodes tree) → IsSorted tree → IsAt s nodes tree [] Top holds.branches

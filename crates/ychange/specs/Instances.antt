@@ -1,19 +1,22 @@
 -- The instance of a schema node that a step of a path means, in a row of a store.
-use Rattle.std.specs.Prelude.{ℕ, ◌==◌, nat_lt, List, [], ◌∷◌, Option, option_and_then, Result, Ok, if◌then◌else◌}
+use Rattle.std.specs.Prelude.{◌≡◌, ℕ, ◌==◌, nat_lt, List, [], ◌∷◌, Option, Result, Ok, Err, if◌then◌else◌}
 use Rattle.yspec.specs.Forest.{end, node}
-use Rattle.yspec.specs.types.Types.{Raw}
-use Rattle.yspec.specs.document.Document.{Stored, Tree, Step, instances_in}
+use Rattle.yspec.specs.Results.{Fails}
+use Rattle.yspec.specs.document.Document.{Tree, Step, instances_in}
 use Rattle.yspec.specs.edit.Edit.{instance_index}
 use Rattle.yspec.specs.edit.Editing.{EditRefusal, refused}
 use Rattle.ymodel.specs.declared.node.SchemaId.{SchemaId}
-use Rattle.ystore.specs.Store.{label_at}
+use Rattle.ypath.specs.Applying.{told_by}
+use Rattle.ypath.specs.declared.edit.EditFault.{EditFault}
 use Rattle.ystore.specs.declared.row.NodeId.{NodeId}
-use Rattle.ystore.specs.declared.nodes.Nodes.{Nodes}
-use Rattle.ychange.specs.declared.instances.Instance.{Instance}
+use Rattle.yshape.specs.Hanging.{Branches}
+use Rattle.yshape.specs.Ways.{Found}
 
--- as the definition's step to a schema node of a number
-abbrev pub instance_view : ℕ → Instance → Step
-instance_view number i = record { schema_number = number; position = i.position }
+-- The node of a row that is found is the one that the definition's step names; or the definition refuses so, and of want of
+-- memory nothing is said.
+abbrev pub Meets : SchemaId → Branches → Result Step EditRefusal → Result NodeId EditFault → Type 0
+Meets id f answer (Ok it) = (step : Step) × (answer ≡ Ok step) × (id.0 ≡ step.schema_number) × Found id (instance_index step) it f
+Meets id f answer (Err fault) = Fails (told_by fault) answer
 
 abbrev pub step_of : ℕ → Option ℕ → Step
 step_of number position = record { schema_number = number; position = position }
@@ -29,13 +32,3 @@ instance_in missing row number position = if nat_lt (instance_index (step_of num
 abbrev pub rows_of : ℕ → Tree → List Tree
 rows_of number end = []
 rows_of number (node s below after) = if s.schema_number == number then below ∷ rows_of number after else rows_of number after
-
--- ---- keys
-
--- a node of a schema node with a value, as documents know it
-abbrev pub stored_as : SchemaId → Option Raw → Stored
-stored_as id value = record { schema_number = id.0; value = value }
-
--- the same with the value of a node of a store
-abbrev pub leaf_at : Nodes → SchemaId → NodeId → Stored
-leaf_at nodes id leaf = stored_as id (option_and_then (λ l. l.value) (label_at nodes leaf))

@@ -139,10 +139,10 @@ fn replace(
     ensures same_reference { lent counted.new ≡ lent counted.old }
 {
     match instance_meant(counted, schema, EditCode::E7, place.above, place.last) {
-        Ok(instance) => match part(counted.alloc(), schema, place.last.id, value) {
+        Ok(node) => match part(counted.alloc(), schema, place.last.id, value) {
             Ok(part) => {
-                let numbers = numbers_of(counted, instance.node)?;
-                put_part(counted, schema, place.above, instance.node, &numbers, &part)
+                let numbers = numbers_of(counted, node)?;
+                put_part(counted, schema, place.above, node, &numbers, &part)
             }
             Err(fault) => Err(fault),
         },
@@ -162,16 +162,16 @@ fn remove(counted: &mut Counted<'_>, schema: &Schema, place: Place<'_>) -> Resul
     ensures same_reference { lent counted.new ≡ lent counted.old }
 {
     match instance_meant(counted, schema, EditCode::E7, place.above, place.last) {
-        Ok(instance) => {
-            let numbers = numbers_of(counted, instance.node)?;
-            let before = instance.position.unwrap_or(1).saturating_sub(1);
+        Ok(node) => {
+            let numbers = numbers_of(counted, node)?;
+            let before = counted.place_of(place.above, place.last.id, node);
             take_part(
                 counted,
                 schema,
                 place.above,
                 place.last.id,
                 before,
-                instance.node,
+                node,
                 &numbers,
             )?;
             Ok(())

@@ -1,55 +1,43 @@
 //! The instance of a schema node that a step of a path means, in a row of a store.
 
-ghost use Rattle.std.specs.Prelude.{◌≡◌, false, IfOk, IfSome, is_some, slice_get};
-ghost use Rattle.std.specs.Option.{option_map_or};
-ghost use Rattle.yspec.specs.Results.{Gives};
+ghost use Rattle.std.specs.Prelude.{◌≡◌, ◌<◌, Bool, false, true, List, length, map, IfOk, string_bytes};
+ghost use Rattle.yspec.specs.schema.Schema as schemas;
 ghost use Rattle.yspec.specs.schema.Schema.{keys_in};
-ghost use Rattle.yspec.specs.edit.Edit.{instance_index};
+ghost use Rattle.yspec.specs.document.Document as document;
+ghost use Rattle.yspec.specs.document.Document.{Step};
+ghost use Rattle.yspec.specs.edit.EditText as edit;
 ghost use Rattle.yspec.specs.edit.Editing as spec;
 ghost use Rattle.ymodel.specs.Layout.{numbers_of};
 ghost use Rattle.ymodel.specs.View as schema_view;
-ghost use Rattle.ypath.specs.Applying.{edit_number, told_by};
+ghost use Rattle.ypath.specs.Applying.{edit_number};
 ghost use Rattle.ypath.specs.Binding.{node_of};
 ghost use Rattle.ypath.specs.EditView.{predicate_view, keys_view};
-ghost use Rattle.yinst.specs.Locating as locating;
-ghost use Rattle.ystore.specs.Views.{store_of, lent, IsRead};
-ghost use Rattle.ystore.specs.declared.row.Row.TheVariants.{Below};
+ghost use Rattle.ystore.specs.Views.{store_of, lent};
 ghost use Rattle.yshape.specs.Hanging.{Branches, Hangs, tree_of};
 ghost use Rattle.yshape.specs.Parts.{OnlyReads};
-ghost use Rattle.yshape.specs.Ways.{Found};
-ghost use Rattle.ychange.specs.Instances.{instance_view, instance_in, leaf_at, rows_of};
+ghost use Rattle.yfacts.specs.Keys.{key_view, texts_key};
+ghost use Rattle.ychange.specs.Places.{IsAt};
+ghost use Rattle.ychange.specs.Instances.{Meets, instance_in};
 
-use crate::keys::{is_text, key_text, keys_of};
-use std::alloc::AllocError;
+use crate::keys::{key_text, keys_of};
+use std::alloc::{AllocError, Global};
 use ymodel::{Schema, SchemaId};
 use ypath::{BoundStep, EditCode, EditFault, Key, Predicate, refused};
 use ystore::{Counted, NodeId, Row};
 
-/// An instance of a schema node: its number in the store, and its position among those of the node in its row, from 1,
-/// where a step says or means one.
-#[derive(Clone, Copy, Debug)]
-pub(crate) struct Instance {
-    pub node: NodeId,
-    pub position: Option<usize>,
-}
-
-/// The instance that a step means: E5, E6, or the given refusal where it isn't stored. A position counts from 1.
+/// The node that a step means: E5, E6, or the given refusal where it isn't stored. A position counts from 1.
 pub(crate) fn instance_meant(
     counted: &mut Counted<'_>,
     schema: &Schema,
     missing: EditCode,
     above: Row,
     step: BoundStep<'_>,
-) -> Result<Instance, EditFault>
+) -> Result<NodeId, EditFault>
     requires { spec.is_zero (predicate_view step.predicate.now) ≡ false }
-    ensures answer { let s = schema_view.view schema.now in
-        (f : Branches) → Hangs (store_of counted.old) above f
-        → Gives (instance_view step.entry.id.0) told_by result
-        (spec.instance_meant s (edit_number missing) (tree_of f) (node_of s step.entry.id.0)
-        (predicate_view step.entry.predicate.now)) }
-    ensures found { (f : Branches) → Hangs (store_of counted.old) above f
-        → IfOk result (λ i. Found step.entry.id
-        (instance_index (instance_view step.entry.id.0 i)) i.node f) }
+    ensures meets { let s = schema_view.view schema.now in
+        (tree : document.Tree) (steps : List Step) (f : Branches) → IsAt s (store_of counted.old) tree steps above f
+        → Meets step.entry.id f (spec.instance_meant s (edit_number missing) (tree_of f)
+        (node_of s step.entry.id.0) (predicate_view step.entry.predicate.now)) result }
     ensures kept { OnlyReads (store_of counted.old) (store_of counted.new) }
     ensures same_reference { lent counted.new ≡ lent counted.old }
 {
@@ -80,17 +68,15 @@ fn instance_at(
     above: Row,
     id: SchemaId,
     position: Option<usize>,
-) -> Result<Instance, EditFault>
-    ensures answer { (f : Branches) → Hangs (store_of counted.old) above f
-        → Gives (instance_view id.0) told_by result (instance_in (edit_number missing) (tree_of f) id.0 position) }
-    ensures found { (f : Branches) → Hangs (store_of counted.old) above f
-        → IfOk result (λ i. Found id (instance_index (instance_view id.0 i)) i.node f) }
+) -> Result<NodeId, EditFault>
+    ensures meets { (f : Branches) → Hangs (store_of counted.old) above f
+        → Meets id f (instance_in (edit_number missing) (tree_of f) id.0 position) result }
     ensures kept { OnlyReads (store_of counted.old) (store_of counted.new) }
     ensures same_reference { lent counted.new ≡ lent counted.old }
 {
     let place = position.unwrap_or(1).saturating_sub(1);
     match counted.child_of(above, id, place) {
-        Some(node) => Ok(Instance { node, position }),
+        Some(node) => Ok(node),
         None => Err(refused(missing)),
     }
 }
@@ -103,117 +89,83 @@ fn entry_meant(
     above: Row,
     id: SchemaId,
     keys: &[Key],
-) -> Result<Instance, EditFault>
-    ensures answer { let s = schema_view.view schema.now in
-        (f : Branches) → Hangs (store_of counted.old) above f
-        → Gives (instance_view id.0) told_by result (spec.the_one (edit_number missing) id.0
+) -> Result<NodeId, EditFault>
+    ensures meets { let s = schema_view.view schema.now in
+        (tree : document.Tree) (steps : List Step) (f : Branches) → IsAt s (store_of counted.old) tree steps above f
+        → Meets id f (spec.the_one (edit_number missing) id.0
         (spec.positions_where id.0 (spec.fits_keys s (keys_in (node_of s id.0).kind)
-        (keys_view keys.now)) 1 (tree_of f))) }
-    ensures found { (f : Branches) → Hangs (store_of counted.old) above f
-        → IfOk result (λ i. Found id (instance_index (instance_view id.0 i)) i.node f) }
+        (keys_view keys.now)) 1 (tree_of f))) result }
     ensures kept { OnlyReads (store_of counted.old) (store_of counted.new) }
     ensures same_reference { lent counted.new ≡ lent counted.old }
 {
     let ids = keys_of(schema, id);
-    let count = counted.count_of(above, id);
-    let mut found = None;
-    for place in 0..count {
-        if let Some(node) = entry_at(counted, schema, ids, keys, above, id, place)? {
-            if found.is_some() {
-                return Err(refused(EditCode::E6));
-            }
-            found = Some((node, place + 1));
-        }
+    if ids.is_empty() {
+        only_entry(counted, missing, above, id)
+    } else {
+        let texts = texts_said(counted.alloc(), schema, ids, keys)?;
+        let key = ystore::Key::Texts(above, id, texts);
+        entry_held(counted, missing, above, id, &key)
     }
-    match found {
-        Some((node, position)) => Ok(Instance {
-            node,
-            position: Some(position),
-        }),
+}
+
+/// The texts that the keys of a predicate say for schema nodes.
+fn texts_said(
+    alloc: Global,
+    schema: &Schema,
+    ids: &[SchemaId],
+    keys: &[Key],
+) -> Result<Vec<String>, AllocError>
+    ensures { IfOk result (λ texts. map string_bytes texts.items
+        ≡ map (spec.key_text (keys_view keys.now) (schema_view.view schema.now)) (numbers_of ids.now)) }
+{
+    let mut texts = Vec::new(alloc);
+    for id in ids {
+        let text = String::from_str(alloc, key_text(schema, keys, *id))?;
+        texts.push(text)?;
+    }
+    Ok(texts)
+}
+
+/// The entry that holds a key of texts: E6 where several do.
+fn entry_held(
+    counted: &mut Counted<'_>,
+    missing: EditCode,
+    above: Row,
+    id: SchemaId,
+    key: &ystore::Key,
+) -> Result<NodeId, EditFault>
+    ensures meets { (s : schemas.Schema) (tree : document.Tree) (steps : List Step) (f : Branches) (keys : List edit.Key)
+        → IsAt s (store_of counted.old) tree steps above f → 0 < length (keys_in (node_of s id.0).kind)
+        → key_view key.now ≡ texts_key above id.0 (map (spec.key_text keys s) (keys_in (node_of s id.0).kind))
+        → Meets id f (spec.the_one (edit_number missing) id.0
+        (spec.positions_where id.0 (spec.fits_keys s (keys_in (node_of s id.0).kind) keys) 1 (tree_of f))) result }
+    ensures kept { OnlyReads (store_of counted.old) (store_of counted.new) }
+    ensures same_reference { lent counted.new ≡ lent counted.old }
+{
+    if 1 < counted.holder_count(key) {
+        return Err(refused(EditCode::E6));
+    }
+    match counted.holder(key, 0) {
+        Some(node) => Ok(node),
         None => Err(refused(missing)),
     }
 }
 
-/// The entry at a place among those of a list, from 0, if it has these keys.
-fn entry_at(
+/// The entry of a list without keys, of which any fits: E6 where there are several.
+fn only_entry(
     counted: &mut Counted<'_>,
-    schema: &Schema,
-    ids: &[SchemaId],
-    keys: &[Key],
+    missing: EditCode,
     above: Row,
     id: SchemaId,
-    place: usize,
-) -> Result<Option<NodeId>, AllocError>
-    ensures fits { IfOk result (λ node. (f : Branches) → Hangs (store_of counted.old) above f
-        → is_some node ≡ option_map_or (spec.fits_keys (schema_view.view schema.now) (numbers_of ids.now)
-        (keys_view keys.now)) (slice_get (rows_of id.0 (tree_of f)) place) false) }
-    ensures found { IfOk result (λ node. (f : Branches) → Hangs (store_of counted.old) above f
-        → IfSome node (λ n. Found id place n f)) }
+) -> Result<NodeId, EditFault>
+    ensures meets { (test : document.Tree → Bool) (f : Branches) → Hangs (store_of counted.old) above f
+        → ((below : document.Tree) → test below ≡ true)
+        → Meets id f (spec.the_one (edit_number missing) id.0 (spec.positions_where id.0 test 1 (tree_of f))) result }
     ensures kept { OnlyReads (store_of counted.old) (store_of counted.new) }
     ensures same_reference { lent counted.new ≡ lent counted.old }
 {
-    match counted.child_of(above, id, place) {
-        Some(node) => {
-            if fits_keys(counted, schema, ids, keys, node)? {
-                Ok(Some(node))
-            } else {
-                Ok(None)
-            }
-        }
-        None => Ok(None),
+    if 1 < counted.count_of(above, id) {
+        return Err(refused(EditCode::E6));
     }
-}
-
-/// Whether each key of a list is stored in an entry, valid and has the canonical text that is said.
-fn fits_keys(
-    counted: &mut Counted<'_>,
-    schema: &Schema,
-    ids: &[SchemaId],
-    keys: &[Key],
-    entry: NodeId,
-) -> Result<bool, AllocError>
-    ensures fits { IfOk result (λ fits. (f : Branches) → Hangs (store_of counted.old) (Below entry) f
-        → fits ≡ spec.fits_keys (schema_view.view schema.now) (numbers_of ids.now) (keys_view keys.now) (tree_of f)) }
-    ensures kept { OnlyReads (store_of counted.old) (store_of counted.new) }
-    ensures same_reference { lent counted.new ≡ lent counted.old }
-{
-    for id in ids {
-        if !fits_key(counted, schema, *id, keys, entry)? {
-            return Ok(false);
-        }
-    }
-    Ok(true)
-}
-
-fn fits_key(
-    counted: &mut Counted<'_>,
-    schema: &Schema,
-    id: SchemaId,
-    keys: &[Key],
-    entry: NodeId,
-) -> Result<bool, AllocError>
-    ensures fits { IfOk result (λ fits. (f : Branches) → Hangs (store_of counted.old) (Below entry) f
-        → fits ≡ locating.fits_key (schema_view.view schema.now) id.0 (keys_view keys.now) (tree_of f)) }
-    ensures kept { OnlyReads (store_of counted.old) (store_of counted.new) }
-    ensures same_reference { lent counted.new ≡ lent counted.old }
-{
-    match counted.child_of(Row::Below(entry), id, 0) {
-        Some(leaf) => has_text(counted, schema, id, leaf, key_text(schema, keys, id)),
-        None => Ok(false),
-    }
-}
-
-/// Whether the value of a leaf is valid and has that canonical text.
-fn has_text(
-    counted: &mut Counted<'_>,
-    schema: &Schema,
-    id: SchemaId,
-    leaf: NodeId,
-    text: &str,
-) -> Result<bool, AllocError>
-    ensures has { IfOk result (λ has. has ≡ spec.is_the_text text.now
-        (spec.text_of (schema_view.view schema.now) (leaf_at (store_of counted.old) id leaf))) }
-    ensures counted { IsRead counted.old counted.new }
-{
-    is_text(counted.alloc(), schema, id, counted.value(leaf), text)
+    instance_at(counted, missing, above, id, Some(1))
 }

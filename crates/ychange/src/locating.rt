@@ -67,7 +67,7 @@ fn locate_below<'e>(
         None => Err(refused(EditCode::E1)),
         Some((step, [])) => Ok(Place { above, last: *step }),
         Some((step, more)) => match instance_meant(counted, schema, EditCode::E4, above, *step) {
-            Ok(instance) => locate_below(counted, schema, Row::Below(instance.node), more),
+            Ok(node) => locate_below(counted, schema, Row::Below(node), more),
             Err(fault) => Err(fault),
         },
     }

@@ -1,15 +1,14 @@
-use Rattle.std.proofs.Common.{◌-◌, ap, refl, sym, ◌∙◌}
-use Rattle.yspec.specs.document.Document.{Step}
-use Rattle.yspec.specs.edit.Edit.{edit_at}
+use Rattle.std.proofs.Common.{refl, sym, ◌∙◌}
+use Rattle.yspec.specs.edit.Edit.{edit_at, instance_index}
 use Rattle.yspec.specs.edit.Editing as spec
 use Rattle.ymodel.specs.View as schema_view
 use Rattle.ypath.specs.Applying.{told_by}
 use Rattle.ystore.specs.Views.{store_of}
-use Rattle.yshape.proofs.PartLemmas.{reads_on}
-use Rattle.ychange.specs.Instances.{instance_view}
+use Rattle.yshape.proofs.PartLemmas.{one_read, reads_on}
+use Rattle.ychange.proofs.PlaceLemmas.{place_found}
 use Rattle.ychange.specs.Locating.{target_at}
 use Rattle.ychange.proofs.AmendLemmas.{amends_fault, fails_on, holds_at, part_at, removed_is, shows_at}
-use Rattle.ychange.proofs.LocatingLemmas.{at_read, hangs_at}
+use Rattle.ychange.proofs.LocatingLemmas.{at_read}
 use Rattle.ychange.proofs.PartLemmas.{wanting}
 use Rattle.ychange.proofs.amending.remove.Goals as goal
 
@@ -31,19 +30,21 @@ take_part-requires c =
     let mid = store_of c.instance_meant.new.counted in
     let last = store_of c.numbers_of.new.counted in
     let r = c.requires.at in
-    let step : Step = instance_view id.0 c.in-Ok.instance in
+    let meant = c.in-Ok.ensures.meets r.tree r.steps r.f r.at in
+    let step = meant.0 in
     let at_mid = at_read s old mid r.tree r.steps row r.f r.at c.in-Ok.ensures.kept in
+    let at_last = at_read s mid last r.tree r.steps row r.f at_mid c.numbers_of.ensures.kept in
     record {
       tree = r.tree;
       steps = r.steps;
       f = r.f;
       step = step;
       of = id;
-      at = at_read s mid last r.tree r.steps row r.f at_mid c.numbers_of.ensures.kept;
-      part = part_at s mid r.tree r.steps row r.f step id c.in-Ok.instance.node _ at_mid (c.in-Ok.ensures.found r.f (hangs_at s old r.tree r.steps row r.f r.at)) refl
+      at = at_read s last (store_of c.place_of-before.new.self) r.tree r.steps row r.f at_last (one_read last (store_of c.place_of-before.new.self) c.place_of-before.ensures.counted.store);
+      part = part_at s mid r.tree r.steps row r.f step id c.in-Ok.node _ at_mid meant.3 meant.2
           (λ above n below same stands fits. c.deref.ensures.value ∙ c.in_ok-numbers-in-Ok.ensures.numbers above n below same stands fits);
       is_number = refl;
-      is_index = sym (c.saturating_sub-before.ensures ∙ ap (λ x. x - 1) c.unwrap_or.ensures);
+      is_index = sym (c.place_of-before.ensures.place ∙ place_found s last r.tree r.steps row r.f at_last id (instance_index step) c.in-Ok.node meant.3);
     }
 
 pub returns-in_ok-take_part-in-Ok-clause-amends : goal.returns-in_ok-take_part-in-Ok-clause-amends
@@ -54,15 +55,17 @@ returns-in_ok-take_part-in-Ok-clause-amends c = λ tree above f at.
     let old = store_of c.args.counted.now in
     let mid = store_of c.instance_meant.new.counted in
     let last = store_of c.numbers_of.new.counted in
-    let here = hangs_at s old tree above row f at in
-    let step : Step = instance_view id.0 c.in-Ok.instance in
+    let meant = c.in-Ok.ensures.meets tree above f at in
+    let step = meant.0 in
     let at_mid = at_read s old mid tree above row f at c.in-Ok.ensures.kept in
-    let part = part_at s mid tree above row f step id c.in-Ok.instance.node _ at_mid (c.in-Ok.ensures.found f here) refl
+    let at_last = at_read s mid last tree above row f at_mid c.numbers_of.ensures.kept in
+    let part = part_at s mid tree above row f step id c.in-Ok.node _ at_mid meant.3 meant.2
     (λ r n below same stands fits. c.deref.ensures.value ∙ c.in_ok-numbers-in-Ok.ensures.numbers r n below same stands fits) in (
       edit_at above (spec.without step) tree,
-      removed_is s tree (target_at s above f c.args.place.last) step (c.in-Ok.ensures.answer f here),
-      c.in_ok-take_part-in-Ok.ensures.taken tree above f step (at_read s mid last tree above row f at_mid c.numbers_of.ensures.kept) part
-          (sym (c.saturating_sub-before.ensures ∙ ap (λ x. x - 1) c.unwrap_or.ensures)),
+      removed_is s tree (target_at s above f c.args.place.last) step meant.1,
+      c.in_ok-take_part-in-Ok.ensures.taken tree above f step
+          (at_read s last (store_of c.place_of-before.new.self) tree above row f at_last (one_read last (store_of c.place_of-before.new.self) c.place_of-before.ensures.counted.store)) part
+          (sym (c.place_of-before.ensures.place ∙ place_found s last tree above row f at_last id (instance_index step) c.in-Ok.node meant.3)),
     )
 
 pub returns-in_err-take_part-in-Ok-clause-amends : goal.returns-in_err-take_part-in-Ok-clause-amends
@@ -74,7 +77,9 @@ returns-in_err-take_part-in-Ok-clause-amends c = λ tree above f at.
     let last = store_of c.numbers_of.new.counted in
     let at_mid = at_read s old mid tree above row f at c.in-Ok.ensures.kept in
     wanting s c.from_residual-in_err-take_part-in-Ok.result tree _ (store_of c.take_part.new.counted) c.from_residual-in_err-take_part-in-Ok.ensures.1
-    (c.in_err-take_part-in-Ok.ensures.shows tree above f (at_read s mid last tree above row f at_mid c.numbers_of.ensures.kept))
+    (c.in_err-take_part-in-Ok.ensures.shows tree above f
+    (at_read s last (store_of c.place_of-before.new.self) tree above row f (at_read s mid last tree above row f at_mid c.numbers_of.ensures.kept)
+    (one_read last (store_of c.place_of-before.new.self) c.place_of-before.ensures.counted.store)))
 
 pub returns-in-Err-clause-amends : goal.returns-in-Err-clause-amends
 returns-in-Err-clause-amends c = λ tree above f at.
@@ -84,5 +89,5 @@ returns-in-Err-clause-amends c = λ tree above f at.
     let mid = store_of c.instance_meant.new.counted in
     let at_mid = at_read s old mid tree above row f at c.in-Err.ensures.kept in
     amends_fault (Unit {0}) s mid tree (spec.removed s tree (target_at s above f c.args.place.last)) c.in-Err.fault
-    (fails_on (told_by c.in-Err.fault) (spec.last_meant s (target_at s above f c.args.place.last)) _ (c.in-Err.ensures.answer f (hangs_at s old tree above row f at)))
+    (fails_on (told_by c.in-Err.fault) (spec.last_meant s (target_at s above f c.args.place.last)) _ (c.in-Err.ensures.meets tree above f at))
     (holds_at s mid tree above row f at_mid) (shows_at s mid tree above row f at_mid)

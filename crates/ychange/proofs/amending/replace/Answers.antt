@@ -1,6 +1,5 @@
 use Rattle.std.proofs.Common.{ap, refl, sym, subst, ◌∙◌}
 use Rattle.yspec.specs.Results.{◌>>=◌}
-use Rattle.yspec.specs.document.Document.{Step}
 use Rattle.yspec.specs.edit.Edit.{edit_at, instance_index}
 use Rattle.yspec.specs.edit.Editing as spec
 use Rattle.ymodel.specs.View as schema_view
@@ -9,11 +8,10 @@ use Rattle.ypath.specs.Applying.{told_by}
 use Rattle.ystore.specs.Views.{store_of}
 use Rattle.yinst.proofs.LocatingLemmas.{number_is}
 use Rattle.yshape.proofs.PartLemmas.{reads_on}
-use Rattle.ychange.specs.Instances.{instance_view}
 use Rattle.ychange.specs.Locating.{target_at}
 use Rattle.ychange.specs.Places.{Amends, branch_of}
 use Rattle.ychange.proofs.AmendLemmas.{amends_fault, fails_on, fails_same, holds_at, part_at, replaced_is, shows_at}
-use Rattle.ychange.proofs.LocatingLemmas.{at_read, hangs_at}
+use Rattle.ychange.proofs.LocatingLemmas.{at_read}
 use Rattle.ychange.proofs.OrderLemmas.{value_in_order}
 use Rattle.ychange.proofs.PartLemmas.{wanting}
 use Rattle.ychange.proofs.amending.replace.Goals as goal
@@ -36,15 +34,15 @@ returns-in_ok-numbers-in-Ok-part-clause-amends c = λ tree above f at.
     let mid = store_of c.instance_meant.new.counted in
     let last = store_of c.numbers_of.new.counted in
     let t = target_at s above f c.args.place.last in
-    let here = hangs_at s old tree above row f at in
-    let step : Step = instance_view id.0 c.in-Ok.instance in
+    let meant = c.in-Ok.ensures.meets tree above f at in
+    let step = meant.0 in
     let at_mid = at_read s old mid tree above row f at c.in-Ok.ensures.kept in
-    let part = part_at s mid tree above row f step id c.in-Ok.instance.node _ at_mid (c.in-Ok.ensures.found f here) refl
+    let part = part_at s mid tree above row f step id c.in-Ok.node _ at_mid meant.3 meant.2
     (λ r n below same stands fits. c.deref.ensures.value ∙ c.in_ok-numbers-in-Ok-part.ensures.numbers r n below same stands fits) in
     let order = value_in_order s id.0 c.args.value.now (branch_of c.in-Ok-part.part) (numbered c.args.schema.now) c.in-Ok-part.ensures in
     let value = ap (λ k. spec.branch_of s k c.args.value.now) (number_is s id.0) ∙ c.in-Ok-part.ensures in
     subst (λ a. Amends s tree a (store_of c.put_part.new.counted) c.put_part.result)
-    (sym (replaced_is s tree c.args.value.now t step (branch_of c.in-Ok-part.part) (c.in-Ok.ensures.answer f here) value))
+    (sym (replaced_is s tree c.args.value.now t step (branch_of c.in-Ok-part.part) meant.1 value))
     (c.put_part.ensures.amends tree above f step id (at_read s mid last tree above row f at_mid c.numbers_of.ensures.kept) part order.0)
 
 pub returns-in-Err-part-clause-amends : goal.returns-in-Err-part-clause-amends
@@ -54,7 +52,8 @@ returns-in-Err-part-clause-amends c = λ tree above f at.
     let old = store_of c.args.counted.now in
     let mid = store_of c.instance_meant.new.counted in
     let t = target_at s above f c.args.place.last in
-    let step : Step = instance_view c.args.place.last.id.0 c.in-Ok.instance in
+    let meant = c.in-Ok.ensures.meets tree above f at in
+    let step = meant.0 in
     let at_mid = at_read s old mid tree above row f at c.in-Ok.ensures.kept in
     let told = told_by c.in-Err-part.fault in
     let value = spec.branch_of s t.last.schema_node.number c.args.value.now in
@@ -62,7 +61,7 @@ returns-in-Err-part-clause-amends c = λ tree above f at.
     (ap (λ k. spec.branch_of s k c.args.value.now) (number_is s c.args.place.last.id.0)) c.in-Err-part.ensures in
     amends_fault (Unit {0}) s mid tree (spec.replaced s tree c.args.value.now t) c.in-Err-part.fault
     (fails_same told (spec.replaced s tree c.args.value.now t) _
-    (ap (λ a. a >>= (λ st. value >>= (λ x. spec.within_limit (edit_at t.above (spec.with_instead st x) tree)))) (c.in-Ok.ensures.answer f (hangs_at s old tree above row f at)))
+    (ap (λ a. a >>= (λ st. value >>= (λ x. spec.within_limit (edit_at t.above (spec.with_instead st x) tree)))) meant.1)
     (fails_on told value (λ x. spec.within_limit (edit_at t.above (spec.with_instead step x) tree)) fails))
     (holds_at s mid tree above row f at_mid) (shows_at s mid tree above row f at_mid)
 
@@ -74,7 +73,7 @@ returns-in-Err-clause-amends c = λ tree above f at.
     let mid = store_of c.instance_meant.new.counted in
     let at_mid = at_read s old mid tree above row f at c.in-Err.ensures.kept in
     amends_fault (Unit {0}) s mid tree (spec.replaced s tree c.args.value.now (target_at s above f c.args.place.last)) c.in-Err.fault
-    (fails_on (told_by c.in-Err.fault) (spec.last_meant s (target_at s above f c.args.place.last)) _ (c.in-Err.ensures.answer f (hangs_at s old tree above row f at)))
+    (fails_on (told_by c.in-Err.fault) (spec.last_meant s (target_at s above f c.args.place.last)) _ (c.in-Err.ensures.meets tree above f at))
     (holds_at s mid tree above row f at_mid) (shows_at s mid tree above row f at_mid)
 
 pub put_part-requires-clause-at : goal.put_part-requires-clause-at
@@ -86,7 +85,8 @@ put_part-requires-clause-at c =
     let mid = store_of c.instance_meant.new.counted in
     let last = store_of c.numbers_of.new.counted in
     let r = c.requires.at in
-    let step : Step = instance_view id.0 c.in-Ok.instance in
+    let meant = c.in-Ok.ensures.meets r.tree r.steps r.f r.at in
+    let step = meant.0 in
     let at_mid = at_read s old mid r.tree r.steps row r.f r.at c.in-Ok.ensures.kept in
     let order = value_in_order s id.0 c.args.value.now (branch_of c.in-Ok-part.part) (numbered c.args.schema.now) c.in-Ok-part.ensures in (
       instance_index step,
@@ -97,7 +97,7 @@ put_part-requires-clause-at c =
         step = step;
         of = id;
         at = at_read s mid last r.tree r.steps row r.f at_mid c.numbers_of.ensures.kept;
-        part = part_at s mid r.tree r.steps row r.f step id c.in-Ok.instance.node _ at_mid (c.in-Ok.ensures.found r.f (hangs_at s old r.tree r.steps row r.f r.at)) refl
+        part = part_at s mid r.tree r.steps row r.f step id c.in-Ok.node _ at_mid meant.3 meant.2
             (λ above n below same stands fits. c.deref.ensures.value ∙ c.in_ok-numbers-in-Ok-part.ensures.numbers above n below same stands fits);
         is_number = sym order.0;
         is_index = refl;

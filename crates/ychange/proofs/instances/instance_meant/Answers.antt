@@ -1,40 +1,40 @@
-use Rattle.std.proofs.Common.{◌∙◌, sym, ap, subst, Some}
+use Rattle.std.proofs.Common.{◌∙◌, sym, ap, subst}
 use Rattle.ypath.specs.EditView.{predicate_view, keys_view}
-use Rattle.yspec.specs.Results.{Gives}
 use Rattle.yspec.specs.edit.Editing.{is_zero}
 use Rattle.ymodel.specs.View as schema_view
-use Rattle.yspec.specs.edit.EditText.{at_position, with_keys}
-use Rattle.ypath.specs.Applying.{edit_number, told_by}
+use Rattle.yspec.specs.edit.EditText.{with_keys}
+use Rattle.ypath.specs.Applying.{edit_number}
 use Rattle.ypath.specs.declared.edit.Predicate.TheVariants.{Unsaid, Position, Keys}
+use Rattle.ystore.specs.Views.{store_of}
 use Rattle.yshape.specs.Hanging.{tree_of}
-use Rattle.ypath.proofs.AnswerLemmas.{answers_same}
 use Rattle.yinst.specs.Locating.{meant_in}
-use Rattle.ychange.specs.Instances.{instance_view, instance_in}
+use Rattle.ychange.specs.Instances.{Meets}
 use Rattle.ychange.proofs.InstanceLemmas.{as_meant, position_is}
+use Rattle.ychange.proofs.LocatingLemmas.{hangs_at}
 use Rattle.ychange.proofs.instances.instance_meant.Goals as goal
 
-pub returns-in-Unsaid-clause-answer : goal.returns-in-Unsaid-clause-answer
-returns-in-Unsaid-clause-answer c f hangs =
-    as_meant (schema_view.view c.args.schema.now) (edit_number c.args.missing) (tree_of f) c.args.step.id.0 c.args.step.predicate.now Unsaid c.instance_at.result
-    c.in-Unsaid.is (c.instance_at.ensures.answer f hangs)
+pub returns-in-Unsaid-clause-meets : goal.returns-in-Unsaid-clause-meets
+returns-in-Unsaid-clause-meets c tree steps f at =
+    let s = schema_view.view c.args.schema.now in
+    as_meant s (edit_number c.args.missing) f c.args.step.id c.args.step.predicate.now Unsaid c.instance_at.result
+    c.in-Unsaid.is (c.instance_at.ensures.meets f (hangs_at s (store_of c.args.counted.now) tree steps c.args.above f at))
 
-pub returns-in-Position-clause-answer : goal.returns-in-Position-clause-answer
-returns-in-Position-clause-answer c f hangs =
+pub returns-in-Position-clause-meets : goal.returns-in-Position-clause-meets
+returns-in-Position-clause-meets c tree steps f at =
     let s = schema_view.view c.args.schema.now in
     let missing = edit_number c.args.missing in
-    let row = tree_of f in
-    let i = c.args.step.id.0 in
+    let id = c.args.step.id in
     let p = c.in-Position.position in
-    as_meant s missing row i c.args.step.predicate.now (Position p) c.instance_at-in-Position.result c.in-Position.is
-    (answers_same (instance_view i) c.instance_at-in-Position.result (meant_in s missing row i (at_position p)) (instance_in 5 row i (Some p))
-    (position_is s missing row i p (sym (ap (λ x. is_zero (predicate_view x)) c.in-Position.is) ∙ c.requires)) (c.instance_at-in-Position.ensures.answer f hangs))
+    as_meant s missing f id c.args.step.predicate.now (Position p) c.instance_at-in-Position.result c.in-Position.is
+    (subst (λ a. Meets id f a c.instance_at-in-Position.result)
+    (sym (position_is s missing (tree_of f) id.0 p (sym (ap (λ x. is_zero (predicate_view x)) c.in-Position.is) ∙ c.requires)))
+    (c.instance_at-in-Position.ensures.meets f (hangs_at s (store_of c.args.counted.now) tree steps c.args.above f at)))
 
-pub returns-in-Keys-clause-answer : goal.returns-in-Keys-clause-answer
-returns-in-Keys-clause-answer c f hangs =
+pub returns-in-Keys-clause-meets : goal.returns-in-Keys-clause-meets
+returns-in-Keys-clause-meets c tree steps f at =
     let s = schema_view.view c.args.schema.now in
     let missing = edit_number c.args.missing in
-    let row = tree_of f in
-    let i = c.args.step.id.0 in
-    as_meant s missing row i c.args.step.predicate.now (Keys c.in-Keys.keys) c.entry_meant.result c.in-Keys.is
-    (subst (λ keys. Gives (instance_view i) told_by c.entry_meant.result (meant_in s missing row i (with_keys (keys_view keys)))) c.as_slice.ensures.value
-    (c.entry_meant.ensures.answer f hangs))
+    let id = c.args.step.id in
+    as_meant s missing f id c.args.step.predicate.now (Keys c.in-Keys.keys) c.entry_meant.result c.in-Keys.is
+    (subst (λ keys. Meets id f (meant_in s missing (tree_of f) id.0 (with_keys (keys_view keys))) c.entry_meant.result) c.as_slice.ensures.value
+    (c.entry_meant.ensures.meets tree steps f at))

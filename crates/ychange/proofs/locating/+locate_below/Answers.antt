@@ -1,11 +1,9 @@
-use Rattle.std.proofs.Common.{rules, ◌≡◌, ◌≤◌, [], ◌∷◌, ◌++◌, length, ap, arith, refl, ◌∙◌}
+use Rattle.std.proofs.Common.{rules, ◌≡◌, ◌≤◌, [], ◌∷◌, ◌++◌, length, ap, arith, ◌∙◌}
 use Rattle.std.proofs.lemmas.List.{length-map}
-use Rattle.yspec.specs.document.Document.{Step}
 use Rattle.ymodel.specs.View as schema_view
 use Rattle.ypath.specs.Binding.{step_view, steps_view}
 use Rattle.ystore.specs.Views.{store_of}
-use Rattle.ychange.specs.Instances.{instance_view}
-use Rattle.ychange.proofs.LocatingLemmas.{none_left, at_read, at_further, hangs_at, last_located, further_located, refused_located}
+use Rattle.ychange.proofs.LocatingLemmas.{none_left, at_read, at_further, last_located, further_located, refused_located}
 use Rattle.ychange.proofs.locating.+locate_below.Goals as goal
 
 pub returns-in-Some-default-empty-clause-place : goal.returns-in-Some-default-empty-clause-place
@@ -20,25 +18,25 @@ pub returns-in-Ok-clause-place : goal.returns-in-Ok-clause-place
 returns-in-Ok-clause-place t c = λ tree so_far f at.
     let s = schema_view.view c.args.schema.now in
     let b = c.in-Some.step.now in
-    let here = hangs_at s (store_of c.args.counted.now) tree so_far c.args.above f at in
-    let step : Step = instance_view b.id.0 c.in-Ok.instance in
-    let found = c.in-Ok.ensures.found f here in
+    let meant = c.in-Ok.ensures.meets tree so_far f at in
+    let step = meant.0 in
+    let same = meant.2 in
+    let found = meant.3 in
     let mid = store_of c.instance_meant.new.counted in
-    let on = at_further s mid tree so_far c.args.above f step b.id c.in-Ok.instance.node (at_read s (store_of c.args.counted.now) mid tree so_far c.args.above f at c.in-Ok.ensures.kept) found refl in
+    let on = at_further s mid tree so_far c.args.above f step b.id c.in-Ok.node (at_read s (store_of c.args.counted.now) mid tree so_far c.args.above f at c.in-Ok.ensures.kept) found same in
     let e : c.args.steps.now ≡ c.in-Some.step.now ∷ c.in-Some.more.now = search rules in
     let long = length-map c.in-Some.more.now (step_view s) in
     let least = c.in-Some.len_at_least in
     let some : 1 ≤ length (steps_view s c.in-Some.more.now) = omega (arith, long, least) in
-    further_located s (store_of c.locate_below.new.counted) tree so_far f (step_view s b) (steps_view s c.args.steps.now) (steps_view s c.in-Some.more.now) step b.id c.in-Ok.instance.node
-    c.locate_below.result (ap (steps_view s) e) some (c.in-Ok.ensures.answer f here) found refl (c.locate_below.ensures.place tree (so_far ++ step ∷ []) found.below on)
+    further_located s (store_of c.locate_below.new.counted) tree so_far f (step_view s b) (steps_view s c.args.steps.now) (steps_view s c.in-Some.more.now) step b.id c.in-Ok.node
+    c.locate_below.result (ap (steps_view s) e) some meant.1 found same (c.locate_below.ensures.place tree (so_far ++ step ∷ []) found.below on)
 
 pub returns-in-Err-clause-place : goal.returns-in-Err-clause-place
 returns-in-Err-clause-place t c = λ tree so_far f at.
     let s = schema_view.view c.args.schema.now in
-    let here = hangs_at s (store_of c.args.counted.now) tree so_far c.args.above f at in
     let e : c.args.steps.now ≡ c.in-Some.step.now ∷ c.in-Some.more.now = search rules in
     let long = length-map c.in-Some.more.now (step_view s) in
     let least = c.in-Some.len_at_least in
     let some : 1 ≤ length (steps_view s c.in-Some.more.now) = omega (arith, long, least) in
     refused_located s (store_of c.instance_meant.new.counted) tree so_far f (step_view s c.in-Some.step.now) (steps_view s c.args.steps.now) (steps_view s c.in-Some.more.now) c.in-Err.fault
-    (ap (steps_view s) e) some (c.in-Err.ensures.answer f here)
+    (ap (steps_view s) e) some (c.in-Err.ensures.meets tree so_far f at)
