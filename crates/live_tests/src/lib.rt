@@ -10,6 +10,8 @@ mod lists;
 #[cfg(test)]
 mod lives;
 #[cfg(test)]
+mod many;
+#[cfg(test)]
 mod memory;
 #[cfg(test)]
 mod telling;
