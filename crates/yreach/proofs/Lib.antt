@@ -1,0 +1,2 @@
+pub mod ReachLiterals
+pub mod PartLemmas

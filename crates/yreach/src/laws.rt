@@ -1,0 +1,28 @@
+//! Laws of the parts of edits.
+
+ghost use Rattle.std.specs.Prelude.{◌≡◌, ◌==◌, Err, false};
+ghost use Rattle.yspec.specs.text.Text.{Text};
+ghost use Rattle.yspec.specs.schema.Schema.{Schema};
+ghost use Rattle.yspec.specs.document.Document.{Tree};
+ghost use Rattle.yspec.specs.edit.EditText.{Edit, Path, create, replace, remove};
+ghost use Rattle.yspec.specs.edit.Editing.{EditRefusal, applied};
+ghost use Rattle.yreach.specs.Parts.{exchange_of, tree_with, tree_within};
+
+/// An edit exchanges its parts, and is refused where it has none; else for the number of nodes alone.
+pub fn edits_by_parts()
+    ensures created { (schema : Schema) (tree : Tree) (path : Path) (text : Text)
+        → applied schema tree (create path text)
+        ≡ tree_within tree (exchange_of schema tree (create path text)) }
+    ensures replaced { (schema : Schema) (tree : Tree) (path : Path) (text : Text)
+        → applied schema tree (replace path text)
+        ≡ tree_within tree (exchange_of schema tree (replace path text)) }
+    ensures removed { (schema : Schema) (tree : Tree) (path : Path)
+        → applied schema tree (remove path)
+        ≡ tree_with tree (exchange_of schema tree (remove path)) }
+{}
+
+/// Where an edit has no parts, that isn't for the number of nodes.
+pub fn parts_beyond_the_limit()
+    ensures { (schema : Schema) (tree : Tree) (edit : Edit) (refusal : EditRefusal)
+        → exchange_of schema tree edit ≡ Err refusal → (refusal.code == 11) ≡ false }
+{}
