@@ -1,2 +1,3 @@
 pub mod ReachLiterals
 pub mod PartLemmas
+pub mod SumLemmas

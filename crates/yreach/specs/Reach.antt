@@ -7,7 +7,7 @@ use Rattle.yspec.specs.schema.Schema.{Schema}
 use Rattle.yspec.specs.document.Document.{Tree}
 use Rattle.yspec.specs.edit.EditText.{Edit}
 use Rattle.yreach.specs.Parts.{Exchange, exchange_of}
-use Rattle.yreach.specs.Sizes.{breadth, depth, part_size}
+use Rattle.yreach.specs.Sizes.{breadth, levels, part_size}
 use Rattle.yreach.specs.Shared.{shared}
 
 -- how much an edit changes
@@ -16,5 +16,5 @@ change_size schema tree x = part_size schema x.old + (part_size schema x.new + s
 
 -- a refused edit has no parts, and shares nothing
 unfoldable pub reach : Schema → Tree → Edit → ℕ
-reach schema tree edit = 16 * (depth schema + 2)
+reach schema tree edit = 16 * (levels schema + 2)
     * (option_map_or (change_size schema tree) (result_ok (exchange_of schema tree edit)) 0 + breadth schema + 1)

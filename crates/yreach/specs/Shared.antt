@@ -70,9 +70,9 @@ part_value schema (node s below after) = value_of schema s
 -- the entries and items beside it that have one of these; what stands deeper in a part has no fellows outside it
 abbrev pub beside_pairs : Schema → Exchange → ℕ
 beside_pairs schema x = let n = x.target.last.schema_node in let row = x.without_old x.target.row in
+    let times = items_in schema row n.number in
     tuple_pairs schema n row row (part_tuple schema x.old) (part_tuple schema x.new)
-    + have_either is_value (items_in schema row n.number) (items_in schema row n.number)
-    (part_value schema x.old) (part_value schema x.new)
+    + have_either is_value times times (part_value schema x.old) (part_value schema x.new)
 
 -- ---- the entry nearest above it
 
@@ -90,6 +90,7 @@ entry_of _ e = None
 abbrev pub row_below : Step → Tree → Tree
 row_below step row = editing.row_at step.schema_number (instance_index step) row
 
+-- that which is nearest above the row to which steps lead
 abbrev pub nearest_entry : Schema → List Step → Tree → Tree → Option Entry
 nearest_entry schema [] before after = None
 nearest_entry schema (step ∷ steps) before after =

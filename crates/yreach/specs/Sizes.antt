@@ -1,7 +1,8 @@
 -- The measures of a schema and of a part of a document, by which it is bounded what an edit may read.
 use Rattle.std.specs.Prelude.{ℕ, ◌+◌, Bool, true, false, length, max, sum_by, if◌then◌else◌}
 use Rattle.std.specs.Option.{option_map_or}
-use Rattle.yspec.specs.Forest.{Forest, end, node, levels, weigh}
+use Rattle.yspec.specs.Forest as forest
+use Rattle.yspec.specs.Forest.{Forest, end, node, weigh}
 use Rattle.yspec.specs.schema.Schema.{Schema, SchemaNode, Kind, container, leaf, leaf_list, list, Absence, default_used, node_at, children_of}
 use Rattle.yspec.specs.document.Document.{Stored, Tree}
 
@@ -30,22 +31,22 @@ abbrev pub most_defaults : Forest SchemaNode → ℕ
 most_defaults end = 0
 most_defaults (node n below after) = max (default_count n.kind) (max (most_defaults below) (most_defaults after))
 
--- how deep it is, and how many defaults one node may bring into use
-abbrev pub depth : Schema → ℕ
-depth schema = levels schema.nodes + most_defaults schema.nodes
+-- how deep it is, and how many defaults one node has at most
+abbrev pub levels : Schema → ℕ
+levels schema = forest.levels schema.nodes + most_defaults schema.nodes
 
 -- ---- of a part
 
--- what stands below such a node is never implied: it is there where the node itself is stored
-abbrev pub is_stored_alone : Kind → Bool
-is_stored_alone (list tuples amount) = true
-is_stored_alone (container true) = true
-is_stored_alone _ = false
+-- what stands below it is in play only where it is stored itself
+abbrev pub starts_anew : Kind → Bool
+starts_anew (list tuples amount) = true
+starts_anew (container true) = true
+starts_anew _ = false
 
 -- how many schema nodes stand in a row and below it, down to and including the next lists and containers with presence
 abbrev pub near_count : Forest SchemaNode → ℕ
 near_count end = 0
-near_count (node n below after) = 1 + ((if is_stored_alone n.kind then 0 else near_count below) + near_count after)
+near_count (node n below after) = 1 + ((if starts_anew n.kind then 0 else near_count below) + near_count after)
 
 -- A stored node counts as one, with the schema nodes below its own as far as these, and an entry with the names in its
 -- list's key and uniques; so a leaf or an item, below which nothing stands, counts as one alone.

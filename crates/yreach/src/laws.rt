@@ -1,12 +1,13 @@
 //! Laws of the parts of edits.
 
-ghost use Rattle.std.specs.Prelude.{◌≡◌, ◌==◌, Err, false};
+ghost use Rattle.std.specs.Prelude.{◌≡◌, ◌==◌, ◌+◌, ℕ, Ok, Err, false};
+ghost use Rattle.yspec.specs.Forest.{weigh};
 ghost use Rattle.yspec.specs.text.Text.{Text};
 ghost use Rattle.yspec.specs.schema.Schema.{Schema};
-ghost use Rattle.yspec.specs.document.Document.{Tree};
+ghost use Rattle.yspec.specs.document.Document.{Stored, Tree};
 ghost use Rattle.yspec.specs.edit.EditText.{Edit, Path, create, replace, remove};
 ghost use Rattle.yspec.specs.edit.Editing.{EditRefusal, applied};
-ghost use Rattle.yreach.specs.Parts.{exchange_of, tree_with, tree_within};
+ghost use Rattle.yreach.specs.Parts.{Exchange, exchange_of, outside, tree_with, tree_within};
 
 /// An edit exchanges its parts, and is refused where it has none; else for the number of nodes alone.
 pub fn edits_by_parts()
@@ -25,4 +26,11 @@ pub fn edits_by_parts()
 pub fn parts_beyond_the_limit()
     ensures { (schema : Schema) (tree : Tree) (edit : Edit) (refusal : EditRefusal)
         → exchange_of schema tree edit ≡ Err refusal → (refusal.code == 11) ≡ false }
+{}
+
+/// What stands outside the parts of an edit, with what it takes away, is what was there: so is any sum over labels.
+pub fn parts_of_documents()
+    ensures { (weight : Stored → ℕ) (schema : Schema) (tree : Tree) (edit : Edit) (x : Exchange)
+        → exchange_of schema tree edit ≡ Ok x
+        → weigh weight tree ≡ weigh weight (outside x tree) + weigh weight x.old }
 {}

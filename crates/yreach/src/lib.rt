@@ -2,5 +2,5 @@
 //! functions here have no code, and their contracts are laws, and worked examples, which compute both sides.
 #![tactic(auto)]
 
-pub mod examples;
 pub mod laws;
+pub mod reaching;

@@ -1,6 +1,6 @@
 use Rattle.std.proofs.Common.{refl}
 use Rattle.yreach.proofs.ReachLiterals.{yreach_on_literals}
-use Rattle.yreach.proofs.examples.values.Goals as goal
+use Rattle.yreach.proofs.reaching.values.Goals as goal
 
 pub returns : goal.returns
 unfolding yreach_on_literals

@@ -1,7 +1,7 @@
 use Rattle.std.proofs.Common.{refl}
 use Rattle.yreach.proofs.ReachLiterals.{yreach_on_literals}
-use Rattle.yreach.proofs.examples.items.Goals as goal
+use Rattle.yreach.proofs.reaching.refused.Goals as goal
 
 pub returns : goal.returns
 unfolding yreach_on_literals
-returns c = record { beside = refl }
+returns c = record { all = refl; above = refl }

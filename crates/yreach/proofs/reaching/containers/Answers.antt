@@ -1,7 +1,7 @@
 use Rattle.std.proofs.Common.{refl}
 use Rattle.yreach.proofs.ReachLiterals.{yreach_on_literals}
-use Rattle.yreach.proofs.examples.other_defaults.Goals as goal
+use Rattle.yreach.proofs.reaching.containers.Goals as goal
 
 pub returns : goal.returns
 unfolding yreach_on_literals
-returns c = record { go = refl; come = refl }
+returns c = record { sizes = refl; defaults_inside = refl; defaults_outside = refl }
