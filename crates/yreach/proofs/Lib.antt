@@ -1,3 +1,4 @@
 pub mod ReachLiterals
 pub mod PartLemmas
 pub mod SumLemmas
+pub mod PairLemmas

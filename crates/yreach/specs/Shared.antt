@@ -6,12 +6,12 @@ use Rattle.std.specs.List.{last_or, range_with_len}
 use Rattle.yspec.specs.Forest.{end, node, weigh, weigh_nodes, first_of}
 use Rattle.yspec.specs.types.Types.{Val}
 use Rattle.yspec.specs.schema.Schema.{Schema, SchemaNode, Kind, list, node_at, row_at}
-use Rattle.yspec.specs.schema.References.{target_in}
 use Rattle.yspec.specs.document.Document.{Stored, Tree, Step}
 use Rattle.yspec.specs.document.Instances.{value_of, is_value, items_in, times_at, times_below, Tuple, tuple, kind_tuple, is_tuple, tuples_in}
 use Rattle.yspec.specs.edit.Edit.{instance_index}
 use Rattle.yspec.specs.edit.Editing as editing
 use Rattle.yreach.specs.Parts.{Exchange, outside, exchanged, row_after}
+use Rattle.yreach.specs.Referring.{reference_of}
 
 -- ---- values
 
@@ -33,8 +33,7 @@ is_shared_value schema x number v = nat_lt 0 (times_inside schema number v x.old
 
 -- whether a leaf or item refers to such a value
 abbrev pub shares_value : Schema → Exchange → Stored → Bool
-shares_value schema x s = option_map_or (λ target. option_map_or (is_shared_value schema x target) (value_of schema s) false)
-    (option_and_then (λ n. target_in n.kind) (node_at schema s.schema_number)) false
+shares_value schema x s = option_map_or (λ r. is_shared_value schema x r.0 r.1) (reference_of schema s) false
 
 abbrev pub value_pairs : Schema → Exchange → Tree → ℕ
 value_pairs schema x tree = weigh (λ s. if shares_value schema x s then 1 else 0) (outside x tree)
