@@ -116,7 +116,7 @@ module _ (schema : Schema) (nodes : Nodes) (times : Times) where
       ∙ nothing_told (fs ++ rest) (total_at nodes (Below n.id)) (eqb (total_at nodes (Below n.id)) 0) refl counted)
       later
 
-  told_is : (k : ℕ) (above : Row) (row : RowTimes) (f : Branches) → Hangs nodes above f → levels f ≤ k → TellsBelow times row schema nodes f → AreTotals nodes f
+  pub told_is : (k : ℕ) (above : Row) (row : RowTimes) (f : Branches) → Hangs nodes above f → levels f ≤ k → TellsBelow times row schema nodes f → AreTotals nodes f
       → told_below k schema nodes above ≡ listed_in times row schema (tree_of f)
   unfolding listed_in
   told_is zero above row end hangs within tells totals = refl

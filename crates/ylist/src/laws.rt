@@ -1,6 +1,7 @@
 //! Laws of stores that tell of a document.
 
-ghost use Rattle.std.specs.Prelude.{◌≡◌, ◌≤◌, ◌++◌, ◌+◌, [], ℕ, false, Option, Some, length, get_or};
+ghost use Rattle.std.specs.Prelude.{◌≡◌, ◌≤◌, ◌++◌, ◌+◌, [], ℕ, false, Option, Some, length, get_or, map, List};
+ghost use Rattle.std.specs.Iterator.{Drains, Yields, YieldsFirstBy};
 ghost use Rattle.std.specs.Option.{option_map_or};
 ghost use Rattle.yspec.specs.Forest.{size};
 ghost use Rattle.yspec.specs.types.Types.{Raw};
@@ -15,7 +16,11 @@ ghost use Rattle.ystore.specs.declared.nodes.Nodes.{Nodes};
 ghost use Rattle.ystore.specs.declared.row.Row.TheVariants.{Top};
 ghost use Rattle.yshape.specs.Hanging.{Branches, Hangs, Numbered, child_of, stored_of, tree_of};
 ghost use Rattle.ylist.specs.Listed.{judged_at, judged_told, list_told, own_told};
+ghost use Rattle.ylist.specs.Seen.{seen_view};
 ghost use Rattle.ylist.specs.Telling.{Tells, all_told, is_same, same_of};
+ghost use Rattle.ylist.specs.Walked.{left};
+ghost use Rattle.ylist.specs.declared.seen.Seen.{Seen};
+ghost use Rattle.ylist.specs.declared.walk.Walk.{Walk};
 
 /// What a store lists, where it holds of each node what is told there, is the list of its document's faults, and where the
 /// document fits, these are all; then the total of the top is how many they are.
@@ -50,4 +55,12 @@ pub fn told_nodes()
         → ((u : ℕ) → get_or (same_at nodes n.id) u false
         ≡ is_same row m m.kind n.value (tuple schema (stored_of n) (tree_of below)) u)
         → own_told schema nodes (child_of n) ≡ faults_at times row schema (stored_of n) (tree_of below) }
+{}
+
+/// What calls of a walk have given are the first of the faults that were left, and those of which it gave nothing more are all.
+pub fn walked_faults()
+    ensures first { (before after : Walk) (seen : List Seen) → Yields (YieldsFirstBy seen_view left) before seen after
+        → left before ≡ map seen_view seen ++ left after }
+    ensures all { (before : Walk) (seen : List Seen) → Drains (YieldsFirstBy seen_view left) before seen
+        → left before ≡ map seen_view seen }
 {}

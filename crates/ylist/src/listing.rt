@@ -114,7 +114,7 @@ fn list_children(
 }
 
 /// The position of a child among those of its schema node, behind one of a schema node and a position.
-fn position_behind(last: SchemaId, position: usize, id: SchemaId) -> usize
+pub(crate) fn position_behind(last: SchemaId, position: usize, id: SchemaId) -> usize
     requires { position < 2 ^ 63 }
     ensures { result ≡ position_behind last.0 position id.0 }
 {
@@ -171,7 +171,7 @@ fn list_branch(
 }
 
 /// The step to a child, with its position where there may be more than one.
-fn step_of(schema: &Schema, id: SchemaId, position: usize) -> Step
+pub(crate) fn step_of(schema: &Schema, id: SchemaId, position: usize) -> Step
     ensures { step_view result ≡ step_of (schema_view.view schema.now) id.0 position }
 {
     let many = match schema.kind(id) {
@@ -219,7 +219,7 @@ fn copy_of_tag(app_tag: &Option<String>) -> Result<Option<String>, AllocError>
     }
 }
 
-fn is_item(schema: &Schema, id: SchemaId) -> bool
+pub(crate) fn is_item(schema: &Schema, id: SchemaId) -> bool
     ensures { result ≡ spec.is_item (schema_view.view schema.now) id.0 }
 {
     match schema.kind(id) {

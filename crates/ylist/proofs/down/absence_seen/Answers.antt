@@ -1,0 +1,25 @@
+use Rattle.std.proofs.Common.{◌++◌, ◌∙◌, Some, ap, arith, drop, map, option_map}
+use Rattle.ymodel.specs.Layout.{number_of}
+use Rattle.ymodel.specs.View as schema_view
+use Rattle.ytree.specs.View.{place_view}
+use Rattle.ycheck.specs.View.{code_view, tag_name}
+use Rattle.yplay.specs.Merging.{info_at, steps_down, to_node}
+use Rattle.ylist.specs.Listed.{data_way}
+use Rattle.ylist.specs.Seen.{info_seen, steps_in}
+use Rattle.ylist.proofs.DownLemmas.{down_is, few_above, told_down}
+use Rattle.ylist.proofs.down.absence_seen.Goals as goal
+
+pub enter_way-requires : goal.enter_way-requires
+enter_way-requires c = omega (arith, few_above c.args.schema.now (Some c.args.absence.1.0), c.requires)
+
+pub returns : goal.returns
+returns c =
+    let schema = schema_view.view c.args.schema.now in
+    let above = number_of c.args.above in
+    let number = c.args.absence.1.0 in
+    let place = place_view (steps_in c.args.place) in
+    told_down (code_view c.args.absence.0) (tag_name c.tag.result) (option_map (λ t. t.now) c.app_tag.result) place (place_view (steps_in c.enter_way.new.place))
+    (steps_down schema above number) (info_seen c.info_of.result) (info_at schema number) c.tag.ensures c.app_tag.ensures
+    (c.enter_way.ensures.steps ∙ ap (λ xs. place ++ xs)
+    (ap (λ k. drop k (map to_node (data_way schema (Some number)))) c.data_depth.ensures ∙ down_is schema above number))
+    c.info_of.ensures
