@@ -1,0 +1,5 @@
+//! Tests of the walk over the faults of a document.
+#![tactic(auto)]
+
+#[cfg(test)]
+mod walks;
