@@ -30,9 +30,27 @@ pub(crate) fn is_stored(alloc: Global, live: &Live, text: &str) -> Option<bool> 
     }
 }
 
+// Whether a walk gives these faults, one by one, and then ends; another one is left after its first.
+fn is_walked(live: &Live, faults: &[Fault]) -> bool {
+    let (Some(mut begun), Some(mut walk)) = (live.walk(), live.walk()) else {
+        return false;
+    };
+    for fault in faults {
+        match walk.next() {
+            Some(seen) => {
+                if seen.code != fault.code || seen.place.steps().len() != fault.steps.len() {
+                    return false;
+                }
+            }
+            None => return false,
+        }
+    }
+    walk.next().is_none() && begun.next().is_none() == faults.is_empty()
+}
+
 fn are_told(alloc: Global, live: &Live, faults: &[Fault], lines: &str) -> Option<bool> {
     let is_counted = live.fault_count() == Some(faults.len());
-    Some(is_counted && have_lines(alloc, live.schema(), faults, lines)?)
+    Some(is_counted && is_walked(live, faults) && have_lines(alloc, live.schema(), faults, lines)?)
 }
 
 fn is_listed(alloc: Global, live: &Live, lines: &str) -> Option<bool> {

@@ -42,7 +42,11 @@ fn is_stopped(live: &mut Live, edits: &[Edit]) -> bool {
 // Whether a document is stale, and neither faults of it are told nor edits are done.
 fn is_shut(live: &mut Live, edits: &[Edit]) -> bool {
     let is_unlisted = live.fault_count().is_none() && matches!(live.list(), Err(ListFault::Stale));
-    live.is_stale() && is_unlisted && is_barred(live, edits) && is_stopped(live, edits)
+    live.is_stale()
+        && is_unlisted
+        && live.walk().is_none()
+        && is_barred(live, edits)
+        && is_stopped(live, edits)
 }
 
 // Whether a stale document is rebuilt to this state.

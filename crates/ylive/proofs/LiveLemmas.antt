@@ -35,7 +35,8 @@ use Rattle.ytell.specs.Totals.{IsTree}
 use Rattle.ytell.proofs.AgreeLemmas.{entries_keys}
 use Rattle.ytold.proofs.PlanLemmas.{keeps_read}
 use Rattle.ytold.proofs.StillLemmas.{told_still}
-use Rattle.yjoin.proofs.JoinedLemmas.{count_is, faults_is}
+use Rattle.ylist.specs.Telling.{Tells}
+use Rattle.yjoin.proofs.JoinedLemmas.{count_is, faults_is, tells_is}
 use Rattle.ychange.specs.Places.{Amends, HoldsSorted, HoldsTold, Shows}
 use Rattle.ylive.specs.Kept.{AppliesIn, IsLive, Parts}
 use Rattle.ylive.specs.View.{view}
@@ -174,6 +175,20 @@ lists_all schema nodes shown is_stale old fs is same live fresh told =
     let s = schema_view.view schema in
     let all : fs ≡ faults_of s (document nodes) = told
     ∙ (ap (list_told s) same ∙ all_are schema nodes (document nodes) (told_kept s nodes is_stale live fresh) (fits_kept s nodes is_stale live)) in
+    subst (λ (p : Parts). ((view p).is_stale ≡ false) × (fs ≡ faults_in (view p))) is (fresh, all)
+
+-- a walk over them
+pub walks_all : (schema : rust.Schema) (nodes shown : Nodes) (is_stale : Bool) (old : Parts) (fs : List Fault)
+    → record { schema = schema; nodes = nodes; is_stale = is_stale } ≡ old → shown ≡ nodes → IsLive (schema_view.view schema) nodes is_stale → is_stale ≡ false
+    → ((f : Branches) → Hangs shown Top f → Tells (schema_view.view schema) shown f → Fits (schema_view.view schema) (tree_of f)
+    → fs ≡ faults_of (schema_view.view schema) (tree_of f)) → ((view old).is_stale ≡ false) × (fs ≡ faults_in (view old))
+walks_all schema nodes shown is_stale old fs is same live fresh walked =
+    let s = schema_view.view schema in
+    let f = live.branches in
+    let kept = live.told fresh in
+    let tells = tells_is s nodes f (tree_kept nodes f kept.0) kept.1 in
+    let all : fs ≡ faults_of s (document nodes) = walked f (subst (λ (n : Nodes). Hangs n Top f) (sym same) kept.0.hangs) (subst (λ (n : Nodes). Tells s n f) (sym same) tells) live.fits
+    ∙ ap (faults_of s) (sym (document_kept s nodes is_stale live)) in
     subst (λ (p : Parts). ((view p).is_stale ≡ false) × (fs ≡ faults_in (view p))) is (fresh, all)
 
 -- and their number

@@ -11,6 +11,8 @@ use Rattle.ypath.specs.declared.edit.EditFault.{EditFault}
 use Rattle.ypath.specs.declared.edit.EditFault.TheVariants as faults
 use Rattle.ycheck.specs.View.{views}
 use Rattle.ycheck.specs.declared.fault.Fault.{Fault}
+use Rattle.ylist.specs.Walked.{left}
+use Rattle.ylist.specs.declared.walk.Walk.{Walk}
 use Rattle.ylive.specs.View.{outcome_view, outcomes_view}
 use Rattle.ylive.specs.declared.outcome.Applied.{Applied}
 use Rattle.ylive.specs.declared.outcome.Refused.{Refused}
@@ -92,3 +94,8 @@ ListsNot live lists.Memory = live.is_stale ≡ false
 abbrev pub Lists : {A : Type 0} → spec.Live → Result (Vec Fault A) ListFault → Type 0
 Lists live (Ok faults) = (live.is_stale ≡ false) × (views faults.items ≡ faults_in live)
 Lists live (Err fault) = ListsNot live fault
+
+-- a walk that gives the list of the definition, of a document that isn't stale
+abbrev pub Walks : spec.Live → Option Walk → Type 0
+Walks live (Some walk) = (live.is_stale ≡ false) × (left walk ≡ faults_in live)
+Walks live None = live.is_stale ≡ true

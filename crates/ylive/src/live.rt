@@ -15,7 +15,7 @@ use std::marker::Model;
 use ychange::{amend, told_store};
 use ycheck::Fault;
 use yinst::{Edit, EditFault, Tree};
-use ylist::list;
+use ylist::{Walk, list};
 use ymodel::Schema;
 use yshape::copy_tree;
 use ystore::{Counted, Nodes, Row};
@@ -53,7 +53,7 @@ impl Live {
     ghost use Rattle.ypath.specs.EditView.{edit_view};
     ghost use Rattle.ytree.specs.View.{tree_view};
     ghost use Rattle.ylive.specs.View.{view};
-    ghost use Rattle.ylive.specs.Answers.{Edits, Lists, known_count};
+    ghost use Rattle.ylive.specs.Answers.{Edits, Lists, Walks, known_count};
 
     /// A document with its schema, under which it was read or made. Where memory runs out both are given back.
     pub fn open(alloc: Global, schema: Schema, tree: Tree) -> Result<Live, (Schema, Tree)>
@@ -105,6 +105,16 @@ impl Live {
             Ok(found) => Ok(found),
             Err(_) => Err(ListFault::Memory),
         }
+    }
+
+    /// A walk over the faults of the document, one by one and in order, which takes no memory; nothing of a stale one.
+    pub fn walk(&self) -> Option<Walk<'_>>
+        ensures { Walks (view self.now) result }
+    {
+        if self.is_stale {
+            return None;
+        }
+        Some(Walk::of(&self.schema, self.nodes.view()))
     }
 
     /// A copy of what the document stores, also of a stale one.
