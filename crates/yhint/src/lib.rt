@@ -11,7 +11,7 @@ mod word;
 
 pub use examples::{edits, lines, names, statements, words};
 pub use laws::nearness;
-pub use line::shown_line;
+pub use line::{shown, shown_line};
 pub use near::{is_near, nearest};
 pub use sentence::line_sentence;
 pub use word::{is_unread, nearest_word};

@@ -159,8 +159,8 @@ fn first_bytes(bytes: &[u8]) -> &[u8]
     }
 }
 
-/// A line as it is shown.
-fn shown(alloc: Global, line: &[u8]) -> Result<String, AllocError>
+/// A line, or another text, as it is shown.
+pub fn shown(alloc: Global, line: &[u8]) -> Result<String, AllocError>
     ensures { IfOk result (λ text. string_bytes text ≡ spec.shown line.now) }
 {
     match str::from_utf8(line) {

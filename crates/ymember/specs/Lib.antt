@@ -1,2 +1,4 @@
+pub mod Place
 pub mod Member
+pub mod Sentence
 pub mod Samples

@@ -9,7 +9,7 @@ use Rattle.yspec.specs.linking.Compiling.{schema_of}
 use Rattle.yspec.specs.document.Document.{Tree}
 use Rattle.yspec.specs.document.Reading.{Refusal, document_of}
 use Rattle.yspec.specs.edit.Examples.{module_text}
-use Rattle.ymember.specs.Member.{said_of_refusal}
+use Rattle.ymember.specs.Sentence.{said_of_refusal}
 
 abbrev pub said_of : Schema → List ℕ → Result Tree Refusal → Text
 said_of schema bytes (Ok tree) = codes "read"

@@ -6,19 +6,25 @@ ghost use Rattle.ymember.specs.Samples.{said_under};
 /// Members that aren't known, or not in that form (J3, J4).
 pub fn members()
     ensures near { said_under (codes "{\"p:hots\":{}}")
-        ≡ codes "nothing called p:hots may stand here; near it: p:host." }
+        ≡ codes "nothing called \"p:hots\" may stand here; near it: p:host." }
     ensures far { said_under (codes "{\"p:host\":{\"name\":\"a\",\"uplink\":1}}")
-        ≡ codes "nothing called uplink may stand here." }
+        ≡ codes "nothing called \"uplink\" may stand here." }
+    ensures without_module_near { said_under (codes "{\"hots\":{}}")
+        ≡ codes "nothing called \"hots\" may stand here; near it: p:host." }
+    ensures of_another_module { said_under (codes "{\"net:host\":{}}")
+        ≡ codes "nothing called \"net:host\" may stand here; near it: p:host." }
+    ensures with_module_near { said_under (codes "{\"p:host\":{\"p:nmae\":\"a\"}}")
+        ≡ codes "nothing called \"p:nmae\" may stand here; near it: name." }
     ensures in_an_entry { said_under (codes "{\"p:host\":{\"port\":[{\"id\":1},{\"id\":2,\"sped\":1}]}}")
-        ≡ codes "nothing called sped may stand here; near it: speed." }
+        ≡ codes "nothing called \"sped\" may stand here; near it: speed." }
     ensures first { said_under (codes "{\"p:host\":{\"b\":1,\"a\":1}}")
-        ≡ codes "nothing called a may stand here." }
+        ≡ codes "nothing called \"a\" may stand here." }
     ensures without_module { said_under (codes "{\"host\":{}}")
-        ≡ codes "here host is written p:host." }
+        ≡ codes "here \"host\" is written p:host." }
     ensures with_module { said_under (codes "{\"p:host\":{\"p:name\":\"a\"}}")
-        ≡ codes "here p:name is written name." }
+        ≡ codes "here \"p:name\" is written name." }
     ensures control { said_under (codes "{\"p:\\u001bost\":{}}")
-        ≡ codes "nothing called p:\\x1bost may stand here; near it: p:host." }
+        ≡ codes "nothing called \"p:\\x1bost\" may stand here; near it: p:host." }
 {}
 
 /// Values of another kind than is due (J5), and refusals of which nothing is said.
@@ -30,9 +36,11 @@ pub fn values()
     ensures no_entry { said_under (codes "{\"p:host\":{\"port\":[[]]}}")
         ≡ codes "an array stands where an object is due." }
     ensures no_value { said_under (codes "{\"p:host\":{\"name\":{}}}")
-        ≡ codes "an object stands where a value is due." }
+        ≡ codes "an object stands where a leaf's value is due." }
     ensures null_value { said_under (codes "{\"p:host\":{\"tag\":[null]}}")
-        ≡ codes "null stands where a value is due." }
+        ≡ codes "null stands where an item's value is due." }
+    ensures flag { said_under (codes "{\"p:host\":{\"port\":[true]}}")
+        ≡ codes "true stands where an object is due." }
     ensures fraction { said_under (codes "{\"p:host\":{\"name\":1.5}}") ≡ [] }
     ensures no_json { said_under (codes "{") ≡ [] }
     ensures is_read { said_under (codes "{}") ≡ codes "read" }

@@ -1,5 +1,12 @@
-//! Which member of a document isn't known, and which may have been meant; of what kind a value is where another is due.
-//! The definitions stand in `specs/`, and the functions here are worked examples of them: no body meets them yet.
+//! What is said of a document that is refused: which member isn't known, or isn't in the form that is due, and which may
+//! have been meant; of what kind a value is where another is due.
 #![tactic(auto)]
 
-pub mod examples;
+mod examples;
+mod member;
+mod nodes;
+mod place;
+mod sentence;
+
+pub use examples::{members, values};
+pub use sentence::said_of_refusal;

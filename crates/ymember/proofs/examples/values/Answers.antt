@@ -1,7 +1,7 @@
 use Rattle.std.proofs.Common.{refl}
 use Rattle.yspec.proofs.LiteralLemmas.{yspec_on_literals}
 use Rattle.yhint.specs.Near.{is_near, nearest}
-use Rattle.ymember.specs.Member.{said_of_refusal}
+use Rattle.ymember.specs.Sentence.{said_of_refusal}
 use Rattle.ymember.proofs.examples.values.Goals as goal
 
 pub returns : goal.returns
@@ -12,6 +12,7 @@ returns c = record {
   no_entry = refl;
   no_value = refl;
   null_value = refl;
+  flag = refl;
   fraction = refl;
   no_json = refl;
   is_read = refl;

@@ -1,0 +1,81 @@
+//! What is said of each refused document.
+
+use crate::modules::{ADDED, NET};
+use std::alloc::Global;
+use ymember::said_of_refusal;
+use ymodel::Schema;
+use yschema::compile;
+use ytext::{Module, parse};
+use ytree::{DocFault, read};
+
+fn modules_of(alloc: Global) -> Option<Vec<Module>> {
+    let mut modules = Vec::new(alloc);
+    modules.push(parse(alloc, NET.as_bytes()).ok()?).ok()?;
+    modules.push(parse(alloc, ADDED.as_bytes()).ok()?).ok()?;
+    Some(modules)
+}
+
+fn schema_of(alloc: Global) -> Option<Schema> {
+    compile(alloc, &modules_of(alloc)?).ok()
+}
+
+// `DOCUMENT => SENTENCE`, with no sentence where nothing is said.
+fn is_said(alloc: Global, row: &str) -> Option<bool> {
+    let (document, sentence) = row.split_once(" => ")?;
+    let schema = schema_of(alloc)?;
+    let bytes = document.as_bytes();
+    match read(alloc, &schema, bytes) {
+        Err(DocFault::Refused { code, place }) => {
+            let said = said_of_refusal(alloc, &schema, bytes, code, &place).ok()?;
+            Some(said.as_str() == sentence)
+        }
+        _ => None,
+    }
+}
+
+const ROWS: &str =
+    r#"{"net:hots":{}} => nothing called "net:hots" may stand here; near it: net:host.
+{"other:colour":{}} => nothing called "other:colour" may stand here.
+{"example-net:hots":{}} => nothing called "example-net:hots" may stand here; near it: net:host.
+{"hots":{}} => nothing called "hots" may stand here; near it: net:host.
+{"net:host ":{}} => nothing called "net:host " may stand here; near it: net:host.
+{"net:\u001bost":{}} => nothing called "net:\x1bost" may stand here; near it: net:host.
+{"xxxxxxxxxxxxxxxxxxxxxxxxxxxxxxxxxxxxxxxxxxxxxxxxxxxxxxxxxxxxxxxxxxxxxxxxxxxxxxxxxxxxxxxxxxxxxxxxxxxxx":{}} => nothing called "xxxxxxxxxxxxxxxxxxxxxxxxxxxxxxxxxxxxxxxxxxxxxxxxxxxxxxxxxxxxxxxxxxxxxxxxxxxxxxxxxxxxxxxxxxxxxxxxxxxx .." may stand here.
+{"":{}} => nothing called "" may stand here.
+{"net:host":{"nmae":"x"}} => nothing called "nmae" may stand here; near it: name.
+{"net:host":{"net:nmae":"x"}} => nothing called "net:nmae" may stand here; near it: name.
+{"net:host":{"rat":1}} => nothing called "rat" may stand here; near it: rate.
+{"net:host":{"how":1}} => nothing called "how" may stand here.
+{"net:host":{"b":1,"a":1,"name":"x"}} => nothing called "a" may stand here.
+{"net:host":{"port":[{"id":1},{"id":2,"sped":1}]}} => nothing called "sped" may stand here; near it: speed.
+{"net:host":{"port":[{"id":1},{"id":2,"labl":1}]}} => nothing called "labl" may stand here; near it: added:label.
+{"net:host":{"port":[{"id":1},{"id":2,"state":{"pu":true}}]}} => nothing called "pu" may stand here; near it: up.
+{"net:host":{"port":[{"id":1,"added:more":{"dept":1}}]}} => nothing called "dept" may stand here; near it: depth.
+{"host":{}} => here "host" is written net:host.
+{"net:host":{"net:name":"a"}} => here "net:name" is written name.
+{"net:host":{"net:rate":1}} => here "net:rate" is written rate.
+{"net:host":{"port":[{"id":1},{"id":2,"label":"x"}]}} => here "label" is written added:label.
+{"net:host":{"port":[{"id":1,"added:more":{"added:depth":1}}]}} => here "added:depth" is written depth.
+{"net:host":7} => a number stands where an object is due.
+{"net:host":[]} => an array stands where an object is due.
+{"net:host":null} => null stands where an object is due.
+{"net:link":{}} => an object stands where an array is due.
+{"net:link":[{"id":1},"x"]} => a text stands where an object is due.
+{"net:host":{"tag":"a"}} => a text stands where an array is due.
+{"net:host":{"tag":["a",null]}} => null stands where an item's value is due.
+{"net:host":{"name":{}}} => an object stands where a leaf's value is due.
+{"net:host":{"name":["a"]}} => an array stands where a leaf's value is due.
+{"net:host":{"port":[{"id":1},{"id":2,"state":true}]}} => true stands where an object is due.
+{"net:host":{"port":[{"id":1},{"id":2,"state":{"up":null}}]}} => null stands where a leaf's value is due.
+{"net:host":{"port":[{"id":1},false]}} => false stands where an object is due.
+{ => 
+[] => 
+{"net:host":{"port":[{"id":1.5}]}} => 
+"#;
+
+#[test]
+fn refusals_explained(rt: HostRuntime) {
+    for row in ROWS.lines() {
+        assert!(rt; is_said(rt.alloc(), row) == Some(true), "{row}");
+    }
+}
