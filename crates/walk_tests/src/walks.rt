@@ -2,12 +2,10 @@
 
 use std::alloc::Global;
 use test_modules::{DEFAULT_CASE, ENTRIES, MODULE, NETWORK, STATE};
-use ychange::told_store;
 use ycheck::{Fault, Info};
-use ylist::{Seen, SeenInfo, Walk, list};
-use ymodel::Schema;
+use ylist::{Seen, SeenInfo, Walk};
+use ylive::Live;
 use yschema::compile;
-use ystore::View;
 use ytext::parse;
 use ytree::{Step, read};
 
@@ -74,10 +72,11 @@ fn is_number(code: &str, number: u8) -> bool {
     }
 }
 
-fn goes(alloc: Global, schema: &Schema, view: View<'_>, codes: &str) -> Option<bool> {
-    let faults = list(alloc, schema, view).ok()?;
+fn goes(live: &Live, codes: &str) -> Option<bool> {
+    let faults = live.list().ok()?;
     let is_all = codes.split(' ').count() == faults.len() || codes == "none";
-    Some(is_all && gives(&mut Walk::of(schema, view), &faults, codes))
+    let mut walk = live.walk()?;
+    Some(is_all && gives(&mut walk, &faults, codes))
 }
 
 // `document => codes`
@@ -86,9 +85,10 @@ fn goes_by(alloc: Global, module: &str, row: &str) -> Option<bool> {
     let mut modules = Vec::new(alloc);
     modules.push(parse(alloc, module.as_bytes()).ok()?).ok()?;
     let schema = compile(alloc, &modules).ok()?;
-    let tree = read(alloc, &schema, document.as_bytes()).ok()?;
-    let nodes = told_store(alloc, &schema, &tree).ok()?;
-    goes(alloc, &schema, nodes.view(), codes)
+    match read(alloc, &schema, document.as_bytes()) {
+        Ok(tree) => goes(&Live::open(alloc, schema, tree).ok()?, codes),
+        Err(_) => None,
+    }
 }
 
 fn first_wrong<'a>(alloc: Global, module: &str, rows: &'a str) -> Option<&'a str> {
