@@ -2,7 +2,9 @@
 
 use std::alloc::Global;
 use test_modules::{DEFAULT_CASE, ENTRIES, MODULE, NETWORK, STATE};
-use yfacts::{flag_count, in_play, judged_of, keys_of, own_value_of};
+use yfacts::{
+    InPlay, child_over, flag_count, in_play, in_play_over, judged_of, keys_of, own_value_of,
+};
 use ymodel::{Schema, SchemaId};
 use yschema::compile;
 use yshape::{copy_part, store_of_tree};
@@ -64,16 +66,8 @@ fn add_own(
     Some(())
 }
 
-// What is told of what isn't stored in a row, and its defaults in use.
-fn add_row(
-    counted: &mut Counted<'_>,
-    schema: &Schema,
-    row: Row,
-    above: Option<SchemaId>,
-    text: &mut String,
-) -> Option<()> {
-    let alloc = counted.alloc();
-    let found = in_play(counted, schema, row, above).ok()?;
+// What is told of what isn't stored, and defaults in use.
+fn add_play(alloc: Global, found: &InPlay, text: &mut String) -> Option<()> {
     for (code, of) in &found.absences {
         text.push_str(
             format!(in alloc; "V{}@{} ", code.number(), of.0)
@@ -87,6 +81,17 @@ fn add_row(
             .ok()?;
     }
     Some(())
+}
+
+fn add_row(
+    counted: &mut Counted<'_>,
+    schema: &Schema,
+    row: Row,
+    above: Option<SchemaId>,
+    text: &mut String,
+) -> Option<()> {
+    let found = in_play(counted, schema, row, above).ok()?;
+    add_play(counted.alloc(), &found, text)
 }
 
 fn add_judged(
@@ -212,4 +217,42 @@ fn items(rt: HostRuntime) {
     let state =
         r#"{"w:c":{"tag":["b","a"]},"w:log":[{},{"at":"1"}]} => 0:0 1:1 item1 1:1 item1 3:1 V3@4 3:1 4:0 "#;
     assert!(rt; hold(rt.alloc(), STATE, state) == Some(true));
+}
+
+// Of each schema node the child of the top row that is over it, and what is in play of that child there.
+fn play_over(alloc: Global, module: &str, document: &str) -> Option<String> {
+    let mut modules = Vec::new(alloc);
+    modules.push(parse(alloc, module.as_bytes()).ok()?).ok()?;
+    let schema = compile(alloc, &modules).ok()?;
+    let tree = read(alloc, &schema, document.as_bytes()).ok()?;
+    let mut nodes: Nodes = store_of_tree(alloc, &schema, &tree).ok()?;
+    let mut counted = nodes.counted();
+    let mut text = String::new(alloc);
+    for number in 0..6u32 {
+        let child = child_over(&schema, None, SchemaId::new(number));
+        text.push_str(
+            format!(in alloc; "{}:{} ", number, child?.id().0)
+                .ok()?
+                .as_str(),
+        )
+        .ok()?;
+        let found = in_play_over(&mut counted, &schema, Row::Top, child).ok()?;
+        add_play(alloc, &found, &mut text)?;
+    }
+    Some(text)
+}
+
+fn plays(alloc: Global, document: &str, expected: &str) -> bool {
+    match play_over(alloc, DEFAULT_CASE, document) {
+        Some(text) => text.as_str() == expected,
+        None => false,
+    }
+}
+
+#[test]
+fn children_over_nodes(rt: HostRuntime) {
+    assert!(rt; plays(rt.alloc(), "{}", "0:0 *2 1:0 *2 2:0 *2 3:0 *2 4:0 *2 5:5 "));
+    assert!(rt; plays(rt.alloc(), r#"{"k:boost":1}"#, "0:0 1:0 2:0 3:0 4:0 5:5 "));
+    let both = "0:0 V5@0 1:0 V5@0 2:0 V5@0 3:0 V5@0 4:0 V5@0 5:5 ";
+    assert!(rt; plays(rt.alloc(), r#"{"k:boost":1,"k:rate":2}"#, both));
 }

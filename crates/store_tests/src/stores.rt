@@ -121,7 +121,11 @@ pub(crate) fn told(alloc: Global) -> Option<bool> {
     counted.set_judged(node, Judged::Missing);
     counted.set_same(node, 0, true);
     counted.change_total(Row::Top, 5, 2);
-    let read = counted.total(Row::Top) == 3 && counted.play_len(Row::Top) == 1;
+    let read = counted.total(Row::Top) == 3
+        && counted.play_len(Row::Top) == 1
+        && counted.absence(Row::Top, 0) == Some((FaultCode::V3, SECOND))
+        && counted.absence(Row::Top, 1) == None
+        && counted.absence(Row::Below(node), 0) == None;
     let view = nodes.view();
     Some(
         read && view.node_count() == 1

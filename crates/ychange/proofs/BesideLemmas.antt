@@ -61,7 +61,6 @@ told_alike schema before after f same told totals few is =
             is_wrong = t.is_wrong;
             is_play = t.is_play;
             are_flags = t.are_flags;
-            few = t.few;
           })
           is.each;
       totals = totals_there before after f told totals few is.totals;

@@ -70,7 +70,7 @@ fn added_width(schema: &Schema, shown: usize, augment: &Augment) -> u128
 {
     let mut width = 0;
     for id in augment.nodes.iter() {
-        let Some(child) = schema.child_at(augment.target, *id) else {
+        let Some(child) = schema.child_at(Some(augment.target), *id) else {
             continue;
         };
         width = label_width(schema, shown, child.node()).max(width);
@@ -93,7 +93,7 @@ fn write_added<W: Sink>(
     let indentation = Indentation::Added;
     let mut held = None;
     for id in augment.nodes.iter() {
-        let Some(child) = schema.child_at(augment.target, *id) else {
+        let Some(child) = schema.child_at(Some(augment.target), *id) else {
             continue;
         };
         write_held(schema, shown, &indentation, width, held, true, sink)?;

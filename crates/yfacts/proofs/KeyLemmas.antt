@@ -1,14 +1,23 @@
 -- The keys that a node holds, slot by slot.
-use Rattle.std.proofs.Common.{◌≡◌, ℕ, zero, suc, ◌+◌, ◌-◌, ◌<◌, ◌≤◌, List, [], ◌∷◌, ◌++◌, Option, Some, None, refl, sym, ap, ◌∙◌, arith, append_assoc}
+use Rattle.std.proofs.Common.{◌≡◌, ℕ, zero, suc, ◌+◌, ◌*◌, ◌-◌, ◌<◌, ◌≤◌, List, [], ◌∷◌, ◌++◌, Option, Some, None, refl, sym, ap, ◌∙◌, arith, append_assoc}
 use Rattle.std.specs.Prelude.{option_map, option_and_then, option_to_list}
+use Rattle.std.specs.Option.{option_map_or}
 use Rattle.std.proofs.lemmas.List.{append-nil, map-append}
+use Rattle.std.proofs.lemmas.Option.{same_Some, none-some}
 use Rattle.yspec.specs.schema.Schema.{Schema, SchemaNode, node_at}
 use Rattle.yspec.specs.document.Document.{Stored, Tree}
 use Rattle.ymodel.specs.declared.node.SchemaId.{SchemaId}
+use Rattle.yspec.specs.linking.Compiling.{IsCompiled}
+use Rattle.yreach.specs.Sizes.{levels}
+use Rattle.ystore.specs.Held.{Label}
+use Rattle.ystore.specs.Store.{label_at, reads}
+use Rattle.ystore.specs.declared.nodes.Nodes.{Nodes}
 use Rattle.ystore.specs.declared.row.NodeId.{NodeId}
 use Rattle.ystore.specs.declared.row.Row.{Row}
 use Rattle.ystore.specs.declared.key.Key as rust
-use Rattle.yfacts.specs.Keys.{Key, Holding, key_view, holdings, held_with, keys_from, first_key, key_at, flagged_key}
+use Rattle.yfacts.specs.Keys.{Key, Holding, key_view, holdings, held_with, keys_from, first_key, key_at, flagged_key, slots_of}
+use Rattle.yfacts.specs.Reads.{keys_reads, names_at, names_of}
+use Rattle.yfacts.proofs.ReadLemmas.{few_keys}
 
 module _ (at : ℕ → Option Key) where
   -- the first of those that are left
@@ -61,3 +70,21 @@ first_at s above st stored t slot of found n first number same some is =
     ap (λ x. first_key s n.kind above x t) same
     ∙ (ap (option_and_then (λ (m : SchemaNode). first_key s m.kind above st t)) (sym some ∙ (is ∙ ap (node_at s) (sym number)))
     ∙ ap (key_at s above st t) zeroth)
+
+-- ---- what is read
+
+-- how many names stand in the key and uniques of a node
+names_are : (s : Schema) (nodes : Nodes) (id : NodeId) (of : SchemaId) → Some of ≡ option_map (λ (l : Label). l.schema) (label_at nodes id) → names_at s nodes id ≡ names_of s of.0
+names_are s nodes id of is = by (label_at nodes id) is
+  where
+    by : (o : Option Label) → Some of ≡ option_map (λ (l : Label). l.schema) o → option_map_or (λ (l : Label). names_of s l.schema.0) o 0 ≡ names_of s of.0
+    by None is = absurd (none-some of (sym is))
+    by (Some l) is = ap (λ (x : SchemaId). names_of s x.0) (sym (same_Some of l.schema is))
+
+-- the keys at all slots, of which some may be left
+pub all_read : (s : Schema) (start : Nodes) (id : NodeId) (of : SchemaId) (now left : ℕ) → ∥ IsCompiled s ∥₁ → Some of ≡ option_map (λ (l : Label). l.schema) (label_at start id)
+    → now + left ≤ reads start + (1 + keys_reads s of.0 (slots_of s of.0)) → now ≤ reads start + (3 + (levels s + 4) * names_at s start id)
+all_read s start id of now left compiled is so =
+    let few = few_keys s of.0 compiled in
+    let names = ap (λ n. (levels s + 4) * n) (names_are s start id of is) in
+    omega (arith, so, few, names)

@@ -1,8 +1,12 @@
+pub mod CaseLemmas
 pub mod EntryLemmas
 pub mod GivenLemmas
 pub mod HeldLemmas
 pub mod KeyLemmas
+pub mod PassedLemmas
+pub mod PathLemmas
 pub mod PlayLemmas
+pub mod ReadLemmas
 pub mod RowLemmas
 pub mod SameLemmas
 pub mod TellingLemmas

@@ -1,5 +1,5 @@
 -- What is in play in a row, node by node.
-use Rattle.std.proofs.Common.{◌≡◌, ℕ, ◌+◌, ◌<◌, ◌≤◌, Bool, true, false, cond, ltb, List, [], ◌∷◌, ◌++◌, map, drop, length, get_or, Option, refl, sym, ap, ap₂, ◌∙◌, append_assoc}
+use Rattle.std.proofs.Common.{◌≡◌, ℕ, ◌+◌, ◌<◌, ◌≤◌, Bool, true, false, cond, ltb, List, [], ◌∷◌, ◌++◌, map, drop, length, get_or, Option, Some, None, refl, sym, ap, ap₂, ◌∙◌, append_assoc}
 use Rattle.std.proofs.Math.Path.{fun_ext}
 use Rattle.std.proofs.lemmas.List.{append-nil, at_drop_more, at_drop_all}
 use Rattle.std.proofs.lemmas.List.Elements.{filter-append}
@@ -9,6 +9,7 @@ use Rattle.yspec.specs.schema.Schema.{Schema, SchemaNode, Kind, container, leaf,
 use Rattle.yspec.specs.document.Document.{instances_in}
 use Rattle.yspec.specs.document.Play.{cases, stored_cases, or_default, stored_inside, is_among}
 use Rattle.yplay.specs.Absences.{Absent, Default, choice_told, absences_in, node_absences, defaults_in, node_defaults}
+use Rattle.yplay.specs.Over.{told_over, used_over}
 use Rattle.ystore.specs.Store.{children_at}
 use Rattle.ystore.specs.declared.row.Row.{Row}
 use Rattle.ystore.specs.declared.nodes.Nodes.{Nodes}
@@ -208,3 +209,34 @@ row_found s nodes row f above children p q hangs is none_told none_given finds =
       finds.defaults ∙ (ap (λ ps. given_view ps ++ referred s (defaults_in (count_in (children_at nodes row)) [] children)) none_given
           ∙ ap₂ (λ st g. referred s (defaults_in st [] g)) counts is),
     )
+
+pub node_found : (s : Schema) (nodes : Nodes) (row : Row) (f : Branches) (n : SchemaNode) (below : Forest SchemaNode) (p q : InPlay) → Hangs nodes row f
+    → p.absences.items ≡ [] → p.defaults.items ≡ [] → FindsNode s (count_in (children_at nodes row)) [] n below p q
+    → (absence_views q.absences.items ≡ told_at (instances_in (tree_of f)) [] n below)
+    × (given_view q.defaults.items ≡ referred s (used_at (instances_in (tree_of f)) [] n below))
+node_found s nodes row f n below p q hangs none_told none_given finds =
+    let counts : count_in (children_at nodes row) ≡ instances_in (tree_of f) = ap count_in hangs.listed ∙ fun_ext (λ m. counted (record { 0 = m }) f) in (
+      finds.absences ∙ (ap (λ ps. absence_views ps ++ told_at (count_in (children_at nodes row)) [] n below) none_told ∙ ap (λ st. told_at st [] n below) counts),
+      finds.defaults ∙ (ap (λ ps. given_view ps ++ referred s (used_at (count_in (children_at nodes row)) [] n below)) none_given
+          ∙ ap (λ st. referred s (used_at st [] n below)) counts),
+    )
+
+-- of one child, and of none
+pub over_found : (s : Schema) (nodes : Nodes) (row : Row) (f : Branches) (child : Option (SchemaNode × Forest SchemaNode)) (n : SchemaNode) (below : Forest SchemaNode) (p q found : InPlay)
+    → child ≡ Some (n, below) → found ≡ q → Hangs nodes row f → p.absences.items ≡ [] → p.defaults.items ≡ [] → FindsNode s (count_in (children_at nodes row)) [] n below p q
+    → (absence_views found.absences.items ≡ told_over (instances_in (tree_of f)) child)
+    × (given_view found.defaults.items ≡ referred s (used_over (instances_in (tree_of f)) child))
+over_found s nodes row f child n below p q found is found_is hangs none_told none_given finds =
+    let so = node_found s nodes row f n below p q hangs none_told none_given finds in (
+      ap (λ (x : InPlay). absence_views x.absences.items) found_is ∙ (so.0 ∙ ap (told_over (instances_in (tree_of f))) (sym is)),
+      ap (λ (x : InPlay). given_view x.defaults.items) found_is ∙ (so.1 ∙ ap (λ o. referred s (used_over (instances_in (tree_of f)) o)) (sym is)),
+    )
+
+pub over_nothing : (s : Schema) (f : Branches) (child : Option (SchemaNode × Forest SchemaNode)) (p found : InPlay) → child ≡ None → found ≡ p
+    → p.absences.items ≡ [] → p.defaults.items ≡ []
+    → (absence_views found.absences.items ≡ told_over (instances_in (tree_of f)) child)
+    × (given_view found.defaults.items ≡ referred s (used_over (instances_in (tree_of f)) child))
+over_nothing s f child p found is found_is none_told none_given = (
+  ap (λ (x : InPlay). absence_views x.absences.items) found_is ∙ (ap absence_views none_told ∙ ap (told_over (instances_in (tree_of f))) (sym is)),
+  ap (λ (x : InPlay). given_view x.defaults.items) found_is ∙ (ap given_view none_given ∙ ap (λ o. referred s (used_over (instances_in (tree_of f)) o)) (sym is)),
+)

@@ -1,12 +1,19 @@
 -- Tuples, value by value.
-use Rattle.std.proofs.Common.{◌≡◌, ℕ, ◌+◌, ◌<◌, List, [], ◌∷◌, ◌++◌, length, drop, get_or, Option, Some, None, refl, sym, ap, ◌∙◌, append_assoc, arith}
+use Rattle.std.proofs.Common.{◌≡◌, ℕ, ◌+◌, ◌*◌, ◌<◌, List, [], ◌∷◌, ◌++◌, Vec, map, length, drop, get_or, Option, Some, None, refl, sym, ap, ◌∙◌, append_assoc, arith}
 use Rattle.std.specs.Prelude.{option_map, option_and_then}
-use Rattle.std.proofs.lemmas.List.{at_drop_more}
+use Rattle.std.proofs.lemmas.List.{at_drop_more, length-map}
+use Rattle.std.proofs.lemmas.List.Sums.{sum_by-cons}
+use Rattle.std.specs.Global.{Global}
 use Rattle.yspec.specs.types.Types.{Val}
 use Rattle.yspec.specs.schema.Schema.{Schema, LeafPath}
 use Rattle.yspec.specs.document.Document.{Tree}
-use Rattle.yspec.specs.document.Instances.{Tuple, value_at, tuple_at, tuple_of_paths}
+use Rattle.yspec.specs.document.Instances.{Tuple, value_at, tuple_at, tuple_of_paths, paths_of}
+use Rattle.ymodel.specs.declared.node.SchemaId.{SchemaId}
+use Rattle.ymodel.specs.declared.node.Tuples as rust
+use Rattle.ymodel.specs.Layout.{numbers_of, tuples_view}
 use Rattle.ycheck.proofs.ValueLemmas.{with_front}
+use Rattle.yfacts.specs.Reads.{path_reads}
+use Rattle.yfacts.proofs.ReadLemmas.{own_reads}
 
 -- the leafs of a tuple by what names them
 module _ {X : Type 0} (path : X → LeafPath) (paths : List X → List LeafPath) (first : (x : X) (xs : List X) → paths (x ∷ xs) ≡ path x ∷ paths xs) (s : Schema) (t : Tree) where
@@ -42,3 +49,21 @@ module _ {X : Type 0} (path : X → LeafPath) (paths : List X → List LeafPath)
       ap (λ o. with_front done (with_first o (whole (drop (i + 1) (y ∷ ys))))) value
       ∙ (sym (ap (with_front done) (left (y ∷ ys) i x d less is)) ∙ (so
       ∙ (ap (tuple_at s t) (first y ys) ∙ sym (ap (tuple_of_paths s t) (first y ys)))))
+
+-- the paths that are left, and what is read of the first of them
+pub next_path : (xs : List (Vec SchemaId Global)) (i : ℕ) (x d : Vec SchemaId Global) → i < length xs → x ≡ get_or xs i d
+    → path_reads (map (λ path. numbers_of path.items) (drop i xs)) ≡ (length x.items + 1) + path_reads (map (λ path. numbers_of path.items) (drop (i + 1) xs))
+next_path xs i x d less is =
+    let rest = drop (i + 1) xs in
+    let numbers : Vec SchemaId Global → LeafPath = λ path. numbers_of path.items in
+    at_drop_more (λ ys. path_reads (map numbers ys)) xs i d less
+    ∙ (sym (ap (λ y. path_reads (map numbers (y ∷ rest))) is)
+    ∙ (sum_by-cons (λ (path : LeafPath). length path + 1) (numbers x) (map numbers rest)
+    ∙ ap (λ n. (n + 1) + path_reads (map numbers rest)) (length-map x.items (λ id. id.0))))
+
+-- what is read of a key
+pub key_read : (t : rust.Tuples) (number : ℕ) (keys : List SchemaId) → number ≡ 0 → keys ≡ t.keys.items → path_reads (paths_of (tuples_view t) number) ≡ 2 * length keys
+key_read t number keys none is =
+    ap (λ n. path_reads (paths_of (tuples_view t) n)) none
+    ∙ (own_reads (numbers_of t.keys.items)
+    ∙ (ap (λ n. 2 * n) (length-map t.keys.items (λ id. id.0)) ∙ sym (ap (λ (ids : List SchemaId). 2 * length ids) is)))

@@ -2,11 +2,11 @@
 use Rattle.std.specs.Prelude.{◌≡◌, ℕ, ◌++◌, List, [], map, if◌then◌else◌}
 use Rattle.yspec.specs.Forest.{Forest}
 use Rattle.yspec.specs.schema.Schema.{Schema, SchemaNode, Kind, container, leaf, leaf_list, list}
-use Rattle.yspec.specs.document.Play.{cases, stored_inside}
 use Rattle.ycheck.specs.View.{code_view}
 use Rattle.ycheck.specs.declared.fault.FaultCode.{FaultCode}
 use Rattle.ymodel.specs.declared.node.SchemaId.{SchemaId}
-use Rattle.yplay.specs.Absences.{Absent, Default, absent_leaf_told, amount_told, absences_in, node_absences, absent_leaf_default, defaults_in, node_defaults}
+use Rattle.yplay.specs.Absences.{Absent, Default, absent_leaf_told, amount_told, absences_in, absent_leaf_default, defaults_in}
+pub use Rattle.yplay.specs.Absences.{told_at, used_at}
 use Rattle.yfacts.specs.Given.{given_view, referred}
 use Rattle.yfacts.specs.declared.play.InPlay.{InPlay}
 
@@ -24,14 +24,6 @@ FindsRow schema stored chosen f old new =
     Gains old new (absences_in stored chosen f) (referred schema (defaults_in stored chosen f))
 
 -- what is in play of a node of a row
-abbrev pub told_at : (ℕ → ℕ) → List ℕ → SchemaNode → Forest SchemaNode → List Absent
-told_at stored chosen n below = node_absences stored chosen n n.kind below
-    (absences_in (stored_inside n.kind stored) (cases stored n.kind below) below)
-
-abbrev pub used_at : (ℕ → ℕ) → List ℕ → SchemaNode → Forest SchemaNode → List Default
-used_at stored chosen n below = node_defaults stored chosen n n.kind
-    (defaults_in (stored_inside n.kind stored) (cases stored n.kind below) below)
-
 abbrev pub FindsNode : Schema → (ℕ → ℕ) → List ℕ → SchemaNode → Forest SchemaNode → InPlay → InPlay → Type 0
 FindsNode schema stored chosen n below old new =
     Gains old new (told_at stored chosen n below) (referred schema (used_at stored chosen n below))

@@ -1,12 +1,15 @@
 //! The cases of a choice that are in play in a row of a store (RFC 7950, 7.9).
 
-ghost use Rattle.std.specs.Prelude.{◌≡◌, IfOk, nat_lt};
+ghost use Rattle.std.specs.Prelude.{◌≡◌, ◌+◌, ◌≤◌, IfOk, nat_lt};
 ghost use Rattle.yspec.specs.Forest.{end, node};
 ghost use Rattle.yspec.specs.document.Play as spec;
 ghost use Rattle.ymodel.specs.Layout.{number_of, numbers_of};
 ghost use Rattle.ymodel.specs.View.{row_view, label_of, below_of};
+ghost use Rattle.yreach.specs.Sizes.{near_count};
+ghost use Rattle.ystore.specs.Store.{reads};
 ghost use Rattle.ystore.specs.Views.{store_of, lent};
 ghost use Rattle.yshape.specs.Parts.{OnlyReads};
+ghost use Rattle.yfacts.specs.Reads.{cases_reads};
 ghost use Rattle.yfacts.specs.Rows.{count_in, listed_in};
 
 use crate::rows::count_of;
@@ -20,6 +23,7 @@ fn has_stored(counted: &mut Counted<'_>, row: Option<Row>, children: Children<'_
     ensures stored { let stored = count_in (listed_in (store_of counted.old) row) in
         result ≡ nat_lt 0 (spec.stored_among stored (row_view children.entry)) }
     ensures kept { OnlyReads (store_of counted.old) (store_of counted.new) }
+    ensures reads { reads (store_of counted.new) ≤ reads (store_of counted.old) + near_count (row_view children.entry) }
     ensures same_reference { lent counted.new ≡ lent counted.old }
 {
     for child in children {
@@ -36,6 +40,7 @@ fn is_met(counted: &mut Counted<'_>, row: Option<Row>, child: Child<'_>) -> bool
     ensures stored { let stored = count_in (listed_in (store_of counted.old) row) in
         result ≡ nat_lt 0 (spec.stored_among stored (node (label_of child.entry) (below_of child.entry) end)) }
     ensures kept { OnlyReads (store_of counted.old) (store_of counted.new) }
+    ensures reads { reads (store_of counted.new) ≤ reads (store_of counted.old) + near_count (node (label_of child.entry) (below_of child.entry) end) }
     ensures same_reference { lent counted.new ≡ lent counted.old }
 {
     if child.node().kind.is_data() {
@@ -54,6 +59,7 @@ pub(crate) fn stored_cases(
     ensures cases { let stored = count_in (listed_in (store_of counted.old) row) in
         IfOk result (λ ids. numbers_of ids.items ≡ spec.stored_cases stored (row_view cases.entry)) }
     ensures kept { OnlyReads (store_of counted.old) (store_of counted.new) }
+    ensures reads { reads (store_of counted.new) ≤ reads (store_of counted.old) + cases_reads (row_view cases.entry) }
     ensures same_reference { lent counted.new ≡ lent counted.old }
 {
     let mut found = Vec::new(counted.alloc());

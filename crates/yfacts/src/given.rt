@@ -1,8 +1,9 @@
 //! The values that instances of schema nodes have, of those to which leafrefs refer.
 
-ghost use Rattle.std.specs.Prelude.{◌≡◌, ◌++◌, OnOk};
+ghost use Rattle.std.specs.Prelude.{◌≡◌, ◌+◌, ◌≤◌, ◌++◌, OnOk};
 ghost use Rattle.yspec.specs.Forest.{end, node};
 ghost use Rattle.ymodel.specs.View as schema_view;
+ghost use Rattle.ystore.specs.Store.{reads};
 ghost use Rattle.ystore.specs.Views.{store_of, lent};
 ghost use Rattle.ystore.specs.declared.row.Row as rows;
 ghost use Rattle.yshape.specs.Hanging.{Branches, Numbered, Stands, stored_of};
@@ -35,6 +36,7 @@ pub fn own_value_of(
         → words.given_view given.new.items ≡ words.given_view given.old.items
         ++ words.referred s (words.own_values s (stored_of n))) }
     ensures kept { OnlyReads (store_of counted.old) (store_of counted.new) }
+    ensures reads { reads (store_of counted.new) ≤ reads (store_of counted.old) + 2 }
     ensures same_reference { lent counted.new ≡ lent counted.old }
 {
     let Some(of) = counted.schema(id) else {

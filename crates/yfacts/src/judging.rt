@@ -1,9 +1,10 @@
 //! What is told of a node's value by its type alone.
 
-ghost use Rattle.std.specs.Prelude.{◌≡◌, IfOk, option_map};
+ghost use Rattle.std.specs.Prelude.{◌≡◌, ◌+◌, ◌≤◌, IfOk, option_map};
 ghost use Rattle.yspec.specs.Forest.{end, node};
 ghost use Rattle.ytype.specs.View.{raw_of};
 ghost use Rattle.ymodel.specs.View as schema_view;
+ghost use Rattle.ystore.specs.Store.{reads};
 ghost use Rattle.ystore.specs.Views.{store_of, lent, IsRead};
 ghost use Rattle.ystore.specs.declared.row.Row as rows;
 ghost use Rattle.yshape.specs.Hanging.{Branches, Numbered, Stands, stored_of};
@@ -26,6 +27,7 @@ pub fn judged_of(
         → Stands (store_of counted.old) above (node n below end)
         → words.judged_view judged ≡ words.value_judged (schema_view.view schema.now) (stored_of n)) }
     ensures kept { OnlyReads (store_of counted.old) (store_of counted.new) }
+    ensures reads { reads (store_of counted.new) ≤ reads (store_of counted.old) + 2 }
     ensures same_reference { lent counted.new ≡ lent counted.old }
 {
     match counted.schema(id) {

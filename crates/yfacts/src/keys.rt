@@ -1,6 +1,6 @@
 //! The keys of indexes that nodes hold.
 
-ghost use Rattle.std.specs.Prelude.{◌≡◌, ◌≤◌, ◌^◌, ◌++◌, IfOk, OnOk, option_map};
+ghost use Rattle.std.specs.Prelude.{◌≡◌, ◌+◌, ◌*◌, ◌≤◌, ◌^◌, ◌++◌, IfOk, OnOk, length, option_map, suc};
 ghost use Rattle.std.specs.Option.{option_map_or};
 ghost use Rattle.yspec.specs.Forest.{end, node};
 ghost use Rattle.yspec.specs.schema.Schema.{node_at};
@@ -8,12 +8,15 @@ ghost use Rattle.yspec.specs.document.Instances as spec;
 ghost use Rattle.ymodel.specs.Layout.{kind_view, number_of, numbers_of, tuples_view};
 ghost use Rattle.ymodel.specs.View as schema_view;
 ghost use Rattle.ycheck.specs.Targets as targets;
+ghost use Rattle.yreach.specs.Sizes.{levels};
+ghost use Rattle.ystore.specs.Store.{reads};
 ghost use Rattle.ystore.specs.Views.{store_of, lent};
 ghost use Rattle.ystore.specs.declared.row.Row.TheVariants.{Below};
 ghost use Rattle.yshape.specs.Hanging.{Branches, Hangs, Numbered, Stands, stored_of, tree_of};
 ghost use Rattle.yshape.specs.Parts.{OnlyReads};
 ghost use Rattle.yfacts.specs.Rows.{leaf_at};
 ghost use Rattle.yfacts.specs.Keys as words;
+ghost use Rattle.yfacts.specs.Reads.{key_reads, names_at, path_reads, slot_reads};
 
 use crate::texts::texts_of;
 use crate::tuples::tuple_of;
@@ -69,6 +72,7 @@ fn reference_key(
         IfOk result (λ key. option_map words.key_view key
         ≡ words.kind_reference s (kind_view kind.now) (leaf_at (store_of counted.old) of id)) }
     ensures kept { OnlyReads (store_of counted.old) (store_of counted.new) }
+    ensures reads { reads (store_of counted.new) ≤ reads (store_of counted.old) + 1 }
     ensures same_reference { lent counted.new ≡ lent counted.old }
 {
     let Some(target) = required_target(kind) else {
@@ -94,6 +98,7 @@ fn entry_key(
         → option_map words.key_view key
         ≡ words.entry_key s (numbers_of keys.now) above (leaf_at (store_of counted.old) of id) (tree_of f)) }
     ensures kept { OnlyReads (store_of counted.old) (store_of counted.new) }
+    ensures reads { reads (store_of counted.new) ≤ reads (store_of counted.old) + 2 * length keys.now }
     ensures same_reference { lent counted.new ≡ lent counted.old }
 {
     if keys.is_empty() {
@@ -119,6 +124,7 @@ fn first_key(
         → option_map words.key_view key
         ≡ words.first_key s (kind_view kind.now) above (leaf_at (store_of counted.old) of id) (tree_of f)) }
     ensures kept { OnlyReads (store_of counted.old) (store_of counted.new) }
+    ensures reads { reads (store_of counted.new) ≤ reads (store_of counted.old) + slot_reads (kind_view kind.now) 0 }
     ensures same_reference { lent counted.new ≡ lent counted.old }
 {
     match kind {
@@ -139,6 +145,7 @@ fn item_key(
         IfOk result (λ key. option_map words.key_view key
         ≡ option_map (words.item_key above of.0) (spec.value_of s (leaf_at (store_of counted.old) of id))) }
     ensures kept { OnlyReads (store_of counted.old) (store_of counted.new) }
+    ensures reads { reads (store_of counted.new) ≤ reads (store_of counted.old) + 1 }
     ensures same_reference { lent counted.new ≡ lent counted.old }
 {
     match value_as(counted, schema, of, id)? {
@@ -162,6 +169,7 @@ fn tuple_key(
         → option_map words.key_view key ≡ option_map (words.tuple_key above of.0 number)
         (spec.tuple_of_paths s (tree_of f) (spec.paths_of (tuples_view tuples.now) number))) }
     ensures kept { OnlyReads (store_of counted.old) (store_of counted.new) }
+    ensures reads { reads (store_of counted.new) ≤ reads (store_of counted.old) + path_reads (spec.paths_of (tuples_view tuples.now) number) }
     ensures same_reference { lent counted.new ≡ lent counted.old }
 {
     match tuple_of(counted, schema, tuples, Row::Below(id), number)? {
@@ -184,6 +192,7 @@ fn flagged_key(
         → option_map words.key_view key
         ≡ words.flagged_key s above (leaf_at (store_of counted.old) of id) (tree_of f) number) }
     ensures kept { OnlyReads (store_of counted.old) (store_of counted.new) }
+    ensures reads { reads (store_of counted.new) ≤ reads (store_of counted.old) + key_reads (schema_view.view schema.now) of.0 (suc number) }
     ensures same_reference { lent counted.new ≡ lent counted.old }
 {
     let Some(node) = schema.kind(of) else {
@@ -217,6 +226,7 @@ pub fn key_at(
         → Stands (store_of counted.old) above (node n below end)
         → option_map words.key_view key ≡ words.key_at s above (stored_of n) (tree_of below) slot) }
     ensures kept { OnlyReads (store_of counted.old) (store_of counted.new) }
+    ensures reads { reads (store_of counted.new) ≤ reads (store_of counted.old) + key_reads (schema_view.view schema.now) of.0 slot }
     ensures same_reference { lent counted.new ≡ lent counted.old }
 {
     if slot > 0 {
@@ -242,6 +252,8 @@ pub fn keys_of(
         → words.holdings held.new.items ≡ words.holdings held.old.items
         ++ words.held_with id (words.held_by s above (stored_of n) (tree_of below))) }
     ensures kept { OnlyReads (store_of counted.old) (store_of counted.new) }
+    ensures reads { let s = schema_view.view schema.now in
+        reads (store_of counted.new) ≤ reads (store_of counted.old) + (3 + (levels s + 4) * names_at s (store_of counted.old) id) }
     ensures same_reference { lent counted.new ≡ lent counted.old }
 {
     let Some(of) = counted.schema(id) else {

@@ -1,17 +1,22 @@
 //! What is in play in a row of what isn't stored: faults that are told of it, and defaults in use.
 
-ghost use Rattle.std.specs.Prelude.{◌≡◌, ◌++◌, ◌∷◌, [], true, map, option_to_list, IfOk, OnOk};
+ghost use Rattle.std.specs.Prelude.{◌≡◌, ◌+◌, ◌*◌, ◌≤◌, ◌++◌, ◌∷◌, [], ℕ, Option, true, map, option_map, option_to_list, IfOk, OnOk};
+ghost use Rattle.yspec.specs.Forest.{end, node};
 ghost use Rattle.yspec.specs.schema.Schema as schemas;
 ghost use Rattle.yspec.specs.document.Document.{instances_in};
 ghost use Rattle.ymodel.specs.Layout.{absence_view, amount_view, kind_view, number_of, numbers_of};
 ghost use Rattle.ymodel.specs.View as schema_view;
-ghost use Rattle.ymodel.specs.View.{row_view, label_of, below_of};
+ghost use Rattle.ymodel.specs.View.{row_view, label_of, below_of, child_view};
+ghost use Rattle.yreach.specs.Sizes.{levels, near_count};
+ghost use Rattle.ystore.specs.Store.{reads};
 ghost use Rattle.ystore.specs.Views.{store_of, lent};
 ghost use Rattle.yshape.specs.Hanging.{Branches, Hangs, tree_of};
 ghost use Rattle.yshape.specs.Parts.{OnlyReads};
 ghost use Rattle.yplay.specs.Absences as spec;
+ghost use Rattle.yplay.specs.Over as over;
 ghost use Rattle.yfacts.specs.Given.{given_view, referred};
 ghost use Rattle.yfacts.specs.InPlay as words;
+ghost use Rattle.yfacts.specs.Reads.{play_reads};
 ghost use Rattle.yfacts.specs.Rows.{count_in, listed_in};
 
 use crate::cases::{is_among, or_default, stored_cases};
@@ -160,11 +165,40 @@ pub fn in_play(
         → given_view found.defaults.items
         ≡ referred s (spec.defaults_in (instances_in (tree_of f)) [] (schemas.row_at s (number_of above)))) }
     ensures kept { OnlyReads (store_of counted.old) (store_of counted.new) }
+    ensures reads { let s = schema_view.view schema.now in reads (store_of counted.new)
+        ≤ reads (store_of counted.old) + levels s * near_count (schemas.row_at s (number_of above)) }
     ensures same_reference { lent counted.new ≡ lent counted.old }
 {
     let mut found = InPlay::new(counted.alloc());
     let children = row_at(schema, above);
     add_row(counted, schema, Some(row), &[], children, &mut found)?;
+    Ok(found)
+}
+
+/// What is in play of what isn't stored, of one child of a schema row, in a row; nothing of none.
+pub fn in_play_over(
+    counted: &mut Counted<'_>,
+    schema: &Schema,
+    row: Row,
+    child: Option<Child<'_>>,
+) -> Result<InPlay, AllocError>
+    ensures absences { IfOk result (λ found. (f : Branches) → Hangs (store_of counted.old) row f
+        → words.absence_views found.absences.items
+        ≡ over.told_over (instances_in (tree_of f)) (option_map child_view child.entry)) }
+    ensures defaults { let s = schema_view.view schema.now in
+        IfOk result (λ found. (f : Branches) → Hangs (store_of counted.old) row f
+        → given_view found.defaults.items
+        ≡ referred s (over.used_over (instances_in (tree_of f)) (option_map child_view child.entry))) }
+    ensures kept { OnlyReads (store_of counted.old) (store_of counted.new) }
+    ensures reads { let s = schema_view.view schema.now in (above : Option ℕ) (number : ℕ)
+        → option_map child_view child.entry ≡ over.child_over (schemas.row_at s above) number
+        → reads (store_of counted.new) ≤ reads (store_of counted.old) + levels s * near_count (schemas.row_at s above) }
+    ensures same_reference { lent counted.new ≡ lent counted.old }
+{
+    let mut found = InPlay::new(counted.alloc());
+    if let Some(child) = child {
+        add_node(counted, schema, Some(row), &[], child, &mut found)?;
+    }
     Ok(found)
 }
 
@@ -180,6 +214,8 @@ pub fn absences_of(
         → words.absence_views absences.items
         ≡ spec.absences_in (instances_in (tree_of f)) [] (schemas.row_at s (number_of above))) }
     ensures kept { OnlyReads (store_of counted.old) (store_of counted.new) }
+    ensures reads { let s = schema_view.view schema.now in reads (store_of counted.new)
+        ≤ reads (store_of counted.old) + levels s * near_count (schemas.row_at s (number_of above)) }
     ensures same_reference { lent counted.new ≡ lent counted.old }
 {
     let InPlay { absences, .. } = in_play(counted, schema, row, above)?;
@@ -199,6 +235,8 @@ pub fn defaults_of(
         → given_view given.new.items ≡ given_view given.old.items
         ++ referred s (spec.defaults_in (instances_in (tree_of f)) [] (schemas.row_at s (number_of above)))) }
     ensures kept { OnlyReads (store_of counted.old) (store_of counted.new) }
+    ensures reads { let s = schema_view.view schema.now in reads (store_of counted.new)
+        ≤ reads (store_of counted.old) + levels s * near_count (schemas.row_at s (number_of above)) }
     ensures same_reference { lent counted.new ≡ lent counted.old }
 {
     let InPlay { mut defaults, .. } = in_play(counted, schema, row, above)?;
@@ -230,6 +268,7 @@ fn add_row(
         OnOk result (words.FindsRow (schema_view.view schema.now) stored (numbers_of chosen.now)
         (row_view children.entry) found.old found.new) }
     ensures kept { OnlyReads (store_of counted.old) (store_of counted.new) }
+    ensures reads { reads (store_of counted.new) ≤ reads (store_of counted.old) + play_reads (row_view children.entry) }
     ensures same_reference { lent counted.new ≡ lent counted.old }
 {
     for child in children {
@@ -252,6 +291,7 @@ fn add_node(
         OnOk result (words.FindsNode (schema_view.view schema.now) stored (numbers_of chosen.now)
         (label_of child.entry) (below_of child.entry) found.old found.new) }
     ensures kept { OnlyReads (store_of counted.old) (store_of counted.new) }
+    ensures reads { reads (store_of counted.new) ≤ reads (store_of counted.old) + play_reads (node (label_of child.entry) (below_of child.entry) end) }
     ensures same_reference { lent counted.new ≡ lent counted.old }
 {
     match &child.node().kind {
@@ -289,6 +329,7 @@ fn add_data(
         OnOk result (schemas.is_data n.kind ≡ true → (chosen : _)
         → words.FindsNode (schema_view.view schema.now) stored chosen n (below_of child.entry) found.old found.new) }
     ensures kept { OnlyReads (store_of counted.old) (store_of counted.new) }
+    ensures reads { reads (store_of counted.new) ≤ reads (store_of counted.old) + play_reads (node (label_of child.entry) (below_of child.entry) end) }
     ensures same_reference { lent counted.new ≡ lent counted.old }
 {
     let count = count_of(counted, row, child.id());
@@ -310,6 +351,7 @@ fn add_absent(
     ensures finds { OnOk result (words.FindsAbsent (schema_view.view schema.now) (label_of child.entry)
         (below_of child.entry) found.old found.new) }
     ensures kept { OnlyReads (store_of counted.old) (store_of counted.new) }
+    ensures reads { 1 + reads (store_of counted.new) ≤ reads (store_of counted.old) + play_reads (node (label_of child.entry) (below_of child.entry) end) }
     ensures same_reference { lent counted.new ≡ lent counted.old }
 {
     match &child.node().kind {

@@ -1,6 +1,7 @@
 //! Rows of a store, also those in containers that are implied.
 
-ghost use Rattle.std.specs.Prelude.{◌≡◌};
+ghost use Rattle.std.specs.Prelude.{◌≡◌, ◌+◌, ◌≤◌};
+ghost use Rattle.ystore.specs.Store.{reads};
 ghost use Rattle.ystore.specs.Views.{store_of, lent};
 ghost use Rattle.yshape.specs.Parts.{OnlyReads};
 ghost use Rattle.yfacts.specs.Rows.{listed_in, count_in, first_in};
@@ -16,6 +17,7 @@ pub(crate) fn first_of(
 ) -> Option<NodeId>
     ensures first { result ≡ first_in schema (listed_in (store_of counted.old) row) }
     ensures kept { OnlyReads (store_of counted.old) (store_of counted.new) }
+    ensures reads { reads (store_of counted.new) ≤ reads (store_of counted.old) + 1 }
     ensures same_reference { lent counted.new ≡ lent counted.old }
 {
     match row {
@@ -28,6 +30,7 @@ pub(crate) fn first_of(
 pub(crate) fn count_of(counted: &mut Counted<'_>, row: Option<Row>, schema: SchemaId) -> usize
     ensures count { result ≡ count_in (listed_in (store_of counted.old) row) schema.0 }
     ensures kept { OnlyReads (store_of counted.old) (store_of counted.new) }
+    ensures reads { reads (store_of counted.new) ≤ reads (store_of counted.old) + 1 }
     ensures same_reference { lent counted.new ≡ lent counted.old }
 {
     match row {

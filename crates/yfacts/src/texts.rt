@@ -1,10 +1,11 @@
 //! The canonical texts of the leafs of a key, by which a path finds an entry.
 
-ghost use Rattle.std.specs.Prelude.{◌≡◌, IfOk, map, option_and_then, option_map, string_bytes};
+ghost use Rattle.std.specs.Prelude.{◌≡◌, ◌+◌, ◌*◌, ◌≤◌, IfOk, length, map, option_and_then, option_map, string_bytes};
 ghost use Rattle.yspec.specs.document.Document.{stored_in};
 ghost use Rattle.yspec.specs.edit.Editing as spec;
 ghost use Rattle.ymodel.specs.Layout.{numbers_of};
 ghost use Rattle.ymodel.specs.View as schema_view;
+ghost use Rattle.ystore.specs.Store.{reads};
 ghost use Rattle.ystore.specs.Views.{store_of, lent};
 ghost use Rattle.yshape.specs.Hanging.{Branches, Hangs, tree_of};
 ghost use Rattle.yshape.specs.Parts.{OnlyReads};
@@ -28,6 +29,7 @@ pub(crate) fn texts_of(
         IfOk result (λ texts. (f : Branches) → Hangs (store_of counted.old) row f
         → option_map (λ ts. map string_bytes ts.items) texts ≡ texts_in s (numbers_of leafs.now) (tree_of f)) }
     ensures kept { OnlyReads (store_of counted.old) (store_of counted.new) }
+    ensures reads { reads (store_of counted.new) ≤ reads (store_of counted.old) + 2 * length leafs.now }
     ensures same_reference { lent counted.new ≡ lent counted.old }
 {
     let mut texts = Vec::with_capacity(counted.alloc(), leafs.len())?;
@@ -51,6 +53,7 @@ fn leaf_text(
         IfOk result (λ text. (f : Branches) → Hangs (store_of counted.old) row f
         → option_map string_bytes text ≡ option_and_then (spec.text_of s) (stored_in id.0 (tree_of f))) }
     ensures kept { OnlyReads (store_of counted.old) (store_of counted.new) }
+    ensures reads { reads (store_of counted.new) ≤ reads (store_of counted.old) + 2 }
     ensures same_reference { lent counted.new ≡ lent counted.old }
 {
     match first_of(counted, Some(row), id) {
@@ -69,6 +72,7 @@ fn text_as(
     ensures text { IfOk result (λ text. option_map string_bytes text
         ≡ spec.text_of (schema_view.view schema.now) (leaf_at (store_of counted.old) id leaf)) }
     ensures kept { OnlyReads (store_of counted.old) (store_of counted.new) }
+    ensures reads { reads (store_of counted.new) ≤ reads (store_of counted.old) + 1 }
     ensures same_reference { lent counted.new ≡ lent counted.old }
 {
     let Some(node) = schema.kind(id) else {

@@ -1,12 +1,14 @@
 //! The tuples that tell the entries of a list apart (RFC 7950, 7.8.2 and 7.8.3).
 
-ghost use Rattle.std.specs.Prelude.{◌≡◌, IfOk, map, option_map};
+ghost use Rattle.std.specs.Prelude.{◌≡◌, ◌+◌, ◌*◌, ◌≤◌, IfOk, length, map, option_map};
 ghost use Rattle.yspec.specs.document.Instances.{own_path, paths_of, tuple_of_paths};
 ghost use Rattle.ymodel.specs.Layout.{numbers_of, tuples_view};
 ghost use Rattle.ymodel.specs.View as schema_view;
+ghost use Rattle.ystore.specs.Store.{reads};
 ghost use Rattle.ystore.specs.Views.{store_of, lent};
 ghost use Rattle.yshape.specs.Hanging.{Branches, Hangs, tree_of};
 ghost use Rattle.yshape.specs.Parts.{OnlyReads};
+ghost use Rattle.yfacts.specs.Reads.{path_reads};
 
 use crate::values::{leaf_value, value_at};
 use std::alloc::AllocError;
@@ -27,6 +29,7 @@ pub fn tuple_of(
         → option_map (λ vs. vs.items) tuple
         ≡ tuple_of_paths s (tree_of f) (paths_of (tuples_view tuples.now) number)) }
     ensures kept { OnlyReads (store_of counted.old) (store_of counted.new) }
+    ensures reads { reads (store_of counted.new) ≤ reads (store_of counted.old) + path_reads (paths_of (tuples_view tuples.now) number) }
     ensures same_reference { lent counted.new ≡ lent counted.old }
 {
     if number == 0 {
@@ -50,6 +53,7 @@ fn key_of(
         → option_map (λ vs. vs.items) tuple
         ≡ tuple_of_paths s (tree_of f) (map own_path (numbers_of keys.now))) }
     ensures kept { OnlyReads (store_of counted.old) (store_of counted.new) }
+    ensures reads { reads (store_of counted.new) ≤ reads (store_of counted.old) + 2 * length keys.now }
     ensures same_reference { lent counted.new ≡ lent counted.old }
 {
     if keys.is_empty() {
@@ -77,6 +81,7 @@ fn unique_of(
         → option_map (λ vs. vs.items) tuple
         ≡ tuple_of_paths s (tree_of f) (map (λ path. numbers_of path.items) paths.now)) }
     ensures kept { OnlyReads (store_of counted.old) (store_of counted.new) }
+    ensures reads { reads (store_of counted.new) ≤ reads (store_of counted.old) + path_reads (map (λ path. numbers_of path.items) paths.now) }
     ensures same_reference { lent counted.new ≡ lent counted.old }
 {
     if paths.is_empty() {

@@ -1,6 +1,6 @@
 //! The valid values of nodes of a store, and of leafs of a row.
 
-ghost use Rattle.std.specs.Prelude.{◌≡◌, Some, None, IfOk, option_map, option_and_then, if◌then◌else◌};
+ghost use Rattle.std.specs.Prelude.{◌≡◌, ◌+◌, ◌≤◌, Some, None, IfOk, length, option_map, option_and_then, if◌then◌else◌};
 ghost use Rattle.yspec.specs.Forest.{end, node};
 ghost use Rattle.yspec.specs.types.Types.{taken};
 ghost use Rattle.yspec.specs.schema.Schema.{node_at};
@@ -9,6 +9,7 @@ ghost use Rattle.yspec.specs.document.Instances as spec;
 ghost use Rattle.ytype.specs.View.{raw_of};
 ghost use Rattle.ymodel.specs.Layout.{kind_view, numbers_of};
 ghost use Rattle.ymodel.specs.View as schema_view;
+ghost use Rattle.ystore.specs.Store.{reads};
 ghost use Rattle.ystore.specs.Views.{store_of, lent, IsRead};
 ghost use Rattle.ystore.specs.declared.row.Row as rows;
 ghost use Rattle.yshape.specs.Hanging.{Branches, Numbered, Stands, stored_of, tree_of};
@@ -93,6 +94,7 @@ pub fn value_of(
         → Stands (store_of counted.old) above (node n below end)
         → value ≡ spec.value_of (schema_view.view schema.now) (stored_of n)) }
     ensures kept { OnlyReads (store_of counted.old) (store_of counted.new) }
+    ensures reads { reads (store_of counted.new) ≤ reads (store_of counted.old) + 2 }
     ensures same_reference { lent counted.new ≡ lent counted.old }
 {
     match counted.schema(id) {
@@ -137,6 +139,7 @@ pub fn leaf_value(
         IfOk result (λ value. (f : Branches) → HangsIn (store_of counted.old) row f
         → value ≡ spec.leaf_value s id.0 (stored_in id.0 (tree_of f))) }
     ensures kept { OnlyReads (store_of counted.old) (store_of counted.new) }
+    ensures reads { reads (store_of counted.new) ≤ reads (store_of counted.old) + 2 }
     ensures same_reference { lent counted.new ≡ lent counted.old }
 {
     match first_of(counted, row, id) {
@@ -156,6 +159,7 @@ fn container_row(
         (f : Branches) → HangsIn (store_of counted.old) row f
         → RowIs (store_of counted.new) result (spec.container_row s id.0 (row_in id.0 (tree_of f))) }
     ensures kept { OnlyReads (store_of counted.old) (store_of counted.new) }
+    ensures reads { reads (store_of counted.new) ≤ reads (store_of counted.old) + 1 }
     ensures same_reference { lent counted.new ≡ lent counted.old }
 {
     match first_of(counted, row, id) {
@@ -192,6 +196,7 @@ pub fn value_at(
         IfOk result (λ value. (f : Branches) → HangsIn (store_of counted.old) row f
         → value ≡ spec.value_at s (tree_of f) (numbers_of path.now)) }
     ensures kept { OnlyReads (store_of counted.old) (store_of counted.new) }
+    ensures reads { reads (store_of counted.new) ≤ reads (store_of counted.old) + (length path.now + 1) }
     ensures same_reference { lent counted.new ≡ lent counted.old }
 {
     let Some((first, others)) = path.split_first() else {

@@ -3,7 +3,8 @@
 ghost use Rattle.std.specs.Prelude.{◌≡◌, ◌+◌, ◌<◌, ◌^◌, None, length, vec_len, position, string_bytes};
 ghost use Rattle.yspec.specs.text.Text.{is_text};
 ghost use Rattle.yspec.specs.linking.Compiling.{IsCompiled};
-ghost use Rattle.ymodel.specs.Layout.{data_places, laid, forest_of, schema_view, IsLaidOut};
+ghost use Rattle.yspec.specs.linking.Planned.{same_number};
+ghost use Rattle.ymodel.specs.Layout.{data_places, laid, forest_of, number_of, schema_view, IsLaidOut};
 ghost use Rattle.ymodel.specs.Lookup.{FindsNamed, FindsWritten};
 ghost use Rattle.ymodel.specs.References.{FindsReferences};
 
@@ -49,7 +50,7 @@ impl Schema {
     ghost use Rattle.std.specs.Prelude.{◌≡◌, ◌<◌, ◌++◌, map, option_map, slice_get, IfOk, IfSome, None};
     ghost use Rattle.yspec.specs.Forest.{size};
     ghost use Rattle.yspec.specs.schema.Schema as spec;
-    ghost use Rattle.yspec.specs.schema.Schema.{node_at, children_of, child_in, child_named, child_written, way_to};
+    ghost use Rattle.yspec.specs.schema.Schema.{node_at, children_of, row_at, child_in, child_named, child_written, way_to};
     ghost use Rattle.yspec.specs.schema.References.{references_to};
     ghost use Rattle.ymodel.specs.Layout.{augment_view, node_view, number_of, numbers_of};
     ghost use Rattle.ymodel.specs.Lookup.{alone, module_passed, names_in, way_above};
@@ -131,14 +132,13 @@ impl Schema {
         }
     }
 
-    /// The child of a node of that number, in its row; nothing where it has none.
-    pub fn child_at(&self, parent: SchemaId, id: SchemaId) -> Option<Child<'_>>
+    /// The child of a node, or the top node, of that number, in its row; nothing where there is none.
+    pub fn child_at(&self, parent: Option<SchemaId>, id: SchemaId) -> Option<Child<'_>>
         ensures { option_map child_view result
-            ≡ child_in (children_of (view self.now) parent.0) id.0 }
+            ≡ child_in (row_at (view self.now) (number_of parent)) id.0 }
     {
         let slot = self.slots.get(id.number())?;
-        let above = slot.parent?;
-        if above.0 != parent.0 {
+        if !is_same(parent, slot.parent) {
             return None;
         }
         Some(Child::new(id, &slot.node, self.children(id)))
@@ -251,5 +251,16 @@ impl Schema {
             Some(found) => found.augments.as_slice(),
             None => &[],
         }
+    }
+}
+
+/// Whether two nodes, each of which may be none, are the same or both none.
+fn is_same(one: Option<SchemaId>, other: Option<SchemaId>) -> bool
+    ensures { result ≡ same_number (number_of one) (number_of other) }
+{
+    match (one, other) {
+        (Some(one), Some(other)) => one.0 == other.0,
+        (None, None) => true,
+        _ => false,
     }
 }

@@ -34,7 +34,7 @@ module _ {X : Type 0} where
 
 -- ---- ways
 
-length-ways : (above : List SchemaNode) (f : Forest SchemaNode) → length (ways above f) ≡ size f
+pub length-ways : (above : List SchemaNode) (f : Forest SchemaNode) → length (ways above f) ≡ size f
 length-ways above end = refl
 length-ways above (node n below after) = ap suc (length-append (ways (above ++ n ∷ []) below) (ways above after)
     ∙ ap₂ ◌+◌ (length-ways (above ++ n ∷ []) below) (length-ways above after))

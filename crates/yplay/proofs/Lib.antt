@@ -7,3 +7,5 @@ pub mod RowLemmas
 pub mod ListLemmas
 pub mod PlacedLemmas
 pub mod BelowDataLemmas
+pub mod OverLemmas
+pub mod TurnLemmas

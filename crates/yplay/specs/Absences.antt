@@ -87,6 +87,18 @@ defaults_in stored chosen (node n below after) = node_defaults stored chosen n n
     (defaults_in (stored_inside n.kind stored) (cases stored n.kind below) below)
     ++ defaults_in stored chosen after
 
+-- ---- of one node of a row
+
+abbrev pub told_at : (ℕ → ℕ) → List ℕ → SchemaNode → Forest SchemaNode → List Absent
+told_at stored chosen n below = node_absences stored chosen n n.kind below
+    (absences_in (stored_inside n.kind stored) (cases stored n.kind below) below)
+
+abbrev pub used_at : (ℕ → ℕ) → List ℕ → SchemaNode → Forest SchemaNode → List Default
+used_at stored chosen n below = node_defaults stored chosen n n.kind
+    (defaults_in (stored_inside n.kind stored) (cases stored n.kind below) below)
+
+-- ---- below a stored node
+
 -- how often a value is a default in use below a stored node, or at the top
 abbrev pub defaults_below : ℕ → Val → Forest SchemaNode → Tree → ℕ
 defaults_below number v children below = count_by (is_default number v) (defaults_in (instances_in below) [] children)

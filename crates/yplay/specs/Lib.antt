@@ -1,3 +1,4 @@
 pub mod Absences
 pub mod Merging
 pub mod Worked
+pub mod Over

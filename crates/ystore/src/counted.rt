@@ -111,6 +111,18 @@ impl<'a> Counted<'a> {
         }
     }
 
+    /// What is told, at a place, of what isn't stored in a row.
+    pub fn absence(&mut self, row: Row, place: usize) -> Option<Absence>
+        ensures absence { result ≡ slice_get (store.play_at (store_of self.old) row) place }
+        ensures counted { IsRead self.old self.new }
+    {
+        self.nodes.count.rise();
+        match self.nodes.record(row) {
+            Some(record) => record.told.play.get(place).copied(),
+            None => None,
+        }
+    }
+
     /// How many nodes a row has.
     pub fn child_count(&mut self, row: Row) -> usize
         ensures count { result ≡ length (store.children_at (store_of self.old) row) }

@@ -1,5 +1,5 @@
 -- What nodes hold and give is entered in an account, one after another.
-use Rattle.std.proofs.Common.{◌≡◌, ℕ, suc, ◌+◌, ◌≤◌, Bool, true, false, List, [], ◌∷◌, ◌++◌, length, map, drop, Option, Some, option_map, refl, sym, ap, ap₂, ◌∙◌, arith, subst, append_assoc}
+use Rattle.std.proofs.Common.{◌≡◌, ℕ, suc, ◌+◌, ◌*◌, ◌≤◌, Bool, true, false, List, [], ◌∷◌, ◌++◌, length, map, drop, Option, Some, option_map, refl, sym, ap, ap₂, ◌∙◌, arith, subst, append_assoc}
 use Rattle.std.specs.List.{flat_map}
 use Rattle.std.proofs.lemmas.Bool.{false≢true}
 use Rattle.std.proofs.lemmas.List.{flat_map_more, length-append, map-append}
@@ -22,12 +22,15 @@ use Rattle.yshape.proofs.FoundLemmas.{end_more}
 use Rattle.yshape.proofs.PartLemmas.{label_is, stands_read, children_read}
 use Rattle.yshape.proofs.GrowLemmas.{ids_node}
 use Rattle.yplay.specs.Absences.{Absent, Default}
+use Rattle.yreach.specs.Sizes.{levels}
 use Rattle.yfacts.specs.Given.{referred, own_values}
 use Rattle.yfacts.specs.Keys.{Holding, held_with, held_by}
 use Rattle.yfacts.specs.Judging.{Judged, value_judged}
 use Rattle.ytold.specs.Accounts.{Enters, StandsThere, News, news_view, news_of}
 use Rattle.ytold.specs.declared.account.News as rust
-use Rattle.ytold.specs.Standing.{Standing, Every, IsFewIn, IsFewThere, standing, keys_held, values_given, absences_in_row, absences_there, defaults_in_row, on_the_way, way_held}
+use Rattle.yfacts.specs.Reads.{names_of}
+use Rattle.ytold.specs.Reads.{way_reads}
+use Rattle.ytold.specs.Standing.{Standing, Every, standing, keys_held, values_given, absences_in_row, absences_there, defaults_in_row, on_the_way, way_held}
 use Rattle.ytold.specs.declared.account.Account.{Account}
 use Rattle.ytold.proofs.EachLemmas.{every_second, every_join}
 
@@ -71,9 +74,6 @@ values_are schema s of was own now is first second =
 pub absences_are : (schema : Schema) (s : Standing) (of : Option SchemaId) → of ≡ Some s.label.schema
     → absences_in_row schema (number_of of) (tree_of s.below) ≡ absences_there schema s
 absences_are schema s of is = ap (λ (o : Option SchemaId). absences_in_row schema (number_of o) (tree_of s.below)) is
-
-pub few_are : (schema : Schema) (s : Standing) (of : Option SchemaId) → of ≡ Some s.label.schema → IsFewIn schema (number_of of) (tree_of s.below) → IsFewThere schema s
-few_are schema s of is few = subst (λ (o : Option SchemaId). IsFewIn schema (number_of o) (tree_of s.below)) is few
 
 -- ---- all that stand
 
@@ -188,6 +188,17 @@ enters_same schema a b done all is = subst (λ (ss : List Standing). Enters a b 
 
 -- ---- a way
 
+way_more : (schema : Schema) (frame : Frame) (way : Way)
+    → way_reads schema (frame ∷ way) ≡ way_reads schema way + (4 + (levels schema + 4) * names_of schema frame.label.schema.0)
+way_more schema frame way = let l : length (frame ∷ way) ≡ suc (length way) = refl in omega (arith, l)
+
+way_within : (schema : Schema) (way up down : Way) → way ≡ up ++ down → way_reads schema down ≤ way_reads schema way
+way_within schema way up down is = let e = ap (way_reads schema) is in let less = longer up in omega (arith, e, less)
+  where
+    longer : (up : Way) → way_reads schema down ≤ way_reads schema (up ++ down)
+    longer [] = omega arith
+    longer (frame ∷ up) = let rest = longer up in let one = way_more schema frame (up ++ down) in omega (arith, rest, one)
+
 -- a row on a way, the way to it, and the way on from it
 pub record Halfway (way : Way) (here : Row) (left : ℕ) : Type 0 where
   pub up : Way
@@ -278,6 +289,7 @@ module _ (schema : Schema) (nodes : Nodes) (way : Way) (f : Branches) (hangs : H
       pub standing_there : Standing
       pub there : StandsThere nodes id standing_there
       pub then : Halfway way standing_there.row left
+      pub cost : way_reads schema then.down ≡ way_reads schema h.down + (4 + (levels schema + 4) * names_of schema standing_there.label.schema.0)
       pub held : (was now mid : List Holding) → mid ≡ was ++ way_held schema (end_of Top h.up) h.down f → now ≡ mid ++ keys_held schema standing_there
           → now ≡ was ++ way_held schema (end_of Top then.up) then.down f
 
@@ -293,6 +305,7 @@ module _ (schema : Schema) (nodes : Nodes) (way : Way) (f : Branches) (hangs : H
               standing_there = s;
               there = record { is_id = same_id; stands = stands_there };
               then = record { up = l.first; down = l.frame ∷ h.down; whole = split; is_here = refl; few = shorter };
+              cost = way_more schema l.frame h.down;
               held = λ was now mid before after.
                   after
                   ∙ (ap (λ hs. hs ++ keys_held schema s) (before ∙ ap (λ (r : Row). was ++ way_held schema r h.down f) (here ∙ ap Below (sym same_id)))
@@ -332,15 +345,36 @@ module _ (schema : Schema) (nodes : Nodes) (way : Way) (f : Branches) (hangs : H
 pub moved_on : (schema : Schema) (nodes now : Nodes) (way : Way) (f : Branches) (hangs : Hangs nodes Top (around way f)) (id : NodeId) (here : Row) (left less : ℕ) → left ≡ suc less
     → here ≡ Below id → OnlyReads nodes now → (above : Row) (was mid after : List Holding) (h : Halfway way here left) → mid ≡ was ++ way_held schema (end_of Top h.up) h.down f
     → ((s : Standing) → StandsThere now id s → above ≡ s.row) → ((s : Standing) → StandsThere now id s → after ≡ mid ++ keys_held schema s)
-    → (h : Halfway way above less) × (after ≡ was ++ way_held schema (end_of Top h.up) h.down f)
-moved_on schema nodes now way f hangs id here left less fewer is reads above was mid after h so row held =
+    → (first count next : ℕ) → count ≤ first + way_reads schema h.down
+    → ((s : Standing) → StandsThere now id s → next ≤ count + (4 + (levels schema + 4) * names_of schema s.label.schema.0))
+    → (h : Halfway way above less) × (after ≡ was ++ way_held schema (end_of Top h.up) h.down f) × (next ≤ first + way_reads schema h.down)
+moved_on schema nodes now way f hangs id here left less fewer is reads above was mid after h so row held first count next so_far more =
     let half : Halfway way (Below id) (suc less) =
     record { up = h.up; down = h.down; whole = h.whole; is_here = h.is_here ∙ is; few = let few = h.few in omega (arith, few, fewer) } in
     let up = step_up schema nodes way f hangs id less half in
     let there = there_read nodes now id up.standing_there reads up.there in (
       record { up = up.then.up; down = up.then.down; whole = up.then.whole; is_here = up.then.is_here ∙ sym (row up.standing_there there); few = up.then.few },
       up.held was after mid so (held up.standing_there there),
+      let cost = up.cost in let one = more up.standing_there there in omega (arith, cost, one, so_far),
     )
+
+-- what is read is no more than for the whole way, also where the node there is the last
+pub read_so_far : (schema : Schema) (way : Way) (here : Row) (left : ℕ) (h : Halfway way here left) (first count : ℕ) → count ≤ first + way_reads schema h.down
+    → count ≤ first + way_reads schema way
+read_so_far schema way here left h first count so_far = let all = way_within schema way h.up h.down h.whole in omega (arith, all, so_far)
+
+pub read_once_more : (schema : Schema) (nodes now : Nodes) (way : Way) (f : Branches) (hangs : Hangs nodes Top (around way f)) (id : NodeId) (here : Row) (left less : ℕ) → left ≡ suc less
+    → here ≡ Below id → OnlyReads nodes now → (h : Halfway way here left) → (first count next : ℕ) → count ≤ first + way_reads schema h.down
+    → ((s : Standing) → StandsThere now id s → next ≤ count + (4 + (levels schema + 4) * names_of schema s.label.schema.0))
+    → next ≤ first + way_reads schema way
+read_once_more schema nodes now way f hangs id here left less fewer is reads h first count next so_far more =
+    let half : Halfway way (Below id) (suc less) =
+    record { up = h.up; down = h.down; whole = h.whole; is_here = h.is_here ∙ is; few = let few = h.few in omega (arith, few, fewer) } in
+    let up = step_up schema nodes way f hangs id less half in
+    let cost = up.cost in
+    let one = more up.standing_there (there_read nodes now id up.standing_there reads up.there) in
+    let all = way_within schema way up.then.up up.then.down up.then.whole in
+    omega (arith, cost, one, so_far, all)
 
 -- ---- what is to be told of new nodes
 

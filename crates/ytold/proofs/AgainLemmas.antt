@@ -1,5 +1,5 @@
 -- A document of which a row is changed is told of again, when all steps are done.
-use Rattle.std.proofs.Common.{◌≡◌, ℕ, ◌+◌, ◌<◌, ◌≤◌, true, false, List, [], ◌∷◌, Option, Some, None, is_some, length, option_map, refl, sym, ap, ◌∙◌, arith, cond}
+use Rattle.std.proofs.Common.{◌≡◌, ℕ, ◌+◌, ◌<◌, ◌≤◌, true, false, List, [], ◌∷◌, Option, Some, None, is_some, length, option_map, refl, sym, ap, ◌∙◌, arith, cond, ◌*◌}
 use Rattle.std.specs.Prelude.{IfSome, count_by}
 use Rattle.std.specs.Option.{option_map_or}
 use Rattle.std.proofs.lemmas.Bool.{false≢true}
@@ -10,7 +10,7 @@ use Rattle.yspec.specs.document.Instances.{times_in}
 use Rattle.ycheck.specs.declared.fault.FaultCode.{FaultCode}
 use Rattle.ymodel.specs.declared.node.SchemaId.{SchemaId}
 use Rattle.ystore.specs.Held.{Held, Told, with_play}
-use Rattle.ystore.specs.Store.{entry_at, held_at, instances_at, play_at, same_row, has_room}
+use Rattle.ystore.specs.Store.{entry_at, held_at, instances_at, play_at, same_row, has_room, reads}
 use Rattle.ystore.specs.declared.record.Judged.TheVariants.{Right}
 use Rattle.ystore.specs.declared.row.NodeId.{NodeId}
 use Rattle.ystore.specs.declared.row.Row.{Row}
@@ -27,7 +27,7 @@ use Rattle.yplay.specs.Absences.{Default, is_default}
 use Rattle.yfacts.specs.Given.{is_referred}
 use Rattle.yfacts.specs.InPlay.{absence_views}
 use Rattle.yfacts.specs.Keys.{value_key, key_view}
-use Rattle.ytell.specs.Keys.{Agrees, Keys, slot_of}
+use Rattle.ytell.specs.Keys.{Agrees, Keys, slot_of, two_climbs}
 use Rattle.ytell.specs.Totals.{IsTree, OnlyFaults, StandsIn, Totals, told_at}
 use Rattle.ytell.proofs.AgreeLemmas.{entries_keys}
 use Rattle.ytold.specs.Assigned.{CanJoin, joined}
@@ -37,7 +37,7 @@ use Rattle.ytold.specs.Growing.{times_valued}
 use Rattle.ytold.specs.IsTold.{IsFresh, IsTold, TellsOwn, is_counted}
 use Rattle.ytold.specs.Joins.{CanHoldAll, Follows, KeepsInstances, KeepsRows, Tidies}
 use Rattle.ytold.specs.Plans.{IsReady, Plans, joining, row_schema}
-use Rattle.ytold.specs.Standing.{Standing, Every, IsFewIn, standing, on_the_way, absences_in_row}
+use Rattle.ytold.specs.Standing.{Standing, Every, standing, on_the_way, absences_in_row}
 use Rattle.ytold.specs.Telling.{told_by}
 use Rattle.ytold.specs.declared.planning.Plan.{Plan}
 use Rattle.ytold.proofs.BareLemmas.{bare_still, bare_with_play, top_untold}
@@ -45,7 +45,7 @@ use Rattle.ytold.proofs.EachLemmas.{every_join, each_around, each_other, each_st
 use Rattle.ytold.proofs.HoldLemmas.{can_hold_all}
 use Rattle.ytold.proofs.InstanceLemmas.{valued_is, valued_none}
 use Rattle.ytold.proofs.JoiningLemmas.{shapes_of}
-use Rattle.ytold.proofs.OwnKeptLemmas.{absences_same, few_same, labels_same}
+use Rattle.ytold.proofs.OwnKeptLemmas.{absences_same, labels_same}
 use Rattle.ytold.proofs.RetellLemmas.{all_comes, all_goes, can_join_all, keyed_then, then, without}
 use Rattle.ytold.proofs.RetoldLemmas.{agrees_told, new_stands, own_come, own_told}
 use Rattle.ytold.proofs.TidyLemmas.{tidied_follows}
@@ -113,11 +113,6 @@ top_told schema (frame ∷ way) f g start changed play there told was now =
     (told ∙ ap (λ b. cond b (option_map (with_play play) (told_at start Top)) (told_at start Top)) (end_below frame.label.id way)))
     ∙ (was ∙ absences_same schema None (tree_of (around (frame ∷ way) f)) (tree_of (around (frame ∷ way) g)) (labels_same frame way f g))
 
-top_few : (schema : Schema) (way : Way) (f g : Branches) → IsFewIn schema None (tree_of (around way f)) → IsFewIn schema (row_schema None way) (tree_of g)
-    → IsFewIn schema None (tree_of (around way g))
-top_few schema [] f g was now = now
-top_few schema (frame ∷ way) f g was now = few_same schema None (tree_of (around (frame ∷ way) f)) (tree_of (around (frame ∷ way) g)) (labels_same frame way f g) was
-
 module _ (schema : Schema) (way : Way) (f loose g left_over : Branches) (of : SchemaId) (change : Change) (swaps : Swaps of change f loose g left_over)
     (plan : Plan) (plans : Plans schema way f loose g left_over plan) (start : Nodes)
     (once : (k : ℕ) → times k (around way f) + times k loose ≤ 1) (is : IsTold schema start (around way f))
@@ -164,6 +159,12 @@ module _ (schema : Schema) (way : Way) (f loose g left_over : Branches) (of : Sc
       tidied_follows now (around way g) told met last
       (joins (without schema way f loose g left_over of change swaps plan plans start once is) (around way g) tree (agrees_told schema way f loose g left_over of change swaps plan plans start once is above at mid changed told follows tells entries news only fresh) totals (can_join_all schema way f loose g left_over of change swaps plan plans start once is) holds) tidies
 
+  -- what is read where keys are joined
+  pub joined_reads : ((held : Keys) (h : Branches) → IsTree told h → Agrees told held h → Totals told h → CanJoin slot_of held plan.joins.items → CanHoldAll told h plan.joins.items
+      → reads met ≤ reads told + length plan.joins.items * two_climbs h) → reads met ≤ reads told + length plan.joins.items * two_climbs (around way g)
+  joined_reads more =
+      more (without schema way f loose g left_over of change swaps plan plans start once is) (around way g) tree (agrees_told schema way f loose g left_over of change swaps plan plans start once is above at mid changed told follows tells entries news only fresh) totals (can_join_all schema way f loose g left_over of change swaps plan plans start once is) holds
+
   instances : (key : rust.Key) → instances_at last key ≡ instances_at mid key
   instances key =
       tidies.keys.instances key
@@ -177,7 +178,7 @@ module _ (schema : Schema) (way : Way) (f loose g left_over : Branches) (of : Sc
       let was = is.values key number v sees refers in
       let goes = valued_is key number v sees plan.goes.items ∙ ap (λ (ds : List Default). count_by (is_default number v) ds) plans.goes in
       let comes = valued_is key number v sees plan.comes.items ∙ ap (λ (ds : List Default). count_by (is_default number v) ds) plans.comes in
-      let sums = values_changed schema number v refers of change way f loose g left_over swaps in
+      let sums = values_changed schema number v refers of change way f loose g left_over swaps plans.used plans.used_then plans.uses in
       omega (arith, same, moved, was, goes, comes, sums)
 
   uncounted : (key : rust.Key) → is_counted schema (key_view key) ≡ false → instances_at last key ≡ 0
@@ -221,7 +222,6 @@ module _ (schema : Schema) (way : Way) (f loose g left_over : Branches) (of : Sc
         is_wrong = t.is_wrong;
         is_play = t.is_play;
         are_flags = t.are_flags;
-        few = t.few;
       })
       (own_told schema way f loose g left_over of change swaps plan plans start once is above at mid changed told follows tells entries news only fresh)
 
@@ -235,7 +235,7 @@ module _ (schema : Schema) (way : Way) (f loose g left_over : Branches) (of : Sc
         bare = bare_then;
         top = top_then;
         others = uncounted;
-        few = top_few schema way f g is.few plans.few_row;
+        few = is.few;
         each = own_last;
         totals = after.totals;
       }

@@ -32,12 +32,14 @@ use Rattle.ytell.proofs.AgreeLemmas.{agrees_empty, agrees_play}
 use Rattle.ytell.proofs.LawLemmas.{faults_shapes, silent_document, tree_kept}
 use Rattle.ytold.specs.Bare.{IsBare}
 use Rattle.ytold.specs.Empty.{IsEmpty}
+use Rattle.ytold.specs.Few.{HasFewDefaults}
 use Rattle.ytold.specs.Growing.{AreThere, Grows, times_valued}
 use Rattle.ytold.specs.IsTold.{IsTold}
 use Rattle.ytold.specs.Joins.{Follows, KeepsRows}
-use Rattle.ytold.specs.Standing.{Every, IsFewIn, absences_in_row, defaults_in_row}
+use Rattle.ytold.specs.Standing.{Every, absences_in_row, defaults_in_row}
 use Rattle.ytold.proofs.AgainLemmas.{play_by}
 use Rattle.ytold.proofs.BareLemmas.{bare_still, bare_with_play}
+use Rattle.ytold.proofs.FewLemmas.{few_in_use}
 use Rattle.ytold.proofs.GrownLemmas.{grown_keeps}
 use Rattle.ytold.proofs.InstanceLemmas.{valued_is, valued_none}
 use Rattle.ytold.proofs.JoiningLemmas.{shapes_of, tree_on}
@@ -92,7 +94,7 @@ module _ (schema : Schema) (start read ready added last : Nodes) (empty : IsEmpt
       each (Below id) = subst (λ o. IfSome o IsFew) (sym (ap (option_map (λ (h : Held). h.told)) (held_ready (Below id) ∙ empty.none_below id))) tt
 
   module _ (values : List (SchemaId × Val)) (is_values : given_view values ≡ defaults_in_row schema None end)
-      (is_play : absence_views play ≡ absences_in_row schema None end) (few : IsFewIn schema None end) (few_rows : (o : Option ℕ) → size (row_at schema o) ≤ 2 ^ 32)
+      (is_play : absence_views play ≡ absences_in_row schema None end) (few : HasFewDefaults schema) (few_rows : (o : Option ℕ) → size (row_at schema o) ≤ 2 ^ 32)
       (there : AreThere ready values)
       (add_follows : (held : Keys) (f : Branches) → IsTree ready f → Agrees ready held f → Totals ready f → Follows held f ready added)
       (add_instances : AreThere ready values → ((key : rust.Key) → instances_at ready key + times_valued key values ≤ 2 ^ 64 - 1)
@@ -114,7 +116,8 @@ module _ (schema : Schema) (start read ready added last : Nodes) (empty : IsEmpt
         let most = count_by-le-length (λ (p : SchemaId × Val). same_key (Value p.0 p.1) key) values in
         let views = ap length is_values in
         let same = length_given values in
-        omega (arith, most, views, same, few)
+        let used = few_in_use schema few None end in
+        omega (arith, most, views, same, used)
 
     instances : (key : rust.Key) → instances_at last key ≡ times_valued key values
     instances key =

@@ -1,12 +1,13 @@
 -- A change of a row, with the totals above it.
-use Rattle.std.proofs.Common.{◌≡◌, ℕ, ◌+◌, ◌-◌, ◌^◌, ◌≤◌, ◌<◌, Bool, true, false, List, [], ◌∷◌, min, Option, Some, None, option_map, refl, sym, ap, ◌∙◌, arith, subst, cond}
+use Rattle.std.proofs.Common.{◌≡◌, ℕ, ◌+◌, ◌-◌, ◌^◌, ◌≤◌, ◌<◌, Bool, true, false, List, [], ◌∷◌, length, min, Option, Some, None, option_map, refl, sym, ap, ◌∙◌, arith, subst, cond}
 use Rattle.std.specs.Prelude.{IfSome}
 use Rattle.std.specs.Option.{option_map_or}
-use Rattle.yspec.specs.Forest.{end, node, size}
+use Rattle.yspec.specs.Forest.{end, node, size, levels}
 use Rattle.ycheck.specs.declared.fault.FaultCode.{FaultCode}
 use Rattle.ymodel.specs.declared.node.SchemaId.{SchemaId}
 use Rattle.ystore.specs.Rows.{Child}
 use Rattle.ystore.specs.Held.{Held, with_children, with_play}
+use Rattle.ystore.specs.Store as store
 use Rattle.ystore.specs.Store.{held_at, entry_at, total_at, same_row, ChangesRow}
 use Rattle.ystore.specs.declared.key.Key.{Key}
 use Rattle.ystore.specs.declared.row.NodeId.{NodeId}
@@ -68,6 +69,10 @@ pub entries_kept : (ids : List NodeId) (before after : Nodes) → Removes ids be
 entries_kept [] before after removes key = ap (λ (n : Nodes). entry_at n key) removes
 entries_kept (x ∷ ids) before after (next, changes, rest) key = entries_kept ids next after rest key ∙ changes.entries key
 
+reads_kept : (ids : List NodeId) (before after : Nodes) → Removes ids before after → store.reads after ≡ store.reads before
+reads_kept [] before after removes = ap store.reads removes
+reads_kept (x ∷ ids) before after (next, changes, rest) = reads_kept ids next after rest ∙ changes.reads
+
 -- ---- the change
 
 module _ (way : Way) (f loose g left : Branches) (of : SchemaId) (change : Change) (swaps : Swaps of change f loose g left) (above : Row) (at : end_of Top way ≡ above)
@@ -112,6 +117,19 @@ module _ (way : Way) (f loose g left : Branches) (of : SchemaId) (change : Chang
           subst (λ (r : Row). told_at told r ≡ option_map (with_play play) (told_at start r)) (same_rows above row e)
           (plays.changed ∙ ap (option_map (with_play play)) (before above))
       by false e = plays.others row e ∙ before row
+
+  -- ---- what is read
+
+  pub reads_last : store.reads read ≤ store.reads start + 1 → (IsTree made (around way g) → store.reads climbed ≤ store.reads made + length way)
+      → (IsTree climbed (around way g) → StandsIn above (around way g) → store.reads told ≤ store.reads climbed + (1 + levels (around way g)))
+      → store.reads last ≤ store.reads start + (2 + (length way + levels (around way g)))
+  reads_last one up then =
+      let tree = tree_kept climbed (around way g) above left (keeps_same made climbed (faults_shapes made climbed only) (around way g) above left keeps_then) in
+      let same = makes.reads in
+      let climbing = up (tree_kept made (around way g) above left keeps_then) in
+      let telling = then tree (subst (λ (r : Row). StandsIn r (around way g)) at (end_stands way g)) in
+      let gone = reads_kept old told last removes in
+      omega (arith, one, same, climbing, telling, gone)
 
   -- ---- totals
 

@@ -26,7 +26,7 @@ use Rattle.ytell.specs.Keys.{own_of, own_at, wrong_of, is_missing}
 use Rattle.ytell.specs.Totals.{StandsIn, told_at, judged_at}
 use Rattle.ytold.specs.Accounts.{News, news_view, news_of}
 use Rattle.ytold.specs.IsTold.{TellsOwn, wrong_in}
-use Rattle.ytold.specs.Standing.{Standing, Every, IsFewThere, absences_there}
+use Rattle.ytold.specs.Standing.{Standing, Every, absences_there}
 use Rattle.ytold.specs.Telling.{AreNew, told_by, with_news}
 use Rattle.ytold.specs.Unlike.{NotIn, Unlike}
 use Rattle.ytold.specs.declared.account.News as rust
@@ -203,22 +203,21 @@ without_first before after n ns (s ∷ ss) others told = (
 
 -- and then what no key tells of them is told
 pub own_new : (schema : Schema) (before after : Nodes) (ss : List Standing) (news : List rust.News)
-    → map news_view news ≡ map (news_of schema) ss → Unlike ss → Every (IsFewThere schema) ss
+    → map news_view news ≡ map (news_of schema) ss → Unlike ss
     → Every (λ s. told_at before (Below s.label.id) ≡ Some (nothing_told (flag_count schema s.label.schema.0))) ss
     → Every (λ s. own_at after (Below s.label.id) ≡ option_map own_of (told_by news (Below s.label.id) (told_at before (Below s.label.id)))) ss
     → Every (λ s. TellsOwn schema after s.row s.label s.below) ss
-own_new schema before after [] news so unlike few fresh told = tt
-own_new schema before after (s ∷ ss) [] so unlike few fresh told = absurd (none-more (news_of schema s) (map (news_of schema) ss) so)
-own_new schema before after (s ∷ ss) (n ∷ ns) so unlike few fresh told = (
+own_new schema before after [] news so unlike fresh told = tt
+own_new schema before after (s ∷ ss) [] so unlike fresh told = absurd (none-more (news_of schema s) (map (news_of schema) ss) so)
+own_new schema before after (s ∷ ss) (n ∷ ns) so unlike fresh told = (
   record {
     own = own_of (with_news n (nothing_told (flag_count schema s.label.schema.0)));
     held = told.0 ∙ ap (option_map own_of) all_told;
     is_wrong = wrong_same n.judged ∙ ap (λ (v : News). wrong_in v.judged) same_news;
     is_play = ap (λ (v : News). v.absences) same_news;
     are_flags = length-replicate (flag_count schema s.label.schema.0) false;
-    few = few.0;
   },
-  own_new schema before after ss ns rest unlike.1 few.1 fresh.1
+  own_new schema before after ss ns rest unlike.1 fresh.1
       (without_first before after n ns ss (subst (λ (i : NodeId). NotIn i.0 ss) (sym same_id) unlike.0) told.1),
 )
   where

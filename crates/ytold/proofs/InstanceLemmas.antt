@@ -14,8 +14,6 @@ use Rattle.ytype.specs.Laws.{same_value_equiv}
 use Rattle.ystore.specs.Store.{same_key}
 use Rattle.ystore.specs.declared.key.Key as rust
 use Rattle.ystore.specs.declared.key.Key.TheVariants.{Value}
-use Rattle.ystore.specs.declared.row.Row.{Row}
-use Rattle.ystore.specs.declared.row.Row.TheVariants.{Top, Below}
 use Rattle.yshape.specs.Hanging.{Branches, stored_of, tree_of}
 use Rattle.yplay.specs.Absences.{Default, is_default}
 use Rattle.yfacts.specs.Given.{given_view, is_referred}
@@ -23,8 +21,9 @@ use Rattle.yfacts.specs.Keys.{Key, value_key, item_key, tuple_key, texts_key, ke
 use Rattle.yfacts.proofs.SameLemmas.{same_views}
 use Rattle.ytold.specs.IsTold.{is_counted}
 use Rattle.ytold.specs.Growing.{times_valued}
-use Rattle.ytold.specs.Standing.{Every, IsFewIn, IsFewThere, standing, defaults_in_row}
-use Rattle.ytold.proofs.EachLemmas.{every_first, every_second}
+use Rattle.ytold.specs.Few.{HasFewDefaults}
+use Rattle.ytold.specs.Standing.{Every, defaults_in_row}
+use Rattle.ytold.proofs.FewLemmas.{few_in_use}
 use Rattle.ytold.proofs.ValueLemmas.{in_use}
 
 -- ---- by numbers and values
@@ -75,12 +74,13 @@ valued_none schema key off (p ∷ ps) all =
 
 -- ---- few
 
-module _ (schema : Schema) (number : ℕ) (v : Val) (is : is_referred schema number ≡ true) where
-  pub few_below : (above : Option ℕ) (t : Tree) → IsFewIn schema above t → times_below schema number v (row_at schema above) t ≤ 2 ^ 32
-  few_below above t few =
+module _ (schema : Schema) (number : ℕ) (v : Val) (is : is_referred schema number ≡ true) (few : HasFewDefaults schema) where
+  pub few_below : (above : Option ℕ) (t : Tree) → times_below schema number v (row_at schema above) t ≤ 2 ^ 32
+  few_below above t =
       let used = in_use schema number v is above t in
       let most = count_by-le-length (is_default number v) (defaults_in_row schema above t) in
-      omega (arith, used, most, few)
+      let all = few_in_use schema few above t in
+      omega (arith, used, most, all)
 
   own_few : (s : Stored) → cond (eqb s.schema_number number) (cond (is_value v (value_of schema s)) 1 0) 0 ≤ 1
   own_few s = by (eqb s.schema_number number) (is_value v (value_of schema s))
@@ -93,17 +93,17 @@ module _ (schema : Schema) (number : ℕ) (v : Val) (is : is_referred schema num
       by true false = omega arith
       by false b = omega arith
 
-  pub few_nodes : (above : Row) (f : Branches) → Every (IsFewThere schema) (standing above f) → weigh_nodes (times_at schema number v) (tree_of f) ≤ (2 ^ 32 + 1) * size f
-  few_nodes above end few = omega arith
-  few_nodes above (node n below after) few =
-      let here = few_below (Some n.schema.0) (tree_of below) few.0 in
+  pub few_nodes : (f : Branches) → weigh_nodes (times_at schema number v) (tree_of f) ≤ (2 ^ 32 + 1) * size f
+  few_nodes end = omega arith
+  few_nodes (node n below after) =
+      let here = few_below (Some n.schema.0) (tree_of below) in
       let own = own_few (stored_of n) in
-      let first = few_nodes (Below n.id) below (every_first (IsFewThere schema) (standing (Below n.id) below) (standing above after) few.1) in
-      let second = few_nodes above after (every_second (IsFewThere schema) (standing (Below n.id) below) (standing above after) few.1) in
+      let first = few_nodes below in
+      let second = few_nodes after in
       omega (arith, here, own, first, second)
 
-  pub few_in : (f : Branches) → IsFewIn schema None (tree_of f) → Every (IsFewThere schema) (standing Top f) → times_in schema (tree_of f) number v ≤ (2 ^ 32 + 1) * (size f + 1)
-  few_in f top few =
-      let row = few_below None (tree_of f) top in
-      let nodes = few_nodes Top f few in
+  pub few_in : (f : Branches) → times_in schema (tree_of f) number v ≤ (2 ^ 32 + 1) * (size f + 1)
+  few_in f =
+      let row = few_below None (tree_of f) in
+      let nodes = few_nodes f in
       omega (arith, row, nodes)

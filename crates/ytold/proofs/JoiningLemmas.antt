@@ -1,5 +1,5 @@
 -- Nodes that leave keys and join them, one after another.
-use Rattle.std.proofs.Common.{◌≡◌, ℕ, ◌+◌, ◌<◌, ◌≤◌, Bool, true, false, List, [], ◌∷◌, length, drop, get_or, Option, Some, None, option_map, refl, sym, ap, ◌∙◌, arith, subst}
+use Rattle.std.proofs.Common.{◌≡◌, ℕ, ◌+◌, ◌*◌, ◌<◌, ◌≤◌, Bool, true, false, List, [], ◌∷◌, length, drop, get_or, Option, Some, None, option_map, refl, sym, ap, ◌∙◌, arith, subst}
 use Rattle.std.specs.Option.{option_map_or}
 use Rattle.std.specs.Prelude.{string_bytes}
 use Rattle.std.proofs.lemmas.Bool.{false≢true}
@@ -7,7 +7,7 @@ use Rattle.std.proofs.lemmas.Option.{none-some, same_Some}
 use Rattle.std.proofs.lemmas.List.{at_drop_more, at_drop_all}
 use Rattle.ystore.specs.Entries.{Entry}
 use Rattle.ystore.specs.Held.{Held, Told}
-use Rattle.ystore.specs.Store.{held_at, same_at, entry_at, same_key}
+use Rattle.ystore.specs.Store.{held_at, same_at, entry_at, reads, same_key}
 use Rattle.ystore.specs.declared.record.Judged.{Judged}
 use Rattle.ystore.specs.declared.record.Judged.TheVariants.{Right, Wrong, Missing}
 use Rattle.ystore.specs.declared.row.NodeId.{NodeId}
@@ -19,7 +19,7 @@ use Rattle.yshape.specs.Hanging.{Branches, times}
 use Rattle.yshape.specs.Changes.{SameShapes}
 use Rattle.yshape.proofs.FrameLemmas.{hangs_same}
 use Rattle.ytell.specs.Keys as told
-use Rattle.ytell.specs.Keys.{AreKeys, Agrees, ChangesKey, CanHold, IsJudged, Keys, Own, flag_of, has_key, is_missing, own_at, own_of, slot_for, slot_of, with_key, wrong_of}
+use Rattle.ytell.specs.Keys.{AreKeys, Agrees, ChangesKey, CanHold, IsJudged, Keys, Own, flag_of, has_key, is_missing, own_at, own_of, slot_for, slot_of, two_climbs, with_key, wrong_of}
 use Rattle.ytold.specs.Assigned as assigned
 use Rattle.ytold.specs.Assigned.{CanJoin, CanLeave, joined, left, without_key}
 use Rattle.ytell.specs.Totals.{IsTree, Totals, told_at, judged_at}
@@ -102,17 +102,29 @@ follows_of cost held f before after a =
 pub drop_more : {A : Type 0} (xs : List A) (i : ℕ) (x : A) → i < length xs → x ≡ get_or xs i x → drop i xs ≡ x ∷ drop (i + 1) xs
 drop_more xs i x within is = at_drop_more (λ ys. ys) xs i x within ∙ ap (λ y. y ∷ drop (i + 1) xs) (sym is)
 
+once_more : (i cost first before after : ℕ) → before ≤ first + i * cost → after ≤ before + cost → after ≤ first + (i + 1) * cost
+once_more i cost first before after so_far one = omega (arith, so_far, one)
+
+-- so many times for all of them
+pub read_each : (keys : List (Key × NodeId)) (i cost first count : ℕ) → length keys ≤ i → i ≤ length keys → count ≤ first + i * cost → count ≤ first + length keys * cost
+read_each keys i cost first count over within so_far =
+    let e : i * cost ≡ length keys * cost = let same : i ≡ length keys = omega (arith, over, within) in ap (λ k. k * cost) same in omega (arith, so_far, e)
+
 -- one leaves, and the others can
 pub one_left : (keys : List (Key × NodeId)) (i : ℕ) (p : Key × NodeId) (held now : Keys) (f : Branches) (first before after : Nodes) → drop i keys ≡ p ∷ drop (i + 1) keys
     → Follows now f first before → CanLeave slot_of same_key now (drop i keys) → left slot_of (drop i keys) now ≡ left slot_of keys held
-    → (has_key now p.1.0 p.0 ≡ true → Follows (with_key p.1.0 (slot_of p.0) None now) f before after)
+    → reads before ≤ reads first + i * two_climbs f
+    → (has_key now p.1.0 p.0 ≡ true → told.Follows (two_climbs f) (with_key p.1.0 (slot_of p.0) None now) f before after)
     → (then : Keys) × Follows then f first after × CanLeave slot_of same_key then (drop (i + 1) keys) × (left slot_of (drop (i + 1) keys) then ≡ left slot_of keys held)
-one_left keys i p held now f first before after drops follows can is leaves =
-    let here = subst (CanLeave slot_of same_key now) drops can in (
+    × (reads after ≤ reads first + (i + 1) * two_climbs f)
+one_left keys i p held now f first before after drops follows can is so_far leaves =
+    let here = subst (CanLeave slot_of same_key now) drops can in
+    let next = leaves here.0 in (
       without_key slot_of p now,
-      follows_on now (without_key slot_of p now) f first before after follows (leaves here.0),
+      follows_on now (without_key slot_of p now) f first before after follows (follows_of (two_climbs f) (without_key slot_of p now) f before after next),
       here.1,
       sym (ap (λ ps. left slot_of ps now) drops) ∙ is,
+      once_more i (two_climbs f) (reads first) (reads before) (reads after) so_far next.reads,
     )
 
 pub all_left : (keys : List (Key × NodeId)) (i : ℕ) (held now : Keys) (f : Branches) (first last : Nodes) → length keys ≤ i → Follows now f first last
@@ -156,18 +168,21 @@ own_still before after f (p ∷ ps) own can =
 -- one joins, and the others can
 pub one_joined : (keys : List (Key × NodeId)) (i : ℕ) (p : Key × NodeId) (held now : Keys) (f : Branches) (first before after : Nodes) → drop i keys ≡ p ∷ drop (i + 1) keys
     → Follows now f first before → CanJoin slot_of now (drop i keys) → CanHoldAll before f (drop i keys) → joined slot_of (drop i keys) now ≡ joined slot_of keys held
-    → (0 < times p.1.0 f → now p.1.0 (slot_of p.0) ≡ None → CanHold before p.1 (flag_of p.0) → Follows (with_key p.1.0 (slot_of p.0) (Some p.0) now) f before after)
+    → reads before ≤ reads first + i * two_climbs f
+    → (0 < times p.1.0 f → now p.1.0 (slot_of p.0) ≡ None → CanHold before p.1 (flag_of p.0)
+    → told.Follows (two_climbs f) (with_key p.1.0 (slot_of p.0) (Some p.0) now) f before after)
     → (then : Keys) × Follows then f first after × CanJoin slot_of then (drop (i + 1) keys) × CanHoldAll after f (drop (i + 1) keys)
-    × (joined slot_of (drop (i + 1) keys) then ≡ joined slot_of keys held)
-one_joined keys i p held now f first before after drops follows can hold is joins =
+    × (joined slot_of (drop (i + 1) keys) then ≡ joined slot_of keys held) × (reads after ≤ reads first + (i + 1) * two_climbs f)
+one_joined keys i p held now f first before after drops follows can hold is so_far joins =
     let here = subst (CanJoin slot_of now) drops can in
     let holds = subst (CanHoldAll before f) drops hold in
     let next = joins holds.0.0 here.0 (can_hold before now f p follows.agrees holds.0.0 here.0 holds.0.1) in (
       assigned.with_key slot_of p now,
-      follows_on now (assigned.with_key slot_of p now) f first before after follows next,
+      follows_on now (assigned.with_key slot_of p now) f first before after follows (follows_of (two_climbs f) (assigned.with_key slot_of p now) f before after next),
       here.1,
       own_still before after f (drop (i + 1) keys) next.own holds.1,
       sym (ap (λ ps. joined slot_of ps now) drops) ∙ is,
+      once_more i (two_climbs f) (reads first) (reads before) (reads after) so_far next.reads,
     )
 
 pub all_joined : (keys : List (Key × NodeId)) (i : ℕ) (held now : Keys) (f : Branches) (first last : Nodes) → length keys ≤ i → Follows now f first last

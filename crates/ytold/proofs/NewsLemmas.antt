@@ -1,5 +1,5 @@
 -- What is told of new nodes, one after another.
-use Rattle.std.proofs.Common.{◌≡◌, Bool, true, false, ◌||◌, List, [], ◌∷◌, length, option_map, refl, sym, ap, ◌∙◌, arith, cond, eqb}
+use Rattle.std.proofs.Common.{◌≡◌, ℕ, suc, ◌+◌, ◌*◌, ◌≤◌, Bool, true, false, ◌||◌, List, [], ◌∷◌, length, option_map, refl, sym, ap, ◌∙◌, arith, cond, eqb}
 use Rattle.std.specs.List.{list_any}
 use Rattle.std.proofs.lemmas.Bool.{false≢true}
 use Rattle.ystore.specs.Held.{Told}
@@ -40,3 +40,10 @@ told_on rest n all row first before after told so = ap (told_by rest row) (told 
 pub none_left : (ns : List News) → length ns ≡ 0 → ns ≡ []
 none_left [] none = refl
 none_left (n ∷ ns) none = absurd (omega (arith, none))
+
+-- what is read to tell of one more
+pub read_news : (n : News) (whole rest all : List News) (cost first before after : ℕ) → whole ≡ n ∷ rest → before + length whole * cost ≤ first + length all * cost
+    → after ≤ before + cost → after + length rest * cost ≤ first + length all * cost
+read_news n whole rest all cost first before after is so_far one =
+    let e : length whole * cost ≡ suc (length rest) * cost = ap (λ (ns : List News). length ns * cost) is in
+    omega (arith, e, so_far, one)

@@ -1,5 +1,5 @@
 -- What no key tells of the nodes of a document whose row at the end of a way is changed.
-use Rattle.std.proofs.Common.{◌≡◌, ℕ, ◌+◌, ◌^◌, ◌<◌, ◌≤◌, false, List, [], ◌∷◌, length, Option, Some, None, option_map, refl, sym, ap, ◌∙◌, arith, subst, cond, eqb}
+use Rattle.std.proofs.Common.{◌≡◌, ℕ, ◌+◌, ◌<◌, ◌≤◌, false, List, [], ◌∷◌, Option, Some, None, option_map, refl, sym, ap, ◌∙◌, arith, subst, cond, eqb}
 use Rattle.std.specs.Prelude.{count_by}
 use Rattle.std.proofs.lemmas.Bool.{ne_eqb, eq-eqb}
 use Rattle.yspec.specs.Forest.{node, row}
@@ -18,14 +18,13 @@ use Rattle.yshape.specs.Ways.{Frame, Way, around, end_of}
 use Rattle.yshape.specs.declared.swapping.Change.{Change}
 use Rattle.yshape.proofs.HangingLemmas.{weigh_join, weigh_around, is_itself}
 use Rattle.yshape.proofs.GrowLemmas.{tree_join}
-use Rattle.yplay.specs.Absences.{absences_in, defaults_in}
-use Rattle.yfacts.specs.Given.{referred}
+use Rattle.yplay.specs.Absences.{absences_in}
 use Rattle.yfacts.specs.InPlay.{absence_views}
 use Rattle.ytell.specs.Keys.{Own, own_at}
 use Rattle.ytold.specs.Each.{Each, OnWay, Around, beside_way, on_way}
 use Rattle.ytold.specs.IsTold.{TellsOwn}
 use Rattle.ytold.specs.Plans.{row_schema}
-use Rattle.ytold.specs.Standing.{Every, IsFewIn, standing, absences_in_row}
+use Rattle.ytold.specs.Standing.{Every, standing, absences_in_row}
 use Rattle.ytold.proofs.EachLemmas.{each_there, each_around, each_again, each_standing, around_again}
 use Rattle.ytold.proofs.KeptLemmas.{each_swapped}
 use Rattle.ytold.proofs.SumLemmas.{same_labels}
@@ -44,40 +43,34 @@ module _ (schema : Schema) (above : Option ℕ) (t u : Tree) (same : row t ≡ r
   pub absences_same : absences_in_row schema above t ≡ absences_in_row schema above u
   absences_same = ap (λ (ss : List Stored). absences_in (λ number. count_by (λ (s : Stored). eqb s.schema_number number) ss) [] (row_at schema above)) same
 
-  pub few_same : IsFewIn schema above t → IsFewIn schema above u
-  few_same few = subst (λ (ss : List Stored). length (referred schema (defaults_in (λ number. count_by (λ (s : Stored). eqb s.schema_number number) ss) [] (row_at schema above))) ≤ 2 ^ 32) same few
-
 -- ---- nodes
 
 module _ (schema : Schema) (before after : Nodes) where
   -- the same is told of a node, with other labels nowhere below it
   kept_node : (r s : Row) (n : Numbered) (b c : Branches) → own_at after (Below n.id) ≡ own_at before (Below n.id)
       → absences_in_row schema (Some n.schema.0) (tree_of b) ≡ absences_in_row schema (Some n.schema.0) (tree_of c)
-      → (IsFewIn schema (Some n.schema.0) (tree_of b) → IsFewIn schema (Some n.schema.0) (tree_of c))
       → TellsOwn schema before r n b → TellsOwn schema after s n c
-  kept_node r s n b c own same few tells =
+  kept_node r s n b c own same tells =
       record {
         own = tells.own;
         held = own ∙ tells.held;
         is_wrong = tells.is_wrong;
         is_play = tells.is_play ∙ same;
         are_flags = tells.are_flags;
-        few = few tells.few;
       }
 
   -- or what isn't stored in the row below it is told anew
   played_node : (r s : Row) (n : Numbered) (b c : Branches) (play : List (FaultCode × SchemaId))
       → own_at after (Below n.id) ≡ option_map (λ (o : Own). record o { play = play }) (own_at before (Below n.id))
-      → absence_views play ≡ absences_in_row schema (Some n.schema.0) (tree_of c) → IsFewIn schema (Some n.schema.0) (tree_of c)
+      → absence_views play ≡ absences_in_row schema (Some n.schema.0) (tree_of c)
       → TellsOwn schema before r n b → TellsOwn schema after s n c
-  played_node r s n b c play own is few tells =
+  played_node r s n b c play own is tells =
       record {
         own = record tells.own { play = play };
         held = own ∙ ap (option_map (λ (o : Own). record o { play = play })) tells.held;
         is_wrong = tells.is_wrong;
         is_play = is;
         are_flags = tells.are_flags;
-        few = few;
       }
 
   module _ (way : Way) (f loose g left : Branches) (of : SchemaId) (change : Change) (swaps : Swaps of change f loose g left)
@@ -87,7 +80,7 @@ module _ (schema : Schema) (before after : Nodes) where
       → own_at after (Below id) ≡ own_at before (Below id))
       (there : (id : NodeId) → end_of Top way ≡ Below id → own_at after (Below id) ≡ option_map (λ (o : Own). record o { play = play }) (own_at before (Below id)))
       (new : Every (λ s. TellsOwn schema after s.row s.label s.below) (standing (end_of Top way) loose))
-      (is_play : absence_views play ≡ absences_in_row schema (row_schema None way) (tree_of g)) (few : IsFewIn schema (row_schema None way) (tree_of g)) where
+      (is_play : absence_views play ≡ absences_in_row schema (row_schema None way) (tree_of g)) where
     abbrev Q : Row → Numbered → Branches → Type 0
     Q = TellsOwn schema before
 
@@ -111,7 +104,7 @@ module _ (schema : Schema) (before after : Nodes) where
     -- nodes that stay and aren't on the way
     still : (r : Row) (n : Numbered) (below : Branches) → 1 ≤ times n.id.0 (around way g) → times n.id.0 loose ≡ 0 → on_way n.id.0 way ≡ 0 → Q r n below → R r n below
     still r n below stands old off tells =
-        kept_node r r n below below (same n.id stands old (off_end Top way n.id refl off)) refl (λ few. few) tells
+        kept_node r r n below below (same n.id stands old (off_end Top way n.id refl off)) refl tells
 
     up_way : (r : Row) (w : Way) (s : Option ℕ) → end_of r w ≡ end_of Top way → row_schema s w ≡ row_schema None way
         → ((k : ℕ) → times k (around w g) ≤ times k (around way g)) → ((k : ℕ) → times k (around w f) ≤ times k (around way f))
@@ -119,7 +112,7 @@ module _ (schema : Schema) (before after : Nodes) where
     up_way r [] s ends is_schema inside within tells = tt
     up_way r (frame ∷ []) s ends is_schema inside within tells = (
       played_node r r frame.label f g play (there frame.label.id (sym ends))
-          (is_play ∙ ap (λ o. absences_in_row schema o (tree_of g)) (sym is_schema)) (subst (λ (o : Option ℕ). IsFewIn schema o (tree_of g)) (sym is_schema) few) tells.1,
+          (is_play ∙ ap (λ o. absences_in_row schema o (tree_of g)) (sym is_schema)) tells.1,
       tt,
     )
     up_way r (frame ∷ next ∷ w) s ends is_schema inside within tells = (
@@ -128,7 +121,7 @@ module _ (schema : Schema) (before after : Nodes) where
           (subst (λ (e : Row). same_row e (Below frame.label.id) ≡ false) ends
           (off_end (Below next.label.id) w frame.label.id (ne_eqb next.label.id.0 frame.label.id.0 differ) (omega (arith, off)))))
           (absences_same schema (Some frame.label.schema.0) (tree_of (around (next ∷ w) f)) (tree_of (around (next ∷ w) g)) (labels_same next w f g))
-          (few_same schema (Some frame.label.schema.0) (tree_of (around (next ∷ w) f)) (tree_of (around (next ∷ w) g)) (labels_same next w f g)) tells.1,
+          tells.1,
       up_way (Below frame.label.id) (next ∷ w) (Some frame.label.schema.0) ends is_schema
           (λ k. let less = inside k in let all = weigh_join (is_number k) frame.before (node frame.label (around (next ∷ w) g) frame.after) in omega (arith, less, all))
           (λ k. let less = within k in let all = weigh_join (is_number k) frame.before (node frame.label (around (next ∷ w) f) frame.after) in omega (arith, less, all))

@@ -1,5 +1,5 @@
 -- What keys and values do where a row of a document is changed.
-use Rattle.std.proofs.Common.{◌≡◌, ℕ, zero, suc, ◌+◌, ◌-◌, ◌^◌, ◌≤◌, Bool, true, false, List, [], ◌∷◌, Some, None, option_map, refl, sym, ap, ap₂, ◌∙◌, arith, subst, cond, eqb}
+use Rattle.std.proofs.Common.{◌≡◌, ℕ, zero, suc, ◌+◌, ◌-◌, ◌^◌, ◌≤◌, Bool, true, false, List, ◌++◌, Some, None, option_map, refl, sym, ap, ap₂, ◌∙◌, arith, subst, cond, eqb}
 use Rattle.std.specs.Prelude.{count_by}
 use Rattle.std.specs.List.{flat_map}
 use Rattle.std.specs.Option.{option_or}
@@ -26,11 +26,11 @@ use Rattle.ytell.specs.Keys.{Keys, slot_of}
 use Rattle.ytold.specs.Assigned.{Assignment, AreDistinct, CanJoin, CanLeave, has_at, joined, key_in, left}
 use Rattle.ytold.specs.Each.{Each}
 use Rattle.ytold.specs.Growing.{AreThere, times_valued}
-use Rattle.ytold.specs.IsTold.{IsTold, TellsOwn, is_counted}
+use Rattle.ytold.specs.IsTold.{IsTold, is_counted}
 use Rattle.ytold.specs.Joins.{WithdrawsValues}
 use Rattle.ytold.specs.Keyed.{HasKeys}
 use Rattle.ytold.specs.Plans.{Plans, joining, leaving, row_schema}
-use Rattle.ytold.specs.Standing.{Standing, Every, IsFewThere, standing, on_the_way, keys_held, all_given, defaults_in_row}
+use Rattle.ytold.specs.Standing.{Every, standing, on_the_way, keys_held, all_given, defaults_in_row}
 use Rattle.ytold.specs.Unlike.{Unlike, slot_in}
 use Rattle.ytold.specs.declared.planning.Plan.{Plan}
 use Rattle.ytold.proofs.AssignedLemmas.{can_join, can_leave}
@@ -40,7 +40,7 @@ use Rattle.ytold.proofs.KeptLemmas.{all_free, gone_free, keys_kept}
 use Rattle.ytold.proofs.SwappedLemmas.{IsReferred, all_referred, each_gone, given_referred, times_gone, times_swapped}
 use Rattle.ytold.proofs.TransferLemmas.{viewed, all_free_so, all_held, all_so, distinct_same, joined_view, left_view, none_held}
 use Rattle.ytold.proofs.UnlikeLemmas.{distinct, every_map, unlike_both}
-use Rattle.ytold.proofs.ValueLemmas.{few_go, given_all, in_use}
+use Rattle.ytold.proofs.ValueLemmas.{few_go, given_all, in_use, part_few}
 
 -- what is so of each number of a forest
 pub number_in : (P : ℕ → Type 0) (k : ℕ) (above : Row) (f : Branches) → 1 ≤ times k f → Every (λ s. P s.label.id.0) (standing above f) → P k
@@ -177,24 +177,23 @@ module _ (schema : Schema) (way : Way) (f loose g left_over : Branches) (of : Sc
 
   -- ---- values
 
-  few_there : Every (IsFewThere schema) (standing Top (around way f))
-  few_there = few_of (standing Top (around way f)) (standing_each (TellsOwn schema start) Top (around way f) is.each)
-    where
-      few_of : (ss : List Standing) → Every (λ s. TellsOwn schema start s.row s.label s.below) ss → Every (IsFewThere schema) ss
-      few_of [] tells = tt
-      few_of (s ∷ ss) tells = (tells.0.few, few_of ss tells.1)
+  -- a part of what is referred to is
+  part_referred : (front part back whole : List Default) → whole ≡ front ++ (part ++ back) → Every (IsReferred schema) whole → Every (IsReferred schema) part
+  part_referred front part back whole same all =
+      every_first (IsReferred schema) part back
+      (every_second (IsReferred schema) front (part ++ back) (subst (λ (ds : List Default). Every (IsReferred schema) ds) same all))
 
   pub all_goes : Every (IsReferred schema) (given_view plan.goes.items)
   all_goes =
       subst (λ (ds : List Default). Every (IsReferred schema) ds) (sym plans.goes)
-      (every_join (IsReferred schema) (all_given schema (end_of Top way) left_over) (defaults_in_row schema (row_schema None way) (tree_of f))
-      (given_referred schema (standing (end_of Top way) left_over)) (all_referred schema _))
+      (every_join (IsReferred schema) (all_given schema (end_of Top way) left_over) plans.used (given_referred schema (standing (end_of Top way) left_over))
+      (part_referred plans.uses.front plans.used plans.uses.back (defaults_in_row schema (row_schema None way) (tree_of f)) plans.uses.old_is (all_referred schema _)))
 
   pub all_comes : Every (IsReferred schema) (given_view plan.comes.items)
   all_comes =
       subst (λ (ds : List Default). Every (IsReferred schema) ds) (sym plans.comes)
-      (every_join (IsReferred schema) (all_given schema (end_of Top way) loose) (defaults_in_row schema (row_schema None way) (tree_of g))
-      (given_referred schema (standing (end_of Top way) loose)) (all_referred schema _))
+      (every_join (IsReferred schema) (all_given schema (end_of Top way) loose) plans.used_then (given_referred schema (standing (end_of Top way) loose))
+      (part_referred plans.uses.front plans.used_then plans.uses.back (defaults_in_row schema (row_schema None way) (tree_of g)) plans.uses.new_is (all_referred schema _)))
 
   record Counts (key : rust.Key) : Type 0 where
     few : times_valued key plan.goes.items ≤ instances_at start key + times_valued key plan.comes.items
@@ -206,17 +205,18 @@ module _ (schema : Schema) (way : Way) (f loose g left_over : Branches) (of : Sc
         let goes = valued_is key number v sees plan.goes.items ∙ ap (λ (ds : List Default). count_by (is_default number v) ds) plans.goes in
         let comes = valued_is key number v sees plan.comes.items ∙ ap (λ (ds : List Default). count_by (is_default number v) ds) plans.comes in
         let have = is.values key number v sees refers in
-        let bound = few_in schema number v refers (around way f) is.few few_there in
-        let new = few_nodes schema number v refers (end_of Top way) loose plans.few_new in
+        let bound = few_in schema number v refers is.few (around way f) in
+        let new = few_nodes schema number v refers is.few loose in
         let given = given_all schema number v refers (end_of Top way) loose in
         let used = in_use schema number v refers (row_schema None way) (tree_of g) in
-        let length_used = few_below schema number v refers (row_schema None way) (tree_of g) plans.few_row in
-        let both =
-        sum_by-append (λ (d : Default). cond (is_default number v d) 1 0) (all_given schema (end_of Top way) loose) (defaults_in_row schema (row_schema None way) (tree_of g)) in
-        let less = few_go schema number v refers of change way f loose g left_over swaps in
+        let length_used = few_below schema number v refers is.few (row_schema None way) (tree_of g) in
+        let part_used = part_few schema number v refers plans.used plans.used_then (defaults_in_row schema (row_schema None way) (tree_of f))
+        (defaults_in_row schema (row_schema None way) (tree_of g)) plans.uses in
+        let both = sum_by-append (λ (d : Default). cond (is_default number v d) 1 0) (all_given schema (end_of Top way) loose) plans.used_then in
+        let less = few_go schema number v refers of change way f loose g left_over swaps plans.used plans.used_then plans.uses in
         record {
           few = omega (arith, goes, comes, have, less);
-          most = omega (arith, comes, have, bound, new, given, used, length_used, both, size_was, size_new);
+          most = omega (arith, comes, have, bound, new, given, used, length_used, part_used, both, size_was, size_new);
         }
 
     uncounted : (key : rust.Key) → is_counted schema (key_view key) ≡ false → Counts key

@@ -215,7 +215,7 @@ module _ (schema : Schema) (way : Way) (f loose g left_over : Branches) (of : Sc
 
   pub own_come : Every (λ s. TellsOwn schema told s.row s.label s.below) come
   own_come =
-      own_new schema changed told come plan.news.items plans.news unlike_new plans.few_new (fresh_then come (all_in (end_of Top way) loose) fresh)
+      own_new schema changed told come plan.news.items plans.news unlike_new (fresh_then come (all_in (end_of Top way) loose) fresh)
       (every_map (λ s. 1 ≤ times s.label.id.0 loose) _ (λ s here. ap (option_map own_of) (news (Below s.label.id))) come (all_in (end_of Top way) loose))
 
   pub own_told : Each (TellsOwn schema told) Top (around way g)
@@ -236,4 +236,4 @@ module _ (schema : Schema) (way : Way) (f loose g left_over : Branches) (of : Sc
       ∙ (own_played (same_row above (Below id)) (told_at mid (Below id)) plan.absences.items
       (ap (λ (r : Row). same_row r (Below id)) (sym at ∙ ends) ∙ row_itself (Below id))
       ∙ ap (option_map (λ (w : Own). record w { play = plan.absences.items })) (follows.own (Below id))))
-      own_come plans.absences plans.few_row is.each
+      own_come plans.absences is.each

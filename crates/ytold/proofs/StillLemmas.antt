@@ -49,7 +49,6 @@ module _ (before after : Nodes) (held : (row : Row) → held_at after row ≡ he
               is_wrong = t.is_wrong;
               is_play = t.is_play;
               are_flags = t.are_flags;
-              few = t.few;
             })
             is.each;
         totals = totals_same before after (held_faults before after held) f is.totals;

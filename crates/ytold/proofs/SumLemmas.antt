@@ -14,7 +14,7 @@ use Rattle.ytold.specs.Sums.{top_at, times_there}
 
 -- ---- rows
 
-row_of_join : (f g : Tree) → row (join f g) ≡ row f ++ row g
+pub row_of_join : (f g : Tree) → row (join f g) ≡ row f ++ row g
 row_of_join end g = refl
 row_of_join (node s below after) g = ap (λ (ss : List Stored). s ∷ ss) (row_of_join after g)
 

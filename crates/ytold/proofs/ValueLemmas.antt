@@ -20,6 +20,7 @@ use Rattle.yshape.specs.declared.swapping.Change.{Change}
 use Rattle.yshape.specs.declared.swapping.Change.TheVariants.{Add, Put, Take}
 use Rattle.yshape.proofs.GrowLemmas.{tree_join}
 use Rattle.yplay.specs.Absences.{Default, is_default}
+use Rattle.yplay.specs.Over.{AlikeBut}
 use Rattle.yfacts.specs.Given.{is_referred, own_values, referred}
 use Rattle.yplay.proofs.AbsenceLemmas.{defaults_used}
 use Rattle.yplay.specs.Absences.{defaults_in}
@@ -119,28 +120,46 @@ module _ (schema : Schema) (number : ℕ) (v : Val) (is : is_referred schema num
       (times_at schema number v (stored_of frame.label)) (λ t. refl) in
       record { own = rest.own; so = rest.so }
 
-  pub values_changed : (of : SchemaId) (change : Change) (way : Way) (f loose g left : Branches) → Swaps of change f loose g left
-      → times_in schema (tree_of (around way g)) number v
-      + times (all_given schema (end_of Top way) left ++ defaults_in_row schema (row_schema None way) (tree_of f))
-      ≡ times_in schema (tree_of (around way f)) number v
-      + times (all_given schema (end_of Top way) loose ++ defaults_in_row schema (row_schema None way) (tree_of g))
-  values_changed of change way f loose g left swaps =
-      let whole = times_changed schema number v way f g in
-      let there = there_from way None 0 (times_below schema number v schema.nodes) (λ t. omega arith) in
-      let before = there.so (tree_of f) in
-      let after = there.so (tree_of g) in
-      let rows = sum_swapped (times_at schema number v) of change f loose g left swaps in
-      let goes = times_append (all_given schema (end_of Top way) left) (defaults_in_row schema (row_schema None way) (tree_of f)) in
-      let comes = times_append (all_given schema (end_of Top way) loose) (defaults_in_row schema (row_schema None way) (tree_of g)) in
-      let out = given_all (end_of Top way) left in
-      let new = given_all (end_of Top way) loose in
-      let was = in_use (row_schema None way) (tree_of f) in
-      let now = in_use (row_schema None way) (tree_of g) in
-      omega (arith, whole, before, after, rows, goes, comes, out, new, was, now)
+  -- what stays in use counts in neither
+  used_moved : (old_part new_part old new : List Default) → AlikeBut old_part new_part old new → times old + times new_part ≡ times new + times old_part
+  used_moved old_part new_part old new so =
+      let was = ap times so.old_is in
+      let now = ap times so.new_is in
+      let first = times_append so.front (old_part ++ so.back) in
+      let second = times_append so.front (new_part ++ so.back) in
+      let third = times_append old_part so.back in
+      let fourth = times_append new_part so.back in
+      omega (arith, was, now, first, second, third, fourth)
 
-  -- so many go at most as there were, once those that come are there
-  pub few_go : (of : SchemaId) (change : Change) (way : Way) (f loose g left : Branches) → Swaps of change f loose g left
-      → times (all_given schema (end_of Top way) left ++ defaults_in_row schema (row_schema None way) (tree_of f))
-      ≤ times_in schema (tree_of (around way f)) number v
-      + times (all_given schema (end_of Top way) loose ++ defaults_in_row schema (row_schema None way) (tree_of g))
-  few_go of change way f loose g left swaps = let same = values_changed of change way f loose g left swaps in omega (arith, same)
+  pub part_few : (old_part new_part old new : List Default) → AlikeBut old_part new_part old new → times new_part ≤ times new
+  part_few old_part new_part old new so =
+      let now = ap times so.new_is in
+      let second = times_append so.front (new_part ++ so.back) in
+      let fourth = times_append new_part so.back in
+      omega (arith, now, second, fourth)
+
+  module _ (of : SchemaId) (change : Change) (way : Way) (f loose g left : Branches) (swaps : Swaps of change f loose g left)
+      (used used_then : List Default)
+      (uses : AlikeBut used used_then (defaults_in_row schema (row_schema None way) (tree_of f)) (defaults_in_row schema (row_schema None way) (tree_of g))) where
+    pub values_changed : times_in schema (tree_of (around way g)) number v + times (all_given schema (end_of Top way) left ++ used)
+        ≡ times_in schema (tree_of (around way f)) number v + times (all_given schema (end_of Top way) loose ++ used_then)
+    values_changed =
+        let whole = times_changed schema number v way f g in
+        let there = there_from way None 0 (times_below schema number v schema.nodes) (λ t. omega arith) in
+        let before = there.so (tree_of f) in
+        let after = there.so (tree_of g) in
+        let rows = sum_swapped (times_at schema number v) of change f loose g left swaps in
+        let goes = times_append (all_given schema (end_of Top way) left) used in
+        let comes = times_append (all_given schema (end_of Top way) loose) used_then in
+        let moved =
+        used_moved used used_then (defaults_in_row schema (row_schema None way) (tree_of f)) (defaults_in_row schema (row_schema None way) (tree_of g)) uses in
+        let out = given_all (end_of Top way) left in
+        let new = given_all (end_of Top way) loose in
+        let was = in_use (row_schema None way) (tree_of f) in
+        let now = in_use (row_schema None way) (tree_of g) in
+        omega (arith, whole, before, after, rows, goes, comes, moved, out, new, was, now)
+
+    -- so many go at most as there were, once those that come are there
+    pub few_go : times (all_given schema (end_of Top way) left ++ used)
+        ≤ times_in schema (tree_of (around way f)) number v + times (all_given schema (end_of Top way) loose ++ used_then)
+    few_go = let same = values_changed in omega (arith, same)

@@ -1,13 +1,13 @@
 -- A document of which a row is changed is told of again: the steps, one after another.
-use Rattle.std.proofs.Common.{◌≡◌, ℕ, suc, ◌+◌, ◌^◌, ◌≤◌, List, [], ◌∷◌, length, Option, None, option_map, refl, ap, arith, cond}
-use Rattle.yspec.specs.Forest.{end, size}
+use Rattle.std.proofs.Common.{◌≡◌, ℕ, suc, ◌+◌, ◌^◌, ◌≤◌, List, [], ◌∷◌, length, Option, None, option_map, refl, ap, arith, cond, ◌*◌}
+use Rattle.yspec.specs.Forest.{end, size, levels}
 use Rattle.yspec.specs.schema.Schema.{Schema, row_at}
 use Rattle.yspec.specs.types.Types.{Val}
 use Rattle.yspec.specs.document.Document.{instances_in}
 use Rattle.ycheck.specs.declared.fault.FaultCode.{FaultCode}
 use Rattle.ymodel.specs.declared.node.SchemaId.{SchemaId}
 use Rattle.ystore.specs.Held.{with_play}
-use Rattle.ystore.specs.Store.{entry_at, instances_at, same_key, same_row}
+use Rattle.ystore.specs.Store.{entry_at, instances_at, same_key, same_row, reads}
 use Rattle.ystore.specs.declared.row.NodeId.{NodeId}
 use Rattle.ystore.specs.declared.row.Row.{Row}
 use Rattle.ystore.specs.declared.row.Row.TheVariants.{Top}
@@ -18,7 +18,7 @@ use Rattle.yshape.specs.Ways.{around, end_of}
 use Rattle.yshape.specs.declared.swapping.Swap.{Swap}
 use Rattle.yplay.proofs.AbsenceLemmas.{few_absences}
 use Rattle.yfacts.specs.InPlay.{absence_views}
-use Rattle.ytell.specs.Keys.{Agrees, Keys, slot_of}
+use Rattle.ytell.specs.Keys.{Agrees, Keys, slot_of, two_climbs}
 use Rattle.ytell.specs.Totals.{IsTree, OnlyFaults, StandsIn, TellsNothing, Totals, told_at}
 use Rattle.ytell.proofs.LawLemmas.{faults_shapes, tree_kept}
 use Rattle.ytold.specs.Assigned.{CanJoin, CanLeave, joined, left}
@@ -26,10 +26,11 @@ use Rattle.ytold.specs.Growing.{AreThere, times_valued}
 use Rattle.ytold.specs.IsTold.{IsFresh, IsTold}
 use Rattle.ytold.specs.Joins.{CanHoldAll, Follows, KeepsInstances, Tidies, WithdrawsValues}
 use Rattle.ytold.specs.Plans.{IsReady, Plans, row_schema}
+use Rattle.ytold.specs.Reads.{change_reads, withdraw_reads}
 use Rattle.ytold.specs.Standing.{Every, standing}
 use Rattle.ytold.specs.Telling.{AreNew, told_by}
 use Rattle.ytold.specs.declared.planning.Plan.{Plan}
-use Rattle.ytold.proofs.AgainLemmas.{told_again}
+use Rattle.ytold.proofs.AgainLemmas.{told_again, joined_reads}
 use Rattle.ytold.proofs.JoiningLemmas.{tree_on}
 use Rattle.ytold.proofs.RetellLemmas.{can_leave_all, withdraws}
 use Rattle.ytold.proofs.RetoldLemmas.{are_new_then, no_faults}
@@ -48,6 +49,15 @@ Withdraws start mid comes goes leaves = WithdrawsValues start comes goes → (he
 abbrev pub JoinsKeys : Nodes → Nodes → List (rust.Key × NodeId) → Type 0
 JoinsKeys told met joins = (held : Keys) (h : Branches) → IsTree told h → Agrees told held h → Totals told h → CanJoin slot_of held joins → CanHoldAll told h joins
     → Follows (joined slot_of joins held) h told met
+
+-- what is read meanwhile
+abbrev pub ReadsWithdrawn : Nodes → Nodes → List (SchemaId × Val) → List (SchemaId × Val) → List (rust.Key × NodeId) → Type 0
+ReadsWithdrawn start mid comes goes leaves = WithdrawsValues start comes goes → (held : Keys) (h : Branches) → IsTree start h → Agrees start held h → Totals start h
+    → CanLeave slot_of same_key held leaves → reads mid ≤ reads start + withdraw_reads (instances_at start) (left slot_of leaves held) leaves comes goes h
+
+abbrev pub ReadsJoined : Nodes → Nodes → List (rust.Key × NodeId) → Type 0
+ReadsJoined told met joins = (held : Keys) (h : Branches) → IsTree told h → Agrees told held h → Totals told h → CanJoin slot_of held joins → CanHoldAll told h joins
+    → reads met ≤ reads told + length joins * two_climbs h
 
 module _ (schema : Schema) (swap : Swap) (plan : Plan) (start mid changed told met last : Nodes) (r : IsReady swap start) (is : IsTold schema start (around r.way r.f))
     (fresh : Every (IsFresh schema start) (standing (end_of Top r.way) r.loose)) (plans : Plans schema r.way r.f r.loose r.g r.left plan)
@@ -98,3 +108,18 @@ module _ (schema : Schema) (swap : Swap) (plan : Plan) (start mid changed told m
       (news_totals (around r.way r.g) tree_changed totals_changed
       (are_new_then schema r.way r.f r.loose r.g r.left swap.schema swap.change r.swaps plan plans start r.keeps.once is swap.above r.at mid changed told follows tells entries news only fresh few_rows))
       joins join_instances tidies (instances ready)
+
+  pub reads_whole : ReadsWithdrawn start mid plan.comes.items plan.goes.items plan.leaves.items
+      → reads changed ≤ reads mid + (2 + (length r.way + levels (around r.way r.g)))
+      → ((h : Branches) → IsTree changed h → AreNew changed h plan.news.items → reads told ≤ reads changed + length plan.news.items * (1 + 2 * levels h))
+      → ReadsJoined told met plan.joins.items → reads last ≡ reads met
+      → reads last ≤ reads start + change_reads (instances_at start) (left slot_of plan.leaves.items is.held) plan r.way r.f r.g
+  reads_whole withdrawing changing telling joining tidying =
+      let one = withdrawing ready is.held (around r.way r.f) (tree_kept start (around r.way r.f) swap.above r.loose r.keeps) is.agrees is.totals
+      (can_leave_all schema r.way r.f r.loose r.g r.left swap.schema swap.change r.swaps plan plans start r.keeps.once is) in
+      let are_new = are_new_then schema r.way r.f r.loose r.g r.left swap.schema swap.change r.swaps plan plans start r.keeps.once is swap.above r.at mid changed told follows tells entries news only fresh few_rows in
+      let three = telling (around r.way r.g) tree_changed are_new in
+      let four = joined_reads schema r.way r.f r.loose r.g r.left swap.schema swap.change r.swaps plan plans start r.keeps.once is swap.above r.at mid changed told follows tells entries news only fresh met last
+      (tree_on changed told (around r.way r.g) (faults_shapes changed told only) tree_changed) (news_totals (around r.way r.g) tree_changed totals_changed are_new)
+      joins join_instances tidies (instances ready) joining in
+      omega (arith, one, changing, three, four, tidying)

@@ -20,7 +20,8 @@ use Rattle.ytell.specs.Keys.{Agrees, Keys, Own, own_at}
 use Rattle.ytell.specs.Totals.{Totals, told_at}
 use Rattle.ytold.specs.Each.{Each}
 use Rattle.ytold.specs.Keyed.{HasKeys}
-use Rattle.ytold.specs.Standing.{Standing, absences_in_row, IsFewIn}
+use Rattle.ytold.specs.Few.{HasFewDefaults}
+use Rattle.ytold.specs.Standing.{Standing, absences_in_row}
 
 -- the error-app-tag that is told of a value that its type doesn't take
 abbrev pub wrong_in : Judged → Option (Option Text)
@@ -29,14 +30,12 @@ wrong_in (wrong tag) = Some tag
 wrong_in missing = None
 
 -- What no key tells of a node: whether its type takes its value, and what isn't stored right below it; and it has its flags.
--- Not too many defaults are in use there to be counted.
 pub record TellsOwn (schema : Schema) (nodes : Nodes) (above : Row) (n : Numbered) (below : Branches) : Type 0 where
   pub own : Own
   pub held : own_at nodes (Below n.id) ≡ Some own
   pub is_wrong : own.wrong ≡ wrong_in (value_judged schema (stored_of n))
   pub is_play : absence_views own.play ≡ absences_in_row schema (Some n.schema.0) (tree_of below)
   pub are_flags : own.flags ≡ flag_count schema n.schema.0
-  pub few : IsFewIn schema (Some n.schema.0) (tree_of below)
 
 -- whether instances of a key's value are counted
 abbrev pub is_counted : Schema → Key → Bool
@@ -52,7 +51,7 @@ pub record IsTold (schema : Schema) (nodes : Nodes) (f : Branches) : Type 0 wher
   pub bare : IsBare nodes
   pub top : absence_views (play_at nodes Top) ≡ absences_in_row schema None (tree_of f)
   pub others : (key : rust.Key) → is_counted schema (key_view key) ≡ false → instances_at nodes key ≡ 0
-  pub few : IsFewIn schema None (tree_of f)
+  pub few : HasFewDefaults schema
   pub each : Each (TellsOwn schema nodes) Top f
   pub totals : Totals nodes f
 

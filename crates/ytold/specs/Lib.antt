@@ -4,11 +4,13 @@ pub mod Bare
 pub mod Changed
 pub mod Each
 pub mod Empty
+pub mod Few
 pub mod Growing
 pub mod IsTold
 pub mod Joins
 pub mod Keyed
 pub mod Plans
+pub mod Reads
 pub mod Standing
 pub mod Sums
 pub mod Telling

@@ -12,11 +12,13 @@ use Rattle.yshape.specs.Copies.{ids_of}
 use Rattle.yshape.specs.Swaps.{Swaps}
 use Rattle.yshape.specs.Ways.{Way, around, end_of}
 use Rattle.yshape.specs.declared.swapping.Swap.{Swap}
+use Rattle.yplay.specs.Absences.{Default}
+use Rattle.yplay.specs.Over.{AlikeBut}
 use Rattle.yfacts.specs.Given.{given_view}
 use Rattle.yfacts.specs.InPlay.{absence_views}
 use Rattle.yfacts.specs.Keys.{holdings}
 use Rattle.ytold.specs.Accounts.{news_of, news_view}
-use Rattle.ytold.specs.Standing.{Standing, Every, IsFewIn, IsFewThere, standing, on_the_way, keys_held, all_given, absences_in_row, defaults_in_row}
+use Rattle.ytold.specs.Standing.{Standing, standing, on_the_way, keys_held, all_given, absences_in_row, defaults_in_row}
 use Rattle.ytold.specs.declared.planning.Plan.{Plan}
 
 -- the number of the schema node above the row at the end of a way, given that above the row where it begins
@@ -53,9 +55,11 @@ joining way g loose = standing (end_of Top way) loose ++ on_the_way Top way g
 pub record Plans (schema : Schema) (way : Way) (f loose g left : Branches) (plan : Plan) : Type 0 where
   pub leaves : holdings plan.leaves.items ≡ flat_map (keys_held schema) (leaving way f left)
   pub joins : holdings plan.joins.items ≡ flat_map (keys_held schema) (joining way g loose)
-  pub goes : given_view plan.goes.items ≡ all_given schema (end_of Top way) left ++ defaults_in_row schema (row_schema None way) (tree_of f)
-  pub comes : given_view plan.comes.items ≡ all_given schema (end_of Top way) loose ++ defaults_in_row schema (row_schema None way) (tree_of g)
+  -- the defaults in use in the row that are in use in it no more, or only then, and perhaps others that stay
+  pub used : List Default
+  pub used_then : List Default
+  pub goes : given_view plan.goes.items ≡ all_given schema (end_of Top way) left ++ used
+  pub comes : given_view plan.comes.items ≡ all_given schema (end_of Top way) loose ++ used_then
+  pub uses : AlikeBut used used_then (defaults_in_row schema (row_schema None way) (tree_of f)) (defaults_in_row schema (row_schema None way) (tree_of g))
   pub absences : absence_views plan.absences.items ≡ absences_in_row schema (row_schema None way) (tree_of g)
-  pub few_row : IsFewIn schema (row_schema None way) (tree_of g)
-  pub few_new : Every (IsFewThere schema) (standing (end_of Top way) loose)
   pub news : map news_view plan.news.items ≡ map (news_of schema) (standing (end_of Top way) loose)

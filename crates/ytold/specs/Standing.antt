@@ -1,10 +1,11 @@
 -- The nodes that hang on a row, one after another, and what each of them holds and gives.
-use Rattle.std.specs.Prelude.{ℕ, ◌≤◌, ◌^◌, length, ◌++◌, List, [], ◌∷◌, Option, Some}
+use Rattle.std.specs.Prelude.{ℕ, ◌++◌, List, [], ◌∷◌, Option, Some}
 use Rattle.std.specs.List.{flat_map}
-use Rattle.yspec.specs.Forest.{end, node}
-use Rattle.yspec.specs.schema.Schema.{Schema, row_at}
+use Rattle.yspec.specs.Forest.{Forest, end, node}
+use Rattle.yspec.specs.schema.Schema.{Schema, SchemaNode, row_at}
 use Rattle.yspec.specs.document.Document.{Tree, instances_in}
 use Rattle.yplay.specs.Absences.{Absent, Default, absences_in, defaults_in}
+use Rattle.yplay.specs.Over.{told_over, used_over}
 use Rattle.yfacts.specs.Given.{referred, own_values}
 use Rattle.yfacts.specs.Keys.{Holding, held_with, held_by}
 use Rattle.ystore.specs.declared.row.Row.{Row}
@@ -42,16 +43,16 @@ absences_in_row schema above t = absences_in (instances_in t) [] (row_at schema 
 abbrev pub defaults_in_row : Schema → Option ℕ → Tree → List Default
 defaults_in_row schema above t = referred schema (defaults_in (instances_in t) [] (row_at schema above))
 
+-- of one child of the schema row alone, which may be none
+abbrev pub absences_over : Option (SchemaNode × Forest SchemaNode) → Tree → List Absent
+absences_over child t = told_over (instances_in t) child
+
+abbrev pub defaults_over : Schema → Option (SchemaNode × Forest SchemaNode) → Tree → List Default
+defaults_over schema child t = referred schema (used_over (instances_in t) child)
+
 -- of the row below a node
 abbrev pub absences_there : Schema → Standing → List Absent
 absences_there schema s = absences_in_row schema (Some s.label.schema.0) (tree_of s.below)
-
--- not too many defaults are in use in a row to be counted
-abbrev pub IsFewIn : Schema → Option ℕ → Tree → Type 0
-IsFewIn schema above t = length (defaults_in_row schema above t) ≤ 2 ^ 32
-
-abbrev pub IsFewThere : Schema → Standing → Type 0
-IsFewThere schema s = IsFewIn schema (Some s.label.schema.0) (tree_of s.below)
 
 -- its value and the defaults in use below it
 abbrev pub values_given : Schema → Standing → List Default

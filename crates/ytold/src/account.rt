@@ -1,11 +1,15 @@
 //! What stored nodes hold and give, by counted reads.
 
-ghost use Rattle.std.specs.Prelude.{◌≡◌, ◌≤◌, ◌++◌, [], List, map, IfOk, OnOk};
+ghost use Rattle.std.specs.Prelude.{◌≡◌, ◌+◌, ◌*◌, ◌≤◌, ◌++◌, [], ℕ, List, Option, map, option_map, IfOk, OnOk};
 ghost use Rattle.std.specs.List.{flat_map};
 ghost use Rattle.yspec.specs.Forest.{end, node, size};
+ghost use Rattle.yspec.specs.schema.Schema.{row_at};
 ghost use Rattle.ymodel.specs.Layout.{number_of};
 ghost use Rattle.ymodel.specs.View as schema_view;
-ghost use Rattle.ystore.specs.Store.{node_count};
+ghost use Rattle.ymodel.specs.View.{child_view};
+ghost use Rattle.yplay.specs.Over.{child_over};
+ghost use Rattle.yreach.specs.Sizes.{levels, near_count, weight};
+ghost use Rattle.ystore.specs.Store.{node_count, reads};
 ghost use Rattle.ystore.specs.Views.{store_of, lent};
 ghost use Rattle.ystore.specs.declared.row.Row as rows;
 ghost use Rattle.ystore.specs.declared.row.Row.TheVariants.{Top, Below};
@@ -16,13 +20,15 @@ ghost use Rattle.yshape.specs.Ways.{Way, around, end_of};
 ghost use Rattle.yfacts.specs.Given.{given_view};
 ghost use Rattle.yfacts.specs.InPlay.{absence_views};
 ghost use Rattle.yfacts.specs.Keys.{holdings};
+ghost use Rattle.yfacts.specs.Reads.{names_of};
+ghost use Rattle.ytold.specs.Reads.{nodes_reads, way_reads};
 ghost use Rattle.ytold.specs.Standing as words;
 ghost use Rattle.ytold.specs.Standing.{Standing};
 ghost use Rattle.ytold.specs.Accounts.{Enters, StandsThere, news_of, news_view};
 
 use std::alloc::{AllocError, Global};
-use yfacts::{InPlay, in_play, judged_of, keys_of, own_value_of};
-use ymodel::{Schema, SchemaId};
+use yfacts::{InPlay, in_play, in_play_over, judged_of, keys_of, own_value_of};
+use ymodel::{Child, Schema, SchemaId};
 use ystore::{Absence, Counted, Judged, Key, NodeId, Row};
 use ytype::Val;
 
@@ -70,9 +76,9 @@ pub fn enter_node(
     ensures absences { let s = schema_view.view schema.now in
         IfOk result (λ told. (n : Standing) → StandsThere (store_of counted.old) id n
         → absence_views told.items ≡ words.absences_there s n) }
-    ensures few { let s = schema_view.view schema.now in
-        IfOk result (λ told. (n : Standing) → StandsThere (store_of counted.old) id n → words.IsFewThere s n) }
     ensures kept { OnlyReads (store_of counted.old) (store_of counted.new) }
+    ensures reads { let s = schema_view.view schema.now in (n : Standing) → StandsThere (store_of counted.old) id n
+        → reads (store_of counted.new) ≤ reads (store_of counted.old) + (levels s + 7) * weight s (stored_of n.label) }
     ensures same_reference { lent counted.new ≡ lent counted.old }
 {
     enter_above(counted, schema, id, &mut account.keys)?;
@@ -82,8 +88,7 @@ pub fn enter_node(
     Ok(told)
 }
 
-/// Enters the defaults in use in a row, and answers what is told of what isn't stored in it. There is no room for more than
-/// 2^32 of them.
+/// Enters the defaults in use in a row, and answers what is told of what isn't stored in it.
 pub fn enter_row(
     counted: &mut Counted<'_>,
     schema: &Schema,
@@ -97,18 +102,42 @@ pub fn enter_row(
     ensures absences { let s = schema_view.view schema.now in
         IfOk result (λ told. (f : Branches) → Hangs (store_of counted.old) row f
         → absence_views told.items ≡ words.absences_in_row s (number_of of) (tree_of f)) }
-    ensures few { let s = schema_view.view schema.now in
-        IfOk result (λ told. (f : Branches) → Hangs (store_of counted.old) row f → words.IsFewIn s (number_of of) (tree_of f)) }
     ensures kept { OnlyReads (store_of counted.old) (store_of counted.new) }
+    ensures reads { let s = schema_view.view schema.now in
+        reads (store_of counted.new) ≤ reads (store_of counted.old) + levels s * near_count (row_at s (number_of of)) }
     ensures same_reference { lent counted.new ≡ lent counted.old }
 {
     let InPlay {
         absences,
         mut defaults,
     } = in_play(counted, schema, row, of)?;
-    if defaults.len() > u32::MAX as usize {
-        return Err(AllocError);
-    }
+    account.values.append(&mut defaults)?;
+    Ok(absences)
+}
+
+/// The same of one child of the schema row.
+pub fn enter_child(
+    counted: &mut Counted<'_>,
+    schema: &Schema,
+    row: Row,
+    child: Option<Child<'_>>,
+    account: &mut Account,
+) -> Result<Vec<Absence>, AllocError>
+    ensures row { let s = schema_view.view schema.now in
+        IfOk result (λ told. (f : Branches) → Hangs (store_of counted.old) row f
+        → Enters account.old account.new [] (words.defaults_over s (option_map child_view child.entry) (tree_of f))) }
+    ensures absences { IfOk result (λ told. (f : Branches) → Hangs (store_of counted.old) row f
+        → absence_views told.items ≡ words.absences_over (option_map child_view child.entry) (tree_of f)) }
+    ensures kept { OnlyReads (store_of counted.old) (store_of counted.new) }
+    ensures reads { let s = schema_view.view schema.now in (above : Option ℕ) (number : ℕ)
+        → option_map child_view child.entry ≡ child_over (row_at s above) number
+        → reads (store_of counted.new) ≤ reads (store_of counted.old) + levels s * near_count (row_at s above) }
+    ensures same_reference { lent counted.new ≡ lent counted.old }
+{
+    let InPlay {
+        absences,
+        mut defaults,
+    } = in_play_over(counted, schema, row, child)?;
     account.values.append(&mut defaults)?;
     Ok(absences)
 }
@@ -125,6 +154,8 @@ pub fn enter_nodes(
         → ids_of f ≡ numbers.now
         → Enters account.old account.new (words.all_held s above f) (words.all_given s above f)) }
     ensures kept { OnlyReads (store_of counted.old) (store_of counted.new) }
+    ensures reads { let s = schema_view.view schema.now in (above : rows.Row) (f : Branches) → Stands (store_of counted.old) above f
+        → ids_of f ≡ numbers.now → reads (store_of counted.new) ≤ reads (store_of counted.old) + nodes_reads s 7 f }
     ensures same_reference { lent counted.new ≡ lent counted.old }
 {
     for id in numbers {
@@ -148,10 +179,9 @@ pub fn enter_new_nodes(
         IfOk result (λ news. (above : rows.Row) (f : Branches) → Stands (store_of counted.old) above f
         → ids_of f ≡ numbers.now
         → map news_view news.items ≡ map (news_of s) (words.standing above f)) }
-    ensures few { let s = schema_view.view schema.now in
-        IfOk result (λ news. (above : rows.Row) (f : Branches) → Stands (store_of counted.old) above f
-        → ids_of f ≡ numbers.now → words.Every (words.IsFewThere s) (words.standing above f)) }
     ensures kept { OnlyReads (store_of counted.old) (store_of counted.new) }
+    ensures reads { let s = schema_view.view schema.now in (above : rows.Row) (f : Branches) → Stands (store_of counted.old) above f
+        → ids_of f ≡ numbers.now → reads (store_of counted.new) ≤ reads (store_of counted.old) + nodes_reads s 9 f }
     ensures same_reference { lent counted.new ≡ lent counted.old }
 {
     let mut all = Vec::with_capacity(counted.alloc(), numbers.len())?;
@@ -179,6 +209,9 @@ pub fn enter_way(
         → end_of Top way ≡ row → size (around way f) ≤ node_count (store_of counted.old)
         → holdings keys.new.items ≡ holdings keys.old.items ++ words.way_held s Top way f) }
     ensures kept { OnlyReads (store_of counted.old) (store_of counted.new) }
+    ensures reads { let s = schema_view.view schema.now in (way : Way) (f : Branches)
+        → Hangs (store_of counted.old) Top (around way f) → end_of Top way ≡ row → size (around way f) ≤ node_count (store_of counted.old)
+        → reads (store_of counted.new) ≤ reads (store_of counted.old) + way_reads s way }
     ensures same_reference { lent counted.new ≡ lent counted.old }
 {
     let levels = counted.node_count();
@@ -205,6 +238,8 @@ fn enter_above(
         IfOk result (λ above. (n : Standing) → StandsThere (store_of counted.old) id n
         → holdings keys.new.items ≡ holdings keys.old.items ++ words.keys_held s n) }
     ensures kept { OnlyReads (store_of counted.old) (store_of counted.new) }
+    ensures reads { let s = schema_view.view schema.now in (n : Standing) → StandsThere (store_of counted.old) id n
+        → reads (store_of counted.new) ≤ reads (store_of counted.old) + (4 + (levels s + 4) * names_of s n.label.schema.0) }
     ensures same_reference { lent counted.new ≡ lent counted.old }
 {
     let Some(above) = counted.parent(id) else {

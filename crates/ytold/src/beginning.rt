@@ -10,6 +10,7 @@ ghost use Rattle.ytold.specs.Empty.{IsEmpty};
 ghost use Rattle.ytold.specs.IsTold.{IsTold};
 
 use crate::account::{Account, enter_row};
+use crate::defaults::ask_few_defaults;
 use crate::growing::await_values;
 use crate::values::add_all;
 use std::alloc::AllocError;
@@ -17,13 +18,15 @@ use ymodel::Schema;
 use ystore::{Counted, Row};
 use ytell::tell_play;
 
-/// Tells of an empty document what isn't stored at its top, and counts the defaults that are in use there.
+/// Tells of an empty document what isn't stored at its top, and counts the defaults that are in use there. There is no room for
+/// documents of a schema with more than 2^32 defaults.
 pub fn begin(counted: &mut Counted<'_>, schema: &Schema) -> Result<(), AllocError>
     ensures told { let s = schema_view.view schema.now in IsEmpty (store_of counted.old)
         → OnOk result (IsTold s (store_of counted.new) end) }
     ensures keeps { IsEmpty (store_of counted.old) → OnOk result (Keeps (store_of counted.new) end Top end) }
     ensures same_reference { lent counted.new ≡ lent counted.old }
 {
+    ask_few_defaults(schema)?;
     let mut account = Account::new(counted.alloc());
     let absences = enter_row(counted, schema, Row::Top, None, &mut account)?;
     await_values(counted, &account.values)?;

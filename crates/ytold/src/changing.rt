@@ -1,9 +1,9 @@
 //! A change of a row, with the totals above it.
 
-ghost use Rattle.std.specs.Prelude.{◌≡◌, ◌≤◌, ◌^◌, length, option_map, if◌then◌else◌};
-ghost use Rattle.yspec.specs.Forest.{end, size};
+ghost use Rattle.std.specs.Prelude.{◌≡◌, ◌+◌, ◌≤◌, ◌^◌, length, option_map, if◌then◌else◌};
+ghost use Rattle.yspec.specs.Forest.{end, size, levels};
 ghost use Rattle.ystore.specs.Held.{with_play};
-ghost use Rattle.ystore.specs.Store.{entry_at, same_row, total_at};
+ghost use Rattle.ystore.specs.Store.{entry_at, reads, same_row, total_at};
 ghost use Rattle.ystore.specs.Views.{store_of, lent};
 ghost use Rattle.ystore.specs.declared.key.Key as key;
 ghost use Rattle.ystore.specs.declared.row.Row as rows;
@@ -34,6 +34,8 @@ pub fn change_row(counted: &mut Counted<'_>, swap: Swap, absences: Vec<Absence>,
         → (row : rows.Row) → StandsIn row (around r.way r.g) → told_at (store_of counted.new) row
         ≡ (if same_row swap.above row then option_map (with_play absences.items) (told_at (store_of counted.old) row)
         else told_at (store_of counted.old) row) }
+    ensures reads { (r : IsReady swap (store_of counted.old)) → ids_of r.left ≡ old.now
+        → reads (store_of counted.new) ≤ reads (store_of counted.old) + (2 + (length r.way + levels (around r.way r.g))) }
     ensures entries { (k : key.Key) → entry_at (store_of counted.new) k ≡ entry_at (store_of counted.old) k }
     ensures same_reference { lent counted.new ≡ lent counted.old }
 {
@@ -48,6 +50,7 @@ pub fn change_row(counted: &mut Counted<'_>, swap: Swap, absences: Vec<Absence>,
 fn total_of_gone(counted: &mut Counted<'_>, change: Change) -> usize
     ensures total { result ≡ total_of (store_of counted.old) (gone_of change) }
     ensures kept { OnlyReads (store_of counted.old) (store_of counted.new) }
+    ensures reads { reads (store_of counted.new) ≤ reads (store_of counted.old) + 1 }
     ensures same_reference { lent counted.new ≡ lent counted.old }
 {
     match change {

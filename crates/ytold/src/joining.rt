@@ -1,10 +1,10 @@
 //! Keys that many nodes leave, or join.
 
-ghost use Rattle.std.specs.Prelude.{◌≡◌};
-ghost use Rattle.ystore.specs.Store.{same_key};
+ghost use Rattle.std.specs.Prelude.{◌≡◌, ◌+◌, ◌*◌, ◌≤◌, length};
+ghost use Rattle.ystore.specs.Store.{reads, same_key};
 ghost use Rattle.ystore.specs.Views.{store_of, lent};
 ghost use Rattle.yshape.specs.Hanging.{Branches};
-ghost use Rattle.ytell.specs.Keys.{Agrees, Keys, slot_of};
+ghost use Rattle.ytell.specs.Keys.{Agrees, Keys, slot_of, two_climbs};
 ghost use Rattle.ytell.specs.Totals.{IsTree, Totals};
 ghost use Rattle.ytold.specs.Assigned.{CanJoin, CanLeave, joined, left};
 ghost use Rattle.ytold.specs.Growing.{AreAwaited};
@@ -19,6 +19,10 @@ pub fn leave_all(counted: &mut Counted<'_>, keys: &[(Key, NodeId)])
         → Agrees (store_of counted.old) held f → Totals (store_of counted.old) f
         → CanLeave slot_of same_key held keys.now
         → Follows (left slot_of keys.now held) f (store_of counted.old) (store_of counted.new) }
+    ensures reads { (held : Keys) (f : Branches) → IsTree (store_of counted.old) f
+        → Agrees (store_of counted.old) held f → Totals (store_of counted.old) f
+        → CanLeave slot_of same_key held keys.now
+        → reads (store_of counted.new) ≤ reads (store_of counted.old) + length keys.now * two_climbs f }
     ensures kept { KeepsRows (store_of counted.old) (store_of counted.new) }
     ensures instances { KeepsInstances (store_of counted.old) (store_of counted.new) }
     ensures awaited { KeepsAwaited (store_of counted.old) (store_of counted.new) }
@@ -39,6 +43,10 @@ pub fn join_all(counted: &mut Counted<'_>, keys: &[(Key, NodeId)])
         → Agrees (store_of counted.old) held f → Totals (store_of counted.old) f
         → CanJoin slot_of held keys.now → CanHoldAll (store_of counted.old) f keys.now
         → Follows (joined slot_of keys.now held) f (store_of counted.old) (store_of counted.new) }
+    ensures reads { (held : Keys) (f : Branches) → IsTree (store_of counted.old) f
+        → Agrees (store_of counted.old) held f → Totals (store_of counted.old) f
+        → CanJoin slot_of held keys.now → CanHoldAll (store_of counted.old) f keys.now
+        → reads (store_of counted.new) ≤ reads (store_of counted.old) + length keys.now * two_climbs f }
     ensures kept { KeepsRows (store_of counted.old) (store_of counted.new) }
     ensures instances { KeepsInstances (store_of counted.old) (store_of counted.new) }
     ensures same_reference { lent counted.new ≡ lent counted.old }

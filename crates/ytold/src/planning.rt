@@ -1,23 +1,30 @@
 //! What a change of a row changes of what is told.
 
-ghost use Rattle.std.specs.Prelude.{◌≡◌, ◌≤◌, ◌++◌, None, IfOk};
+ghost use Rattle.std.specs.Prelude.{◌≡◌, ◌+◌, ◌*◌, ◌≤◌, ◌++◌, ℕ, Option, None, length, option_map, IfOk};
 ghost use Rattle.yspec.specs.Forest.{size};
+ghost use Rattle.yspec.specs.schema.Schema.{row_at};
 ghost use Rattle.ymodel.specs.Layout.{number_of};
 ghost use Rattle.ymodel.specs.View as schema_view;
-ghost use Rattle.ystore.specs.Store.{node_count};
+ghost use Rattle.ymodel.specs.View.{child_view};
+ghost use Rattle.yplay.specs.Over as over;
+ghost use Rattle.yreach.specs.Sizes.{levels, near_count};
+ghost use Rattle.ystore.specs.Store.{node_count, play_at, reads};
 ghost use Rattle.ystore.specs.Views.{store_of, lent};
 ghost use Rattle.ystore.specs.declared.row.Row.TheVariants.{Top};
 ghost use Rattle.yshape.specs.Hanging.{Branches, Hangs, tree_of};
 ghost use Rattle.yshape.specs.Parts.{OnlyReads};
 ghost use Rattle.yshape.specs.Ways.{Way, around, end_of};
 ghost use Rattle.yfacts.specs.InPlay.{absence_views};
+ghost use Rattle.ytold.specs.Reads.{plan_reads, way_reads};
 ghost use Rattle.ytold.specs.Standing as words;
 ghost use Rattle.ytold.specs.Accounts.{Enters};
 ghost use Rattle.ytold.specs.Plans.{IsReady, Prepared, Plans, row_schema};
 
-use crate::account::{Account, News, enter_new_nodes, enter_nodes, enter_row, enter_way};
+use crate::account::{Account, News, enter_child, enter_new_nodes, enter_nodes, enter_way};
+use crate::instead::told_instead;
 use std::alloc::AllocError;
-use ymodel::{Schema, SchemaId};
+use yfacts::child_over;
+use ymodel::{Child, Schema, SchemaId};
 use yshape::Swap;
 use ystore::{Absence, Counted, Key, NodeId, Row};
 use ytype::Val;
@@ -29,9 +36,9 @@ pub struct Plan {
     pub leaves: Vec<(Key, NodeId)>,
     /// The keys that are joined then, by nodes that come and those above the row.
     pub joins: Vec<(Key, NodeId)>,
-    /// The values of instances that go, and of defaults in use in the row before.
+    /// The values of instances that go, and of defaults in use in the row before, but for some that stay.
     pub goes: Vec<(SchemaId, Val)>,
-    /// The values of instances that come, and of defaults in use in the row then.
+    /// The values of instances that come, and of defaults in use in the row then, but for those.
     pub comes: Vec<(SchemaId, Val)>,
     /// What is told then of what isn't stored in the row.
     pub absences: Vec<Absence>,
@@ -40,7 +47,8 @@ pub struct Plan {
 }
 
 /// The plan of a change of a row, given the numbers of the nodes that go and of those that come. The row is changed for a
-/// while, and is as it was then.
+/// while, and is as it was then. What is in play of it is looked at for one child of its schema row: the one that is the
+/// schema node of these nodes, or that is above it.
 pub fn plan_of(
     counted: &mut Counted<'_>,
     schema: &Schema,
@@ -49,18 +57,24 @@ pub fn plan_of(
     new: &[NodeId],
 ) -> Result<Plan, AllocError>
     requires { Prepared swap (store_of counted.old) old.now new.now }
-    ensures plan { (p : Prepared swap (store_of counted.old) old.now new.now)
-        → IfOk result (Plans (schema_view.view schema.now) p.ready.way p.ready.f p.ready.loose p.ready.g p.ready.left) }
+    ensures plan { let s = schema_view.view schema.now in (p : Prepared swap (store_of counted.old) old.now new.now)
+        → absence_views (play_at (store_of counted.old) swap.above) ≡ words.absences_in_row s (row_schema None p.ready.way) (tree_of p.ready.f)
+        → IfOk result (Plans s p.ready.way p.ready.f p.ready.loose p.ready.g p.ready.left) }
     ensures kept { OnlyReads (store_of counted.old) (store_of counted.new) }
+    ensures reads { let s = schema_view.view schema.now in (p : Prepared swap (store_of counted.old) old.now new.now)
+        → reads (store_of counted.new) ≤ reads (store_of counted.old)
+        + (plan_reads s (row_schema None p.ready.way) p.ready.way p.ready.left p.ready.loose + 2 * length (play_at (store_of counted.old) swap.above)) }
     ensures same_reference { lent counted.new ≡ lent counted.old }
 {
     let mut before = Account::new(counted.alloc());
     let mut after = Account::new(counted.alloc());
     let of = schema_above(counted, swap.above);
+    let child = child_over(schema, of, swap.schema);
     enter_nodes(counted, schema, old, &mut before)?;
-    enter_place(counted, schema, swap.above, of, &mut before)?;
+    let was = enter_place(counted, schema, swap.above, child, &mut before)?;
     let news = enter_new_nodes(counted, schema, new, &mut after)?;
-    let absences = enter_changed(counted, schema, swap, of, &mut after)?;
+    let told = enter_changed(counted, schema, swap, child, &mut after)?;
+    let absences = told_instead(counted, swap.above, child, was.len(), told)?;
     Ok(Plan {
         leaves: before.keys,
         joins: after.keys,
@@ -76,6 +90,7 @@ fn schema_above(counted: &mut Counted<'_>, row: Row) -> Option<SchemaId>
     ensures schema { (way : Way) (f : Branches) → Hangs (store_of counted.old) Top (around way f)
         → end_of Top way ≡ row → number_of result ≡ row_schema None way }
     ensures kept { OnlyReads (store_of counted.old) (store_of counted.new) }
+    ensures reads { reads (store_of counted.new) ≤ reads (store_of counted.old) + 1 }
     ensures same_reference { lent counted.new ≡ lent counted.old }
 {
     match row {
@@ -84,27 +99,29 @@ fn schema_above(counted: &mut Counted<'_>, row: Row) -> Option<SchemaId>
     }
 }
 
-/// Enters the defaults in use in a row and the keys of the nodes above it, and answers what is told of what isn't stored in it.
+/// Enters the defaults in use of one child of a schema row in a row, and the keys of the nodes above that, and answers what is
+/// told of what isn't stored of the child.
 fn enter_place(
     counted: &mut Counted<'_>,
     schema: &Schema,
     row: Row,
-    of: Option<SchemaId>,
+    child: Option<Child<'_>>,
     account: &mut Account,
 ) -> Result<Vec<Absence>, AllocError>
     ensures place { let s = schema_view.view schema.now in
         IfOk result (λ told. (way : Way) (f : Branches) → Hangs (store_of counted.old) Top (around way f)
         → end_of Top way ≡ row → size (around way f) ≤ node_count (store_of counted.old)
-        → Enters account.old account.new (words.way_held s Top way f) (words.defaults_in_row s (number_of of) (tree_of f))) }
-    ensures absences { let s = schema_view.view schema.now in
-        IfOk result (λ told. (f : Branches) → Hangs (store_of counted.old) row f
-        → absence_views told.items ≡ words.absences_in_row s (number_of of) (tree_of f)) }
-    ensures few { let s = schema_view.view schema.now in
-        IfOk result (λ told. (f : Branches) → Hangs (store_of counted.old) row f → words.IsFewIn s (number_of of) (tree_of f)) }
+        → Enters account.old account.new (words.way_held s Top way f) (words.defaults_over s (option_map child_view child.entry) (tree_of f))) }
+    ensures absences { IfOk result (λ told. (f : Branches) → Hangs (store_of counted.old) row f
+        → absence_views told.items ≡ words.absences_over (option_map child_view child.entry) (tree_of f)) }
     ensures kept { OnlyReads (store_of counted.old) (store_of counted.new) }
+    ensures reads { let s = schema_view.view schema.now in (above : Option ℕ) (number : ℕ) (way : Way) (f : Branches)
+        → option_map child_view child.entry ≡ over.child_over (row_at s above) number → Hangs (store_of counted.old) Top (around way f)
+        → end_of Top way ≡ row → size (around way f) ≤ node_count (store_of counted.old)
+        → reads (store_of counted.new) ≤ reads (store_of counted.old) + (levels s * near_count (row_at s above) + way_reads s way) }
     ensures same_reference { lent counted.new ≡ lent counted.old }
 {
-    let absences = enter_row(counted, schema, row, of, account)?;
+    let absences = enter_child(counted, schema, row, child, account)?;
     enter_way(counted, schema, row, &mut account.keys)?;
     Ok(absences)
 }
@@ -114,23 +131,23 @@ fn enter_changed(
     counted: &mut Counted<'_>,
     schema: &Schema,
     swap: Swap,
-    of: Option<SchemaId>,
+    child: Option<Child<'_>>,
     account: &mut Account,
 ) -> Result<Vec<Absence>, AllocError>
     requires { IsReady swap (store_of counted.old) }
     ensures place { let s = schema_view.view schema.now in
         (r : IsReady swap (store_of counted.old)) → IfOk result (λ told.
-        Enters account.old account.new (words.way_held s Top r.way r.g) (words.defaults_in_row s (number_of of) (tree_of r.g))) }
-    ensures absences { let s = schema_view.view schema.now in
-        (r : IsReady swap (store_of counted.old)) → IfOk result (λ told.
-        absence_views told.items ≡ words.absences_in_row s (number_of of) (tree_of r.g)) }
-    ensures few { let s = schema_view.view schema.now in
-        (r : IsReady swap (store_of counted.old)) → IfOk result (λ told. words.IsFewIn s (number_of of) (tree_of r.g)) }
+        Enters account.old account.new (words.way_held s Top r.way r.g) (words.defaults_over s (option_map child_view child.entry) (tree_of r.g))) }
+    ensures absences { (r : IsReady swap (store_of counted.old)) → IfOk result (λ told.
+        absence_views told.items ≡ words.absences_over (option_map child_view child.entry) (tree_of r.g)) }
     ensures kept { OnlyReads (store_of counted.old) (store_of counted.new) }
+    ensures reads { let s = schema_view.view schema.now in (r : IsReady swap (store_of counted.old)) (above : Option ℕ) (number : ℕ)
+        → option_map child_view child.entry ≡ over.child_over (row_at s above) number
+        → reads (store_of counted.new) ≤ reads (store_of counted.old) + (levels s * near_count (row_at s above) + way_reads s r.way) }
     ensures same_reference { lent counted.new ≡ lent counted.old }
 {
     swap.make(counted);
-    let told = enter_place(counted, schema, swap.above, of, account);
+    let told = enter_place(counted, schema, swap.above, child, account);
     swap.undo(counted);
     told
 }

@@ -6,7 +6,7 @@ ghost use Rattle.yspec.specs.schema.Schema as spec;
 ghost use Rattle.yspec.specs.schema.Schema.{row_at};
 ghost use Rattle.ymodel.specs.View as schema_view;
 ghost use Rattle.ystore.specs.declared.row.Row.{Row};
-ghost use Rattle.ystore.specs.Store.{instances_at, same_key};
+ghost use Rattle.ystore.specs.Store.{instances_at, reads, same_key};
 ghost use Rattle.ystore.specs.Views.{store_of, lent};
 ghost use Rattle.ystore.specs.declared.key.Key as rust;
 ghost use Rattle.yshape.specs.Hanging.{Branches, Keeps};
@@ -19,6 +19,7 @@ ghost use Rattle.ytold.specs.Assigned.{CanLeave, left};
 ghost use Rattle.ytold.specs.Growing.{AreAwaited, AreThere, times_valued};
 ghost use Rattle.ytold.specs.Joins.{Follows, KeepsAwaited, KeepsRows, WithdrawsValues};
 ghost use Rattle.ytold.specs.IsTold.{IsFresh, IsTold};
+ghost use Rattle.ytold.specs.Reads.{change_reads, withdraw_reads};
 ghost use Rattle.ytold.specs.Plans.{IsReady, Plans, Prepared};
 ghost use Rattle.ytold.specs.Standing.{Every, standing};
 
@@ -76,6 +77,14 @@ pub fn change(counted: &mut Counted<'_>, swap: Swap, plan: Plan, old: &[NodeId])
         → AreThere (store_of counted.old) plan.comes.items
         → size (around r.way r.g) ≤ 2 ^ 28 → ((above : Option ℕ) → size (row_at schema above) ≤ 2 ^ 32)
         → IsTold schema (store_of counted.new) (around r.way r.g) }
+    ensures reads { (schema : spec.Schema) (r : IsReady swap (store_of counted.old)) → ids_of r.left ≡ old.now
+        → (is : IsTold schema (store_of counted.old) (around r.way r.f))
+        → Every (IsFresh schema (store_of counted.old)) (standing (end_of Top r.way) r.loose)
+        → Plans schema r.way r.f r.loose r.g r.left plan
+        → AreThere (store_of counted.old) plan.comes.items
+        → size (around r.way r.g) ≤ 2 ^ 28 → ((above : Option ℕ) → size (row_at schema above) ≤ 2 ^ 32)
+        → reads (store_of counted.new) ≤ reads (store_of counted.old)
+        + change_reads (instances_at (store_of counted.old)) (left slot_of plan.leaves.items is.held) plan r.way r.f r.g }
     ensures same_reference { lent counted.new ≡ lent counted.old }
 {
     let Plan {
@@ -104,6 +113,11 @@ fn withdraw(
         → Agrees (store_of counted.old) held f → Totals (store_of counted.old) f
         → CanLeave slot_of same_key held leaves.now
         → Follows (left slot_of leaves.now held) f (store_of counted.old) (store_of counted.new) }
+    ensures reads { WithdrawsValues (store_of counted.old) comes.items goes.items → (held : Keys) (f : Branches) → IsTree (store_of counted.old) f
+        → Agrees (store_of counted.old) held f → Totals (store_of counted.old) f
+        → CanLeave slot_of same_key held leaves.now
+        → reads (store_of counted.new) ≤ reads (store_of counted.old)
+        + withdraw_reads (instances_at (store_of counted.old)) (left slot_of leaves.now held) leaves.now comes.items goes.items f }
     ensures instances { WithdrawsValues (store_of counted.old) comes.items goes.items → (key : rust.Key)
         → instances_at (store_of counted.new) key + times_valued key goes.items ≡ instances_at (store_of counted.old) key + times_valued key comes.items }
     ensures kept { KeepsRows (store_of counted.old) (store_of counted.new) }

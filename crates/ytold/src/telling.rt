@@ -1,7 +1,8 @@
 //! What is told of nodes that are new.
 
-ghost use Rattle.std.specs.Prelude.{◌≡◌, ◌≤◌, ◌^◌, length, Some, option_map, if◌then◌else◌};
-ghost use Rattle.ystore.specs.Store.{same_row};
+ghost use Rattle.std.specs.Prelude.{◌≡◌, ◌+◌, ◌*◌, ◌≤◌, ◌^◌, length, Some, option_map, if◌then◌else◌};
+ghost use Rattle.yspec.specs.Forest.{levels};
+ghost use Rattle.ystore.specs.Store.{reads, same_row};
 ghost use Rattle.ystore.specs.Views.{store_of, lent};
 ghost use Rattle.ystore.specs.declared.row.Row as rows;
 ghost use Rattle.ystore.specs.declared.row.Row.TheVariants.{Below};
@@ -20,6 +21,8 @@ pub fn tell_all(counted: &mut Counted<'_>, news: Vec<News>)
         ≡ told_by news.items row (told_at (store_of counted.old) row) }
     ensures totals { (f : Branches) → IsTree (store_of counted.old) f → Totals (store_of counted.old) f
         → AreNew (store_of counted.old) f news.items → Totals (store_of counted.new) f }
+    ensures reads { (f : Branches) → IsTree (store_of counted.old) f → AreNew (store_of counted.old) f news.items
+        → reads (store_of counted.new) ≤ reads (store_of counted.old) + length news.items * (1 + 2 * levels f) }
     ensures kept { OnlyFaults (store_of counted.old) (store_of counted.new) }
     ensures same_reference { lent counted.new ≡ lent counted.old }
 {
@@ -37,6 +40,8 @@ fn tell(counted: &mut Counted<'_>, news: News)
     ensures totals { (f : Branches) → IsTree (store_of counted.old) f → Totals (store_of counted.old) f
         → StandsIn (Below news.id) f → judged_at (store_of counted.old) news.id ≡ Some Right
         → length news.absences.items ≤ 2 ^ 32 → Totals (store_of counted.new) f }
+    ensures reads { (f : Branches) → IsTree (store_of counted.old) f → StandsIn (Below news.id) f
+        → reads (store_of counted.new) ≤ reads (store_of counted.old) + (1 + 2 * levels f) }
     ensures kept { OnlyFaults (store_of counted.old) (store_of counted.new) }
     ensures same_reference { lent counted.new ≡ lent counted.old }
 {

@@ -3,7 +3,7 @@
 ghost use Rattle.std.specs.Prelude.{◌≡◌};
 ghost use Rattle.ystore.specs.Views.{store_of, lent};
 ghost use Rattle.ystore.specs.Index.{tidied};
-ghost use Rattle.ystore.specs.Store.{ChangesEntry};
+ghost use Rattle.ystore.specs.Store.{ChangesEntry, reads};
 ghost use Rattle.ytold.specs.Joins.{IsTidy, Tidies};
 ghost use Rattle.ytold.specs.Standing.{Every};
 
@@ -14,6 +14,7 @@ use ytell::{keys_alike, same_entries};
 pub fn tidy(counted: &mut Counted<'_>, key: &Key)
     ensures tidies { Tidies (store_of counted.old) (store_of counted.new) }
     ensures entry { ChangesEntry key.now tidied (store_of counted.old) (store_of counted.new) }
+    ensures reads { reads (store_of counted.new) ≡ reads (store_of counted.old) }
     ensures same_reference { lent counted.new ≡ lent counted.old }
 {
     keys_alike();
@@ -25,6 +26,7 @@ pub fn tidy(counted: &mut Counted<'_>, key: &Key)
 pub fn tidy_all(counted: &mut Counted<'_>, keys: &[(Key, NodeId)])
     ensures tidies { Tidies (store_of counted.old) (store_of counted.new) }
     ensures entries { Every (λ p. IsTidy (store_of counted.new) p.0) keys.now }
+    ensures reads { reads (store_of counted.new) ≡ reads (store_of counted.old) }
     ensures same_reference { lent counted.new ≡ lent counted.old }
 {
     keys_alike();

@@ -2,6 +2,8 @@ use Rattle.std.proofs.Common.{◌≡◌, ◌+◌, ◌*◌, ◌≤◌}
 use Rattle.yspec.specs.Forest.{size}
 use Rattle.yspec.specs.document.Play.{stored_among}
 use Rattle.ymodel.specs.View.{row_view, below_of}
+use Rattle.yreach.specs.Sizes.{near_count}
+use Rattle.ystore.specs.Store.{reads}
 use Rattle.ystore.specs.Views.{store_of, lent}
 use Rattle.yshape.specs.Parts.{OnlyReads}
 use Rattle.yfacts.specs.Rows.{count_in, listed_in}
@@ -22,6 +24,7 @@ invariant-has_stored-loop-child l = record {
   smaller : size (row_view l.child-iterator) ≤ size (row_view l.fn.children);
   same_reference : lent l.counted ≡ lent l.fn.counted;
   kept : OnlyReads (store_of l.fn.counted) (store_of l.counted);
+  reads : reads (store_of l.counted) + near_count (row_view l.child-iterator) ≤ reads (store_of l.fn.counted) + near_count (row_view l.fn.children);
   none : stored_among (count_in (listed_in (store_of l.fn.counted) l.row)) (row_view l.child-iterator)
       ≡ stored_among (count_in (listed_in (store_of l.fn.counted) l.row)) (row_view l.fn.children);
 }

@@ -1,9 +1,11 @@
-use Rattle.std.proofs.Common.{◌≡◌, ◌++◌}
+use Rattle.std.proofs.Common.{◌≡◌, ◌+◌, ◌≤◌, ◌++◌}
 use Rattle.yspec.specs.document.Play.{stored_cases}
 use Rattle.ymodel.specs.Layout.{numbers_of}
 use Rattle.ymodel.specs.View.{row_view}
+use Rattle.ystore.specs.Store.{reads}
 use Rattle.ystore.specs.Views.{store_of, lent}
 use Rattle.yshape.specs.Parts.{OnlyReads}
+use Rattle.yfacts.specs.Reads.{cases_reads}
 use Rattle.yfacts.specs.Rows.{count_in, listed_in}
 use Rattle.yfacts.proofs.cases.stored_cases.Given as goal
 
@@ -14,6 +16,7 @@ invariant-loop-case l = record {
   ends : (goal.iterator-loop-case).is_finite l.case-iterator;
   same_reference : lent l.counted ≡ lent l.fn.counted;
   kept : OnlyReads (store_of l.fn.counted) (store_of l.counted);
+  reads : reads (store_of l.counted) + cases_reads (row_view l.case-iterator) ≤ reads (store_of l.fn.counted) + cases_reads (row_view l.fn.cases);
   cases : numbers_of l.found.items ++ stored_cases (count_in (listed_in (store_of l.fn.counted) l.row)) (row_view l.case-iterator)
       ≡ stored_cases (count_in (listed_in (store_of l.fn.counted) l.row)) (row_view l.fn.cases);
 }

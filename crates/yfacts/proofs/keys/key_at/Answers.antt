@@ -1,4 +1,4 @@
-use Rattle.std.proofs.Common.{◌-◌, ◌∙◌, ap, arith}
+use Rattle.std.proofs.Common.{◌≡◌, suc, ◌-◌, ◌∙◌, ap, arith, sym}
 use Rattle.std.specs.Prelude.{option_map}
 use Rattle.std.proofs.lemmas.Result.{IfOk-weaker}
 use Rattle.ymodel.specs.Layout.{node_view}
@@ -7,7 +7,9 @@ use Rattle.ystore.specs.Views.{store_of}
 use Rattle.yshape.specs.Hanging.{stored_of, tree_of}
 use Rattle.yfacts.specs.Rows.{leaf_at}
 use Rattle.yfacts.specs.Keys.{flagged_key}
+use Rattle.yfacts.specs.Reads.{key_reads}
 use Rattle.yfacts.proofs.KeyLemmas.{first_at, flagged_at}
+use Rattle.yfacts.proofs.ReadLemmas.{first_read}
 use Rattle.yfacts.proofs.RowLemmas.{hangs_below, node_is}
 use Rattle.yfacts.proofs.keys.key_at.Goals as goal
 
@@ -29,3 +31,16 @@ returns-in-Some-clause-key c =
     ∙ first_at s c.args.above (stored_of n) (leaf_at old c.args.of c.args.id) (tree_of below) c.args.slot c.args.of _ (node_view c.args.of.0 c.in-Some.node.now) (omega arith)
     (ap (λ x. x.0) schema) (node_is old c.args.above n below c.args.id c.args.of same schema stands) (ap (option_map (λ x. node_view c.args.of.0 x.now)) c.in-Some.is) c.kind.ensures)
     c.first_key.ensures.key
+
+pub returns-then-slot-gt0-clause-reads : goal.returns-then-slot-gt0-clause-reads
+returns-then-slot-gt0-clause-reads c =
+    let more = c.flagged_key.ensures.reads in
+    let same = ap (key_reads (schema_view.view c.args.schema.now) c.args.of.0) (let e : suc (c.args.slot - 1) ≡ c.args.slot = omega arith in e) in
+    omega (arith, more, same)
+
+pub returns-in-Some-clause-reads : goal.returns-in-Some-clause-reads
+returns-in-Some-clause-reads c =
+    let more = c.first_key.ensures.reads in
+    let same = first_read (schema_view.view c.args.schema.now) c.args.of.0 c.args.slot (node_view c.args.of.0 c.in-Some.node.now) (omega arith)
+    (sym c.kind.ensures ∙ ap (option_map (λ x. node_view c.args.of.0 x.now)) c.in-Some.is) in
+    omega (arith, more, same)

@@ -8,7 +8,9 @@ use Rattle.ystore.specs.Views.{store_of}
 use Rattle.yshape.proofs.PartLemmas.{reads_on}
 use Rattle.yplay.specs.Absences.{choice_told}
 use Rattle.yfacts.specs.InPlay.{FindsNode, absence_views}
+use Rattle.yfacts.specs.Reads.{cases_reads, play_reads}
 use Rattle.yfacts.specs.Rows.{count_in, listed_in}
+use Rattle.yfacts.proofs.CaseLemmas.{play_at, play_parts}
 use Rattle.yfacts.proofs.RowLemmas.{listed_read}
 use Rattle.yfacts.proofs.PlayLemmas.{row_next, row_ended, choice_found}
 use Rattle.yfacts.proofs.play.+plays.Goals as goal
@@ -40,6 +42,11 @@ add_row-loop-child-preserved t c =
       smaller = omega (arith, ap size is, so_far.smaller);
       same_reference = c.in_ok-add_node.ensures.same_reference ∙ so_far.same_reference;
       kept = reads_on start now (store_of c.add_node.new.counted) so_far.kept c.in_ok-add_node.ensures.kept;
+      reads =
+          let was = so_far.reads in
+          let more = c.in_ok-add_node.ensures.reads in
+          let left = ap play_reads is ∙ play_parts (label_of child) (below_of child) (row_view c.next.new.self) in
+          omega (arith, was, more, left);
       plays = row_next (view c.args.schema.now) (count_in (listed_in start c.args.row)) (numbers_of c.args.chosen.now) (row_view c.args.children) (row_view c.loop-child.child-iterator)
           (row_view c.next.new.self) (below_of child) (label_of child) c.args.found.now c.loop-child.found c.add_node.new.found is
           (subst (λ stored. FindsNode (view c.args.schema.now) stored (numbers_of c.args.chosen.now) (label_of child) (below_of child) c.loop-child.found c.add_node.new.found)
@@ -50,3 +57,12 @@ pub add_row-returns-clause-finds : goal.add_row-returns-clause-finds
 add_row-returns-clause-finds t c =
     row_ended (view c.args.schema.now) (count_in (listed_in (store_of c.args.counted.now) c.args.row)) (numbers_of c.args.chosen.now) (row_view c.args.children) (row_view c.loop-child.child-iterator)
     c.args.found.now c.loop-child.found c.in-None.ensures.steps.0 c.loop-child.invariant.plays
+
+pub add_node-returns-in_ok-cases-in-Choice-clause-reads : goal.add_node-returns-in_ok-cases-in-Choice-clause-reads
+add_node-returns-in_ok-cases-in-Choice-clause-reads t c =
+    let first = c.in_ok-with_stored-in-Choice.ensures.reads in
+    let second = c.add_row.ensures.reads in
+    let same_first = ap cases_reads c.children.ensures in
+    let same_second = ap play_reads c.children-in-Choice.ensures in
+    let is = play_at (label_of c.args.child) (below_of c.args.child) _ (sym (ap (λ n. n.kind) c.node.ensures) ∙ ap kind_view c.in-Choice.is) in
+    omega (arith, first, second, same_first, same_second, is)

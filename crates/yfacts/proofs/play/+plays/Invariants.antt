@@ -2,8 +2,10 @@ use Rattle.std.proofs.Common.{◌≡◌, ◌+◌, ◌*◌, ◌≤◌}
 use Rattle.yspec.specs.Forest.{size}
 use Rattle.ymodel.specs.Layout.{numbers_of}
 use Rattle.ymodel.specs.View.{view, row_view, below_of}
+use Rattle.ystore.specs.Store.{reads}
 use Rattle.ystore.specs.Views.{store_of, lent}
 use Rattle.yshape.specs.Parts.{OnlyReads}
+use Rattle.yfacts.specs.Reads.{play_reads}
 use Rattle.yfacts.specs.Rows.{count_in, listed_in}
 use Rattle.yfacts.proofs.PlayLemmas.{RowLeft}
 use Rattle.yfacts.proofs.play.+plays.Given as goal
@@ -29,5 +31,6 @@ invariant-add_row-loop-child l = record {
   smaller : size (row_view l.child-iterator) ≤ size (row_view l.fn.children);
   same_reference : lent l.counted ≡ lent l.fn.counted;
   kept : OnlyReads (store_of l.fn.counted) (store_of l.counted);
+  reads : reads (store_of l.counted) + play_reads (row_view l.child-iterator) ≤ reads (store_of l.fn.counted) + play_reads (row_view l.fn.children);
   plays : RowLeft (view l.schema) (count_in (listed_in (store_of l.fn.counted) l.row)) (numbers_of l.chosen) (row_view l.fn.children) (row_view l.child-iterator) l.fn.found l.found;
 }

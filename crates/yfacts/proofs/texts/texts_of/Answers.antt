@@ -1,4 +1,4 @@
-use Rattle.std.proofs.Common.{◌∙◌, ap, sym}
+use Rattle.std.proofs.Common.{◌∙◌, ap, arith, sym}
 use Rattle.std.specs.Prelude.{option_map, string_bytes}
 use Rattle.ymodel.specs.View as schema_view
 use Rattle.ystore.specs.Views.{store_of}
@@ -20,6 +20,7 @@ loop-leaf-preserved c =
     record {
       same_reference = c.in_ok-text.ensures.same_reference ∙ c.loop-leaf.invariant.same_reference;
       kept = reads_on start (store_of c.loop-leaf.counted) (store_of c.leaf_text.new.counted) c.loop-leaf.invariant.kept c.in_ok-text.ensures.kept;
+      reads = let was = c.loop-leaf.invariant.reads in let more = c.in_ok-text.ensures.reads in let within = c.loop-leaf-test.true in omega (arith, was, more, within);
       texts = λ f hangs.
           let now = hangs_read start (store_of c.loop-leaf.counted) c.args.row f c.loop-leaf.invariant.kept hangs in
           text_more (schema_view.view c.args.schema.now) (tree_of f) c.args.leafs.now c.loop-leaf.leaf-index _ c.loop-leaf.texts.items c.push.new.self.items c.in-Some.text c.loop-leaf-test.true

@@ -1,5 +1,6 @@
-use Rattle.std.proofs.Common.{◌≡◌}
+use Rattle.std.proofs.Common.{◌≡◌, ◌+◌, ◌*◌, ◌-◌, ◌≤◌, length}
 use Rattle.ymodel.specs.View as schema_view
+use Rattle.ystore.specs.Store.{reads}
 use Rattle.ystore.specs.Views.{store_of, lent}
 use Rattle.yshape.specs.Hanging.{Branches, Hangs, tree_of}
 use Rattle.yshape.specs.Parts.{OnlyReads}
@@ -11,6 +12,7 @@ abbrev pub invariant-loop-leaf : goal.invariant-loop-leaf
 invariant-loop-leaf l = record {
   same_reference : lent l.counted ≡ lent l.fn.counted;
   kept : OnlyReads (store_of l.fn.counted) (store_of l.counted);
+  reads : reads (store_of l.counted) + 2 * (length l.leafs - l.leaf-index) ≤ reads (store_of l.fn.counted) + 2 * length l.leafs;
   texts : (f : Branches) → Hangs (store_of l.fn.counted) l.row f
       → SoFar (schema_view.view l.schema) (tree_of f) l.leafs l.texts.items l.leaf-index;
 }

@@ -1,4 +1,4 @@
-use Rattle.std.proofs.Common.{◌∙◌, sym, refl, map, get_or, List}
+use Rattle.std.proofs.Common.{◌∙◌, arith, sym, refl, map, get_or, List}
 use Rattle.yspec.specs.schema.Schema.{LeafPath}
 use Rattle.yspec.specs.document.Instances.{own_path}
 use Rattle.ymodel.specs.declared.node.SchemaId.{SchemaId}
@@ -30,6 +30,7 @@ loop-key-preserved c =
     record {
       same_reference = c.in_ok-value.ensures.same_reference ∙ c.loop-key.invariant.same_reference;
       kept = reads_on start (store_of c.loop-key.counted) (store_of c.leaf_value.new.counted) c.loop-key.invariant.kept c.in_ok-value.ensures.kept;
+      reads = let was = c.loop-key.invariant.reads in let more = c.in_ok-value.ensures.reads in let within = c.loop-key-test.true in omega (arith, was, more, within);
       values = λ f hangs.
           let now = hangs_read start (store_of c.loop-key.counted) c.args.row f c.loop-key.invariant.kept hangs in
           value_more path paths (λ x xs. refl) (schema_view.view c.args.schema.now) (tree_of f) c.args.keys.now c.loop-key.key-index (get_or c.args.keys.now c.loop-key.key-index _) _ c.loop-key.values.items

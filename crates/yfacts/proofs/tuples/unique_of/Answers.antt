@@ -1,4 +1,4 @@
-use Rattle.std.proofs.Common.{◌∙◌, ap, sym, refl, map, List, Vec}
+use Rattle.std.proofs.Common.{◌∙◌, ap, arith, sym, refl, length, map, List, Vec}
 use Rattle.std.specs.Global.{Global}
 use Rattle.yspec.specs.schema.Schema.{LeafPath}
 use Rattle.yspec.specs.document.Instances.{value_at}
@@ -9,7 +9,7 @@ use Rattle.ystore.specs.Views.{store_of}
 use Rattle.yshape.specs.Hanging.{tree_of}
 use Rattle.yshape.proofs.PartLemmas.{reads_on}
 use Rattle.yfacts.proofs.RowLemmas.{hangs_read}
-use Rattle.yfacts.proofs.TupleLemmas.{value_more, value_missing}
+use Rattle.yfacts.proofs.TupleLemmas.{next_path, value_more, value_missing}
 use Rattle.yfacts.proofs.tuples.unique_of.Goals as goal
 
 abbrev path : Vec SchemaId Global → LeafPath
@@ -31,6 +31,12 @@ loop-path-preserved c =
     record {
       same_reference = c.in_ok-value.ensures.same_reference ∙ c.loop-path.invariant.same_reference;
       kept = reads_on start (store_of c.loop-path.counted) (store_of c.value_at.new.counted) c.loop-path.invariant.kept c.in_ok-value.ensures.kept;
+      reads =
+          let was = c.loop-path.invariant.reads in
+          let more = c.in_ok-value.ensures.reads in
+          let same = ap length c.deref.ensures.value in
+          let next = next_path c.args.paths.now c.loop-path.path-index c.path-item.result c.path-item.result c.loop-path-test.true c.path-item.is in
+          omega (arith, was, more, same, next);
       values = λ f hangs.
           let now = hangs_read start (store_of c.loop-path.counted) c.args.row f c.loop-path.invariant.kept hangs in
           value_more path paths (λ x xs. refl) (schema_view.view c.args.schema.now) (tree_of f) c.args.paths.now c.loop-path.path-index c.path-item.result c.path-item.result c.loop-path.values.items

@@ -1,14 +1,17 @@
-use Rattle.std.proofs.Common.{◌≡◌, map}
+use Rattle.std.proofs.Common.{◌≡◌, ◌+◌, ◌*◌, ◌≤◌, map}
 use Rattle.std.specs.List.{flat_map}
 use Rattle.ymodel.specs.View as schema_view
+use Rattle.yreach.specs.Sizes.{levels}
+use Rattle.ystore.specs.Store.{reads}
 use Rattle.ystore.specs.Views.{store_of, lent}
 use Rattle.ystore.specs.declared.row.Row as rows
 use Rattle.yshape.specs.Hanging.{Branches, Stands}
 use Rattle.yshape.specs.Copies.{ids_of}
 use Rattle.yshape.specs.Parts.{OnlyReads}
 use Rattle.ytold.specs.Accounts.{Enters, news_of, news_view}
-use Rattle.ytold.specs.Standing.{Every, IsFewThere, standing, keys_held, values_given}
+use Rattle.ytold.specs.Standing.{standing, keys_held, values_given}
 use Rattle.ytold.proofs.AccountLemmas.{Parted}
+use Rattle.ytold.proofs.ReadLemmas.{weights}
 use Rattle.ytold.proofs.account.enter_new_nodes.Given as goal
 
 -- what those so far hold and give is entered
@@ -20,6 +23,6 @@ invariant-loop-id l =
       entered : (above : rows.Row) (f : Branches) → Stands (store_of l.fn.counted) above f → ids_of f ≡ l.numbers
           → (p : Parted l.numbers l.id-index (standing above f))
           × Enters l.fn.account l.account (flat_map (keys_held (schema_view.view l.schema)) p.done) (flat_map (values_given (schema_view.view l.schema)) p.done)
-          × Every (IsFewThere (schema_view.view l.schema)) p.done
-          × (map news_view l.all.items ≡ map (news_of (schema_view.view l.schema)) p.done);
+          × (map news_view l.all.items ≡ map (news_of (schema_view.view l.schema)) p.done)
+          × (reads (store_of l.counted) ≤ reads (store_of l.fn.counted) + (levels (schema_view.view l.schema) + 9) * weights (schema_view.view l.schema) p.done);
     }

@@ -4,7 +4,8 @@ use Rattle.ystore.specs.Views.{store_of}
 use Rattle.yshape.proofs.PartLemmas.{one_read}
 use Rattle.yfacts.specs.Given.{given_view}
 use Rattle.yfacts.specs.Keys.{holdings}
-use Rattle.ytold.proofs.AccountLemmas.{values_are, absences_are, few_are, schema_is, there_read, hangs_below}
+use Rattle.ytold.proofs.AccountLemmas.{values_are, absences_are, schema_is, there_read, hangs_below}
+use Rattle.ytold.proofs.ReadLemmas.{node_read}
 use Rattle.ytold.proofs.account.enter_node.Goals as goal
 
 pub returns-clause-node : goal.returns-clause-node
@@ -36,13 +37,20 @@ returns-clause-absences c s there =
     c.in_ok-told.ensures.absences s.below (hangs_below fourth c.args.id s last)
     ∙ absences_are (schema_view.view c.args.schema.now) s c.schema-of.result (c.schema-of.ensures.schema ∙ schema_is third c.args.id s there_then)
 
-pub returns-clause-few : goal.returns-clause-few
-returns-clause-few c s there =
+pub returns-clause-reads : goal.returns-clause-reads
+returns-clause-reads c s there =
     let first = store_of c.args.counted.now in
     let second = store_of c.enter_above.new.counted in
     let third = store_of c.own_value_of.new.counted in
-    let fourth = store_of c.schema-of.new.self in
     let there_then = there_read second third c.args.id s c.in_ok-own_value_of.ensures.kept (there_read first second c.args.id s c.in_ok-enter_above.ensures.kept there) in
-    let last = there_read third fourth c.args.id s (one_read third fourth c.schema-of.ensures.counted.store) there_then in
-    few_are (schema_view.view c.args.schema.now) s c.schema-of.result (c.schema-of.ensures.schema ∙ schema_is third c.args.id s there_then)
-    (c.in_ok-told.ensures.few s.below (hangs_below fourth c.args.id s last))
+    node_read (schema_view.view c.args.schema.now) s c.schema-of.result _ _ _ _ _ (c.schema-of.ensures.schema ∙ schema_is third c.args.id s there_then)
+    (c.in_ok-enter_above.ensures.reads s there) c.in_ok-own_value_of.ensures.reads c.schema-of.ensures.counted.store.counted c.in_ok-told.ensures.reads
+
+pub returns-in_err-told-clause-reads : goal.returns-in_err-told-clause-reads
+returns-in_err-told-clause-reads c s there =
+    let first = store_of c.args.counted.now in
+    let second = store_of c.enter_above.new.counted in
+    let third = store_of c.own_value_of.new.counted in
+    let there_then = there_read second third c.args.id s c.in_ok-own_value_of.ensures.kept (there_read first second c.args.id s c.in_ok-enter_above.ensures.kept there) in
+    node_read (schema_view.view c.args.schema.now) s c.schema-of.result _ _ _ _ _ (c.schema-of.ensures.schema ∙ schema_is third c.args.id s there_then)
+    (c.in_ok-enter_above.ensures.reads s there) c.in_ok-own_value_of.ensures.reads c.schema-of.ensures.counted.store.counted c.in_err-told.ensures.reads

@@ -3,7 +3,7 @@ use Rattle.ymodel.specs.View as schema_view
 use Rattle.ystore.specs.Views.{store_of}
 use Rattle.yshape.proofs.PartLemmas.{reads_nothing, reads_on}
 use Rattle.yfacts.specs.Keys.{holdings}
-use Rattle.ytold.proofs.AccountLemmas.{begun, all_up, all_ended, moved_on}
+use Rattle.ytold.proofs.AccountLemmas.{begun, all_up, all_ended, moved_on, read_once_more, read_so_far}
 use Rattle.ytold.proofs.account.enter_way.Goals as goal
 
 pub loop-level-init : goal.loop-level-init
@@ -15,6 +15,7 @@ loop-level-init c =
         begun (schema_view.view c.args.schema.now) (store_of c.args.counted.now) way f hangs c.args.row (c.node_count-levels.result - 0) at
             (let many = c.node_count-levels.ensures in omega (arith, many, within)),
         sym (append-nil (holdings c.args.keys.now.items)),
+        omega arith,
       );
     }
 
@@ -28,7 +29,7 @@ loop-level-preserved c =
           moved_on (schema_view.view c.args.schema.now) (store_of c.args.counted.now) (store_of c.loop-level.counted) way f hangs c.in-Below.id c.loop-level.here
           (c.node_count-levels.result - c.loop-level._level) (c.node_count-levels.result - (c.loop-level._level + 1)) (omega arith) c.in-Below.is c.loop-level.invariant.kept
           c.in_ok-here-in-Below.here (holdings c.args.keys.now.items) (holdings c.loop-level.keys.items) (holdings c.enter_above.new.keys.items) so.0 so.1
-          c.in_ok-here-in-Below.ensures.above c.in_ok-here-in-Below.ensures.held;
+          c.in_ok-here-in-Below.ensures.above c.in_ok-here-in-Below.ensures.held _ _ _ so.2 c.in_ok-here-in-Below.ensures.reads;
     }
 
 pub returns-clause-way : goal.returns-clause-way
@@ -62,3 +63,20 @@ returns-in_err-here-in-Below-clause-kept c =
 
 pub returns-in_err-here-in-Below-clause-same_reference : goal.returns-in_err-here-in-Below-clause-same_reference
 returns-in_err-here-in-Below-clause-same_reference c = c.in_err-here-in-Below.ensures.same_reference ∙ c.loop-level.invariant.same_reference
+
+pub returns-clause-reads : goal.returns-clause-reads
+returns-clause-reads c way f hangs at within =
+    let so = c.loop-level.invariant.entered way f hangs at within in
+    read_so_far (schema_view.view c.args.schema.now) way c.loop-level.here (c.node_count-levels.result - c.loop-level._level) so.0 _ _ so.2
+
+pub returns-in-Top-clause-reads : goal.returns-in-Top-clause-reads
+returns-in-Top-clause-reads c way f hangs at within =
+    let so = c.loop-level.invariant.entered way f hangs at within in
+    read_so_far (schema_view.view c.args.schema.now) way c.loop-level.here (c.node_count-levels.result - c.loop-level._level) so.0 _ _ so.2
+
+pub returns-in_err-here-in-Below-clause-reads : goal.returns-in_err-here-in-Below-clause-reads
+returns-in_err-here-in-Below-clause-reads c way f hangs at within =
+    let so = c.loop-level.invariant.entered way f hangs at within in
+    read_once_more (schema_view.view c.args.schema.now) (store_of c.args.counted.now) (store_of c.loop-level.counted) way f hangs c.in-Below.id c.loop-level.here
+    (c.node_count-levels.result - c.loop-level._level) (c.node_count-levels.result - (c.loop-level._level + 1)) (omega arith) c.in-Below.is c.loop-level.invariant.kept so.0 _ _ _ so.2
+    c.in_err-here-in-Below.ensures.reads

@@ -1,13 +1,14 @@
-use Rattle.std.proofs.Common.{◌≡◌, ◌≤◌, ◌-◌, ◌++◌}
+use Rattle.std.proofs.Common.{◌≡◌, ◌+◌, ◌≤◌, ◌-◌, ◌++◌}
 use Rattle.yspec.specs.Forest.{size}
 use Rattle.ymodel.specs.View as schema_view
-use Rattle.ystore.specs.Store.{node_count}
+use Rattle.ystore.specs.Store.{node_count, reads}
 use Rattle.ystore.specs.Views.{store_of, lent}
 use Rattle.ystore.specs.declared.row.Row.TheVariants.{Top}
 use Rattle.yshape.specs.Hanging.{Branches, Hangs}
 use Rattle.yshape.specs.Parts.{OnlyReads}
 use Rattle.yshape.specs.Ways.{Way, around, end_of}
 use Rattle.yfacts.specs.Keys.{holdings}
+use Rattle.ytold.specs.Reads.{way_reads}
 use Rattle.ytold.specs.Standing.{way_held}
 use Rattle.ytold.proofs.AccountLemmas.{Halfway}
 use Rattle.ytold.proofs.account.enter_way.Given as goal
@@ -21,5 +22,6 @@ invariant-loop-level l =
       entered : (way : Way) (f : Branches) → Hangs (store_of l.fn.counted) Top (around way f) → end_of Top way ≡ l.fn.row
           → size (around way f) ≤ node_count (store_of l.fn.counted)
           → (h : Halfway way l.here (l.levels - l._level))
-          × (holdings l.keys.items ≡ holdings l.fn.keys.items ++ way_held (schema_view.view l.schema) (end_of Top h.up) h.down f);
+          × (holdings l.keys.items ≡ holdings l.fn.keys.items ++ way_held (schema_view.view l.schema) (end_of Top h.up) h.down f)
+          × (reads (store_of l.counted) ≤ reads (store_of l.fn.counted) + way_reads (schema_view.view l.schema) h.down);
     }

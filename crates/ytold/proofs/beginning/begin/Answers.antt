@@ -20,7 +20,7 @@ returns-clause-told c empty =
     told_begun s start (store_of c.enter_row.new.counted) ready (store_of c.add_all.new.counted) (store_of c.tell_play.new.counted) empty c.enter_row.ensures.kept
     c.await_values.ensures.grows c.add_all.ensures.kept c.in_ok-absences.absences.items c.tell_play.ensures.told c.enter_row.new.account.values.items
     (enters.values_behind ∙ ap (λ vs. given_view vs ++ defaults_in_row s None end) c.new-account.ensures.values)
-    (c.in_ok-absences.ensures.absences end hangs) (c.in_ok-absences.ensures.few end hangs) (few_rows_of c.args.schema.now)
+    (c.in_ok-absences.ensures.absences end hangs) c.in_ok-ask_few_defaults.ensures (few_rows_of c.args.schema.now)
     (subst (AreThere ready) c.deref.ensures.value c.in_ok-await_values.ensures.there) c.add_all.ensures.follows c.add_all.ensures.instances c.tell_play.ensures.totals
 
 pub returns-clause-keeps : goal.returns-clause-keeps

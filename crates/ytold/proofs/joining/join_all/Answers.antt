@@ -1,9 +1,10 @@
 use Rattle.std.proofs.Common.{◌∙◌, drop, ◌+◌, refl, subst, arith}
 use Rattle.ystore.specs.Entries.{with_node}
 use Rattle.ystore.specs.Views.{store_of}
+use Rattle.ytell.specs.Keys.{two_climbs}
 use Rattle.ytold.specs.Growing.{AreAwaited}
 use Rattle.ytold.proofs.GrowingLemmas.{first_awaited, first_found, rest_awaited}
-use Rattle.ytold.proofs.JoiningLemmas.{keeps_itself, keeps_on, shapes_of, tree_on, rows_of, number_kept, follows_itself, follows_of, drop_more, one_joined, all_joined}
+use Rattle.ytold.proofs.JoiningLemmas.{keeps_itself, keeps_on, shapes_of, tree_on, rows_of, number_kept, follows_itself, drop_more, one_joined, all_joined, read_each}
 use Rattle.ytold.proofs.joining.join_all.Goals as goal
 
 pub loop-at-init : goal.loop-at-init
@@ -14,7 +15,7 @@ loop-at-init c =
       kept = keeps_itself first;
       instances = λ key. refl;
       awaited = c.requires;
-      follows = λ held f tree agrees totals can hold. (held, follows_itself first held f agrees totals, can, hold, refl);
+      follows = λ held f tree agrees totals can hold. (held, follows_itself first held f agrees totals, can, hold, refl, omega arith);
     }
 
 pub join-requires : goal.join-requires
@@ -40,10 +41,9 @@ loop-at-preserved c =
       awaited = rest_awaited laws.found before after p rest p.0 p.1 refl c.join.ensures.kept.changed c.join.ensures.kept.others awaited;
       follows = λ held f tree agrees totals can hold.
           let so = c.loop-at.invariant.follows held f tree agrees totals can hold in
-          one_joined c.args.keys.now c.loop-at.at p held so.0 f first before after drops so.1 so.2 so.3 so.4
-          (λ stands none holds. follows_of _ _ f before after
-          (c.join.ensures.follows so.0 f (tree_on first before f (shapes_of first before c.loop-at.invariant.kept) tree) so.1.agrees so.1.totals stands none holds
-          (first_found before p rest p.0 awaited refl)));
+          one_joined c.args.keys.now c.loop-at.at p held so.0 f first before after drops so.1 so.2 so.3 so.4 so.5
+          (λ stands none holds. c.join.ensures.follows so.0 f (tree_on first before f (shapes_of first before c.loop-at.invariant.kept) tree) so.1.agrees so.1.totals stands none holds
+          (first_found before p rest p.0 awaited refl));
     }
 
 pub returns-clause-follows : goal.returns-clause-follows
@@ -59,3 +59,8 @@ returns-clause-instances c = c.loop-at.invariant.instances
 
 pub returns-clause-same_reference : goal.returns-clause-same_reference
 returns-clause-same_reference c = c.loop-at.invariant.same_reference
+
+pub returns-clause-reads : goal.returns-clause-reads
+returns-clause-reads c held f tree agrees totals can hold =
+    let so = c.loop-at.invariant.follows held f tree agrees totals can hold in
+    read_each c.args.keys.now c.loop-at.at (two_climbs f) _ _ (omega arith) (omega arith) so.5

@@ -1,7 +1,8 @@
-use Rattle.std.proofs.Common.{◌≡◌, drop}
+use Rattle.std.proofs.Common.{◌≡◌, ◌+◌, ◌*◌, ◌≤◌, drop}
+use Rattle.ystore.specs.Store.{reads}
 use Rattle.ystore.specs.Views.{store_of, lent}
 use Rattle.yshape.specs.Hanging.{Branches}
-use Rattle.ytell.specs.Keys.{Agrees, Keys, slot_of}
+use Rattle.ytell.specs.Keys.{Agrees, Keys, slot_of, two_climbs}
 use Rattle.ytell.specs.Totals.{IsTree, Totals}
 use Rattle.ytold.specs.Assigned.{CanJoin, joined}
 use Rattle.ytold.specs.Growing.{AreAwaited}
@@ -19,5 +20,6 @@ invariant-loop-at l =
       follows : (held : Keys) (f : Branches) → IsTree (store_of l.fn.counted) f → Agrees (store_of l.fn.counted) held f → Totals (store_of l.fn.counted) f
           → CanJoin slot_of held l.keys → CanHoldAll (store_of l.fn.counted) f l.keys
           → (now : Keys) × Follows now f (store_of l.fn.counted) (store_of l.counted) × CanJoin slot_of now (drop l.at l.keys)
-          × CanHoldAll (store_of l.counted) f (drop l.at l.keys) × (joined slot_of (drop l.at l.keys) now ≡ joined slot_of l.keys held);
+          × CanHoldAll (store_of l.counted) f (drop l.at l.keys) × (joined slot_of (drop l.at l.keys) now ≡ joined slot_of l.keys held)
+          × (reads (store_of l.counted) ≤ reads (store_of l.fn.counted) + l.at * two_climbs f);
     }

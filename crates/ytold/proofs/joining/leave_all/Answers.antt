@@ -1,8 +1,9 @@
 use Rattle.std.proofs.Common.{◌∙◌, refl, arith}
 use Rattle.ystore.specs.Entries.{without_node}
 use Rattle.ystore.specs.Views.{store_of}
+use Rattle.ytell.specs.Keys.{two_climbs}
 use Rattle.ytold.proofs.CountingLemmas.{still_there}
-use Rattle.ytold.proofs.JoiningLemmas.{keeps_itself, keeps_on, shapes_of, tree_on, rows_of, number_kept, follows_itself, follows_of, drop_more, one_left, all_left}
+use Rattle.ytold.proofs.JoiningLemmas.{keeps_itself, keeps_on, shapes_of, tree_on, rows_of, number_kept, follows_itself, drop_more, one_left, all_left, read_each}
 use Rattle.ytold.proofs.joining.leave_all.Goals as goal
 
 pub loop-at-init : goal.loop-at-init
@@ -13,7 +14,7 @@ loop-at-init c =
       instances = λ key. refl;
       awaited = λ key. refl;
       there = λ key some. some;
-      follows = λ held f tree agrees totals can. (held, follows_itself (store_of c.args.counted.now) held f agrees totals, can, refl);
+      follows = λ held f tree agrees totals can. (held, follows_itself (store_of c.args.counted.now) held f agrees totals, can, refl, omega arith);
     }
 
 pub loop-at-preserved : goal.loop-at-preserved
@@ -32,9 +33,8 @@ loop-at-preserved c =
       there = λ key some. still_there c.keys_alike.ensures p.0 (without_node p.1) before after c.leave.ensures.kept key (c.loop-at.invariant.there key some);
       follows = λ held f tree agrees totals can.
           let so = c.loop-at.invariant.follows held f tree agrees totals can in
-          one_left c.args.keys.now c.loop-at.at p held so.0 f first before after (drop_more c.args.keys.now c.loop-at.at p (omega arith) c.index-keys-at.is) so.1 so.2 so.3
-          (λ has. follows_of _ _ f before after
-          (c.leave.ensures.follows so.0 f (tree_on first before f (shapes_of first before c.loop-at.invariant.kept) tree) so.1.agrees so.1.totals has));
+          one_left c.args.keys.now c.loop-at.at p held so.0 f first before after (drop_more c.args.keys.now c.loop-at.at p (omega arith) c.index-keys-at.is) so.1 so.2 so.3 so.4
+          (λ has. c.leave.ensures.follows so.0 f (tree_on first before f (shapes_of first before c.loop-at.invariant.kept) tree) so.1.agrees so.1.totals has);
     }
 
 pub returns-clause-follows : goal.returns-clause-follows
@@ -56,3 +56,8 @@ returns-clause-there c = c.loop-at.invariant.there
 
 pub returns-clause-same_reference : goal.returns-clause-same_reference
 returns-clause-same_reference c = c.loop-at.invariant.same_reference
+
+pub returns-clause-reads : goal.returns-clause-reads
+returns-clause-reads c held f tree agrees totals can =
+    let so = c.loop-at.invariant.follows held f tree agrees totals can in
+    read_each c.args.keys.now c.loop-at.at (two_climbs f) _ _ (omega arith) (omega arith) so.4

@@ -1,8 +1,8 @@
-use Rattle.std.proofs.Common.{◌≡◌, drop}
-use Rattle.ystore.specs.Store.{same_key}
+use Rattle.std.proofs.Common.{◌≡◌, ◌+◌, ◌*◌, ◌≤◌, drop}
+use Rattle.ystore.specs.Store.{reads, same_key}
 use Rattle.ystore.specs.Views.{store_of, lent}
 use Rattle.yshape.specs.Hanging.{Branches}
-use Rattle.ytell.specs.Keys.{Agrees, Keys, slot_of}
+use Rattle.ytell.specs.Keys.{Agrees, Keys, slot_of, two_climbs}
 use Rattle.ytell.specs.Totals.{IsTree, Totals}
 use Rattle.ytold.specs.Assigned.{CanLeave, left}
 use Rattle.ytold.specs.Joins.{Follows, KeepsRows, KeepsInstances, KeepsAwaited, KeepsThere}
@@ -20,5 +20,6 @@ invariant-loop-at l =
       follows : (held : Keys) (f : Branches) → IsTree (store_of l.fn.counted) f → Agrees (store_of l.fn.counted) held f → Totals (store_of l.fn.counted) f
           → CanLeave slot_of same_key held l.keys
           → (now : Keys) × Follows now f (store_of l.fn.counted) (store_of l.counted) × CanLeave slot_of same_key now (drop l.at l.keys)
-          × (left slot_of (drop l.at l.keys) now ≡ left slot_of l.keys held);
+          × (left slot_of (drop l.at l.keys) now ≡ left slot_of l.keys held)
+          × (reads (store_of l.counted) ≤ reads (store_of l.fn.counted) + l.at * two_climbs f);
     }

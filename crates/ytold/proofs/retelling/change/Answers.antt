@@ -8,7 +8,7 @@ use Rattle.ytold.specs.Growing.{awaited_of, times_joined}
 use Rattle.ytold.proofs.AgainLemmas.{ready_on}
 use Rattle.ytold.proofs.JoiningLemmas.{shapes_of}
 use Rattle.ytold.proofs.TidyLemmas.{tidied_rows}
-use Rattle.ytold.proofs.WholeLemmas.{JoinsKeys, Withdraws, told_whole}
+use Rattle.ytold.proofs.WholeLemmas.{JoinsKeys, ReadsJoined, ReadsWithdrawn, Withdraws, reads_whole, told_whole}
 use Rattle.ytold.proofs.retelling.change.Goals as goal
 
 pub change_row-requires : goal.change_row-requires
@@ -45,3 +45,18 @@ returns-clause-told c schema r are_old is fresh plans there size_new few_rows =
     (c.change_row.ensures.keeps q are_old) (c.change_row.ensures.totals q are_old) (c.change_row.ensures.told q are_old) c.change_row.ensures.entries
     c.tell_all.ensures.told c.tell_all.ensures.totals c.tell_all.ensures.kept
     (subst (JoinsKeys (store_of c.tell_all.new.counted) (store_of c.join_all.new.counted)) c.deref-2.ensures.value c.join_all.ensures.follows) c.join_all.ensures.instances c.tidy_all.ensures.tidies
+
+pub returns-clause-reads : goal.returns-clause-reads
+returns-clause-reads c schema r are_old is fresh plans there size_new few_rows =
+    let start = store_of c.args.counted.now in
+    let mid = store_of c.withdraw.new.counted in
+    let q = ready_on c.args.swap start mid c.withdraw.ensures.kept r in
+    reads_whole schema c.args.swap c.args.plan start mid (store_of c.change_row.new.counted) (store_of c.tell_all.new.counted) (store_of c.join_all.new.counted)
+    (store_of c.tidy_all.new.counted) r is fresh plans there size_new few_rows
+    (subst (Withdraws start mid c.args.plan.comes.items c.args.plan.goes.items) c.deref.ensures.value c.withdraw.ensures.follows) c.withdraw.ensures.instances
+    (c.change_row.ensures.keeps q are_old) (c.change_row.ensures.totals q are_old) (c.change_row.ensures.told q are_old) c.change_row.ensures.entries
+    c.tell_all.ensures.told c.tell_all.ensures.totals c.tell_all.ensures.kept
+    (subst (JoinsKeys (store_of c.tell_all.new.counted) (store_of c.join_all.new.counted)) c.deref-2.ensures.value c.join_all.ensures.follows) c.join_all.ensures.instances c.tidy_all.ensures.tidies
+    (subst (ReadsWithdrawn start mid c.args.plan.comes.items c.args.plan.goes.items) c.deref.ensures.value c.withdraw.ensures.reads)
+    (c.change_row.ensures.reads q are_old) c.tell_all.ensures.reads
+    (subst (ReadsJoined (store_of c.tell_all.new.counted) (store_of c.join_all.new.counted)) c.deref-2.ensures.value c.join_all.ensures.reads) c.tidy_all.ensures.reads

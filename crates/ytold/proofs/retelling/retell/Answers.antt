@@ -1,14 +1,17 @@
-use Rattle.std.proofs.Common.{◌∙◌}
+use Rattle.std.proofs.Common.{◌∙◌, ap, sym}
 use Rattle.ymodel.specs.View as schema_view
+use Rattle.ystore.specs.Store.{play_at}
 use Rattle.ystore.specs.Views.{store_of}
 use Rattle.yshape.specs.Ways.{end_of}
 use Rattle.ystore.specs.declared.row.Row.TheVariants.{Top}
+use Rattle.yfacts.specs.InPlay.{absence_views}
 use Rattle.ytell.proofs.AgreeLemmas.{entries_keys, keys_on}
 use Rattle.ytold.specs.Standing.{standing}
 use Rattle.ytold.proofs.GrownLemmas.{grown_keeps, grown_keys, grown_ready}
 use Rattle.ytold.proofs.PlanLemmas.{keeps_read, ready_read}
 use Rattle.ytold.proofs.StillLemmas.{fresh_still, on_err, told_still}
 use Rattle.ytold.proofs.FewLemmas.{few_rows_of}
+use Rattle.ytold.proofs.TurnedLemmas.{play_there}
 use Rattle.ytold.proofs.retelling.retell.Goals as goal
 
 pub returns-in_err-plan-clause-told_still : goal.returns-in_err-plan-clause-told_still
@@ -53,7 +56,7 @@ returns-clause-told c p is fresh size_new =
     c.change.ensures.told s (grown_ready planned grown c.grow.ensures.grows c.args.swap (ready_read c.args.swap start planned c.plan_of.ensures.kept p.ready)) p.are_old
     (told_still start grown (λ row. c.grow.ensures.grows.held row ∙ c.plan_of.ensures.kept.held row) same s _ is)
     (fresh_still start grown (λ row. c.grow.ensures.grows.held row ∙ c.plan_of.ensures.kept.held row) same s (standing (end_of Top p.ready.way) p.ready.loose) fresh)
-    (c.in_ok-plan.ensures.plan p) c.in_ok-grow.ensures.there size_new (few_rows_of c.args.schema.now)
+    (c.in_ok-plan.ensures.plan p (ap (λ row. absence_views (play_at start row)) (sym p.ready.at) ∙ play_there s start p.ready.way p.ready.f is)) c.in_ok-grow.ensures.there size_new (few_rows_of c.args.schema.now)
 
 pub returns-clause-keeps : goal.returns-clause-keeps
 returns-clause-keeps c p =

@@ -1,7 +1,7 @@
 use Rattle.ytold.proofs.retelling.withdraw.Goals as goal
 use Rattle.ystore.specs.Views.{store_of}
 use Rattle.ytold.proofs.JoiningLemmas.{keeps_on, awaited_on}
-use Rattle.ytold.proofs.WithdrawnLemmas.{withdrawn_follows, withdrawn_instances}
+use Rattle.ytold.proofs.WithdrawnLemmas.{withdrawn_follows, withdrawn_instances, withdrawn_reads}
 
 pub returns-clause-follows : goal.returns-clause-follows
 returns-clause-follows c w =
@@ -26,3 +26,10 @@ pub returns-clause-awaited : goal.returns-clause-awaited
 returns-clause-awaited c =
     awaited_on (store_of c.args.counted.now) (store_of c.leave_all.new.counted) (store_of c.take_all.new.counted) c.leave_all.ensures.awaited
     (awaited_on (store_of c.leave_all.new.counted) (store_of c.add_all.new.counted) (store_of c.take_all.new.counted) c.add_all.ensures.awaited c.take_all.ensures.awaited)
+
+pub returns-clause-reads : goal.returns-clause-reads
+returns-clause-reads c w =
+    withdrawn_reads (store_of c.args.counted.now) (store_of c.leave_all.new.counted) (store_of c.add_all.new.counted) (store_of c.take_all.new.counted)
+    c.args.leaves.now c.args.comes.items c.args.goes.items c.leave_all.ensures.follows c.leave_all.ensures.kept c.leave_all.ensures.instances
+    c.leave_all.ensures.there c.add_all.ensures.follows c.add_all.ensures.instances c.add_all.ensures.kept c.take_all.ensures.follows
+    c.take_all.ensures.instances w.there w.most w.few c.leave_all.ensures.reads c.add_all.ensures.reads c.take_all.ensures.reads

@@ -1,8 +1,10 @@
-use Rattle.std.proofs.Common.{◌∙◌, ap, refl, sym, subst}
+use Rattle.std.proofs.Common.{◌+◌, ◌*◌, ◌∙◌, List, length, ap, arith, refl, sym, subst}
+use Rattle.yspec.specs.Forest.{levels}
 use Rattle.ystore.specs.Views.{store_of}
 use Rattle.ytell.specs.Totals.{told_at}
 use Rattle.ytold.specs.Telling.{AreNew, told_by}
-use Rattle.ytold.proofs.NewsLemmas.{still_new, told_on, none_left}
+use Rattle.ytold.proofs.NewsLemmas.{read_news, still_new, told_on, none_left}
+use Rattle.ytold.specs.declared.account.News.{News}
 use Rattle.ytold.proofs.telling.tell_all.Goals as goal
 
 pub loop-one-init : goal.loop-one-init
@@ -13,6 +15,10 @@ loop-one-init c =
       same_reference = refl;
       kept = record { shapes = λ row. refl; rooms = λ row. refl; entries = λ key. refl; node_count = refl };
       told = λ row. ap (λ ns. told_by ns row (told_at first row)) same;
+      reads = λ f tree new. (
+        (let l = ap (λ (ns : List News). length ns * (1 + 2 * levels f)) same in omega (arith, l)),
+        subst (AreNew first f) (sym same) new,
+      );
       totals = λ f tree totals new. (totals, subst (AreNew first f) (sym same) new);
     }
 
@@ -30,6 +36,11 @@ loop-one-preserved c =
       kept = kept;
       told = λ row. told_on rest n c.args.news.items row first before after c.tell.ensures.told
           (ap (λ ns. told_by ns row (told_at before row)) (sym steps) ∙ c.loop-one.invariant.told row);
+      reads = λ f tree new.
+          let so = c.loop-one.invariant.reads f tree new in
+          let here = subst (AreNew before f) steps so.1 in
+          let tree_now = c.kept_trees.ensures.shapes first before f (c.kept_trees.ensures.faults first before c.loop-one.invariant.kept) tree in
+          (read_news n c.loop-one.one-iterator.rest.items rest c.args.news.items (1 + 2 * levels f) _ _ _ steps so.0 (c.tell.ensures.reads f tree_now here.0), still_new f n before after c.tell.ensures.told rest here.3 here.4);
       totals = λ f tree totals new.
           let so = c.loop-one.invariant.totals f tree totals new in
           let here = subst (AreNew before f) steps so.1 in
@@ -49,3 +60,6 @@ returns-clause-kept c = c.loop-one.invariant.kept
 
 pub returns-clause-same_reference : goal.returns-clause-same_reference
 returns-clause-same_reference c = c.loop-one.invariant.same_reference
+
+pub returns-clause-reads : goal.returns-clause-reads
+returns-clause-reads c f tree new = let so = (c.loop-one.invariant.reads f tree new).0 in omega (arith, so)

@@ -1,4 +1,4 @@
-use Rattle.std.proofs.Common.{◌∙◌, ◌+◌, ap, refl, sym, subst, arith}
+use Rattle.std.proofs.Common.{◌∙◌, ◌+◌, ap, refl, sym, subst, arith, length}
 use Rattle.ystore.specs.Entries.{with_instance}
 use Rattle.ystore.specs.Store.{instances_at}
 use Rattle.ystore.specs.Views.{store_of}
@@ -6,6 +6,8 @@ use Rattle.ystore.specs.declared.key.Key.TheVariants.{Value}
 use Rattle.ytold.specs.Growing.{AreThere}
 use Rattle.ytold.specs.Joins.{times_valued}
 use Rattle.ytold.proofs.JoiningLemmas.{keeps_itself, keeps_on, shapes_of, tree_on, rows_of, number_kept, follows_itself, follows_on}
+use Rattle.ytold.specs.Reads.{holder_count, newly_judged, values_reads}
+use Rattle.ytold.proofs.JudgedLemmas.{holders_kept, one_newly}
 use Rattle.ytold.proofs.CountingLemmas.{one_added, none_left}
 use Rattle.ytold.proofs.values.add_all.Goals as goal
 
@@ -17,6 +19,9 @@ loop-pair-init c =
       same_reference = refl;
       kept = keeps_itself first;
       awaited = λ key. refl;
+      holders = λ key. refl;
+      reads = λ held f tree agrees totals there few.
+          let e = ap (λ vs. values_reads (newly_judged (instances_at first) (holder_count first) c.args.values.items vs) vs f) same in omega (arith, e);
       follows = λ held f tree agrees totals. follows_itself first held f agrees totals;
       instances = λ there few. (subst (AreThere first) (sym same) there, λ key. ap (λ vs. instances_at first key + times_valued key vs) same);
     }
@@ -32,6 +37,12 @@ loop-pair-preserved c =
       same_reference = c.add_pair.ensures.same_reference ∙ c.loop-pair.invariant.same_reference;
       kept = keeps_on first before after c.loop-pair.invariant.kept (rows_of key with_instance before after c.add_pair.ensures.kept);
       awaited = λ k. number_kept laws (λ e. e.awaited) key with_instance before after (λ e. refl) c.add_pair.ensures.kept k ∙ c.loop-pair.invariant.awaited k;
+      holders = λ k. holders_kept laws key with_instance before after (λ e. refl) c.add_pair.ensures.kept k ∙ c.loop-pair.invariant.holders k;
+      reads = λ held f tree agrees totals there few.
+          let so = c.loop-pair.invariant.follows held f tree agrees totals in
+          one_newly (instances_at first) (holder_count first) c.args.values.items c.in-Some.pair c.next.new.self.rest.items c.loop-pair.pair-iterator.rest.items before f c.in-Some.ensures.steps.0
+          (λ k. ap length (c.loop-pair.invariant.holders k)) (c.loop-pair.invariant.instances there few).1 _ _ _ (c.loop-pair.invariant.reads held f tree agrees totals there few)
+          (c.add_pair.ensures.reads held f (tree_on first before f (shapes_of first before c.loop-pair.invariant.kept) tree) so.agrees so.totals);
       follows = λ held f tree agrees totals.
           let so = c.loop-pair.invariant.follows held f tree agrees totals in
           follows_on held held f first before after so
@@ -59,3 +70,7 @@ returns-clause-awaited c = c.loop-pair.invariant.awaited
 
 pub returns-clause-same_reference : goal.returns-clause-same_reference
 returns-clause-same_reference c = c.loop-pair.invariant.same_reference
+
+pub returns-clause-reads : goal.returns-clause-reads
+returns-clause-reads c held f tree agrees totals there few =
+    let so = c.loop-pair.invariant.reads held f tree agrees totals there few in omega (arith, so)

@@ -1,10 +1,12 @@
-use Rattle.std.proofs.Common.{◌∙◌, ◌+◌, ap, refl, sym, arith}
+use Rattle.std.proofs.Common.{◌∙◌, ◌+◌, ap, refl, sym, arith, length}
 use Rattle.ystore.specs.Entries.{without_instance}
 use Rattle.ystore.specs.Store.{instances_at}
 use Rattle.ystore.specs.Views.{store_of}
 use Rattle.ystore.specs.declared.key.Key.TheVariants.{Value}
 use Rattle.ytold.specs.Joins.{times_valued}
 use Rattle.ytold.proofs.JoiningLemmas.{keeps_itself, keeps_on, shapes_of, tree_on, rows_of, number_kept, follows_itself, follows_on}
+use Rattle.ytold.specs.Reads.{holder_count, lastly_judged, values_reads}
+use Rattle.ytold.proofs.JudgedLemmas.{holders_kept, one_lastly}
 use Rattle.ytold.proofs.TidyLemmas.{tidied_rows}
 use Rattle.ytold.proofs.CountingLemmas.{one_taken, one_is_there, none_left}
 use Rattle.ytold.proofs.values.take_all.Goals as goal
@@ -17,6 +19,9 @@ loop-pair-init c =
       same_reference = refl;
       kept = keeps_itself first;
       awaited = λ key. refl;
+      holders = λ key. refl;
+      reads = λ held f tree agrees totals few.
+          let e = ap (λ vs. values_reads (lastly_judged (instances_at first) (holder_count first) c.args.values.items vs) vs f) same in omega (arith, e);
       follows = λ held f tree agrees totals few. follows_itself first held f agrees totals;
       instances = λ few key. ap (λ vs. instances_at first key + times_valued key vs) (sym same);
     }
@@ -38,6 +43,13 @@ loop-pair-preserved c =
       same_reference = c.take_pair.ensures.same_reference ∙ c.loop-pair.invariant.same_reference;
       kept = keeps_on first before after c.loop-pair.invariant.kept (keeps_on before mid after (rows_of key without_instance before mid changes) (tidied_rows mid after tidies));
       awaited = λ k. tidies.awaited k ∙ (number_kept laws (λ e. e.awaited) key without_instance before mid (λ e. refl) changes k ∙ c.loop-pair.invariant.awaited k);
+      holders = λ k. tidies.keys.holders k ∙ (holders_kept laws key without_instance before mid (λ e. refl) changes k ∙ c.loop-pair.invariant.holders k);
+      reads = λ held f tree agrees totals few.
+          let so = c.loop-pair.invariant.follows held f tree agrees totals few in
+          one_lastly (instances_at first) (holder_count first) c.args.values.items p rest whole before f c.in-Some.ensures.steps.0 (λ k. ap length (c.loop-pair.invariant.holders k)) (c.loop-pair.invariant.instances few) _ _ _
+          (c.loop-pair.invariant.reads held f tree agrees totals few)
+          (c.take_pair.ensures.reads held f (tree_on first before f (shapes_of first before c.loop-pair.invariant.kept) tree) so.agrees so.totals
+          (one_is_there laws c.args.values.items p rest whole first before c.in-Some.ensures.steps.0 few (c.loop-pair.invariant.instances few)));
       follows = λ held f tree agrees totals few.
           let so = c.loop-pair.invariant.follows held f tree agrees totals few in
           follows_on held held f first before after so
@@ -65,3 +77,7 @@ returns-clause-awaited c = c.loop-pair.invariant.awaited
 
 pub returns-clause-same_reference : goal.returns-clause-same_reference
 returns-clause-same_reference c = c.loop-pair.invariant.same_reference
+
+pub returns-clause-reads : goal.returns-clause-reads
+returns-clause-reads c held f tree agrees totals few =
+    let so = c.loop-pair.invariant.reads held f tree agrees totals few in omega (arith, so)

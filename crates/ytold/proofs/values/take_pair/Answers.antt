@@ -1,4 +1,4 @@
-use Rattle.std.proofs.Common.{refl}
+use Rattle.std.proofs.Common.{arith, refl}
 use Rattle.ystore.specs.Views.{store_of}
 use Rattle.ytold.proofs.JoiningLemmas.{follows_of}
 use Rattle.ytold.proofs.TidyLemmas.{tidied_follows, tidy_itself}
@@ -11,3 +11,9 @@ returns-clause-follows c held f tree agrees totals some =
 
 pub returns-clause-entry : goal.returns-clause-entry
 returns-clause-entry c = tidy_itself _ (store_of c.take_value.new.counted) (store_of c.tidy.new.counted) c.tidy.ensures.entry
+
+pub returns-clause-reads : goal.returns-clause-reads
+returns-clause-reads c held f tree agrees totals some =
+    let taken = (c.take_value.ensures.follows held f tree agrees totals refl refl some).reads in
+    let same = c.tidy.ensures.reads in
+    omega (arith, taken, same)

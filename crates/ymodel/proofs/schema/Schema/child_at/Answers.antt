@@ -1,10 +1,8 @@
-use Rattle.std.proofs.Common.{◌≡◌, ◌≢◌, Some, None, length, refl, sym, ap, ap₂, ◌∙◌, cond}
+use Rattle.std.proofs.Common.{◌≡◌, Some, None, length, refl, sym, ap, ap₂, ◌∙◌, cond}
 use Rattle.std.specs.Prelude.{slice_get, option_map}
-use Rattle.std.proofs.lemmas.Bool.{ne_eqb}
 use Rattle.std.proofs.lemmas.Option.{slice_get_read, slice_get_past}
 use Rattle.ymodel.specs.Layout.{number_of}
 use Rattle.ymodel.specs.View.{child_view}
-use Rattle.yspec.specs.linking.Planned.{same_number}
 use Rattle.ymodel.proofs.RowChildLemmas.{below_it, child_of, no_child_of}
 use Rattle.ymodel.proofs.schema.Schema.child_at.Goals as goal
 
@@ -15,31 +13,18 @@ returns-in_err-slot c =
     let there : slice_get slots c.args.id.0 ≡ None = ap₂ slice_get (sym c.deref.ensures.value) (sym c.number.ensures.value)
     ∙ slice_get_past c.deref.result.now c.number.result c.in_err-slot.ensures.lookup.3 in
     ap (option_map child_view) c.from_residual.ensures
-    ∙ no_child_of schema.modules.items slots c.args.parent.0 c.args.id.0 schema.laid_out (ap (below_it c.args.parent.0 c.args.id.0) there)
+    ∙ no_child_of schema.modules.items slots (number_of c.args.parent) c.args.id.0 schema.laid_out (ap (below_it (number_of c.args.parent) c.args.id.0) there)
 
-pub returns-in_err-above : goal.returns-in_err-above
-returns-in_err-above c =
+pub returns-then-not-is_same : goal.returns-then-not-is_same
+returns-then-not-is_same c =
     let schema = c.args.self.now in
     let slots = schema.slots.items in
     let found = c.in_ok-slot.ensures.lookup in
     let there : slice_get slots c.args.id.0 ≡ Some c.in_ok-slot.slot.now = ap₂ slice_get (sym c.deref.ensures.value) (sym c.number.ensures.value)
     ∙ slice_get_read c.deref.result.now (length c.deref.result.now) c.number.result c.in_ok-slot.slot.now refl found.3.0 found.1 in
-    ap (option_map child_view) c.from_residual-in_err-above.ensures
-    ∙ no_child_of schema.modules.items slots c.args.parent.0 c.args.id.0 schema.laid_out
-    (ap (below_it c.args.parent.0 c.args.id.0) there ∙ ap (λ o. cond (same_number (Some c.args.parent.0) (number_of o)) (Some c.args.id.0) None) c.in_err-above.was)
-
-pub returns-then-above-parent : goal.returns-then-above-parent
-returns-then-above-parent c =
-    let schema = c.args.self.now in
-    let slots = schema.slots.items in
-    let found = c.in_ok-slot.ensures.lookup in
-    let there : slice_get slots c.args.id.0 ≡ Some c.in_ok-slot.slot.now = ap₂ slice_get (sym c.deref.ensures.value) (sym c.number.ensures.value)
-    ∙ slice_get_read c.deref.result.now (length c.deref.result.now) c.number.result c.in_ok-slot.slot.now refl found.3.0 found.1 in
-    let other : c.args.parent.0 ≢ c.in_ok-above.above.0 = λ e. c.if-above-parent.true (sym e) in
-    no_child_of schema.modules.items slots c.args.parent.0 c.args.id.0 schema.laid_out
-    (ap (below_it c.args.parent.0 c.args.id.0) there
-    ∙ (ap (λ o. cond (same_number (Some c.args.parent.0) (number_of o)) (Some c.args.id.0) None) c.in_ok-above.was
-    ∙ ap (λ b. cond b (Some c.args.id.0) None) (ne_eqb c.args.parent.0 c.in_ok-above.above.0 other)))
+    no_child_of schema.modules.items slots (number_of c.args.parent) c.args.id.0 schema.laid_out
+    (ap (below_it (number_of c.args.parent) c.args.id.0) there
+    ∙ ap (λ b. cond b (Some c.args.id.0) None) (sym c.is_same.ensures ∙ c.if-not-is_same.true))
 
 pub returns : goal.returns
 returns c =
@@ -48,5 +33,5 @@ returns c =
     let found = c.in_ok-slot.ensures.lookup in
     let there : slice_get slots c.args.id.0 ≡ Some c.in_ok-slot.slot.now = ap₂ slice_get (sym c.deref.ensures.value) (sym c.number.ensures.value)
     ∙ slice_get_read c.deref.result.now (length c.deref.result.now) c.number.result c.in_ok-slot.slot.now refl found.3.0 found.1 in
-    child_of schema.modules.items slots c.args.parent.0 c.args.id.0 c.in_ok-slot.slot.now _ _ schema.laid_out there
-    (ap number_of c.in_ok-above.was ∙ ap Some c.if-above-parent.false) c.new.ensures.label (c.new.ensures.below ∙ c.children.ensures)
+    child_of schema.modules.items slots (number_of c.args.parent) c.args.id.0 c.in_ok-slot.slot.now _ _ schema.laid_out there
+    (sym c.is_same.ensures ∙ c.if-not-is_same.false) c.new.ensures.label (c.new.ensures.below ∙ c.children.ensures)
