@@ -202,8 +202,9 @@ yanglive tree --explain q p.yang
 q: no such module
 ==
 yanglive validate --explain bare.json p.yang
-2 2
+2 3
 bare.json: J3 /p:c
+  nothing called \"speed\" may stand here.
   No node of that name may stand there. Correct the name, or give the module that defines it.
 ==
 yanglive validate --explain two.json p.yang
@@ -340,6 +341,111 @@ yanglive edit --dump --explain good adding n.yang
 1 0
 {\"net:host\":[{\"name\":\"a\",\"speed\":1},{\"name\":\"b\",\"port\":\"7\",\"speed\":2}]}
 ";
+
+// Refused documents under the same module, of which what stands there is said of J3, J4 and J5.
+const REFUSALS: &str = "yanglive validate --explain near n.yang
+2 3
+near: J3 /
+  nothing called \"net:hots\" may stand here; near it: net:host.
+  No node of that name may stand there. Correct the name, or give the module that defines it.
+==
+yanglive validate near n.yang
+2 1
+near: J3 /
+==
+yanglive edit --explain near adding n.yang
+2 3
+near: J3 /
+  nothing called \"net:hots\" may stand here; near it: net:host.
+  No node of that name may stand there. Correct the name, or give the module that defines it.
+==
+yanglive validate --explain far n.yang
+2 3
+far: J3 /net:more
+  nothing called \"colour\" may stand here.
+  No node of that name may stand there. Correct the name, or give the module that defines it.
+==
+yanglive edit --dump --explain far adding n.yang
+2 3
+far: J3 /net:more
+  nothing called \"colour\" may stand here.
+  No node of that name may stand there. Correct the name, or give the module that defines it.
+==
+yanglive validate --explain bare n.yang
+2 3
+bare: J4 /
+  here \"host\" is written net:host.
+  A name has a module where it must have none, or none where it must have one. Write module:name at the top and where the module changes, and the name alone elsewhere.
+==
+yanglive edit --explain qualified adding n.yang
+2 3
+qualified: J4 /net:more
+  here \"net:item\" is written item.
+  A name has a module where it must have none, or none where it must have one. Write module:name at the top and where the module changes, and the name alone elsewhere.
+==
+yanglive edit qualified adding n.yang
+2 1
+qualified: J4 /net:more
+==
+yanglive validate --explain alone n.yang
+2 3
+alone: J5 /net:host
+  an object stands where an array is due.
+  A value is of another kind than its node: no object for a container or an entry, no array for a list or leaf-list. Write a container as an object, a list as an array of objects, a leaf-list as an array of values, an empty leaf as [null].
+==
+yanglive edit --explain second adding n.yang
+2 3
+second: J5 /net:host[2]
+  a number stands where an object is due.
+  A value is of another kind than its node: no object for a container or an entry, no array for a list or leaf-list. Write a container as an object, a list as an array of objects, a leaf-list as an array of values, an empty leaf as [null].
+==
+yanglive edit --dump second adding n.yang
+2 1
+second: J5 /net:host[2]
+==
+yanglive validate --explain fraction n.yang
+2 2
+fraction: J6 /net:host[1]/speed
+  A number has a fraction or an exponent. Write an integer without them; write a decimal64 as a string.
+==
+yanglive edit --explain fraction adding n.yang
+2 2
+fraction: J6 /net:host[1]/speed
+  A number has a fraction or an exponent. Write an integer without them; write a decimal64 as a string.
+==
+yanglive validate --explain open n.yang
+2 2
+open: J1 /
+  The document isn't JSON. Look for a comma or a bracket too many or too few, and for text that isn't UTF-8.
+==
+yanglive edit --explain array adding n.yang
+2 2
+array: J2 /
+  The document isn't an object. Put the top nodes into an object: {\"module:name\": ..}.
+";
+
+#[test]
+fn explained_refusals(rt: HostRuntime) {
+    let files = [
+        file("n.yang", NET),
+        file("near", "{\"net:hots\":[]}"),
+        file("far", "{\"net:more\":{\"item\":[1,2],\"colour\":1}}"),
+        file("bare", "{\"host\":[]}"),
+        file("qualified", "{\"net:more\":{\"net:item\":[1,2]}}"),
+        file("alone", "{\"net:host\":{\"name\":\"a\"}}"),
+        file("second", "{\"net:host\":[{\"name\":\"a\",\"speed\":1},7]}"),
+        file(
+            "fraction",
+            "{\"net:host\":[{\"name\":\"a\",\"speed\":1.5}]}",
+        ),
+        file("open", "{"),
+        file("array", "[]"),
+        file("adding", "create /net:host {\"name\":\"b\",\"speed\":2}"),
+    ];
+    for row in REFUSALS.split("==\n") {
+        assert!(rt; prints(rt.alloc(), &files, row) == Some(true), "{row}");
+    }
+}
 
 #[test]
 fn explained_faults(rt: HostRuntime) {

@@ -55,7 +55,7 @@ no_output : (with_reasons : Bool) (failure : Failure) → (printed with_reasons 
 no_output with_reasons (failures.Unread name) = refl
 no_output with_reasons (failures.Text name code line hint) = refl
 no_output with_reasons (failures.Compile name code line hint) = refl
-no_output with_reasons (failures.Document name schema code place) = refl
+no_output with_reasons (failures.Document name schema code place hint) = refl
 no_output with_reasons (failures.NoModule name) = refl
 no_output with_reasons (failures.NoCode word) = refl
 no_output with_reasons failures.Memory = refl

@@ -31,8 +31,8 @@ outcome_of (failures.Text name code line hint) =
     failed_with 2 (hinted (string_bytes hint) (refusal_part name.now line (codes "L") (number_of code)))
 outcome_of (failures.Compile name code line hint) =
     failed_with 2 (hinted (string_bytes hint) (refusal_part name.now line (codes "C") (code_number code)))
-outcome_of (failures.Document name schema code place) = failed_with 2 (document_part (schema_view.view schema) name.now
-    (record { code = document.code_number code; place = place_view place.items }))
+outcome_of (failures.Document name schema code place hint) = failed_with 2 (hinted (string_bytes hint)
+    (document_part (schema_view.view schema) name.now (record { code = document.code_number code; place = place_view place.items })))
 outcome_of (failures.NoModule name) = failed 2 (name.now ++ codes ": no such module")
 outcome_of (failures.NoCode word) = failed 2 (word.now ++ codes ": no such code")
 outcome_of failures.Memory = without_memory
@@ -63,7 +63,7 @@ abbrev pub FailsWith : Failure → Outcome → Type 0
 FailsWith (failures.Unread name) o = o ≡ outcome_of (failures.Unread name)
 FailsWith (failures.Text name code line hint) o = o ≡ outcome_of (failures.Text name code line hint)
 FailsWith (failures.Compile name code line hint) o = o ≡ outcome_of (failures.Compile name code line hint)
-FailsWith (failures.Document name schema code place) o = o ≡ outcome_of (failures.Document name schema code place)
+FailsWith (failures.Document name schema code place hint) o = o ≡ outcome_of (failures.Document name schema code place hint)
 FailsWith (failures.NoModule name) o = o ≡ outcome_of (failures.NoModule name)
 FailsWith (failures.NoCode word) o = o ≡ outcome_of (failures.NoCode word)
 FailsWith failures.Memory o = Unit {0}

@@ -4,21 +4,24 @@ ghost use Rattle.std.specs.Prelude.{◌≡◌, [], ℕ, List, IfOk, map, option_
 ghost use Rattle.yspec.specs.document.Document as document_spec;
 ghost use Rattle.yspec.specs.document.Reading.{document_of};
 ghost use Rattle.yspec.specs.document.Writing.{written_text};
-ghost use Rattle.yprogram.specs.Output.{Outcome, first_file, left, with_document, with_tree};
+ghost use Rattle.yprogram.specs.Output.{Outcome, first_file, left, not_read, with_document, with_tree};
 ghost use Rattle.yprogram.specs.Part.{Part};
 ghost use Rattle.yprogram.specs.Script.{after_lines, lines_of, refused_lines};
 ghost use Rattle.yspec.specs.schema.Schema as schema_spec;
 ghost use Rattle.yexplain.specs.Sentences.{explained_fault};
 ghost use Rattle.ycheck.specs.View.{view, views};
 ghost use Rattle.ymodel.specs.View as schema_view;
+ghost use Rattle.ytree.specs.Told.{code_number};
+ghost use Rattle.ytree.specs.View.{place_view};
 ghost use Rattle.ylive.specs.View as live_view;
 ghost use Rattle.yapp.specs.Asked.{edits_in, kinds_in};
 ghost use Rattle.yapp.specs.Edited.{IsEdited, IsRun, IsSound, refused_of, schema_of, tree_of};
 ghost use Rattle.yapp.specs.Explained.{IsExplained};
-ghost use Rattle.yapp.specs.Failing.{LeadsTo, reported};
+ghost use Rattle.yapp.specs.Failing.{FailsWith, LeadsTo, reported};
 
 use crate::contents::{Taken, behind_first, first_of};
 use crate::failure::Failure;
+use crate::hint::refusal_hint;
 use crate::modules::compile_contents;
 use crate::report::{DocumentReport, Report};
 use crate::script::{RefusedLine, Script};
@@ -27,7 +30,7 @@ use ycheck::{Fault, faults};
 use yexplain::explanation_of;
 use ylive::Live;
 use ymodel::Schema;
-use ytree::{DocFault, Tree, read, write};
+use ytree::{DocCode, DocFault, Step, Tree, read, write};
 
 /// A document under its schema, with the lines of a script that were refused on the way to it.
 #[derive(Drop)]
@@ -46,7 +49,7 @@ fn read_under<'a>(
 ) -> Result<Document, Failure<'a>>
     ensures leads { let s = schema_view.view schema in
         (next : schema_spec.Schema → document_spec.Tree → Outcome)
-        → LeadsTo (with_tree s name.entry.now (document_of s bytes.now) (next s))
+        → LeadsTo (with_tree s name.entry.now bytes.now (document_of s bytes.now) (next s))
         (λ d. next (schema_of d) (tree_of d)) result }
     ensures sound { IfOk result (λ d. IsSound (schema_of d) (tree_of d)) }
     ensures unrefused { IfOk result (λ d. refused_of d ≡ []) }
@@ -57,13 +60,34 @@ fn read_under<'a>(
             tree,
             refused: Vec::new(alloc),
         }),
-        Err(DocFault::Refused { code, place }) => Err(Failure::Document {
+        Err(DocFault::Refused { code, place }) => {
+            Err(document_failure(alloc, name, schema, bytes, code, place))
+        }
+        Err(DocFault::Memory) => Err(Failure::Memory),
+    }
+}
+
+/// The failure of a document that is refused at a place.
+fn document_failure<'a>(
+    alloc: Global,
+    name: &'a str,
+    schema: Schema,
+    bytes: &[u8],
+    code: DocCode,
+    place: Vec<Step>,
+) -> Failure<'a>
+    ensures { FailsWith result (not_read (schema_view.view schema) name.entry.now bytes.now
+        (record { code = code_number code; place = place_view place.items })) }
+{
+    match refusal_hint(alloc, &schema, bytes, code, &place) {
+        Ok(hint) => Failure::Document {
             name,
             schema,
             code,
             place,
-        }),
-        Err(DocFault::Memory) => Err(Failure::Memory),
+            hint,
+        },
+        Err(_) => Failure::Memory,
     }
 }
 

@@ -49,13 +49,14 @@ pub enum Failure<'a> {
         line: u32,
         hint: String,
     },
-    /// A document is refused at a node of a schema.
+    /// A document is refused at a node of a schema, with what is said of it.
     #[error("{name}: {code}")]
     Document {
         name: &'a str,
         schema: Schema,
         code: DocCode,
         place: Vec<Step>,
+        hint: String,
     },
     /// No module has the name of the one that is to be drawn.
     #[error("{name}: no such module")]
@@ -162,7 +163,18 @@ impl<'a> Failure<'a> {
                 schema,
                 code,
                 place,
-            } => { write_document_refusal(*name, schema, code.number(), place, with_reasons, sink) }
+                hint,
+            } => {
+                write_document_refusal(
+                    *name,
+                    schema,
+                    code.number(),
+                    place,
+                    hint.as_str(),
+                    with_reasons,
+                    sink,
+                )
+            }
             Failure::NoModule { name } => write_texts(sink, &[*name, ": no such module", "\n"]),
             Failure::NoCode { word } => write_texts(sink, &[*word, ": no such code", "\n"]),
             Failure::Memory => write_texts(sink, &["memory\n"]),
@@ -232,21 +244,22 @@ fn write_refusal_line<S: Sink>(
     write_texts(sink, &[name, ":", line_text, ": ", letter, number, "\n"])
 }
 
-/// Writes the line of a document's refusal, and why it is told.
+/// Writes the line of a document's refusal, what is said of it, and why it is told.
 fn write_document_refusal<S: Sink>(
     name: &str,
     schema: &Schema,
     code: u8,
     place: &[Step],
+    hint: &str,
     with_reasons: bool,
     sink: &mut S,
 ) -> Result<(), SinkFault>
     ensures { Writes (side S.taken S.failures sink.old) (side S.taken S.failures sink.new)
-        (spelled_part with_reasons (document_part (schema_view.view schema.now) name.now
-        (record { code = code; place = place_view place.now }))) result }
+        (spelled_part with_reasons (hinted hint.now (document_part (schema_view.view schema.now)
+        name.now (record { code = code; place = place_view place.now })))) result }
 {
     write_document_line(name, schema, code, place, sink)?;
-    write_reason_where(with_reasons, "J", code, sink)
+    write_hinted_where(with_reasons, hint, "J", code, sink)
 }
 
 /// Writes the line of a document's refusal: `FILE: CODE PLACE`.

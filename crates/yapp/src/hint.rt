@@ -4,12 +4,18 @@
 ghost use Rattle.std.specs.Prelude.{◌≡◌, ◌++◌, ◌∷◌, [], IfOk, map, slice_get, string_bytes, unwrap_or};
 ghost use Rattle.ygrammar.specs.BreakView.{break_view, code_number};
 ghost use Rattle.ytext.specs.View.{modules_view};
+ghost use Rattle.ymodel.specs.View as schema_view;
+ghost use Rattle.ytree.specs.Told as document;
+ghost use Rattle.ytree.specs.View.{place_view};
 ghost use Rattle.yprogram.specs.Hint as spec;
 
 use std::alloc::{AllocError, Global};
 use ygrammar::{BrokenRule, CompileCode};
 use yhint::{line_sentence, shown_line};
+use ymember::said_of_refusal;
+use ymodel::Schema;
 use ytext::Module;
+use ytree::{DocCode, Step};
 
 /// A text as a line, behind its front; nothing of an empty one.
 fn as_line(alloc: Global, front: &str, text: &str) -> Result<String, AllocError>
@@ -84,4 +90,20 @@ pub fn break_hint(
     let said = module_hint(alloc, modules, rule)?;
     hint.push_str(said.as_str())?;
     Ok(hint)
+}
+
+/// What is said of a document that is refused at a place, by its bytes.
+pub fn refusal_hint(
+    alloc: Global,
+    schema: &Schema,
+    bytes: &[u8],
+    code: DocCode,
+    place: &[Step],
+) -> Result<String, AllocError>
+    ensures { IfOk result (λ hint. string_bytes hint
+        ≡ spec.refusal_hint (schema_view.view schema.now) bytes.now
+        (record { code = document.code_number code; place = place_view place.now })) }
+{
+    let said = said_of_refusal(alloc, schema, bytes, code, place)?;
+    as_line(alloc, "  ", said.as_str())
 }

@@ -40,6 +40,10 @@ with_reasons line said code = line ++ (codes "\n  " ++ (said ++ (codes "\n" ++ r
 abbrev pub one_with_reasons : Text → Text → Text → Printed
 one_with_reasons line said code = found 1 (with_reasons line said code ++ codes "1 faults\n")
 
+-- a document that is refused in a line: what is said of what stands at its place, and why its code is told
+abbrev pub refused_with_reasons : Text → Text → Text → Printed
+refused_with_reasons line said code = record { output = []; errors = with_reasons line said code; status = 2 }
+
 -- what one prints under module p
 abbrev pub shown_by_p : Text → Printed
 shown_by_p document = shown module_p document

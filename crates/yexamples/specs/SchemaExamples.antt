@@ -142,7 +142,7 @@ m_schema = record {
 -- what is printed of a document under a schema
 abbrev pub shown_under : Schema → Text → Printed
 shown_under schema document =
-    printed false (with_tree schema (codes "d.json") (document_of schema document) (λ tree. edited false schema tree []))
+    printed false (with_tree schema (codes "d.json") document (document_of schema document) (λ tree. edited false schema tree []))
 
 -- the first refusal of a document where there is room for so many nodes
 abbrev pub refused_within : ℕ → Schema → Text → Option Refusal

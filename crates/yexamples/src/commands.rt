@@ -7,7 +7,7 @@ ghost use Rattle.yprogram.specs.Output.{compile, edit, explain, outcome, printed
 ghost use Rattle.yprogram.specs.Script.{lines_of};
 ghost use Rattle.yexamples.specs.SchemaExamples.{hosts, one_host};
 ghost use Rattle.yspec.specs.edit.Examples.{module_p, module_text};
-ghost use Rattle.yexamples.specs.RunExamples.{counted, drawn_as, dumped, faulty, scripted, shown, shown_of_two, without_faults, one_with_reasons, shown_with_reasons, with_reasons};
+ghost use Rattle.yexamples.specs.RunExamples.{counted, drawn_as, dumped, faulty, scripted, shown, shown_of_two, without_faults, one_with_reasons, refused_with_reasons, shown_with_reasons, with_reasons};
 
 /// How many nodes modules define.
 pub fn counts()
@@ -209,4 +209,24 @@ pub fn explained_faults()
         (Some module_p ∷ Some (codes "{\"p:c\":{\"id\":1}}")
         ∷ Some (codes "replace /p:c/id 300") ∷ []))
         ≡ one_with_reasons (codes "V1 invalid-value - /p:c/id -") (codes "/p:c/id: 300 isn't a value of uint8.") (codes "V1") }
+{}
+
+/// What is said of refused documents, where that is asked for: which member isn't known, or is written otherwise, and which
+/// value stands there.
+pub fn explained_refusals()
+    ensures near { shown_with_reasons module_p (codes "{\"p:c\":{\"noet\":\"x\"}}")
+        ≡ refused_with_reasons (codes "d.json: J3 /p:c") (codes "nothing called \"noet\" may stand here; near it: note.") (codes "J3") }
+    ensures far { shown_with_reasons module_p (codes "{\"p:c\":{},\"q:box\":1}")
+        ≡ refused_with_reasons (codes "d.json: J3 /") (codes "nothing called \"q:box\" may stand here.") (codes "J3") }
+    ensures without_module { shown_with_reasons module_p (codes "{\"c\":{}}")
+        ≡ refused_with_reasons (codes "d.json: J4 /") (codes "here \"c\" is written p:c.") (codes "J4") }
+    ensures with_module { shown_with_reasons module_p (codes "{\"p:c\":{\"p:id\":1}}")
+        ≡ refused_with_reasons (codes "d.json: J4 /p:c") (codes "here \"p:id\" is written id.") (codes "J4") }
+    ensures another_kind { shown_with_reasons module_p (codes "{\"p:c\":[]}")
+        ≡ refused_with_reasons (codes "d.json: J5 /p:c") (codes "an array stands where an object is due.") (codes "J5") }
+    ensures before_edits { printed true (outcome (edit true (codes "d.json") (codes "s.txt") (codes "m.yang" ∷ []))
+        (Some module_p ∷ Some (codes "{\"p:c\":{\"id\":{}}}") ∷ Some [] ∷ []))
+        ≡ refused_with_reasons (codes "d.json: J5 /p:c/id") (codes "an object stands where a leaf's value is due.") (codes "J5") }
+    ensures nothing_more { shown_with_reasons module_p (codes "{\"p:c\":{\"id\":1.5}}")
+        ≡ failed 2 (codes "d.json: J6 /p:c/id\n  A number has a fraction or an exponent. Write an integer without them; write a decimal64 as a string.") }
 {}

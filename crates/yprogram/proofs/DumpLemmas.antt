@@ -10,7 +10,7 @@ use Rattle.yspec.specs.document.Fitting.{FitsBy}
 use Rattle.yspec.specs.document.Writing.{IsDocument}
 use Rattle.yprogram.specs.Part.{plain, spelled}
 use Rattle.yprogram.specs.Script.{after_lines, lines_of}
-use Rattle.yprogram.specs.Output.{Outcome, dump, edit, edited, first_file, other_files, outcome, printed, validate, with_document, with_files, with_tree}
+use Rattle.yprogram.specs.Output.{Outcome, dump, edit, edited, first_file, outcome, printed, validate, with_document, with_files, with_first, with_tree}
 use Rattle.yspec.proofs.DocumentProofs.ReadTextLemmas.{HoldsText, read_holds}
 use Rattle.yspec.proofs.DocumentProofs.ReadWholeLemmas.{read_whole}
 use Rattle.yspec.proofs.DocumentProofs.RightNodeLemmas.{read_within}
@@ -56,10 +56,6 @@ module _ (document script : Text) (names : List Text) (answers : List (Option (L
         is = λ next. read.here (λ contents. with_document document names contents next) ∙ both.is (behind next);
       }
 
-  -- what follows the schema
-  abbrev on_tree : Text → Next → Schema → List (List ℕ) → Outcome
-  on_tree name next schema files = with_tree schema name (document_of schema (first_file files)) (λ tree. next schema tree (other_files files))
-
   -- its modules compile, and its document is read
   record HasRun : Type 0 where
     files : FilesRead
@@ -68,22 +64,22 @@ module _ (document script : Text) (names : List Text) (answers : List (Option (L
     found : document_of code.schema files.bytes ≡ Ok tree
 
   with_found : (s : Schema) (name : Text) (bytes : List ℕ) (tree : Tree) (next : Tree → Outcome) → document_of s bytes ≡ Ok tree
-      → with_tree s name (document_of s bytes) next ≡ next tree
-  with_found s name bytes tree next found = ap (λ (o : Result Tree Refusal). with_tree s name o next) found
+      → with_tree s name bytes (document_of s bytes) next ≡ next tree
+  with_found s name bytes tree next found = ap (λ (o : Result Tree Refusal). with_tree s name bytes o next) found
 
   has_run : (next : Next) → IsReport (made next) → HasRun
   has_run next shown =
       let files = files_read next shown in
       let rest = files.bytes ∷ files.lines ∷ [] in
       let under = subst IsReport (files.is next) shown in
-      let code = is_compiled names files.read.contents rest (on_tree document next) files.read.count under in
-      let found = is_found code.schema document (document_of code.schema files.bytes) (λ tree. next code.schema tree (files.lines ∷ []))
-      (subst IsReport (code.is rest (on_tree document next)) under) in
+      let code = is_compiled names files.read.contents rest (with_first document next) files.read.count under in
+      let found = is_found code.schema document files.bytes (document_of code.schema files.bytes) (λ tree. next code.schema tree (files.lines ∷ []))
+      (subst IsReport (code.is rest (with_first document next)) under) in
       record { files = files; code = code; tree = found.tree; found = found.is }
 
   made_is : (run : HasRun) (next : Next) → made next ≡ next run.code.schema run.tree (run.files.lines ∷ [])
   made_is run next =
-      run.files.is next ∙ (run.code.is (run.files.bytes ∷ run.files.lines ∷ []) (on_tree document next)
+      run.files.is next ∙ (run.code.is (run.files.bytes ∷ run.files.lines ∷ []) (with_first document next)
       ∙ with_found run.code.schema document run.files.bytes run.tree (λ tree. next run.code.schema tree (run.files.lines ∷ [])) run.found)
 
   -- another document under the same modules is validated so
@@ -93,7 +89,7 @@ module _ (document script : Text) (names : List Text) (answers : List (Option (L
   validated run name bytes tree found =
       let next : Next = λ schema tree files. edited false schema tree [] in
       run.files.read.again (name ∷ []) (Some bytes ∷ []) (λ contents. with_document name names contents next)
-      ∙ (run.code.is (bytes ∷ []) (on_tree name next)
+      ∙ (run.code.is (bytes ∷ []) (with_first name next)
       ∙ with_found run.code.schema name bytes tree (λ tree. edited false run.code.schema tree []) found)
 
   -- the document after the lines of the script

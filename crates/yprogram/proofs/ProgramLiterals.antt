@@ -4,8 +4,9 @@ use Rattle.yspec.proofs.LiteralLemmas.{yspec_on_literals}
 use Rattle.yhint.specs.Line.{shown_line}
 use Rattle.yhint.specs.Near.{is_near, nearest}
 use Rattle.yhint.specs.Sentence.{of_line}
+use Rattle.ymember.specs.Sentence.{said_of_refusal}
 use Rattle.yprogram.specs.Output.{outcome}
 
 unfoldable pub yprogram_on_literals : ⊤
-unfolding yspec_on_literals outcome shown_line of_line is_near nearest
+unfolding yspec_on_literals outcome shown_line of_line is_near nearest said_of_refusal
 yprogram_on_literals = tt

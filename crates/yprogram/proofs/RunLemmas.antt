@@ -112,6 +112,7 @@ pub record IsFound (o : Result Tree Refusal) : Type 0 where
   pub tree : Tree
   pub is : o ≡ Ok tree
 
-pub is_found : (schema : Schema) (name : Text) (o : Result Tree Refusal) (next : Tree → Outcome) → IsReport (with_tree schema name o next) → IsFound o
-is_found schema name (Err refused) next shown = absurd (omega (arith, shown))
-is_found schema name (Ok tree) next shown = record { tree = tree; is = refl }
+pub is_found : (schema : Schema) (name : Text) (bytes : List ℕ) (o : Result Tree Refusal) (next : Tree → Outcome)
+    → IsReport (with_tree schema name bytes o next) → IsFound o
+is_found schema name bytes (Err refused) next shown = absurd (omega (arith, shown))
+is_found schema name bytes (Ok tree) next shown = record { tree = tree; is = refl }

@@ -5,8 +5,11 @@ use Rattle.yspec.specs.Forest.{Forest, end, node}
 use Rattle.yspec.specs.text.Text.{Text}
 use Rattle.yspec.specs.text.Statement.{Statement}
 use Rattle.yspec.specs.schema.Breaks.{Break}
+use Rattle.yspec.specs.schema.Schema.{Schema}
+use Rattle.yspec.specs.document.Reading.{Refusal}
 use Rattle.yhint.specs.Line.{shown_line}
 use Rattle.yhint.specs.Sentence.{of_line}
+use Rattle.ymember.specs.Sentence.{said_of_refusal}
 use Rattle.yprogram.specs.Part.{Part}
 
 abbrev pub hinted : Text → Part → Part
@@ -35,3 +38,7 @@ module_at (suc number) (node s below after) = module_at number after
 abbrev pub break_hint : List (List ℕ) → Forest Statement → Break → Text
 break_hint contents modules b = line_hint b.line (unwrap_or (slice_get contents b.module_number) [])
     ++ statement_hint b.code b.line (module_at b.module_number modules)
+
+-- of a document that is refused, by its bytes
+abbrev pub refusal_hint : Schema → List ℕ → Refusal → Text
+refusal_hint schema bytes r = as_line (codes "  ") (said_of_refusal schema bytes r)

@@ -17,7 +17,7 @@ use Rattle.yspec.specs.document.Faults.{faults_of, line_of}
 use Rattle.yspec.specs.document.Path.{path_text}
 use Rattle.yspec.specs.document.Writing.{written_text}
 use Rattle.yexplain.specs.Sentences.{explained_fault}
-use Rattle.yprogram.specs.Hint.{break_hint, hinted, line_hint}
+use Rattle.yprogram.specs.Hint.{break_hint, hinted, line_hint, refusal_hint}
 use Rattle.yprogram.specs.Part.{Part, line_about, plain, spelled}
 use Rattle.yprogram.specs.Script.{after_lines, lines_of, refused_lines}
 
@@ -125,9 +125,12 @@ abbrev pub document_part : Schema → Text → Refusal → Part
 document_part schema name r = let code = codes "J" ++ decimal r.code in
     line_about code (name ++ (codes ": " ++ (code ++ (codes " " ++ path_text schema r.place))))
 
-abbrev pub with_tree : Schema → Text → Result Tree Refusal → (Tree → Outcome) → Outcome
-with_tree schema name (Err r) next = failed_with 2 (document_part schema name r)
-with_tree schema name (Ok tree) next = next tree
+abbrev pub not_read : Schema → Text → List ℕ → Refusal → Outcome
+not_read schema name bytes r = failed_with 2 (hinted (refusal_hint schema bytes r) (document_part schema name r))
+
+abbrev pub with_tree : Schema → Text → List ℕ → Result Tree Refusal → (Tree → Outcome) → Outcome
+with_tree schema name bytes (Err r) next = not_read schema name bytes r
+with_tree schema name bytes (Ok tree) next = next tree
 
 abbrev pub first_file : List (List ℕ) → List ℕ
 first_file [] = []
@@ -137,10 +140,13 @@ abbrev pub other_files : List (List ℕ) → List (List ℕ)
 other_files [] = []
 other_files (bytes ∷ files) = files
 
--- `next` goes on with the document, too
+-- `next` goes on with the document of the first of some files, and with those behind it
+abbrev pub with_first : Text → (Schema → Tree → List (List ℕ) → Outcome) → Schema → List (List ℕ) → Outcome
+with_first document next schema files = let bytes = first_file files in
+    with_tree schema document bytes (document_of schema bytes) (λ tree. next schema tree (other_files files))
+
 abbrev pub with_document : Text → List Text → List (List ℕ) → (Schema → Tree → List (List ℕ) → Outcome) → Outcome
-with_document document names contents next = with_schema names contents (λ schema files.
-    with_tree schema document (document_of schema (first_file files)) (λ tree. next schema tree (other_files files)))
+with_document document names contents next = with_schema names contents (with_first document next)
 
 -- ---- reports
 

@@ -1,6 +1,6 @@
 use Rattle.std.proofs.Common.{List, ℕ, ap, subst, sym, ◌∙◌}
 use Rattle.yspec.specs.document.Reading.{document_of}
-use Rattle.yprogram.specs.Output.{first_file, other_files, with_tree}
+use Rattle.yprogram.specs.Output.{other_files, with_first, with_tree}
 use Rattle.ymodel.specs.View as schema_view
 use Rattle.yapp.specs.Edited.{schema_of, tree_of}
 use Rattle.yapp.specs.Failing.{FailsWith}
@@ -12,8 +12,8 @@ returns-in-Ok-read_under-clause-leads c = λ next.
     let s = schema_view.view c.in-Ok.compiled.value in
     let files = texts_in c.in-Ok.compiled.rest.now in
     let d = c.in-Ok-read_under.document in
-    c.in-Ok.ensures (λ schema files. with_tree schema c.args.document.now (document_of schema (first_file files)) (λ tree. next schema tree (other_files files)))
-    ∙ (ap (λ (bytes : List ℕ). with_tree s c.args.document.now (document_of s bytes) (λ tree. next s tree (other_files files))) (sym c.first_of.ensures)
+    c.in-Ok.ensures (with_first c.args.document.now next)
+    ∙ (ap (λ (bytes : List ℕ). with_tree s c.args.document.now bytes (document_of s bytes) (λ tree. next s tree (other_files files))) (sym c.first_of.ensures)
     ∙ (c.in-Ok-read_under.ensures.leads (λ schema tree. next schema tree (other_files files))
     ∙ ap (next (schema_of d) (tree_of d)) (sym c.behind_first.ensures)))
 
@@ -22,6 +22,6 @@ returns-in-Err-read_under-clause-leads c = λ next.
     let s = schema_view.view c.in-Ok.compiled.value in
     let files = texts_in c.in-Ok.compiled.rest.now in
     subst (FailsWith c.in-Err-read_under.failure)
-    (sym (c.in-Ok.ensures (λ schema files. with_tree schema c.args.document.now (document_of schema (first_file files)) (λ tree. next schema tree (other_files files)))
-    ∙ ap (λ (bytes : List ℕ). with_tree s c.args.document.now (document_of s bytes) (λ tree. next s tree (other_files files))) (sym c.first_of.ensures)))
+    (sym (c.in-Ok.ensures (with_first c.args.document.now next)
+    ∙ ap (λ (bytes : List ℕ). with_tree s c.args.document.now bytes (document_of s bytes) (λ tree. next s tree (other_files files))) (sym c.first_of.ensures)))
     (c.in-Err-read_under.ensures.leads (λ schema tree. next schema tree (other_files files)))

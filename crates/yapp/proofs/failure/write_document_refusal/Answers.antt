@@ -6,5 +6,5 @@ returns-in_err-write_document_line g c =
     left_failed _ _ _ _ _ _ c.from_residual.result c.from_residual.ensures.0 (left_all _ _) c.in_err-write_document_line.ensures
 
 pub returns : goal.returns
-returns g c = left_last _ _ _ _ _ c.write_reason_where.result
-    (left_after _ _ _ _ _ _ (left_all _ _) c.in_ok-write_document_line.ensures) c.write_reason_where.ensures
+returns g c = left_last _ _ _ _ _ c.write_hinted_where.result
+    (left_after _ _ _ _ _ _ (left_all _ _) c.in_ok-write_document_line.ensures) c.write_hinted_where.ensures
