@@ -2,8 +2,8 @@
 
 use std::alloc::Global;
 use test_modules::{DEFAULT_CASE, ENTRIES, MODULE, NETWORK, STATE};
-use ycheck::{Fault, Info};
-use ylist::{Seen, SeenInfo, Walk};
+use ycheck::{Fault, Info, LentInfo};
+use ylist::{Seen, Walk};
 use ylive::Live;
 use yschema::compile;
 use ytext::parse;
@@ -17,11 +17,11 @@ fn is_app_tag(seen: Option<&str>, app_tag: &Option<String>) -> bool {
     }
 }
 
-fn is_info(seen: SeenInfo<'_>, info: &Info) -> bool {
+fn is_info(seen: LentInfo<'_>, info: &Info) -> bool {
     match (seen, info) {
-        (SeenInfo::None, Info::None) => true,
-        (SeenInfo::Choice(seen), Info::Choice(name)) => seen == name.as_str(),
-        (SeenInfo::Unique(seen), Info::Unique(number)) => seen == *number,
+        (LentInfo::None, Info::None) => true,
+        (LentInfo::Choice(seen), Info::Choice(name)) => seen == name.as_str(),
+        (LentInfo::Unique(seen), Info::Unique(number)) => seen == *number,
         _ => false,
     }
 }

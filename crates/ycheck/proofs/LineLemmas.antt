@@ -1,7 +1,7 @@
 -- The text of a step, of a path and of a line, part by part.
 use Rattle.std.proofs.Common.{◌≡◌, ◌<◌, ℕ, arith, List, [], ◌∷◌, ◌++◌, length, codes, decimal, Option, Some, refl, sym, ap, ◌∙◌, append_assoc, false}
 use Rattle.std.proofs.lemmas.List.{append-nil}
-use Rattle.std.specs.Prelude.{◌==◌, option_map, string_bytes, unwrap_or, None}
+use Rattle.std.specs.Prelude.{◌==◌, option_map, unwrap_or, None}
 use Rattle.std.specs.Option.{option_map_or}
 use Rattle.yspec.specs.schema.Schema.{Schema, SchemaNode, node_at, written_name}
 use Rattle.yspec.specs.document.Document.{Step}
@@ -11,8 +11,8 @@ use Rattle.yspec.specs.document.Path.{path_from, path_text, position_text, step_
 use Rattle.yspec.specs.text.Text.{Text}
 use Rattle.ytree.specs.View.{place_view}
 use Rattle.ytree.specs.declared.tree.Step as code
-use Rattle.ycheck.specs.View.{code_view, info_view, tag_name, view}
-use Rattle.ycheck.specs.declared.fault.Fault.{Fault}
+use Rattle.ycheck.specs.View.{code_view, lent_info_view, parts_view, tag_name}
+use Rattle.ycheck.specs.declared.fault.FaultParts.{FaultParts}
 
 pub named_step : (schema : Schema) (parent : Option ℕ) (step : Step) (n : SchemaNode) → Some n ≡ node_at schema step.schema_number
     → (codes "/" ++ written_name schema parent n) ++ position_text step.position ≡ step_text schema parent step
@@ -36,13 +36,13 @@ two_words number tag rest = sym (append_assoc (number ++ 32 ∷ []) ((tag ++ 32 
     ∙ append_assoc number (32 ∷ []) (((tag ++ 32 ∷ []) ++ []) ++ rest)
     ∙ ap (λ (xs : Text). number ++ (32 ∷ xs)) (ap (λ (xs : Text). xs ++ rest) (append-nil (tag ++ 32 ∷ [])) ∙ append_assoc tag (32 ∷ []) rest))
 
-pub line_parts : (schema : Schema) (f : Fault) (code tag : Text) → code ≡ codes "V" ++ (decimal (fault_number (code_view f.code)) ++ codes " ")
-    → tag ≡ tag_name f.tag ++ codes " " → line_of schema (view f)
-    ≡ (code ++ (tag ++ [])) ++ (or_dash (printed_tag (unwrap_or (option_map string_bytes f.app_tag) []))
-    ++ ((codes " " ++ []) ++ (path_text schema (place_view f.steps.items) ++ ((codes " " ++ []) ++ (or_dash (info_text (info_view f.info)) ++ (codes "\n" ++ []))))))
+pub line_parts : (schema : Schema) (f : FaultParts) (code tag : Text) → code ≡ codes "V" ++ (decimal (fault_number (code_view f.code)) ++ codes " ")
+    → tag ≡ tag_name f.tag ++ codes " " → line_of schema (parts_view f)
+    ≡ (code ++ (tag ++ [])) ++ (or_dash (printed_tag (unwrap_or (option_map (λ t. t.now) f.app_tag) []))
+    ++ ((codes " " ++ []) ++ (path_text schema (place_view f.steps.now) ++ ((codes " " ++ []) ++ (or_dash (info_text (lent_info_view f.info)) ++ (codes "\n" ++ []))))))
 line_parts schema f code tag code_is tag_is =
-    let rest : Text = or_dash (printed_tag (unwrap_or (option_map string_bytes f.app_tag) []))
-    ++ ((codes " " ++ []) ++ (path_text schema (place_view f.steps.items) ++ ((codes " " ++ []) ++ (or_dash (info_text (info_view f.info)) ++ (codes "\n" ++ []))))) in
+    let rest : Text = or_dash (printed_tag (unwrap_or (option_map (λ t. t.now) f.app_tag) []))
+    ++ ((codes " " ++ []) ++ (path_text schema (place_view f.steps.now) ++ ((codes " " ++ []) ++ (or_dash (info_text (lent_info_view f.info)) ++ (codes "\n" ++ []))))) in
     let head : Text → Text → Text = λ code tag. (code ++ (tag ++ [])) ++ rest in
     ap (λ (xs : Text). 86 ∷ xs) (two_words (decimal (fault_number (code_view f.code))) (tag_name f.tag) rest)
     ∙ ap (λ (xs : Text). head xs (tag_name f.tag ++ codes " ")) (sym code_is) ∙ ap (head code) (sym tag_is)

@@ -12,6 +12,9 @@ use Rattle.ycheck.specs.declared.fault.ErrorTag.TheVariants.{InvalidValue, Missi
 use Rattle.ycheck.specs.declared.fault.Info.{Info}
 use Rattle.ycheck.specs.declared.fault.Info.TheVariants as infos
 use Rattle.ycheck.specs.declared.fault.Fault.{Fault}
+use Rattle.ycheck.specs.declared.fault.LentInfo.{LentInfo}
+use Rattle.ycheck.specs.declared.fault.LentInfo.TheVariants as lent
+use Rattle.ycheck.specs.declared.fault.FaultParts.{FaultParts}
 
 abbrev pub code_view : FaultCode → spec.FaultCode
 code_view V1 = spec.V1
@@ -37,6 +40,20 @@ abbrev pub info_view : Info → faults.Info
 info_view infos.None = no_info
 info_view (infos.Choice name) = choice_name (string_bytes name)
 info_view (infos.Unique number) = unique_number number
+
+abbrev pub lent_info_view : LentInfo → faults.Info
+lent_info_view lent.None = no_info
+lent_info_view (lent.Choice name) = choice_name name.now
+lent_info_view (lent.Unique number) = unique_number number
+
+abbrev pub parts_view : FaultParts → faults.Fault
+parts_view p = record {
+  code = code_view p.code;
+  tag = tag_name p.tag;
+  app_tag = option_map (λ t. t.now) p.app_tag;
+  steps = place_view p.steps.now;
+  info = lent_info_view p.info;
+}
 
 abbrev pub view : Fault → faults.Fault
 view f = record {

@@ -1,5 +1,7 @@
 //! What is wrong with a document.
 
+ghost use Rattle.std.specs.Prelude.{◌≡◌, option_map, string_bytes};
+
 use std::fmt;
 use ytree::Step;
 
@@ -112,4 +114,66 @@ pub struct Fault {
     pub app_tag: Option<String>,
     pub steps: Vec<Step>,
     pub info: Info,
+}
+
+/// What a fault says besides its place, lent.
+#[derive(Clone, Copy)]
+pub enum LentInfo<'a> {
+    None,
+    /// The name of a choice.
+    Choice(&'a str),
+    /// The number of a `unique` of its list, from 1.
+    Unique(usize),
+}
+
+/// The five parts of a fault, lent.
+#[derive(Clone, Copy)]
+pub struct FaultParts<'a> {
+    pub code: FaultCode,
+    pub tag: ErrorTag,
+    pub app_tag: Option<&'a str>,
+    pub steps: &'a [Step],
+    pub info: LentInfo<'a>,
+}
+
+impl Info {
+    ghost use Rattle.std.specs.Prelude.{◌≡◌};
+    ghost use Rattle.ycheck.specs.View.{info_view, lent_info_view};
+
+    fn lent(&self) -> LentInfo<'_>
+        ensures { lent_info_view result ≡ info_view self.now }
+    {
+        match self {
+            Info::None => LentInfo::None,
+            Info::Choice(name) => LentInfo::Choice(name.as_str()),
+            Info::Unique(number) => LentInfo::Unique(*number),
+        }
+    }
+}
+
+fn lent_tag(app_tag: &Option<String>) -> Option<&str>
+    ensures { option_map (λ t. t.now) result ≡ option_map string_bytes app_tag.now }
+{
+    match app_tag {
+        Some(text) => Some(text.as_str()),
+        None => None,
+    }
+}
+
+impl Fault {
+    ghost use Rattle.std.specs.Prelude.{◌≡◌};
+    ghost use Rattle.ycheck.specs.View.{parts_view, view};
+
+    /// Its parts.
+    pub fn parts(&self) -> FaultParts<'_>
+        ensures { parts_view result ≡ view self.now }
+    {
+        FaultParts {
+            code: self.code,
+            tag: self.tag,
+            app_tag: lent_tag(&self.app_tag),
+            steps: &self.steps,
+            info: self.info.lent(),
+        }
+    }
 }

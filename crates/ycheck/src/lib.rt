@@ -11,7 +11,7 @@ mod values;
 
 pub use cases::has_stored;
 pub use checking::faults;
-pub use fault::{ErrorTag, Fault, FaultCode, Info};
-pub use lines::{LineFault, write_line, write_path};
+pub use fault::{ErrorTag, Fault, FaultCode, FaultParts, Info, LentInfo};
+pub use lines::{LineFault, write_line, write_parts, write_path};
 pub use repeated::tuple_of;
 pub use values::value_of;

@@ -11,9 +11,9 @@ ghost use Rattle.youtput.specs.Writing.{Writes, side};
 ghost use Rattle.ymodel.specs.View as schema_view;
 ghost use Rattle.ymodel.specs.View.{node_view};
 ghost use Rattle.ytree.specs.View.{place_view, step_view};
-ghost use Rattle.ycheck.specs.View.{code_view, info_view, tag_name, view};
+ghost use Rattle.ycheck.specs.View.{code_view, lent_info_view, parts_view, tag_name, view};
 
-use crate::fault::{ErrorTag, Fault, FaultCode, Info};
+use crate::fault::{ErrorTag, Fault, FaultCode, FaultParts, LentInfo};
 use itoa::Buffer;
 use thiserror::Error;
 use ymodel::{Schema, SchemaNode};
@@ -155,9 +155,9 @@ fn tag_text(tag: ErrorTag) -> &'static str
 }
 
 /// Writes an error-app-tag, `-` for none or for an empty one. White space and control characters in it print as `_`.
-fn write_app_tag<W: Sink>(app_tag: &Option<String>, sink: &mut W) -> Result<(), LineFault>
+fn write_app_tag<W: Sink>(app_tag: Option<&str>, sink: &mut W) -> Result<(), LineFault>
     ensures { Writes (side W.taken W.failures sink.old) (side W.taken W.failures sink.new)
-        (or_dash (printed_tag (unwrap_or (option_map string_bytes app_tag.now) []))) result }
+        (or_dash (printed_tag (unwrap_or (option_map (λ t. t.now) app_tag) []))) result }
 {
     match app_tag {
         Some(tag) if !tag.is_empty() => write_printed(tag.as_bytes(), sink),
@@ -187,13 +187,13 @@ fn write_printed<W: Sink>(bytes: &[u8], sink: &mut W) -> Result<(), LineFault>
 }
 
 /// Writes what a fault says besides its place, `-` for nothing.
-fn write_info<W: Sink>(info: &Info, sink: &mut W) -> Result<(), LineFault>
+fn write_info<W: Sink>(info: LentInfo<'_>, sink: &mut W) -> Result<(), LineFault>
     ensures { Writes (side W.taken W.failures sink.old) (side W.taken W.failures sink.new)
-        (or_dash (info_text (info_view info.now))) result }
+        (or_dash (info_text (lent_info_view info))) result }
 {
     match info {
-        Info::Choice(name) if !name.is_empty() => put(sink, &[name.as_str()]),
-        Info::Unique(number) => write_number(*number, sink),
+        LentInfo::Choice(name) if !name.is_empty() => put(sink, &[name]),
+        LentInfo::Unique(number) => write_number(number, sink),
         _ => put(sink, &["-"]),
     }
 }
@@ -206,17 +206,29 @@ fn write_number<W: Sink>(number: usize, sink: &mut W) -> Result<(), LineFault>
     put(sink, &[digits.format(number)])
 }
 
-/// Writes the line of a fault: its code, error-tag, error-app-tag, path and info, parted by single spaces, with `-` for
-/// none, and a line feed. It takes no memory.
+/// Writes the line of a fault, as `write_parts` does. It takes no memory.
 pub fn write_line<W: Sink>(schema: &Schema, fault: &Fault, sink: &mut W) -> Result<(), LineFault>
     ensures { Writes (side W.taken W.failures sink.old) (side W.taken W.failures sink.new)
         (line_of (schema_view.view schema.now) (view fault.now)) result }
 {
-    put(sink, &[code_text(fault.code), tag_text(fault.tag)])?;
-    write_app_tag(&fault.app_tag, sink)?;
+    write_parts(schema, fault.parts(), sink)
+}
+
+/// Writes the line of a fault: its code, error-tag, error-app-tag, path and info, parted by single spaces, with `-` for
+/// none, and a line feed. It takes no memory.
+pub fn write_parts<W: Sink>(
+    schema: &Schema,
+    parts: FaultParts<'_>,
+    sink: &mut W,
+) -> Result<(), LineFault>
+    ensures { Writes (side W.taken W.failures sink.old) (side W.taken W.failures sink.new)
+        (line_of (schema_view.view schema.now) (parts_view parts)) result }
+{
+    put(sink, &[code_text(parts.code), tag_text(parts.tag)])?;
+    write_app_tag(parts.app_tag, sink)?;
     put(sink, &[" "])?;
-    write_path(schema, &fault.steps, sink)?;
+    write_path(schema, parts.steps, sink)?;
     put(sink, &[" "])?;
-    write_info(&fault.info, sink)?;
+    write_info(parts.info, sink)?;
     put(sink, &["\n"])
 }

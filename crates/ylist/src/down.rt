@@ -10,10 +10,11 @@ ghost use Rattle.ymodel.specs.View as schema_view;
 ghost use Rattle.ytree.specs.View.{place_view};
 ghost use Rattle.yplay.specs.Merging.{absence_fault, data_depth, info_at, to_node};
 ghost use Rattle.ylist.specs.Listed.{absence_of, data_way};
-ghost use Rattle.ylist.specs.Seen.{info_seen, seen_view, steps_in};
+ghost use Rattle.ycheck.specs.View.{lent_info_view};
+ghost use Rattle.ylist.specs.Seen.{seen_view, steps_in};
 
 use crate::place::Place;
-use crate::seen::{Seen, SeenInfo};
+use crate::seen::Seen;
 use ymodel::{Schema, SchemaId};
 use ystore::Absence;
 use ytree::Step;
@@ -67,18 +68,18 @@ fn enter_way(schema: &Schema, skipped: usize, id: Option<SchemaId>, place: &mut 
 }
 
 /// A fault of a choice has its name.
-fn info_of<'a>(schema: &'a Schema, id: SchemaId) -> SeenInfo<'a>
-    ensures { info_seen result ≡ info_at (schema_view.view schema.entry.now) id.0 }
+fn info_of<'a>(schema: &'a Schema, id: SchemaId) -> LentInfo<'a>
+    ensures { lent_info_view result ≡ info_at (schema_view.view schema.entry.now) id.0 }
 {
     match schema.kind(id) {
         Some(node) => {
             if node.kind.is_data() {
-                SeenInfo::None
+                LentInfo::None
             } else {
-                SeenInfo::Choice(node.name.as_str())
+                LentInfo::Choice(node.name.as_str())
             }
         }
-        None => SeenInfo::None,
+        None => LentInfo::None,
     }
 }
 

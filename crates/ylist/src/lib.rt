@@ -15,5 +15,5 @@ mod walk;
 pub use laws::{parted_faults, told_documents, told_nodes, walked_faults};
 pub use listing::list;
 pub use place::Place;
-pub use seen::{Seen, SeenInfo};
+pub use seen::Seen;
 pub use walk::Walk;

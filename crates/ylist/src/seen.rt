@@ -7,25 +7,15 @@ ghost use Rattle.ylist.specs.Listed.{judged_told};
 ghost use Rattle.ylist.specs.Seen.{words_view};
 
 use crate::place::Place;
-use ycheck::{ErrorTag, FaultCode};
+use ycheck::{ErrorTag, FaultCode, FaultParts, LentInfo};
 use ystore::Judged;
-
-/// What a fault says besides its place, lent.
-#[derive(Clone, Copy)]
-pub enum SeenInfo<'a> {
-    None,
-    /// The name of a choice.
-    Choice(&'a str),
-    /// The number of a `unique` of its list, from 1.
-    Unique(usize),
-}
 
 /// What a fault says but for its place.
 #[derive(Clone, Copy)]
 pub(crate) struct Words<'a> {
     pub(crate) code: FaultCode,
     pub(crate) app_tag: Option<&'a str>,
-    pub(crate) info: SeenInfo<'a>,
+    pub(crate) info: LentInfo<'a>,
 }
 
 /// A broken rule, with the steps to the node at which it is told. It lends what is text and holds its steps, so it takes no
@@ -37,7 +27,7 @@ pub struct Seen<'a> {
     /// The error-app-tag of the restriction that is broken (RFC 7950, 7.5.4.2), or that of the code (RFC 7950, 15).
     pub app_tag: Option<&'a str>,
     pub place: Place,
-    pub info: SeenInfo<'a>,
+    pub info: LentInfo<'a>,
 }
 
 impl<'a> Words<'a> {
@@ -45,12 +35,12 @@ impl<'a> Words<'a> {
     ghost use Rattle.yspec.specs.document.Fault.{fault_with};
     ghost use Rattle.yspec.specs.document.RowFaults.{prefixed};
     ghost use Rattle.ytree.specs.View.{place_view};
-    ghost use Rattle.ycheck.specs.View.{code_view};
-    ghost use Rattle.ylist.specs.Seen.{info_seen, seen_view, steps_in, words_view};
+    ghost use Rattle.ycheck.specs.View.{code_view, lent_info_view};
+    ghost use Rattle.ylist.specs.Seen.{seen_view, steps_in, words_view};
 
     /// With the error-app-tag of the code.
-    pub(crate) fn of(code: FaultCode, info: SeenInfo<'a>) -> Words<'a>
-        ensures { words_view result ≡ fault_with (info_seen info.entry) (code_view code) [] }
+    pub(crate) fn of(code: FaultCode, info: LentInfo<'a>) -> Words<'a>
+        ensures { words_view result ≡ fault_with (lent_info_view info.entry) (code_view code) [] }
     {
         Words {
             code,
@@ -68,6 +58,25 @@ impl<'a> Words<'a> {
             tag: self.code.tag(),
             app_tag: self.app_tag,
             place,
+            info: self.info,
+        }
+    }
+}
+
+impl<'a> Seen<'a> {
+    ghost use Rattle.std.specs.Prelude.{◌≡◌};
+    ghost use Rattle.ycheck.specs.View.{parts_view};
+    ghost use Rattle.ylist.specs.Seen.{seen_view};
+
+    /// Its parts, of which the steps are lent by it.
+    pub fn parts(&self) -> FaultParts<'_>
+        ensures { parts_view result ≡ seen_view self.now }
+    {
+        FaultParts {
+            code: self.code,
+            tag: self.tag,
+            app_tag: self.app_tag,
+            steps: self.place.steps(),
             info: self.info,
         }
     }
@@ -91,9 +100,9 @@ pub(crate) fn judged_words<'a>(judged: Option<&'a Judged>) -> Option<Words<'a>>
         Some(Judged::Wrong(app_tag)) => Some(Words {
             code: FaultCode::V1,
             app_tag: lent_tag(app_tag),
-            info: SeenInfo::None,
+            info: LentInfo::None,
         }),
-        Some(Judged::Missing) => Some(Words::of(FaultCode::V11, SeenInfo::None)),
+        Some(Judged::Missing) => Some(Words::of(FaultCode::V11, LentInfo::None)),
         _ => None,
     }
 }
@@ -103,10 +112,10 @@ pub(crate) fn repetition<'a>(is_item: bool, which: usize) -> Words<'a>
     ensures { words_view result ≡ repetition is_item which }
 {
     if is_item {
-        Words::of(FaultCode::V10, SeenInfo::None)
+        Words::of(FaultCode::V10, LentInfo::None)
     } else if which == 0 {
-        Words::of(FaultCode::V8, SeenInfo::None)
+        Words::of(FaultCode::V8, LentInfo::None)
     } else {
-        Words::of(FaultCode::V9, SeenInfo::Unique(which))
+        Words::of(FaultCode::V9, LentInfo::Unique(which))
     }
 }

@@ -5,7 +5,8 @@ use Rattle.ytree.specs.View.{place_view}
 use Rattle.ycheck.specs.View.{code_view, tag_name}
 use Rattle.yplay.specs.Merging.{info_at, steps_down, to_node}
 use Rattle.ylist.specs.Listed.{data_way}
-use Rattle.ylist.specs.Seen.{info_seen, steps_in}
+use Rattle.ycheck.specs.View.{lent_info_view}
+use Rattle.ylist.specs.Seen.{steps_in}
 use Rattle.ylist.proofs.DownLemmas.{down_is, few_above, told_down}
 use Rattle.ylist.proofs.down.absence_seen.Goals as goal
 
@@ -19,7 +20,7 @@ returns c =
     let number = c.args.absence.1.0 in
     let place = place_view (steps_in c.args.place) in
     told_down (code_view c.args.absence.0) (tag_name c.tag.result) (option_map (λ t. t.now) c.app_tag.result) place (place_view (steps_in c.enter_way.new.place))
-    (steps_down schema above number) (info_seen c.info_of.result) (info_at schema number) c.tag.ensures c.app_tag.ensures
+    (steps_down schema above number) (lent_info_view c.info_of.result) (info_at schema number) c.tag.ensures c.app_tag.ensures
     (c.enter_way.ensures.steps ∙ ap (λ xs. place ++ xs)
     (ap (λ k. drop k (map to_node (data_way schema (Some number)))) c.data_depth.ensures ∙ down_is schema above number))
     c.info_of.ensures
