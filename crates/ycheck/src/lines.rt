@@ -157,7 +157,7 @@ fn tag_text(tag: ErrorTag) -> &'static str
 /// Writes an error-app-tag, `-` for none or for an empty one. White space and control characters in it print as `_`.
 fn write_app_tag<W: Sink>(app_tag: Option<&str>, sink: &mut W) -> Result<(), LineFault>
     ensures { Writes (side W.taken W.failures sink.old) (side W.taken W.failures sink.new)
-        (or_dash (printed_tag (unwrap_or (option_map (λ t. t.now) app_tag) []))) result }
+        (or_dash (printed_tag (unwrap_or (option_map (λ t. t.now) app_tag.entry) []))) result }
 {
     match app_tag {
         Some(tag) if !tag.is_empty() => write_printed(tag.as_bytes(), sink),
@@ -189,7 +189,7 @@ fn write_printed<W: Sink>(bytes: &[u8], sink: &mut W) -> Result<(), LineFault>
 /// Writes what a fault says besides its place, `-` for nothing.
 fn write_info<W: Sink>(info: LentInfo<'_>, sink: &mut W) -> Result<(), LineFault>
     ensures { Writes (side W.taken W.failures sink.old) (side W.taken W.failures sink.new)
-        (or_dash (info_text (lent_info_view info))) result }
+        (or_dash (info_text (lent_info_view info.entry))) result }
 {
     match info {
         LentInfo::Choice(name) if !name.is_empty() => put(sink, &[name]),
@@ -222,7 +222,7 @@ pub fn write_parts<W: Sink>(
     sink: &mut W,
 ) -> Result<(), LineFault>
     ensures { Writes (side W.taken W.failures sink.old) (side W.taken W.failures sink.new)
-        (line_of (schema_view.view schema.now) (parts_view parts)) result }
+        (line_of (schema_view.view schema.now) (parts_view parts.entry)) result }
 {
     put(sink, &[code_text(parts.code), tag_text(parts.tag)])?;
     write_app_tag(parts.app_tag, sink)?;
