@@ -73,12 +73,11 @@ holds_read s before after tree only holds = record {
 
 -- ---- parts
 
--- the part that a found node is, by its numbers
-pub part_at : (s : Schema) (nodes : Nodes) (tree : Tree) (steps : List Step) (above : Row) (f : Branches) (step : Step) (schema : SchemaId) (id : NodeId) (numbers : List NodeId)
-    → IsAt s nodes tree steps above f → (found : Found schema (instance_index step) id f) → schema.0 ≡ step.schema_number
-    → ((row : Row) (n : Numbered) (below : Branches) → n.id ≡ id → Stands nodes row (node n below end) → size (node n below end) ≤ node_count nodes
-    → numbers ≡ ids_of (node n below end)) → IsPart step schema id numbers f
-part_at s nodes tree steps above f step schema id numbers at found same listed =
+-- a node that is found stands there, and all below it is in the store
+pub found_there : (s : Schema) (nodes : Nodes) (tree : Tree) (steps : List Step) (above : Row) (f : Branches) (step : Step) (schema : SchemaId) (id : NodeId)
+    → IsAt s nodes tree steps above f → (found : Found schema (instance_index step) id f)
+    → Stands nodes above (node found.frame.label found.below end) × (size (node found.frame.label found.below end) ≤ node_count nodes)
+found_there s nodes tree steps above f step schema id at found =
     let n = found.frame.label in
     let below = found.below in
     let here = hangs_at s nodes tree steps above f at in
@@ -91,11 +90,16 @@ part_at s nodes tree steps above f step schema id numbers at found same listed =
     let w4 = size_weigh f in
     let out = weigh_around (λ _. 1) at.way f in
     let all = at.keeps.all in
-    record {
-      found = found;
-      is_schema = same;
-      are_numbers = listed above n below found.is_id (stands.0, stands.1, tt) (omega (arith, whole, parts, w1, w2, w3, w4, out, all));
-    }
+    ((stands.0, stands.1, tt), omega (arith, whole, parts, w1, w2, w3, w4, out, all))
+
+-- the part that it is, by its numbers
+pub part_at : (s : Schema) (nodes : Nodes) (tree : Tree) (steps : List Step) (above : Row) (f : Branches) (step : Step) (schema : SchemaId) (id : NodeId) (numbers : List NodeId)
+    → IsAt s nodes tree steps above f → (found : Found schema (instance_index step) id f) → schema.0 ≡ step.schema_number
+    → ((row : Row) (n : Numbered) (below : Branches) → n.id ≡ id → Stands nodes row (node n below end) → size (node n below end) ≤ node_count nodes
+    → numbers ≡ ids_of (node n below end)) → IsPart step schema id numbers f
+part_at s nodes tree steps above f step schema id numbers at found same listed =
+    let there = found_there s nodes tree steps above f step schema id at found in
+    record { found = found; is_schema = same; are_numbers = listed above found.frame.label found.below found.is_id there.0 there.1 }
 
 -- where a path leads there is a row
 pub somewhere_placed : (s : Schema) (nodes : Nodes) (tree : Tree) (answer : Result spec.Target spec.EditRefusal) (place : Place) → Locates s tree [] answer nodes (Ok place)

@@ -89,7 +89,7 @@ module _ (nodes : Nodes) (above : Row) (f : Branches) (id : SchemaId) (position 
 
 -- ---- the instances of a schema node in a row
 
-one_more : (number : ℕ) (s : Stored) (below after : Tree) (b : Bool) → eqb s.schema_number number ≡ b
+pub one_more : (number : ℕ) (s : Stored) (below after : Tree) (b : Bool) → eqb s.schema_number number ≡ b
     → instances_in (node s below after) number ≡ cond b 1 0 + instances_in after number
 one_more number s below after b e =
     sum_by-cons (λ (x : Stored). cond (eqb x.schema_number number) 1 0) s (row after) ∙ ap (λ x. cond x 1 0 + instances_in after number) e

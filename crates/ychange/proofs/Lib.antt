@@ -8,3 +8,6 @@ pub mod OrderLemmas
 pub mod PartLemmas
 pub mod PlaceLemmas
 pub mod TextLemmas
+pub mod ExchangeLemmas
+pub mod StepLemmas
+pub mod ReadLemmas

@@ -137,7 +137,7 @@ module _ (s : Schema) (before mid : Nodes) (tree : Tree) (steps : List Step) (ab
   g = laid made.branches
 
   -- what was put in is the part
-  part_is : (λ (n : Numbered) (b : Branches). let r : Branch = record { label = stored_of n; below = tree_of b } in r) made.root g ≡ b
+  pub part_is : (λ (n : Numbered) (b : Branches). let r : Branch = record { label = stored_of n; below = tree_of b } in r) made.root g ≡ b
   part_is = ap₂ (λ (l : Stored) (t : Tree). let r : Branch = record { label = l; below = t } in r) made.is_label
       (ap tree_of (laid_sorted made.branches (subst IsSorted (sym made.is_below) sorted)) ∙ made.is_below)
 
@@ -162,7 +162,7 @@ module _ (s : Schema) (before mid : Nodes) (tree : Tree) (steps : List Step) (ab
   abbrev pub more : Branches
   more = with_node made.root g f
 
-  branch_is : with_branch b (tree_of f) ≡ tree_of more
+  pub branch_is : with_branch b (tree_of f) ≡ tree_of more
   branch_is = ap (λ c. with_branch c (tree_of f)) (sym part_is) ∙ sym (document.added made.root g f)
 
   -- the document with the part has as many nodes as the store once the part is put in
@@ -176,7 +176,7 @@ module _ (s : Schema) (before mid : Nodes) (tree : Tree) (steps : List Step) (ab
       let all = beside.all in
       omega (arith, change, put, whole, one, two, all)
 
-  added_size : size (edit_at steps (with_branch b) tree) ≡ node_count mid
+  pub added_size : size (edit_at steps (with_branch b) tree) ≡ node_count mid
   added_size = size_along s before tree steps above f more at (with_branch b) branch_is ∙ more_size
 
   abbrev pub adding : (all : List NodeId) → all ≡ has → (own : SchemaId) → own.0 ≡ label.schema_number
@@ -228,7 +228,7 @@ module _ (s : Schema) (before mid : Nodes) (tree : Tree) (steps : List Step) (ab
     abbrev pub other : Branches
     other = join first (node made.root g rest)
 
-    instead_is : with_instead step b (tree_of f) ≡ tree_of other
+    pub instead_is : with_instead step b (tree_of f) ≡ tree_of other
     instead_is =
         ap (λ c. with_instead step c (tree_of f)) (sym part_is)
         ∙ (ap (λ h. with_instead step (record { label = stored_of made.root; below = tree_of g }) (tree_of h)) part.found.is_row
@@ -249,7 +249,7 @@ module _ (s : Schema) (before mid : Nodes) (tree : Tree) (steps : List Step) (ab
         let all = beside.all in
         omega (arith, change, new, was, row, w1, w2, w3, w4, count, all)
 
-    put_size : size (edit_at steps (with_instead step b) tree) ≡ size (around at.way other)
+    pub put_size : size (edit_at steps (with_instead step b) tree) ≡ size (around at.way other)
     put_size = size_along s before tree steps above f other at (with_instead step b) instead_is
 
     abbrev pub putting : (all : List NodeId) → all ≡ has → (own : SchemaId) → own.0 ≡ label.schema_number → label.schema_number ≡ schema.0

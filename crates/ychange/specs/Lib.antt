@@ -1,3 +1,4 @@
 pub mod Instances
 pub mod Locating
 pub mod Places
+pub mod Reads

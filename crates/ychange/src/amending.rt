@@ -1,16 +1,18 @@
 //! Edits of the document that a store holds.
 
-ghost use Rattle.std.specs.Prelude.{◌≡◌, ◌≤◌, [], false, List, IfOk};
-ghost use Rattle.yspec.specs.Forest.{end, node, size};
+ghost use Rattle.std.specs.Prelude.{◌≡◌, ◌+◌, ◌*◌, ◌≤◌, [], false, List, IfOk, OnOk};
+ghost use Rattle.yspec.specs.Forest.{end, levels, node, size};
 ghost use Rattle.yspec.specs.schema.Schema as schemas;
 ghost use Rattle.yspec.specs.document.Document as document;
 ghost use Rattle.yspec.specs.document.Document.{Step};
+ghost use Rattle.yspec.specs.document.Fitting.{Fits};
 ghost use Rattle.yspec.specs.document.Sorting.{IsSorted};
 ghost use Rattle.yspec.specs.edit.Editing as spec;
+ghost use Rattle.yreach.specs.Parts.{exchange_of};
 ghost use Rattle.ymodel.specs.View as schema_view;
 ghost use Rattle.ypath.specs.Binding.{node_of};
 ghost use Rattle.ypath.specs.EditView.{edit_view, path_view, predicate_view};
-ghost use Rattle.ystore.specs.Store.{node_count};
+ghost use Rattle.ystore.specs.Store.{node_count, reads};
 ghost use Rattle.ystore.specs.Views.{store_of, lent};
 ghost use Rattle.ystore.specs.declared.row.Row as rows;
 ghost use Rattle.yshape.specs.Hanging.{Branches, Hangs, Numbered, Stands};
@@ -18,6 +20,7 @@ ghost use Rattle.yshape.specs.Copies.{ids_of};
 ghost use Rattle.yshape.specs.Parts.{OnlyReads};
 ghost use Rattle.ychange.specs.Places.{Amends, HoldsSorted, HoldsTold, IsAt, IsSomewhere};
 ghost use Rattle.ychange.specs.Locating.{Locates, target_at};
+ghost use Rattle.ychange.specs.Reads.{ReadsWithin, created_parts, parts_reads, removed_parts, replaced_parts};
 
 use crate::instances::instance_meant;
 use crate::locating::{Place, locate};
@@ -37,6 +40,10 @@ pub fn amend(counted: &mut Counted<'_>, schema: &Schema, edit: &Edit) -> Result<
     ensures amends { let s = schema_view.view schema.now in
         (tree : document.Tree) → HoldsTold s (store_of counted.old) tree → IsSorted tree
         → Amends s tree (spec.applied s tree (edit_view edit.now)) (store_of counted.new) result }
+    ensures reads { let s = schema_view.view schema.now in
+        (tree : document.Tree) → HoldsTold s (store_of counted.old) tree → IsSorted tree → Fits s tree
+        → ReadsWithin (2 * levels s.nodes + 3 + parts_reads s tree (exchange_of s tree (edit_view edit.now)))
+        (store_of counted.old) (store_of counted.new) result }
     ensures same_reference { lent counted.new ≡ lent counted.old }
 {
     match edit {
@@ -68,6 +75,8 @@ fn place_of<'e>(
         (store_of counted.new) result }
     ensures from_one { IfOk result (λ place. spec.is_zero (predicate_view place.last.predicate.now)
         ≡ false) }
+    ensures reads { reads (store_of counted.new)
+        ≤ reads (store_of counted.old) + 2 * levels (schema_view.view schema.now).nodes }
     ensures kept { OnlyReads (store_of counted.old) (store_of counted.new) }
     ensures same_reference { lent counted.new ≡ lent counted.old }
 {
@@ -90,6 +99,12 @@ fn create(
         → IsAt s (store_of counted.old) tree above place.entry.above f
         → Amends s tree (spec.created s tree value.now (target_at s above f place.entry.last))
         (store_of counted.new) result }
+    ensures reads { let s = schema_view.view schema.now in
+        (tree : document.Tree) (above : List Step) (f : Branches)
+        → IsAt s (store_of counted.old) tree above place.entry.above f → Fits s tree
+        → IfOk (spec.created s tree value.now (target_at s above f place.entry.last)) (Fits s)
+        → ReadsWithin (1 + parts_reads s tree (created_parts s value.now (target_at s above f place.entry.last)))
+        (store_of counted.old) (store_of counted.new) result }
     ensures same_reference { lent counted.new ≡ lent counted.old }
 {
     if is_there(counted, schema, place) {
@@ -106,6 +121,7 @@ fn is_there(counted: &mut Counted<'_>, schema: &Schema, place: Place<'_>) -> boo
     ensures there { let s = schema_view.view schema.now in
         (above : List Step) (f : Branches) → Hangs (store_of counted.old) place.entry.above f
         → result ≡ spec.is_there (target_at s above f place.entry.last) }
+    ensures reads { reads (store_of counted.new) ≤ reads (store_of counted.old) + 1 }
     ensures kept { OnlyReads (store_of counted.old) (store_of counted.new) }
     ensures same_reference { lent counted.new ≡ lent counted.old }
 {
@@ -136,6 +152,12 @@ fn replace(
         → IsAt s (store_of counted.old) tree above place.entry.above f
         → Amends s tree (spec.replaced s tree value.now (target_at s above f place.entry.last))
         (store_of counted.new) result }
+    ensures reads { let s = schema_view.view schema.now in
+        (tree : document.Tree) (above : List Step) (f : Branches)
+        → IsAt s (store_of counted.old) tree above place.entry.above f → Fits s tree
+        → IfOk (spec.replaced s tree value.now (target_at s above f place.entry.last)) (Fits s)
+        → ReadsWithin (2 + parts_reads s tree (replaced_parts s value.now (target_at s above f place.entry.last)))
+        (store_of counted.old) (store_of counted.new) result }
     ensures same_reference { lent counted.new ≡ lent counted.old }
 {
     match instance_meant(counted, schema, EditCode::E7, place.above, place.last) {
@@ -159,6 +181,12 @@ fn remove(counted: &mut Counted<'_>, schema: &Schema, place: Place<'_>) -> Resul
         → IsAt s (store_of counted.old) tree above place.entry.above f
         → Amends s tree (spec.removed s tree (target_at s above f place.entry.last))
         (store_of counted.new) result }
+    ensures reads { let s = schema_view.view schema.now in
+        (tree : document.Tree) (above : List Step) (f : Branches)
+        → IsAt s (store_of counted.old) tree above place.entry.above f → Fits s tree
+        → IfOk (spec.removed s tree (target_at s above f place.entry.last)) (Fits s)
+        → ReadsWithin (3 + parts_reads s tree (removed_parts s (target_at s above f place.entry.last)))
+        (store_of counted.old) (store_of counted.new) result }
     ensures same_reference { lent counted.new ≡ lent counted.old }
 {
     match instance_meant(counted, schema, EditCode::E7, place.above, place.last) {
@@ -186,6 +214,10 @@ fn numbers_of(counted: &mut Counted<'_>, id: NodeId) -> Result<Vec<NodeId>, Allo
         → Stands (store_of counted.old) above (node n below end)
         → size (node n below end) ≤ node_count (store_of counted.old)
         → IfOk result (λ all. all.items ≡ ids_of (node n below end)) }
+    ensures reads { (above : rows.Row) (n : Numbered) (below : Branches) → n.id ≡ id
+        → Stands (store_of counted.old) above (node n below end)
+        → size (node n below end) ≤ node_count (store_of counted.old)
+        → OnOk result (reads (store_of counted.new) ≤ reads (store_of counted.old) + 4 * size (node n below end)) }
     ensures kept { OnlyReads (store_of counted.old) (store_of counted.new) }
     ensures same_reference { lent counted.new ≡ lent counted.old }
 {

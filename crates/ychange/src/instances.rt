@@ -1,6 +1,6 @@
 //! The instance of a schema node that a step of a path means, in a row of a store.
 
-ghost use Rattle.std.specs.Prelude.{◌≡◌, ◌<◌, Bool, false, true, List, length, map, IfOk, string_bytes};
+ghost use Rattle.std.specs.Prelude.{◌≡◌, ◌+◌, ◌<◌, ◌≤◌, Bool, false, true, List, length, map, IfOk, string_bytes};
 ghost use Rattle.yspec.specs.schema.Schema as schemas;
 ghost use Rattle.yspec.specs.schema.Schema.{keys_in};
 ghost use Rattle.yspec.specs.document.Document as document;
@@ -12,6 +12,7 @@ ghost use Rattle.ymodel.specs.View as schema_view;
 ghost use Rattle.ypath.specs.Applying.{edit_number};
 ghost use Rattle.ypath.specs.Binding.{node_of};
 ghost use Rattle.ypath.specs.EditView.{predicate_view, keys_view};
+ghost use Rattle.ystore.specs.Store.{reads};
 ghost use Rattle.ystore.specs.Views.{store_of, lent};
 ghost use Rattle.yshape.specs.Hanging.{Branches, Hangs, tree_of};
 ghost use Rattle.yshape.specs.Parts.{OnlyReads};
@@ -38,6 +39,7 @@ pub(crate) fn instance_meant(
         (tree : document.Tree) (steps : List Step) (f : Branches) → IsAt s (store_of counted.old) tree steps above f
         → Meets step.entry.id f (spec.instance_meant s (edit_number missing) (tree_of f)
         (node_of s step.entry.id.0) (predicate_view step.entry.predicate.now)) result }
+    ensures reads { reads (store_of counted.new) ≤ reads (store_of counted.old) + 2 }
     ensures kept { OnlyReads (store_of counted.old) (store_of counted.new) }
     ensures same_reference { lent counted.new ≡ lent counted.old }
 {
@@ -71,6 +73,7 @@ fn instance_at(
 ) -> Result<NodeId, EditFault>
     ensures meets { (f : Branches) → Hangs (store_of counted.old) above f
         → Meets id f (instance_in (edit_number missing) (tree_of f) id.0 position) result }
+    ensures reads { reads (store_of counted.new) ≤ reads (store_of counted.old) + 1 }
     ensures kept { OnlyReads (store_of counted.old) (store_of counted.new) }
     ensures same_reference { lent counted.new ≡ lent counted.old }
 {
@@ -95,6 +98,7 @@ fn entry_meant(
         → Meets id f (spec.the_one (edit_number missing) id.0
         (spec.positions_where id.0 (spec.fits_keys s (keys_in (node_of s id.0).kind)
         (keys_view keys.now)) 1 (tree_of f))) result }
+    ensures reads { reads (store_of counted.new) ≤ reads (store_of counted.old) + 2 }
     ensures kept { OnlyReads (store_of counted.old) (store_of counted.new) }
     ensures same_reference { lent counted.new ≡ lent counted.old }
 {
@@ -139,6 +143,7 @@ fn entry_held(
         → key_view key.now ≡ texts_key above id.0 (map (spec.key_text keys s) (keys_in (node_of s id.0).kind))
         → Meets id f (spec.the_one (edit_number missing) id.0
         (spec.positions_where id.0 (spec.fits_keys s (keys_in (node_of s id.0).kind) keys) 1 (tree_of f))) result }
+    ensures reads { reads (store_of counted.new) ≤ reads (store_of counted.old) + 2 }
     ensures kept { OnlyReads (store_of counted.old) (store_of counted.new) }
     ensures same_reference { lent counted.new ≡ lent counted.old }
 {
@@ -161,6 +166,7 @@ fn only_entry(
     ensures meets { (test : document.Tree → Bool) (f : Branches) → Hangs (store_of counted.old) above f
         → ((below : document.Tree) → test below ≡ true)
         → Meets id f (spec.the_one (edit_number missing) id.0 (spec.positions_where id.0 test 1 (tree_of f))) result }
+    ensures reads { reads (store_of counted.new) ≤ reads (store_of counted.old) + 2 }
     ensures kept { OnlyReads (store_of counted.old) (store_of counted.new) }
     ensures same_reference { lent counted.new ≡ lent counted.old }
 {

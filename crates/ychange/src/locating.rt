@@ -1,6 +1,6 @@
 //! Where an edit stands in the document that a store holds.
 
-ghost use Rattle.std.specs.Prelude.{◌≡◌, false, List, [], IfOk};
+ghost use Rattle.std.specs.Prelude.{◌≡◌, ◌+◌, ◌*◌, ◌≤◌, false, length, List, [], IfOk};
 ghost use Rattle.yspec.specs.document.Document as document;
 ghost use Rattle.yspec.specs.document.Document.{Step};
 ghost use Rattle.yspec.specs.document.Sorting.{IsSorted};
@@ -8,6 +8,7 @@ ghost use Rattle.yspec.specs.edit.Editing as spec;
 ghost use Rattle.ymodel.specs.View as schema_view;
 ghost use Rattle.ypath.specs.Binding.{steps_view};
 ghost use Rattle.ypath.specs.EditView.{predicate_view};
+ghost use Rattle.ystore.specs.Store.{reads};
 ghost use Rattle.ystore.specs.Views.{store_of, lent};
 ghost use Rattle.yshape.specs.Hanging.{Branches, tree_of};
 ghost use Rattle.yshape.specs.Parts.{OnlyReads};
@@ -39,6 +40,7 @@ pub(crate) fn locate<'e>(
         result }
     ensures from_one { IfOk result (λ place. spec.is_zero (predicate_view place.last.predicate.now)
         ≡ false) }
+    ensures reads { reads (store_of counted.new) ≤ reads (store_of counted.old) + 2 * length steps.now }
     ensures kept { OnlyReads (store_of counted.old) (store_of counted.new) }
     ensures same_reference { lent counted.new ≡ lent counted.old }
 {
@@ -60,6 +62,7 @@ fn locate_below<'e>(
         (store_of counted.new) result }
     ensures from_one { IfOk result (λ place. spec.is_zero (predicate_view place.last.predicate.now)
         ≡ false) }
+    ensures reads { reads (store_of counted.new) ≤ reads (store_of counted.old) + 2 * length steps.now }
     ensures kept { OnlyReads (store_of counted.old) (store_of counted.new) }
     ensures same_reference { lent counted.new ≡ lent counted.old }
 {

@@ -1,22 +1,27 @@
 //! A part of a document: put into a row, in the place of another, or taken out.
 
-ghost use Rattle.std.specs.Prelude.{◌≡◌, ◌≤◌, ◌^◌, ℕ, List, IfOk, OnErr, OnOk};
+ghost use Rattle.std.specs.Prelude.{◌≡◌, ◌+◌, ◌≤◌, ◌^◌, ℕ, List, IfOk, OnErr, OnOk};
 ghost use Rattle.yspec.specs.Forest.{end, size};
 ghost use Rattle.yspec.specs.document.Document as document;
 ghost use Rattle.yspec.specs.document.Document.{Step};
+ghost use Rattle.yspec.specs.document.Fitting.{Fits};
 ghost use Rattle.yspec.specs.document.Sorting.{IsSorted};
 ghost use Rattle.yspec.specs.edit.Edit.{edit_at, instance_index};
-ghost use Rattle.yspec.specs.edit.Editing.{with_branch, with_instead, within_limit, without};
+ghost use Rattle.yspec.specs.edit.Editing.{BoundStep, with_branch, with_instead, within_limit, without};
+ghost use Rattle.yreach.specs.Parts.{comes, gives_way, goes};
 ghost use Rattle.ymodel.specs.View as schema_view;
 ghost use Rattle.ytree.specs.View.{view};
+ghost use Rattle.ystore.specs.Store.{reads};
 ghost use Rattle.ystore.specs.Views.{store_of, lent};
 ghost use Rattle.ystore.specs.declared.row.Row as rows;
 ghost use Rattle.ystore.specs.declared.row.Row.TheVariants.{Top};
 ghost use Rattle.yshape.specs.Hanging.{Branches, Keeps};
 ghost use Rattle.yshape.specs.Ways.{around, end_of};
 ghost use Rattle.ytold.specs.IsTold.{IsFresh, IsTold};
+ghost use Rattle.ytold.specs.Reads.{IsNarrow, moved_pairs, row_reads};
 ghost use Rattle.ytold.specs.Standing.{Every, standing};
 ghost use Rattle.ychange.specs.Places.{Amends, HangsPart, HoldsTold, IsAt, IsPart, IsPartThere, IsSomewhere, Shows, Swapping, branch_of};
+ghost use Rattle.ychange.specs.Reads.{ReadsWithin, exchange_reads, row_target};
 
 use std::alloc::AllocError;
 use ymodel::{Schema, SchemaId};
@@ -41,6 +46,12 @@ pub fn add_part(
         → IsAt s (store_of counted.old) tree steps above f
         → Amends s tree (within_limit (edit_at steps (with_branch (branch_of part.now)) tree))
         (store_of counted.new) result }
+    ensures reads { let s = schema_view.view schema.now in
+        (tree : document.Tree) (steps : List Step) (f : Branches) (last : BoundStep)
+        → IsAt s (store_of counted.old) tree steps above f → Fits s tree
+        → IfOk (within_limit (edit_at steps (with_branch (branch_of part.now)) tree)) (Fits s)
+        → ReadsWithin (exchange_reads s tree (comes (row_target steps f last) (branch_of part.now)))
+        (store_of counted.old) (store_of counted.new) result }
     ensures same_reference { lent counted.new ≡ lent counted.old }
 {
     match hang_part(counted, schema, above, part, DOCUMENT_LIMIT)? {
@@ -68,6 +79,13 @@ pub(crate) fn hang_part(
     ensures shows { let s = schema_view.view schema.now in (tree : document.Tree) (steps : List Step) (f : Branches)
         → IsAt s (store_of counted.old) tree steps above f
         → OnErr result (Shows (store_of counted.new) tree) }
+    ensures reads { let s = schema_view.view schema.now in
+        (tree : document.Tree) (steps : List Step) (f : Branches) (last : BoundStep)
+        → IsAt s (store_of counted.old) tree steps above f → Fits s tree
+        → (size (edit_at steps (with_branch (branch_of part.now)) tree) ≤ most
+        → Fits s (edit_at steps (with_branch (branch_of part.now)) tree))
+        → OnOk result (reads (store_of counted.new) ≤ reads (store_of counted.old)
+        + exchange_reads s tree (comes (row_target steps f last) (branch_of part.now))) }
     ensures same_reference { lent counted.new ≡ lent counted.old }
 {
     let mut numbers = Vec::new(counted.alloc());
@@ -104,6 +122,13 @@ pub fn put_part(
         → (view part.now).0.schema_number ≡ of.0
         → Amends s tree (within_limit (edit_at steps (with_instead step (branch_of part.now)) tree))
         (store_of counted.new) result }
+    ensures reads { let s = schema_view.view schema.now in
+        (tree : document.Tree) (steps : List Step) (f : Branches) (last : BoundStep) (step : Step) (of : SchemaId)
+        → IsAt s (store_of counted.old) tree steps above f → IsPart step of old old_numbers.now f
+        → (view part.now).0.schema_number ≡ of.0 → Fits s tree
+        → IfOk (within_limit (edit_at steps (with_instead step (branch_of part.now)) tree)) (Fits s)
+        → ReadsWithin (exchange_reads s tree (gives_way (row_target steps f last) step (branch_of part.now)))
+        (store_of counted.old) (store_of counted.new) result }
     ensures same_reference { lent counted.new ≡ lent counted.old }
 {
     let mut numbers = Vec::new(counted.alloc());
@@ -142,6 +167,12 @@ pub fn take_part(
     ensures shows { let s = schema_view.view schema.now in (tree : document.Tree) (steps : List Step) (f : Branches)
         → IsAt s (store_of counted.old) tree steps above f
         → OnErr result (Shows (store_of counted.new) tree) }
+    ensures reads { let s = schema_view.view schema.now in
+        (tree : document.Tree) (steps : List Step) (f : Branches) (last : BoundStep) (step : Step)
+        → IsAt s (store_of counted.old) tree steps above f → IsPart step of old old_numbers.now f
+        → instance_index step ≡ place → Fits s tree → Fits s (edit_at steps (without step) tree)
+        → OnOk result (reads (store_of counted.new) ≤ reads (store_of counted.old)
+        + exchange_reads s tree (goes (row_target steps f last) step)) }
     ensures same_reference { lent counted.new ≡ lent counted.old }
 {
     let swap = Swap {
@@ -168,6 +199,13 @@ fn change_row(
         → Every (IsFresh s (store_of counted.old)) (standing (end_of Top p.way) p.loose)
         → size (around p.way p.g) ≤ 2 ^ 28
         → OnOk result (IsTold s (store_of counted.new) (around p.way p.g)) }
+    ensures reads { let s = schema_view.view schema.now in
+        (p : Swapping swap (store_of counted.old) old.now new.now)
+        → IsTold s (store_of counted.old) (around p.way p.f)
+        → Every (IsFresh s (store_of counted.old)) (standing (end_of Top p.way) p.loose)
+        → size (around p.way p.g) ≤ 2 ^ 28 → IsNarrow s p.way p.f p.g
+        → OnOk result (reads (store_of counted.new) ≤ reads (store_of counted.old)
+        + row_reads s p.loose p.left (moved_pairs s p.way p.f p.loose p.g p.left)) }
     ensures keeps { (p : Swapping swap (store_of counted.old) old.now new.now)
         → OnOk result (Keeps (store_of counted.new) (around p.way p.g) swap.above end) }
     ensures keeps_still { OnErr result ((tree : Branches) (above : rows.Row) (loose : Branches)

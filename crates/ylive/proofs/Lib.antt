@@ -1,2 +1,3 @@
 pub mod LiveLemmas
 pub mod RunLemmas
+pub mod ReachLemmas

@@ -1,5 +1,5 @@
 -- What a live document keeps is the document that it stores, and what its store tells are the faults of that.
-use Rattle.std.proofs.Common.{◌≡◌, ℕ, ◌≤◌, Bool, true, false, List, length, Option, Some, None, Result, Ok, Err, refl, sym, ap, ◌∙◌, subst, arith}
+use Rattle.std.proofs.Common.{◌≡◌, ℕ, ◌+◌, ◌≤◌, Bool, true, false, List, length, Option, Some, None, Result, Ok, Err, refl, sym, ap, ◌∙◌, subst, arith}
 use Rattle.std.specs.Prelude.{if◌then◌else◌, IfOk}
 use Rattle.yspec.specs.Forest.{end, size}
 use Rattle.yspec.specs.schema.Schema.{Schema}
@@ -22,9 +22,10 @@ use Rattle.ytree.specs.declared.fault.DocCode.{DocCode}
 use Rattle.ypath.specs.declared.edit.EditCode.{EditCode}
 use Rattle.ypath.specs.declared.edit.EditFault.{EditFault}
 use Rattle.ypath.specs.declared.edit.EditFault.TheVariants.{Refused, Memory}
+use Rattle.yreach.specs.Reach.{reach}
 use Rattle.yplay.proofs.PlacedLemmas.{cases_of}
 use Rattle.ylist.specs.Listed.{list_told}
-use Rattle.ystore.specs.Store.{CountsOne, node_count, total_at}
+use Rattle.ystore.specs.Store.{CountsOne, node_count, reads, total_at}
 use Rattle.ystore.specs.declared.row.Row.TheVariants.{Top}
 use Rattle.ystore.specs.declared.nodes.Nodes.{Nodes}
 use Rattle.yshape.specs.Copies.{listed_below}
@@ -38,6 +39,7 @@ use Rattle.ytold.proofs.StillLemmas.{told_still}
 use Rattle.ylist.specs.Telling.{Tells}
 use Rattle.yjoin.proofs.JoinedLemmas.{count_is, faults_is, tells_is}
 use Rattle.ychange.specs.Places.{Amends, HoldsSorted, HoldsTold, Shows}
+use Rattle.ychange.specs.Reads.{ReadsWithin}
 use Rattle.ylive.specs.Kept.{AppliesIn, IsLive, Parts}
 use Rattle.ylive.specs.View.{view}
 use Rattle.ylive.specs.Answers.{Accepts, IsRefusal, answer_to, known_count}
@@ -309,3 +311,23 @@ module _ (schema : rust.Schema) (before lent after : Nodes) (is_stale : Bool) (e
     wants_memory fault memory came =
         subst (λ (p : Parts). ((view p).is_stale ≡ false) × (now true ≡ made_stale (view p))) is
         (fresh, ap (λ (t : Tree). record { schema = of; tree = t; is_stale = true }) (document_shown after (document before) (of_fault fault Memory memory came)))
+
+  -- what is read
+  abbrev pub Reads : Result Applied EditFault → Type 0
+  Reads r = (tree : Tree) → HoldsTold of lent tree → Fits of tree → ReadsWithin (reach of tree e) lent after r
+
+  few_of : (r : Result Applied EditFault) → Reads r → ReadsWithin (reach of (document before) e) before after r
+  few_of r few =
+      subst (λ (n : Nodes). ReadsWithin (reach of (document before) e) n after r) same
+      (few (document before) (subst (λ (n : Nodes). HoldsTold of n (document before)) (sym same) (told_kept of before is_stale live fresh)) fits_before)
+
+  module _ (old : Parts) (is : record { schema = schema; nodes = before; is_stale = is_stale } ≡ old) where
+    pub few_accepted : (counts : Applied) → Reads (Ok counts) → reads after ≤ reads old.nodes + reach (view old).schema (view old).tree e
+    few_accepted counts few =
+        subst (λ (p : Parts). reads after ≤ reads p.nodes + reach (view p).schema (view p).tree e) is (few_of (Ok counts) few)
+
+    pub few_refused : (code : EditCode) (doc : Option DocCode) (fault : EditFault) → fault ≡ Refused code doc → Reads (Err fault)
+        → reads after ≤ reads old.nodes + reach (view old).schema (view old).tree e
+    few_refused code doc fault refused few =
+        subst (λ (p : Parts). reads after ≤ reads p.nodes + reach (view p).schema (view p).tree e) is
+        (few_of (Err (Refused code doc)) (subst (λ (f : EditFault). Reads (Err f)) refused few))

@@ -1,11 +1,12 @@
 -- What calls on a live document answer, and what they leave of it, by cases.
-use Rattle.std.specs.Prelude.{◌≡◌, ℕ, ◌<◌, true, false, List, length, take, Option, Some, None, Result, Ok, Err, Vec, if◌then◌else◌}
+use Rattle.std.specs.Prelude.{◌≡◌, ℕ, ◌+◌, ◌<◌, ◌≤◌, true, false, List, length, take, Option, Some, None, Result, Ok, Err, Vec, if◌then◌else◌}
 use Rattle.yspec.specs.document.Document.{Tree}
 use Rattle.yspec.specs.edit.EditText as text
 use Rattle.yspec.specs.edit.Editing as editing
 use Rattle.yspec.specs.edit.Editing.{EditRefusal, applied, decision, decisions, tree_or}
 use Rattle.yspec.specs.edit.Live as spec
 use Rattle.yspec.specs.edit.Live.{fault_count, faults_in, made_stale, with_tree}
+use Rattle.yreach.specs.Reach.{reach}
 use Rattle.ypath.specs.Applying.{refusal_view}
 use Rattle.ypath.specs.declared.edit.EditFault.{EditFault}
 use Rattle.ypath.specs.declared.edit.EditFault.TheVariants as faults
@@ -51,6 +52,14 @@ Refuses before e refusals.Stale after = (before.is_stale ≡ true) × (after ≡
 abbrev pub Edits : spec.Live → text.Edit → Result Applied Refused → spec.Live → Type 0
 Edits before e (Ok counts) after = Accepts before e counts after
 Edits before e (Err refused) after = Refuses before e refused after
+
+-- How the count of the store's reading calls rises where an edit of a document is accepted or refused: by its reach at most; by nothing
+-- where the document was stale; where memory ran out that isn't said.
+abbrev pub ReadsFew : spec.Live → text.Edit → Result Applied Refused → ℕ → ℕ → Type 0
+ReadsFew live e (Ok counts) before after = after ≤ before + reach live.schema live.tree e
+ReadsFew live e (Err (refusals.Edit fault)) before after = after ≤ before + reach live.schema live.tree e
+ReadsFew live e (Err refusals.Memory) before after = Unit {0}
+ReadsFew live e (Err refusals.Stale) before after = after ≡ before
 
 -- ---- lists of edits
 

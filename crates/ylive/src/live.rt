@@ -4,9 +4,11 @@ ghost use Rattle.std.specs.Prelude.{◌≡◌};
 ghost use Rattle.yspec.specs.document.Document as document;
 ghost use Rattle.yspec.specs.document.Fitting.{Fits};
 ghost use Rattle.ymodel.specs.View as schema_view;
+ghost use Rattle.yreach.specs.Reach.{reach};
 ghost use Rattle.ypath.specs.EditView.{edit_view};
 ghost use Rattle.ystore.specs.Views.{store_of, lent};
 ghost use Rattle.ychange.specs.Places.{HoldsTold};
+ghost use Rattle.ychange.specs.Reads.{ReadsWithin};
 ghost use Rattle.ylive.specs.Kept.{AppliesIn};
 
 use crate::outcome::{Applied, ListFault, Refused};
@@ -53,7 +55,8 @@ impl Live {
     ghost use Rattle.ypath.specs.EditView.{edit_view};
     ghost use Rattle.ytree.specs.View.{tree_view};
     ghost use Rattle.ylive.specs.View.{view};
-    ghost use Rattle.ylive.specs.Answers.{Edits, Lists, Walks, known_count};
+    ghost use Rattle.ystore.specs.Store.{reads};
+    ghost use Rattle.ylive.specs.Answers.{Edits, Lists, ReadsFew, Walks, known_count};
 
     /// A document with its schema, under which it was read or made. Where memory runs out both are given back.
     pub fn open(alloc: Global, schema: Schema, tree: Tree) -> Result<Live, (Schema, Tree)>
@@ -75,9 +78,11 @@ impl Live {
     }
 
     /// Applies an edit, and tells how many faults there were and are. A refused edit changes nothing. Where memory runs
-    /// out the document stays as it was, and is stale.
+    /// out the document stays as it was, and is stale. It reads no more of the store than its reach says, whatever the size of
+    /// the document.
     pub fn edit(&mut self, edit: &Edit) -> Result<Applied, Refused>
-        ensures { Edits (view self.old) (edit_view edit.now) result (view self.new) }
+        ensures edits { Edits (view self.old) (edit_view edit.now) result (view self.new) }
+        ensures reads { ReadsFew (view self.old) (edit_view edit.now) result (reads self.old.nodes) (reads self.new.nodes) }
     {
         if self.is_stale {
             return Err(Refused::Stale);
@@ -200,6 +205,8 @@ fn edit_in(counted: &mut Counted<'_>, schema: &Schema, edit: &Edit) -> Result<Ap
         × Fits (schema_view.view schema.now) tree }
     ensures applies { let s = schema_view.view schema.now in (tree : document.Tree) → HoldsTold s (store_of counted.old) tree
         → Fits s tree → AppliesIn s tree (edit_view edit.now) (store_of counted.new) result }
+    ensures reads { let s = schema_view.view schema.now in (tree : document.Tree) → HoldsTold s (store_of counted.old) tree
+        → Fits s tree → ReadsWithin (reach s tree (edit_view edit.now)) (store_of counted.old) (store_of counted.new) result }
     ensures same_reference { lent counted.new ≡ lent counted.old }
 {
     let before = counted.total(Row::Top);

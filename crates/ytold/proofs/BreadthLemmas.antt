@@ -23,7 +23,7 @@ weigh-join : {L : Type 0} (w : L → ℕ) (f g : Forest L) → weigh w (join f g
 weigh-join w end g = omega arith
 weigh-join w (node l below after) g = let rest = weigh-join w after g in omega (arith, rest)
 
-data_levels : (f : Forest SchemaNode) → levels (data_row f) ≤ levels f
+pub data_levels : (f : Forest SchemaNode) → levels (data_row f) ≤ levels f
 data_levels end = omega arith
 data_levels (node n below after) = by (is_data n.kind) (data_levels below) (data_levels after)
   where

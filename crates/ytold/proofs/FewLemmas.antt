@@ -18,7 +18,7 @@ use Rattle.ymodel.specs.declared.schema.Schema.{Schema}
 use Rattle.ymodel.proofs.QueryLemmas.{size_of_forest}
 
 -- a row below is no larger
-few_below : (p : SchemaNode → Bool) (f : Forest SchemaNode) → size (unwrap_or (find_below p f) end) ≤ size f
+pub few_below : (p : SchemaNode → Bool) (f : Forest SchemaNode) → size (unwrap_or (find_below p f) end) ≤ size f
 few_below p end = omega arith
 few_below p (node l below after) = by (p l) (find_below p below) (find_below p after) (few_below p below) (few_below p after)
   where
@@ -81,7 +81,7 @@ few_used stored chosen (node n below after) =
     let both = length-append (node_defaults stored chosen n n.kind inside) (defaults_in stored chosen after) in
     omega (arith, here, later, both)
 
-few_chosen : (p : Default → Bool) (ds : List Default) → length (filter p ds) ≤ length ds
+pub few_chosen : (p : Default → Bool) (ds : List Default) → length (filter p ds) ≤ length ds
 few_chosen p [] = omega arith
 few_chosen p (d ∷ ds) = by (p d) (few_chosen p ds)
   where

@@ -39,3 +39,13 @@ pub mod BeginLemmas
 pub mod FewLemmas
 pub mod InsteadLemmas
 pub mod TurnedLemmas
+pub mod SpentLemmas
+pub mod PlannedLemmas
+pub mod WithinLemmas
+pub mod OnceLemmas
+pub mod ReferenceLemmas
+pub mod PartLemmas
+pub mod MovedLemmas
+pub mod HolderLemmas
+pub mod SharingLemmas
+pub mod PaidLemmas

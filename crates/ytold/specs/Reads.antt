@@ -1,10 +1,15 @@
 -- How many reading calls find what the nodes of a forest, and those on a way, hold and give, at most.
-use Rattle.std.specs.Prelude.{ℕ, ◌+◌, ◌*◌, ◌==◌, List, [], ◌∷◌, Option, length, if◌then◌else◌}
+use Rattle.std.specs.Prelude.{ℕ, ◌+◌, ◌-◌, ◌*◌, ◌==◌, ◌≤◌, ◌||◌, not, Bool, false, List, [], ◌∷◌, Option, None, length, nat_lt, if◌then◌else◌}
+use Rattle.std.specs.Option.{option_map_or}
 use Rattle.yspec.specs.Forest as forest
+use Rattle.yspec.specs.Forest.{weigh_nodes}
 use Rattle.yspec.specs.types.Types.{Val}
 use Rattle.yspec.specs.schema.Schema.{Schema, row_at}
+use Rattle.yspec.specs.document.Document.{Tree}
+use Rattle.yspec.specs.document.Instances.{times_at, times_below}
 use Rattle.ymodel.specs.declared.node.SchemaId.{SchemaId}
-use Rattle.yreach.specs.Sizes.{levels, near_count, part_size}
+use Rattle.yreach.specs.Referring.{Reference, reference_of}
+use Rattle.yreach.specs.Sizes.{breadth, levels, near_count, part_size}
 use Rattle.ystore.specs.Store.{holders_at}
 use Rattle.ystore.specs.declared.row.NodeId.{NodeId}
 use Rattle.ystore.specs.declared.key.Key.{Key}
@@ -15,6 +20,7 @@ use Rattle.yshape.specs.Ways.{Way, around}
 use Rattle.ytell.specs.Keys.{Keys, has_key, two_climbs}
 use Rattle.yfacts.specs.Reads.{names_of}
 use Rattle.ytold.specs.Growing.{times_valued}
+use Rattle.ytold.specs.Plans.{row_schema}
 use Rattle.ytold.specs.declared.planning.Plan.{Plan}
 
 -- so many for each that a node weighs
@@ -73,3 +79,31 @@ abbrev pub change_reads : (Key → ℕ) → Keys → Plan → Way → Branches �
 change_reads instances held plan way f g = withdraw_reads instances held plan.leaves.items plan.comes.items plan.goes.items (around way f)
     + ((2 + (length way + forest.levels (around way g)))
     + (length plan.news.items * (1 + 2 * forest.levels (around way g)) + length plan.joins.items * two_climbs (around way g)))
+
+-- ---- a change of a row, planned and done
+
+-- whether an instance of a schema node that goes or comes has a value, or it is a default in use in the row before or after alone
+abbrev pub is_moved : Schema → Way → Branches → Branches → Branches → Branches → Reference → Bool
+is_moved schema way f loose g left r = let row = row_at schema (row_schema None way) in
+    nat_lt 0 (weigh_nodes (times_at schema r.0 r.1) (tree_of left) + weigh_nodes (times_at schema r.0 r.1) (tree_of loose))
+    || not (times_below schema r.0 r.1 row (tree_of f) == times_below schema r.0 r.1 row (tree_of g))
+
+-- how many leafs and items of a tree refer to one of some values
+abbrev pub referrers : Schema → (Reference → Bool) → Tree → ℕ
+referrers schema values t = forest.weigh (λ s. if option_map_or values (reference_of schema s) false then 1 else 0) t
+
+-- and of those that stay
+abbrev pub moved_pairs : Schema → Way → Branches → Branches → Branches → Branches → ℕ
+moved_pairs schema way f loose g left = let moved = is_moved schema way f loose g left in
+    referrers schema moved (tree_of (around way f)) - referrers schema moved (tree_of left)
+
+-- a document is no deeper than its schema before and after, and a way in it passes no more nodes and names than that has
+pub record IsNarrow (schema : Schema) (way : Way) (f g : Branches) : Type 0 where
+  pub deep : forest.levels (around way f) ≤ forest.levels schema.nodes
+  pub deep_then : forest.levels (around way g) ≤ forest.levels schema.nodes
+  pub narrow : length way + names_on schema way ≤ breadth schema
+
+-- where so many nodes that stay refer to values that come or go
+abbrev pub row_reads : Schema → Branches → Branches → ℕ → ℕ
+row_reads schema loose left pairs = (levels schema + 2)
+    * (8 * (part_size schema (tree_of left) + (part_size schema (tree_of loose) + pairs)) + (16 * breadth schema + 3))

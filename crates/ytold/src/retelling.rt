@@ -19,7 +19,7 @@ ghost use Rattle.ytold.specs.Assigned.{CanLeave, left};
 ghost use Rattle.ytold.specs.Growing.{AreAwaited, AreThere, times_valued};
 ghost use Rattle.ytold.specs.Joins.{Follows, KeepsAwaited, KeepsRows, WithdrawsValues};
 ghost use Rattle.ytold.specs.IsTold.{IsFresh, IsTold};
-ghost use Rattle.ytold.specs.Reads.{change_reads, withdraw_reads};
+ghost use Rattle.ytold.specs.Reads.{IsNarrow, change_reads, moved_pairs, row_reads, withdraw_reads};
 ghost use Rattle.ytold.specs.Plans.{IsReady, Plans, Prepared};
 ghost use Rattle.ytold.specs.Standing.{Every, standing};
 
@@ -53,6 +53,13 @@ pub fn retell(
         → OnOk result (IsTold s (store_of counted.new) (around p.ready.way p.ready.g)) }
     ensures keeps { (p : Prepared swap (store_of counted.old) old.now new.now)
         → OnOk result (Keeps (store_of counted.new) (around p.ready.way p.ready.g) swap.above end) }
+    ensures reads { let s = schema_view.view schema.now in (p : Prepared swap (store_of counted.old) old.now new.now)
+        → IsTold s (store_of counted.old) (around p.ready.way p.ready.f)
+        → Every (IsFresh s (store_of counted.old)) (standing (end_of Top p.ready.way) p.ready.loose)
+        → size (around p.ready.way p.ready.g) ≤ 2 ^ 28
+        → IsNarrow s p.ready.way p.ready.f p.ready.g
+        → OnOk result (reads (store_of counted.new) ≤ reads (store_of counted.old)
+        + row_reads s p.ready.loose p.ready.left (moved_pairs s p.ready.way p.ready.f p.ready.loose p.ready.g p.ready.left)) }
     ensures told_still { OnErr result ((s : spec.Schema) (f : Branches) → IsTold s (store_of counted.old) f → IsTold s (store_of counted.new) f) }
     ensures keeps_still { OnErr result ((tree : Branches) (above : Row) (loose : Branches) → Keeps (store_of counted.old) tree above loose
         → Keeps (store_of counted.new) tree above loose) }

@@ -1,4 +1,4 @@
-use Rattle.std.proofs.Common.{ap, sym, subst, string_bytes}
+use Rattle.std.proofs.Common.{ap, arith, string_bytes, subst, sym, ◌+◌, ◌∙◌}
 use Rattle.std.specs.Prelude.{true, false, Err}
 use Rattle.yspec.specs.Results.{◌>>=◌}
 use Rattle.yspec.specs.edit.Editing as spec
@@ -9,6 +9,14 @@ use Rattle.ystore.specs.Views.{store_of}
 use Rattle.ychange.specs.Locating.{target_at}
 use Rattle.ychange.specs.Places.{Amends}
 use Rattle.ychange.proofs.AmendLemmas.{amends_unplaced, holds_read, somewhere_placed}
+use Rattle.yspec.specs.Forest.{levels}
+use Rattle.yspec.specs.document.Fitting.{Fits}
+use Rattle.yspec.proofs.EditProofs.AnswerLemmas.{If}
+use Rattle.yspec.proofs.EditProofs.FittingEditLemmas.{edit_fits}
+use Rattle.ymodel.proofs.CallerLemmas.{numbered}
+use Rattle.yreach.specs.Parts.{exchange_of}
+use Rattle.ychange.specs.Reads.{created_parts, parts_reads, removed_parts, replaced_parts}
+use Rattle.ychange.proofs.ReadLemmas.{if_ok, refused_within, spent_place, spent_refused, within_more}
 use Rattle.ychange.proofs.amending.amend.Goals as goal
 
 pub returns-in-Ok-clause-amends : goal.returns-in-Ok-clause-amends
@@ -81,3 +89,58 @@ replace-requires-clause-at c =
 pub remove-requires-clause-at : goal.remove-requires-clause-at
 remove-requires-clause-at c =
     somewhere_placed (schema_view.view c.args.schema.now) _ c.requires.tree _ c.in-Ok-place_of-2.place (c.in-Ok-place_of-2.ensures.place c.requires.tree c.requires.holds c.requires.sorted)
+
+pub returns-in-Ok-clause-reads : goal.returns-in-Ok-clause-reads
+unfolding applied exchange_of
+returns-in-Ok-clause-reads c = λ tree holds sorted fits.
+    let s = schema_view.view c.args.schema.now in
+    let placed = c.in-Ok.ensures.place tree holds sorted in
+    let t = target_at s placed.0 placed.1 c.in-Ok.place.last in
+    let text = string_bytes c.in-Create.value in
+    let given = subst (λ v. If (Fits s) (spec.created s tree v t)) (sym c.as_str.ensures.value)
+    (subst (If (Fits s)) (ap (λ a. a >>= spec.created s tree text) placed.3)
+    (subst (λ e. If (Fits s) (applied s tree (edit_view e))) c.in-Create.is (edit_fits s tree (edit_view c.args.edit.now) (numbered c.args.schema.now) fits))) in
+    let parts = ap (λ e. exchange_of s tree (edit_view e)) c.in-Create.is ∙ (ap (λ a. a >>= created_parts s text) placed.3 ∙ ap (λ v. created_parts s v t) (sym c.as_str.ensures.value)) in
+    within_more c.create.result (1 + parts_reads s tree (created_parts s c.as_str.result.now t)) _ (store_of c.args.counted.now) (store_of c.place_of.new.counted) (store_of c.create.new.counted)
+    (spent_place _ _ (levels s.nodes) 1 _ _ c.in-Ok.ensures.reads (omega arith) (sym (ap (parts_reads s tree) parts)))
+    (c.create.ensures.reads tree placed.0 placed.1 placed.2 fits (if_ok (Fits s) (spec.created s tree c.as_str.result.now t) given))
+
+pub returns-in-Ok-place_of-clause-reads : goal.returns-in-Ok-place_of-clause-reads
+unfolding applied exchange_of
+returns-in-Ok-place_of-clause-reads c = λ tree holds sorted fits.
+    let s = schema_view.view c.args.schema.now in
+    let placed = c.in-Ok-place_of.ensures.place tree holds sorted in
+    let t = target_at s placed.0 placed.1 c.in-Ok-place_of.place.last in
+    let text = string_bytes c.in-Replace.value in
+    let given = subst (λ v. If (Fits s) (spec.replaced s tree v t)) (sym c.as_str-in-Ok-place_of.ensures.value)
+    (subst (If (Fits s)) (ap (λ a. a >>= spec.replaced s tree text) placed.3)
+    (subst (λ e. If (Fits s) (applied s tree (edit_view e))) c.in-Replace.is (edit_fits s tree (edit_view c.args.edit.now) (numbered c.args.schema.now) fits))) in
+    let parts = ap (λ e. exchange_of s tree (edit_view e)) c.in-Replace.is ∙ (ap (λ a. a >>= replaced_parts s text) placed.3 ∙ ap (λ v. replaced_parts s v t) (sym c.as_str-in-Ok-place_of.ensures.value)) in
+    within_more c.replace.result (2 + parts_reads s tree (replaced_parts s c.as_str-in-Ok-place_of.result.now t)) _ (store_of c.args.counted.now) (store_of c.place_of-in-Replace.new.counted) (store_of c.replace.new.counted)
+    (spent_place _ _ (levels s.nodes) 2 _ _ c.in-Ok-place_of.ensures.reads (omega arith) (sym (ap (parts_reads s tree) parts)))
+    (c.replace.ensures.reads tree placed.0 placed.1 placed.2 fits (if_ok (Fits s) (spec.replaced s tree c.as_str-in-Ok-place_of.result.now t) given))
+
+pub returns-in-Ok-place_of-2-clause-reads : goal.returns-in-Ok-place_of-2-clause-reads
+unfolding applied exchange_of
+returns-in-Ok-place_of-2-clause-reads c = λ tree holds sorted fits.
+    let s = schema_view.view c.args.schema.now in
+    let placed = c.in-Ok-place_of-2.ensures.place tree holds sorted in
+    let t = target_at s placed.0 placed.1 c.in-Ok-place_of-2.place.last in
+    let given = subst (If (Fits s)) (ap (λ a. a >>= spec.removed s tree) placed.3)
+    (subst (λ e. If (Fits s) (applied s tree (edit_view e))) c.in-Remove.is (edit_fits s tree (edit_view c.args.edit.now) (numbered c.args.schema.now) fits)) in
+    let parts = ap (λ e. exchange_of s tree (edit_view e)) c.in-Remove.is ∙ ap (λ a. a >>= removed_parts s) placed.3 in
+    within_more c.remove.result (3 + parts_reads s tree (removed_parts s t)) _ (store_of c.args.counted.now) (store_of c.place_of-in-Remove.new.counted) (store_of c.remove.new.counted)
+    (spent_place _ _ (levels s.nodes) 3 _ _ c.in-Ok-place_of-2.ensures.reads (omega arith) (sym (ap (parts_reads s tree) parts)))
+    (c.remove.ensures.reads tree placed.0 placed.1 placed.2 fits (if_ok (Fits s) (spec.removed s tree t) given))
+
+pub returns-in-Err-clause-reads : goal.returns-in-Err-clause-reads
+returns-in-Err-clause-reads c = λ tree holds sorted fits.
+    refused_within (Unit {0}) c.in-Err.fault _ _ _ (spent_refused _ _ _ _ c.in-Err.ensures.reads)
+
+pub returns-in-Err-place_of-clause-reads : goal.returns-in-Err-place_of-clause-reads
+returns-in-Err-place_of-clause-reads c = λ tree holds sorted fits.
+    refused_within (Unit {0}) c.in-Err-place_of.fault _ _ _ (spent_refused _ _ _ _ c.in-Err-place_of.ensures.reads)
+
+pub returns-in-Err-place_of-2-clause-reads : goal.returns-in-Err-place_of-2-clause-reads
+returns-in-Err-place_of-2-clause-reads c = λ tree holds sorted fits.
+    refused_within (Unit {0}) c.in-Err-place_of-2.fault _ _ _ (spent_refused _ _ _ _ c.in-Err-place_of-2.ensures.reads)

@@ -1,5 +1,5 @@
-use Rattle.std.proofs.Common.{ap, sym, subst, ◌∙◌}
-use Rattle.std.specs.Prelude.{Err, if◌then◌else◌}
+use Rattle.std.proofs.Common.{ap, arith, subst, sym, ◌∙◌}
+use Rattle.std.specs.Prelude.{Err, IfOk, if◌then◌else◌}
 use Rattle.yspec.specs.Results.{◌>>=◌}
 use Rattle.yspec.specs.edit.Edit.{edit_at}
 use Rattle.yspec.specs.edit.Editing as spec
@@ -13,6 +13,10 @@ use Rattle.ychange.specs.Places.{Amends, branch_of}
 use Rattle.ychange.proofs.AmendLemmas.{amends_fault, created_is, fails_on, fails_same, holds_at, shows_at, somewhere_read}
 use Rattle.ychange.proofs.LocatingLemmas.{at_read, hangs_at}
 use Rattle.ychange.proofs.OrderLemmas.{value_in_order}
+use Rattle.yspec.specs.document.Fitting.{Fits}
+use Rattle.yreach.specs.Parts.{comes}
+use Rattle.ychange.specs.Reads.{created_parts, exchange_reads, parts_reads}
+use Rattle.ychange.proofs.ReadLemmas.{created_parts_are, exchange_within, refused_within, spent_before, within_more}
 use Rattle.ychange.proofs.amending.create.Goals as goal
 
 pub returns-then-is_there-clause-amends : goal.returns-then-is_there-clause-amends
@@ -69,3 +73,28 @@ add_part-requires-clause-at c =
 pub add_part-requires-clause-sorted : goal.add_part-requires-clause-sorted
 add_part-requires-clause-sorted c =
     (value_in_order (schema_view.view c.args.schema.now) c.args.place.last.id.0 c.args.value.now (branch_of c.in-Ok.part) (numbered c.args.schema.now) c.in-Ok.ensures).1
+
+pub returns-then-is_there-clause-reads : goal.returns-then-is_there-clause-reads
+returns-then-is_there-clause-reads c = λ tree above f at fits given.
+    let one = c.is_there.ensures.reads in refused_within (Unit {0}) c.refused.result _ _ _ (omega (arith, one))
+
+pub returns-in-Err-clause-reads : goal.returns-in-Err-clause-reads
+returns-in-Err-clause-reads c = λ tree above f at fits given.
+    let one = c.is_there.ensures.reads in refused_within (Unit {0}) c.in-Err.fault _ _ _ (omega (arith, one))
+
+pub returns-in-Ok-clause-reads : goal.returns-in-Ok-clause-reads
+returns-in-Ok-clause-reads c = λ tree above f at fits given.
+    let s = schema_view.view c.args.schema.now in
+    let row = c.args.place.above in
+    let id = c.args.place.last.id in
+    let old = store_of c.args.counted.now in
+    let mid = store_of c.is_there.new.counted in
+    let t = target_at s above f c.args.place.last in
+    let b = branch_of c.in-Ok.part in
+    let at_mid = at_read s old mid tree above row f at c.is_there.ensures.kept in
+    let none = sym (c.is_there.ensures.there above f (hangs_at s old tree above row f at)) ∙ c.if-is_there.false in
+    let value = ap (λ k. spec.branch_of s k c.args.value.now) (number_is s id.0) ∙ c.in-Ok.ensures in
+    within_more c.add_part.result (exchange_reads s tree (comes t b)) _ old mid (store_of c.add_part.new.counted)
+    (spent_before _ _ 1 _ _ c.is_there.ensures.reads
+    (exchange_within s tree (comes t b) (created_parts s c.args.value.now t) (created_parts_are s c.args.value.now t b none value)))
+    (c.add_part.ensures.reads tree above f t.last at_mid fits (subst (λ r. IfOk r (Fits s)) (created_is s tree c.args.value.now t b none value) given))

@@ -14,3 +14,11 @@ returns-clause-numbers c = λ above n below same stands fits.
     copied.numbers
     ∙ (ap (λ had. had ++ n.id ∷ ids_of below) c.new-numbers.ensures.items
     ∙ (ap (λ xs. n.id ∷ xs) (sym (append-nil (ids_of below))) ∙ sym (ids_node n below end)))
+
+pub returns-clause-reads : goal.returns-clause-reads
+returns-clause-reads c = λ above n below same stands fits.
+    let deep = levels_within (node n below end) in
+    let count = c.node_count-depth.ensures in
+    let copied = c.in_ok-copy_part.ensures.part above n below same stands (omega (arith, deep, fits, count)) in
+    let read = copied.reads in
+    omega (arith, read)

@@ -1,4 +1,4 @@
-use Rattle.std.proofs.Common.{ap, refl, sym, subst, ◌∙◌}
+use Rattle.std.proofs.Common.{ap, arith, refl, subst, sym, ◌∙◌}
 use Rattle.yspec.specs.Results.{◌>>=◌}
 use Rattle.yspec.specs.edit.Edit.{edit_at, instance_index}
 use Rattle.yspec.specs.edit.Editing as spec
@@ -10,10 +10,20 @@ use Rattle.yinst.proofs.LocatingLemmas.{number_is}
 use Rattle.yshape.proofs.PartLemmas.{reads_on}
 use Rattle.ychange.specs.Locating.{target_at}
 use Rattle.ychange.specs.Places.{Amends, branch_of}
-use Rattle.ychange.proofs.AmendLemmas.{amends_fault, fails_on, fails_same, holds_at, part_at, replaced_is, shows_at}
+use Rattle.ychange.proofs.AmendLemmas.{amends_fault, fails_on, fails_same, found_there, holds_at, part_at, replaced_is, shows_at}
 use Rattle.ychange.proofs.LocatingLemmas.{at_read}
 use Rattle.ychange.proofs.OrderLemmas.{value_in_order}
 use Rattle.ychange.proofs.PartLemmas.{wanting}
+use Rattle.std.specs.Prelude.{IfOk}
+use Rattle.yspec.specs.Forest.{end, node}
+use Rattle.yspec.specs.document.Document.{instances_in}
+use Rattle.yspec.specs.document.Fitting.{Fits}
+use Rattle.ymodel.specs.declared.node.SchemaId.{SchemaId}
+use Rattle.yreach.specs.Parts.{gives_way}
+use Rattle.yshape.specs.Hanging.{tree_of}
+use Rattle.ychange.specs.Reads.{exchange_reads, parts_reads}
+use Rattle.ychange.proofs.ExchangeLemmas.{meant_is}
+use Rattle.ychange.proofs.ReadLemmas.{memory_within, part_light, refused_within, replaced_parts_are, spent_numbers, within_more}
 use Rattle.ychange.proofs.amending.replace.Goals as goal
 
 pub returns-in_err-numbers-in-Ok-part-clause-amends : goal.returns-in_err-numbers-in-Ok-part-clause-amends
@@ -107,3 +117,42 @@ put_part-requires-clause-at c =
 pub put_part-requires-clause-sorted : goal.put_part-requires-clause-sorted
 put_part-requires-clause-sorted c =
     (value_in_order (schema_view.view c.args.schema.now) c.args.place.last.id.0 c.args.value.now (branch_of c.in-Ok-part.part) (numbered c.args.schema.now) c.in-Ok-part.ensures).1
+
+pub returns-in_err-numbers-in-Ok-part-clause-reads : goal.returns-in_err-numbers-in-Ok-part-clause-reads
+returns-in_err-numbers-in-Ok-part-clause-reads c = λ tree above f at fits given. memory_within c.from_residual.result _ _ _ c.from_residual.ensures.1
+
+pub returns-in-Err-part-clause-reads : goal.returns-in-Err-part-clause-reads
+returns-in-Err-part-clause-reads c = λ tree above f at fits given.
+    let two = c.in-Ok.ensures.reads in refused_within (Unit {0}) c.in-Err-part.fault _ _ _ (omega (arith, two))
+
+pub returns-in-Err-clause-reads : goal.returns-in-Err-clause-reads
+returns-in-Err-clause-reads c = λ tree above f at fits given.
+    let two = c.in-Err.ensures.reads in refused_within (Unit {0}) c.in-Err.fault _ _ _ (omega (arith, two))
+
+pub returns-in_ok-numbers-in-Ok-part-clause-reads : goal.returns-in_ok-numbers-in-Ok-part-clause-reads
+returns-in_ok-numbers-in-Ok-part-clause-reads c = λ tree above f at fits given.
+    let s = schema_view.view c.args.schema.now in
+    let id = c.args.place.last.id in
+    let row = c.args.place.above in
+    let old = store_of c.args.counted.now in
+    let mid = store_of c.instance_meant.new.counted in
+    let last = store_of c.numbers_of.new.counted in
+    let t = target_at s above f c.args.place.last in
+    let b = branch_of c.in-Ok-part.part in
+    let meant = c.in-Ok.ensures.meets tree above f at in
+    let step = meant.0 in
+    let found = meant.3 in
+    let at_mid = at_read s old mid tree above row f at c.in-Ok.ensures.kept in
+    let part = part_at s mid tree above row f step id c.in-Ok.node _ at_mid found meant.2
+    (λ r n below same stands fits. c.deref.ensures.value ∙ c.in_ok-numbers-in-Ok-part.ensures.numbers r n below same stands fits) in
+    let there = found_there s mid tree above row f step id c.in-Ok.node at_mid found in
+    let numbers = c.in_ok-numbers-in-Ok-part.ensures.reads row found.frame.label found.below found.is_id there.0 there.1 in
+    let order = value_in_order s id.0 c.args.value.now b (numbered c.args.schema.now) c.in-Ok-part.ensures in
+    let value = ap (λ k. spec.branch_of s k c.args.value.now) (number_is s id.0) ∙ c.in-Ok-part.ensures in
+    let old_is = meant_is step found.frame.before found.frame.after found.frame.label found.below f found.is_row (ap (λ (i : SchemaId). i.0) found.is_schema ∙ meant.2)
+    (ap (λ k. instances_in (tree_of found.frame.before) k) (sym meant.2) ∙ found.is_index) in
+    let parts = sym (ap (parts_reads s tree) (replaced_parts_are s c.args.value.now t step b meant.1 value)) in
+    within_more c.put_part.result (exchange_reads s tree (gives_way t step b)) _ old last (store_of c.put_part.new.counted)
+    (spent_numbers _ _ _ 2 _ _ _ _ c.in-Ok.ensures.reads numbers (part_light s (node found.frame.label found.below end) _ old_is) parts)
+    (c.put_part.ensures.reads tree above f t.last step id (at_read s mid last tree above row f at_mid c.numbers_of.ensures.kept) part order.0 fits
+    (subst (λ r. IfOk r (Fits s)) (replaced_is s tree c.args.value.now t step b meant.1 value) given))

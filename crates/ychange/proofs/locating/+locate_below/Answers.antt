@@ -40,3 +40,18 @@ returns-in-Err-clause-place t c = λ tree so_far f at.
     let some : 1 ≤ length (steps_view s c.in-Some.more.now) = omega (arith, long, least) in
     refused_located s (store_of c.instance_meant.new.counted) tree so_far f (step_view s c.in-Some.step.now) (steps_view s c.args.steps.now) (steps_view s c.in-Some.more.now) c.in-Err.fault
     (ap (steps_view s) e) some (c.in-Err.ensures.meets tree so_far f at)
+
+pub returns-in-Ok-clause-reads : goal.returns-in-Ok-clause-reads
+returns-in-Ok-clause-reads t c =
+    let two = c.in-Ok.ensures.reads in
+    let rest = c.locate_below.ensures.reads in
+    let e : c.args.steps.now ≡ c.in-Some.step.now ∷ c.in-Some.more.now = search rules in
+    let long = ap length e in
+    omega (arith, two, rest, long)
+
+pub returns-in-Err-clause-reads : goal.returns-in-Err-clause-reads
+returns-in-Err-clause-reads t c =
+    let two = c.in-Err.ensures.reads in
+    let e : c.args.steps.now ≡ c.in-Some.step.now ∷ c.in-Some.more.now = search rules in
+    let long = ap length e in
+    omega (arith, two, long)

@@ -7,6 +7,8 @@ use Rattle.ychange.proofs.BesideLemmas.{fresh_roomed, told_roomed}
 use Rattle.ytold.proofs.StillLemmas.{on_err}
 use Rattle.ychange.proofs.PartLemmas.{err_then, prepared, stays_same}
 use Rattle.yshape.proofs.FrameLemmas.{keeps_same, room_same}
+use Rattle.ychange.proofs.ReadLemmas.{ok_then, spent_on}
+use Rattle.std.proofs.Common.{refl}
 use Rattle.ychange.proofs.parts.change_row.Goals as goal
 
 pub retell-requires : goal.retell-requires
@@ -40,3 +42,13 @@ returns-in_err-reserve_child-clause-keeps_still c =
     let old = store_of c.args.counted.now in
     let new = store_of c.reserve_child.new.self in
     on_err c.from_residual.result (λ tree above loose keeps. keeps_same old new (stays_same old new c.in_err-reserve_child.ensures.err) tree above loose keeps)
+
+pub returns-clause-reads : goal.returns-clause-reads
+returns-clause-reads c = λ p told fresh few narrow.
+    let s = schema_view.view c.args.schema.now in
+    let old = store_of c.args.counted.now in
+    let mid = store_of c.reserve_child.new.self in
+    let room = c.in_ok-reserve_child.ensures.ok in
+    ok_then c.retell.result (spent_on _ _ _ _ _ room.changed.reads refl)
+    (c.retell.ensures.reads (prepared c.args.swap old mid c.args.old.now c.args.new.now p room) (told_roomed s old mid c.args.swap.above (around p.way p.f) room told)
+    (fresh_roomed s old mid c.args.swap.above (standing (end_of Top p.way) p.loose) room fresh) few narrow)

@@ -1,4 +1,4 @@
-use Rattle.std.proofs.Common.{subst, arith}
+use Rattle.std.proofs.Common.{ap, arith, refl, subst, ◌∙◌}
 use Rattle.yspec.specs.Forest.{end, node}
 use Rattle.ymodel.specs.View as schema_view
 use Rattle.ytree.specs.View.{view}
@@ -7,6 +7,10 @@ use Rattle.yshape.specs.Growing.{Inserts, Removes}
 use Rattle.yshape.specs.Ways.{around}
 use Rattle.ytold.proofs.StillLemmas.{on_err}
 use Rattle.ychange.proofs.PartLemmas as part
+use Rattle.yspec.specs.edit.Editing.{Branch, with_branch}
+use Rattle.ymodel.proofs.CallerLemmas.{numbered}
+use Rattle.ychange.proofs.ExchangeLemmas.{comes_reads}
+use Rattle.ychange.proofs.ReadLemmas.{along_is, narrow_at, removed_reads, spent_on}
 use Rattle.ychange.proofs.parts.hang_part.Goals as goal
 
 pub returns-in_err-new-clause-shows : goal.returns-in_err-new-clause-shows
@@ -81,3 +85,37 @@ returns-in_err-new-clause-hangs c = λ tree steps f at. part.if_err _ _ c.from_r
 
 pub returns-in_err-change_row-clause-hangs : goal.returns-in_err-change_row-clause-hangs
 returns-in_err-change_row-clause-hangs c = λ tree steps f at. part.if_err _ _ c.from_residual-in_err-change_row.result c.from_residual-in_err-change_row.ensures.1
+
+pub returns-then-node_count-most-clause-reads : goal.returns-then-node_count-most-clause-reads
+returns-then-node_count-most-clause-reads c = λ tree steps f last at fits then.
+    let grown = c.insert_part.ensures.grows.reads in
+    let gone = removed_reads _ _ _ c.remove_nodes.ensures.store in
+    omega (arith, grown, gone)
+
+pub returns-clause-reads : goal.returns-clause-reads
+returns-clause-reads c = λ tree steps f last at fits then.
+    let s = schema_view.view c.args.schema.now in
+    let old = store_of c.args.counted.now in
+    let mid = store_of c.insert_part.new.counted in
+    let label = (view c.args.part.now).0 in
+    let below = (view c.args.part.now).1 in
+    let has = c.insert_part.new.numbers.items in
+    let made = subst (λ had. Inserts c.args.above c.in_ok-new.new label below old mid had has) c.new-numbers.ensures.items c.in_ok-new.ensures.ok in
+    let fresh = c.insert_part.ensures.fresh in
+    let sorted = c.requires.sorted in
+    let few = c.if-node_count-most.false in
+    let count = c.node_count.ensures in
+    let most = c.requires.most in
+    let more_size = part.more_size s old mid tree steps c.args.above f c.in_ok-new.new label below has made fresh at sorted in
+    let added_size = part.added_size s old mid tree steps c.args.above f c.in_ok-new.new label below has made fresh at sorted in
+    let p = part.adding s old mid tree steps c.args.above f c.in_ok-new.new label below has made fresh at sorted c.deref-2.result.now c.deref-2.ensures.value c.id.result c.id.ensures in
+    let b = part.b s old mid tree steps c.args.above f c.in_ok-new.new label below has made fresh at sorted in
+    let more = part.more s old mid tree steps c.args.above f c.in_ok-new.new label below has made fresh at sorted in
+    let changed = part.branch_is s old mid tree steps c.args.above f c.in_ok-new.new label below has made fresh at sorted in
+    let new = ap (λ (b : Branch). node b.label b.below end) (part.part_is s old mid tree steps c.args.above f c.in_ok-new.new label below has made fresh at sorted) in
+    let now = along_is steps at.way (with_branch b) f more tree at.goes at.is_tree changed in
+    let exchange = comes_reads s steps at.way f tree last at.is_tree at.goes p.loose more b new changed in
+    spent_on _ _ _ _ _ c.insert_part.ensures.grows.reads exchange
+    (c.in_ok-change_row.ensures.reads p (part.told_mid s old mid tree steps c.args.above f c.in_ok-new.new label below has made fresh at sorted)
+    (part.fresh_mid s old mid tree steps c.args.above f c.in_ok-new.new label below has made fresh at sorted) (omega (arith, few, count, most, more_size))
+    (narrow_at s at.way f more tree _ (numbered c.args.schema.now) at.is_tree now fits (then (omega (arith, few, count, added_size)))))

@@ -1,4 +1,4 @@
-use Rattle.std.proofs.Common.{sym, subst, arith}
+use Rattle.std.proofs.Common.{ap, arith, refl, subst, sym, ◌∙◌}
 use Rattle.yspec.specs.Forest.{end, node}
 use Rattle.ymodel.specs.View as schema_view
 use Rattle.ytree.specs.View.{view}
@@ -6,6 +6,14 @@ use Rattle.ystore.specs.Views.{store_of}
 use Rattle.yshape.specs.Growing.{Inserts, Removes}
 use Rattle.yshape.specs.Ways.{around}
 use Rattle.ychange.proofs.PartLemmas as part
+use Rattle.yspec.specs.document.Document.{instances_in}
+use Rattle.yspec.specs.edit.Editing.{Branch, with_instead}
+use Rattle.ymodel.specs.declared.node.SchemaId.{SchemaId}
+use Rattle.ymodel.proofs.CallerLemmas.{numbered}
+use Rattle.yshape.specs.Hanging.{tree_of}
+use Rattle.ychange.proofs.ExchangeLemmas.{gives_reads}
+use Rattle.ychange.proofs.ReadLemmas.{along_is, fits_within, memory_within, narrow_at, refused_within, removed_reads, spent_on}
+use Rattle.yspec.specs.edit.Edit.{edit_at}
 use Rattle.ychange.proofs.parts.put_part.Goals as goal
 
 pub returns-in_err-new-clause-amends : goal.returns-in_err-new-clause-amends
@@ -76,3 +84,48 @@ returns-in_err-change_row-clause-amends c = λ tree steps f step schema at is sa
     (part.shows_beside (store_of c.change_row.new.counted) tree (around at.way f) c.args.above loose at.is_tree
     (c.in_err-change_row.ensures.keeps_still (around at.way f) c.args.above loose
     (part.beside s old mid tree steps c.args.above f c.in_ok-new.new label below has made c.insert_part.ensures.fresh at c.requires.sorted)))
+
+pub returns-in_err-new-clause-reads : goal.returns-in_err-new-clause-reads
+returns-in_err-new-clause-reads c = λ tree steps f last step schema at is same fits given. memory_within c.from_residual.result _ _ _ c.from_residual.ensures.1
+
+pub returns-then-saturating_sub-gt-DOCUMENT_LIMIT-clause-reads : goal.returns-then-saturating_sub-gt-DOCUMENT_LIMIT-clause-reads
+returns-then-saturating_sub-gt-DOCUMENT_LIMIT-clause-reads c = λ tree steps f last step schema at is same fits given.
+    let grown = c.insert_part.ensures.grows.reads in
+    let gone = removed_reads _ _ _ c.remove_nodes.ensures.store in
+    refused_within (Unit {0}) c.refused.result _ _ _ (omega (arith, grown, gone))
+
+pub returns-in_err-change_row-clause-reads : goal.returns-in_err-change_row-clause-reads
+returns-in_err-change_row-clause-reads c = λ tree steps f last step schema at is same fits given.
+    memory_within c.from_residual-in_err-change_row.result _ _ _ c.from_residual-in_err-change_row.ensures.1
+
+pub returns-clause-reads : goal.returns-clause-reads
+returns-clause-reads c = λ tree steps f last step schema at is same fits given.
+    let s = schema_view.view c.args.schema.now in
+    let old = store_of c.args.counted.now in
+    let mid = store_of c.insert_part.new.counted in
+    let label = (view c.args.part.now).0 in
+    let below = (view c.args.part.now).1 in
+    let has = c.insert_part.new.numbers.items in
+    let made = subst (λ had. Inserts c.args.above c.in_ok-new.new label below old mid had has) c.new-numbers.ensures.items c.in_ok-new.ensures.ok in
+    let fresh = c.insert_part.ensures.fresh in
+    let sorted = c.requires.sorted in
+    let few = c.if-saturating_sub-gt-DOCUMENT_LIMIT.false in
+    let count = c.node_count.ensures in
+    let less = c.saturating_sub.ensures in
+    let p = part.putting s old mid tree steps c.args.above f c.in_ok-new.new label below has made fresh at sorted step schema c.args.old c.args.old_numbers.now is c.deref-2.result.now c.deref-2.ensures.value c.id.result c.id.ensures same in
+    let other_size = part.other_size s old mid tree steps c.args.above f c.in_ok-new.new label below has made fresh at sorted step schema c.args.old c.args.old_numbers.now is in
+    let put_size = part.put_size s old mid tree steps c.args.above f c.in_ok-new.new label below has made fresh at sorted step schema c.args.old c.args.old_numbers.now is in
+    let other = part.other s old mid tree steps c.args.above f c.in_ok-new.new label below has made fresh at sorted step schema c.args.old c.args.old_numbers.now is in
+    let b = part.b s old mid tree steps c.args.above f c.in_ok-new.new label below has made fresh at sorted in
+    let changed = part.instead_is s old mid tree steps c.args.above f c.in_ok-new.new label below has made fresh at sorted step schema c.args.old c.args.old_numbers.now is in
+    let new = ap (λ (b : Branch). node b.label b.below end) (part.part_is s old mid tree steps c.args.above f c.in_ok-new.new label below has made fresh at sorted) in
+    let found = is.found in
+    let number = ap (λ (i : SchemaId). i.0) found.is_schema ∙ is.is_schema in
+    let index = ap (λ k. instances_in (tree_of found.frame.before) k) (sym is.is_schema) ∙ found.is_index in
+    let now = along_is steps at.way (with_instead step b) f other tree at.goes at.is_tree changed in
+    let exchange = gives_reads s steps at.way f tree last at.is_tree at.goes step found.frame.before found.frame.after found.frame.label found.below found.is_row number index p.loose other b new changed in
+    spent_on _ _ _ _ _ c.insert_part.ensures.grows.reads exchange
+    (c.in_ok-change_row.ensures.reads p (part.told_mid s old mid tree steps c.args.above f c.in_ok-new.new label below has made fresh at sorted)
+    (part.fresh_mid s old mid tree steps c.args.above f c.in_ok-new.new label below has made fresh at sorted) (omega (arith, few, less, count, other_size))
+    (narrow_at s at.way f other tree _ (numbered c.args.schema.now) at.is_tree now fits
+    (fits_within s (edit_at steps (with_instead step b) tree) given (omega (arith, few, less, count, other_size, put_size)))))

@@ -1,4 +1,4 @@
-use Rattle.std.proofs.Common.{[], subst}
+use Rattle.std.proofs.Common.{[], ap, refl, subst, sym, ◌∙◌}
 use Rattle.yspec.specs.Forest.{end}
 use Rattle.ymodel.specs.View as schema_view
 use Rattle.ystore.specs.Views.{store_of}
@@ -7,6 +7,13 @@ use Rattle.yshape.specs.Ways.{around}
 use Rattle.yshape.specs.declared.swapping.Change.TheVariants.{Take}
 use Rattle.ychange.specs.Places.{Swapping}
 use Rattle.ychange.proofs.PartLemmas as part
+use Rattle.yspec.specs.document.Document.{instances_in}
+use Rattle.yspec.specs.edit.Editing.{without}
+use Rattle.ymodel.specs.declared.node.SchemaId.{SchemaId}
+use Rattle.ymodel.proofs.CallerLemmas.{numbered}
+use Rattle.yshape.specs.Hanging.{tree_of}
+use Rattle.ychange.proofs.ExchangeLemmas.{goes_reads, without_is}
+use Rattle.ychange.proofs.ReadLemmas.{along_is, narrow_at, ok_then, spent_on}
 use Rattle.ychange.proofs.parts.take_part.Goals as goal
 
 pub change_row-requires : goal.change_row-requires
@@ -33,3 +40,21 @@ returns-clause-shows c = λ tree steps f at.
     part.err_then c.change_row.result
     (λ still. part.shows_beside (store_of c.change_row.new.counted) tree (around at.way f) Top end at.is_tree (still (around at.way f) Top end at.keeps))
     c.change_row.ensures.keeps_still
+
+pub returns-clause-reads : goal.returns-clause-reads
+returns-clause-reads c = λ tree steps f last step at is_part is_place fits fits_then.
+    let s = schema_view.view c.args.schema.now in
+    let old = store_of c.args.counted.now in
+    let numbers = c.args.old_numbers.now in
+    let p = part.taking s old tree steps c.args.above f step c.args.of c.args.old numbers at is_part c.args.place is_place in
+    let less = part.less s old tree steps c.args.above f step c.args.of c.args.old numbers at is_part in
+    let found = is_part.found in
+    let before = found.frame.before in
+    let same = ap (λ (i : SchemaId). i.0) found.is_schema ∙ is_part.is_schema in
+    let count = ap (λ k. instances_in (tree_of before) k) (sym is_part.is_schema) ∙ found.is_index in
+    let changed = without_is s steps at.way f tree last at.is_tree at.goes step before found.frame.after found.frame.label found.below found.is_row same count in
+    let now = along_is steps at.way (without step) f less tree at.goes at.is_tree changed in
+    let exchange = goes_reads s steps at.way f tree last at.is_tree at.goes step before found.frame.after found.frame.label found.below found.is_row same count in
+    ok_then c.change_row.result (spent_on _ _ _ _ _ refl exchange)
+    (c.change_row.ensures.reads p at.told tt (part.less_size s old tree steps c.args.above f step c.args.of c.args.old numbers at is_part)
+    (narrow_at s at.way f less tree _ (numbered c.args.schema.now) at.is_tree now fits fits_then))

@@ -1,17 +1,21 @@
-use Rattle.std.proofs.Common.{◌∙◌, ap, sym}
+use Rattle.std.proofs.Common.{◌∙◌, None, ap, sym}
 use Rattle.ymodel.specs.View as schema_view
 use Rattle.ystore.specs.Store.{play_at}
 use Rattle.ystore.specs.Views.{store_of}
-use Rattle.yshape.specs.Ways.{end_of}
+use Rattle.yshape.specs.Hanging.{tree_of}
+use Rattle.yshape.specs.Ways.{around, end_of}
+use Rattle.ystore.specs.declared.row.Row.{Row}
 use Rattle.ystore.specs.declared.row.Row.TheVariants.{Top}
 use Rattle.yfacts.specs.InPlay.{absence_views}
 use Rattle.ytell.proofs.AgreeLemmas.{entries_keys, keys_on}
+use Rattle.ytold.specs.Plans.{row_schema}
 use Rattle.ytold.specs.Standing.{standing}
 use Rattle.ytold.proofs.GrownLemmas.{grown_keeps, grown_keys, grown_ready}
 use Rattle.ytold.proofs.PlanLemmas.{keeps_read, ready_read}
 use Rattle.ytold.proofs.StillLemmas.{fresh_still, on_err, told_still}
 use Rattle.ytold.proofs.FewLemmas.{few_rows_of}
 use Rattle.ytold.proofs.TurnedLemmas.{play_there}
+use Rattle.ytold.proofs.WithinLemmas.{play_few, retold_within}
 use Rattle.ytold.proofs.retelling.retell.Goals as goal
 
 pub returns-in_err-plan-clause-told_still : goal.returns-in_err-plan-clause-told_still
@@ -64,3 +68,20 @@ returns-clause-keeps c p =
     c.change.ensures.keeps
     (grown_ready planned (store_of c.grow.new.counted) c.grow.ensures.grows c.args.swap (ready_read c.args.swap (store_of c.args.counted.now) planned c.plan_of.ensures.kept p.ready))
     p.are_old
+
+pub returns-clause-reads : goal.returns-clause-reads
+returns-clause-reads c p is fresh size_new narrow =
+    let start = store_of c.args.counted.now in
+    let planned = store_of c.plan_of.new.counted in
+    let grown = store_of c.grow.new.counted in
+    let s = schema_view.view c.args.schema.now in
+    let r = p.ready in
+    let still = λ (row : Row). c.grow.ensures.grows.held row ∙ c.plan_of.ensures.kept.held row in
+    let same = keys_on start planned grown (entries_keys start planned c.plan_of.ensures.kept.entries) (grown_keys planned grown c.grow.ensures.grows) in
+    let play = ap (λ row. absence_views (play_at start row)) (sym r.at) ∙ play_there s start r.way r.f is in
+    let plans = c.in_ok-plan.ensures.plan p play in
+    let told = told_still start grown still same s (around r.way r.f) is in
+    let ready = grown_ready planned grown c.grow.ensures.grows c.args.swap (ready_read c.args.swap start planned c.plan_of.ensures.kept r) in
+    retold_within s r.way r.f r.loose r.g r.left c.args.swap.schema c.args.swap.change r.swaps _ plans grown r.keeps.once told narrow _ _ _ _ _
+    (play_few s start c.args.swap.above (row_schema None r.way) (tree_of r.f) play) (c.in_ok-plan.ensures.reads p) c.grow.ensures.grows.reads
+    (c.change.ensures.reads s ready p.are_old told (fresh_still start grown still same s (standing (end_of Top r.way) r.loose) fresh) plans c.in_ok-grow.ensures.there size_new (few_rows_of c.args.schema.now))

@@ -1,7 +1,7 @@
 use Rattle.ymodel.specs.View as schema_view
 use Rattle.ypath.specs.EditView.{edit_view}
 use Rattle.ystore.specs.Views.{store_of}
-use Rattle.ylive.proofs.LiveLemmas.{accepts, holds_lent, live_accepted, live_memory, live_refused, refuses, wants_memory}
+use Rattle.ylive.proofs.LiveLemmas.{accepts, few_accepted, few_refused, holds_lent, live_accepted, live_memory, live_refused, refuses, wants_memory}
 use Rattle.ylive.proofs.live.Live.edit.Goals as goal
 
 pub edit_in-requires : goal.edit_in-requires
@@ -24,19 +24,30 @@ invariant_of-self-in-Err-Memory c =
     live_memory c.self.inside.schema c.self.inside.nodes (store_of c.counted.result) (store_of c.edit_in.new.counted) c.self.inside.is_stale (edit_view c.args.edit.now)
     c.counted.ensures.store c.self.invariant c.if-self.false c.in-Err-Memory.field-0 c.in-Err-Memory.field-0-is c.in-Err-Memory.ensures.applies
 
-pub returns-in-Ok : goal.returns-in-Ok
-returns-in-Ok c =
+pub returns-in-Ok-clause-edits : goal.returns-in-Ok-clause-edits
+returns-in-Ok-clause-edits c =
     accepts c.self.inside.schema c.self.inside.nodes (store_of c.counted.result) (store_of c.edit_in.new.counted) c.self.inside.is_stale (edit_view c.args.edit.now)
     c.counted.ensures.store c.self.invariant c.if-self.false c.args.self.now c.self.view_is c.in-Ok.applied c.in-Ok.ensures.applies
 
-pub returns-in-Err-Refused : goal.returns-in-Err-Refused
-returns-in-Err-Refused c =
+pub returns-in-Err-Refused-clause-edits : goal.returns-in-Err-Refused-clause-edits
+returns-in-Err-Refused-clause-edits c =
     refuses c.self.inside.schema c.self.inside.nodes (store_of c.counted.result) (store_of c.edit_in.new.counted) c.self.inside.is_stale (edit_view c.args.edit.now)
     c.counted.ensures.store c.self.invariant c.if-self.false c.args.self.now c.self.view_is c.in-Err-Refused.code c.in-Err-Refused.doc c.in-Err-Refused.field-0
     c.in-Err-Refused.field-0-is c.in-Err-Refused.ensures.applies
 
-pub returns-in-Err-Memory : goal.returns-in-Err-Memory
-returns-in-Err-Memory c =
+pub returns-in-Err-Memory-clause-edits : goal.returns-in-Err-Memory-clause-edits
+returns-in-Err-Memory-clause-edits c =
     wants_memory c.self.inside.schema c.self.inside.nodes (store_of c.counted.result) (store_of c.edit_in.new.counted) c.self.inside.is_stale (edit_view c.args.edit.now)
     c.counted.ensures.store c.self.invariant c.if-self.false c.args.self.now c.self.view_is c.in-Err-Memory.field-0 c.in-Err-Memory.field-0-is
     c.in-Err-Memory.ensures.applies
+
+pub returns-in-Ok-clause-reads : goal.returns-in-Ok-clause-reads
+returns-in-Ok-clause-reads c =
+    few_accepted c.self.inside.schema c.self.inside.nodes (store_of c.counted.result) (store_of c.edit_in.new.counted) c.self.inside.is_stale (edit_view c.args.edit.now)
+    c.counted.ensures.store c.self.invariant c.if-self.false c.args.self.now c.self.view_is c.in-Ok.applied c.in-Ok.ensures.reads
+
+pub returns-in-Err-Refused-clause-reads : goal.returns-in-Err-Refused-clause-reads
+returns-in-Err-Refused-clause-reads c =
+    few_refused c.self.inside.schema c.self.inside.nodes (store_of c.counted.result) (store_of c.edit_in.new.counted) c.self.inside.is_stale (edit_view c.args.edit.now)
+    c.counted.ensures.store c.self.invariant c.if-self.false c.args.self.now c.self.view_is c.in-Err-Refused.code c.in-Err-Refused.doc c.in-Err-Refused.field-0
+    c.in-Err-Refused.field-0-is c.in-Err-Refused.ensures.reads
