@@ -202,48 +202,6 @@ pub fn in_play_over(
     Ok(found)
 }
 
-/// What is told of what isn't stored in a row.
-pub fn absences_of(
-    counted: &mut Counted<'_>,
-    schema: &Schema,
-    row: Row,
-    above: Option<SchemaId>,
-) -> Result<Vec<ystore::Absence>, AllocError>
-    ensures absences { let s = schema_view.view schema.now in
-        IfOk result (λ absences. (f : Branches) → Hangs (store_of counted.old) row f
-        → words.absence_views absences.items
-        ≡ spec.absences_in (instances_in (tree_of f)) [] (schemas.row_at s (number_of above))) }
-    ensures kept { OnlyReads (store_of counted.old) (store_of counted.new) }
-    ensures reads { let s = schema_view.view schema.now in reads (store_of counted.new)
-        ≤ reads (store_of counted.old) + levels s * near_count (schemas.row_at s (number_of above)) }
-    ensures same_reference { lent counted.new ≡ lent counted.old }
-{
-    let InPlay { absences, .. } = in_play(counted, schema, row, above)?;
-    Ok(absences)
-}
-
-/// Puts the defaults in use in a row behind other values of instances, if any leafref refers to their schema nodes.
-pub fn defaults_of(
-    counted: &mut Counted<'_>,
-    schema: &Schema,
-    row: Row,
-    above: Option<SchemaId>,
-    given: &mut Vec<(SchemaId, Val)>,
-) -> Result<(), AllocError>
-    ensures defaults { let s = schema_view.view schema.now in
-        OnOk result ((f : Branches) → Hangs (store_of counted.old) row f
-        → given_view given.new.items ≡ given_view given.old.items
-        ++ referred s (spec.defaults_in (instances_in (tree_of f)) [] (schemas.row_at s (number_of above)))) }
-    ensures kept { OnlyReads (store_of counted.old) (store_of counted.new) }
-    ensures reads { let s = schema_view.view schema.now in reads (store_of counted.new)
-        ≤ reads (store_of counted.old) + levels s * near_count (schemas.row_at s (number_of above)) }
-    ensures same_reference { lent counted.new ≡ lent counted.old }
-{
-    let InPlay { mut defaults, .. } = in_play(counted, schema, row, above)?;
-    given.append(&mut defaults)?;
-    Ok(())
-}
-
 /// The children of a node, or the top nodes.
 fn row_at(schema: &Schema, above: Option<SchemaId>) -> Children<'_>
     ensures { row_view result ≡ schemas.row_at (schema_view.view schema.entry.now) (number_of above) }
