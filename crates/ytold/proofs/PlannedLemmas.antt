@@ -1,6 +1,6 @@
 -- How much a plan of a change of a row holds: keys and values by what the nodes that go and come weigh, by the names in keys and
 -- uniques of the nodes on the way, and by how wide the schema row is.
-use Rattle.std.proofs.Common.{◌≡◌, ℕ, ◌+◌, ◌*◌, ◌≤◌, Bool, true, false, cond, max, List, [], ◌∷◌, ◌++◌, map, length, Option, Some, None, refl, sym, ap, ◌∙◌, arith, length-append}
+use Rattle.std.proofs.Common.{◌≡◌, ℕ, suc, ◌+◌, ◌*◌, ◌≤◌, Bool, true, false, cond, eqb, max, List, [], ◌∷◌, ◌++◌, map, length, Option, Some, None, refl, sym, ap, ◌∙◌, arith, length-append}
 use Rattle.std.specs.Prelude.{option_to_list, sum_by, unwrap_or}
 use Rattle.std.specs.List.{flat_map}
 use Rattle.std.specs.Option.{option_map_or}
@@ -44,7 +44,7 @@ near_size : (f : Forest SchemaNode) → near_count f ≤ size f
 near_size end = omega arith
 near_size (node n below after) = by (starts_anew n.kind) (near_size below) (near_size after)
   where
-    by : (b : Bool) → near_count below ≤ size below → near_count after ≤ size after → 1 + (cond b 0 (near_count below) + near_count after) ≤ 1 + (size below + size after)
+    by : (b : Bool) → near_count below ≤ size below → near_count after ≤ size after → 1 + (cond b 0 (near_count below) + near_count after) ≤ suc (size below + size after)
     by true inner rest = omega (arith, rest)
     by false inner rest = omega (arith, inner, rest)
 
@@ -55,7 +55,7 @@ wide_size (node n below after) = let inner = wide_size below in let rest = wide_
 pub wide_row : (schema : Schema) (above : Option ℕ) → size (row_at schema above) ≤ breadth schema
 wide_row schema None = wide_size schema.nodes
 wide_row schema (Some parent) =
-    let below = few_below (λ (n : SchemaNode). n.number == parent) schema.nodes in let whole = wide_size schema.nodes in omega (arith, below, whole)
+    let below = few_below (λ (n : SchemaNode). eqb n.number parent) schema.nodes in let whole = wide_size schema.nodes in omega (arith, below, whole)
 
 pub near_row : (schema : Schema) (above : Option ℕ) → near_count (row_at schema above) ≤ breadth schema
 near_row schema above = let near = near_size (row_at schema above) in let row = wide_row schema above in omega (arith, near, row)
@@ -74,7 +74,7 @@ most_below p (node n below after) = by (p n) (find_below p below) (find_below p 
 
 most_row : (schema : Schema) (above : Option ℕ) → most_defaults (row_at schema above) ≤ most_defaults schema.nodes
 most_row schema None = omega arith
-most_row schema (Some parent) = most_below (λ (n : SchemaNode). n.number == parent) schema.nodes
+most_row schema (Some parent) = most_below (λ (n : SchemaNode). eqb n.number parent) schema.nodes
 
 module _ (schema : Schema) where
   abbrev most : ℕ
