@@ -135,12 +135,12 @@ returns-in-Ok-place_of-2-clause-reads c = λ tree holds sorted fits.
 
 pub returns-in-Err-clause-reads : goal.returns-in-Err-clause-reads
 returns-in-Err-clause-reads c = λ tree holds sorted fits.
-    refused_within (Unit {0}) c.in-Err.fault _ _ _ (spent_refused _ _ _ _ c.in-Err.ensures.reads)
+    refused_within (Unit {0}) c.in-Err.fault _ (store_of c.args.counted.now) (store_of c.place_of.new.counted) (spent_refused _ _ _ _ c.in-Err.ensures.reads)
 
 pub returns-in-Err-place_of-clause-reads : goal.returns-in-Err-place_of-clause-reads
 returns-in-Err-place_of-clause-reads c = λ tree holds sorted fits.
-    refused_within (Unit {0}) c.in-Err-place_of.fault _ _ _ (spent_refused _ _ _ _ c.in-Err-place_of.ensures.reads)
+    refused_within (Unit {0}) c.in-Err-place_of.fault _ (store_of c.args.counted.now) (store_of c.place_of-in-Replace.new.counted) (spent_refused _ _ _ _ c.in-Err-place_of.ensures.reads)
 
 pub returns-in-Err-place_of-2-clause-reads : goal.returns-in-Err-place_of-2-clause-reads
 returns-in-Err-place_of-2-clause-reads c = λ tree holds sorted fits.
-    refused_within (Unit {0}) c.in-Err-place_of-2.fault _ _ _ (spent_refused _ _ _ _ c.in-Err-place_of-2.ensures.reads)
+    refused_within (Unit {0}) c.in-Err-place_of-2.fault _ (store_of c.args.counted.now) (store_of c.place_of-in-Remove.new.counted) (spent_refused _ _ _ _ c.in-Err-place_of-2.ensures.reads)

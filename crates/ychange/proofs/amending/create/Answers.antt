@@ -76,11 +76,11 @@ add_part-requires-clause-sorted c =
 
 pub returns-then-is_there-clause-reads : goal.returns-then-is_there-clause-reads
 returns-then-is_there-clause-reads c = λ tree above f at fits given.
-    let one = c.is_there.ensures.reads in refused_within (Unit {0}) c.refused.result _ _ _ (omega (arith, one))
+    let one = c.is_there.ensures.reads in refused_within (Unit {0}) c.refused.result _ (store_of c.args.counted.now) (store_of c.is_there.new.counted) (omega (arith, one))
 
 pub returns-in-Err-clause-reads : goal.returns-in-Err-clause-reads
 returns-in-Err-clause-reads c = λ tree above f at fits given.
-    let one = c.is_there.ensures.reads in refused_within (Unit {0}) c.in-Err.fault _ _ _ (omega (arith, one))
+    let one = c.is_there.ensures.reads in refused_within (Unit {0}) c.in-Err.fault _ (store_of c.args.counted.now) (store_of c.is_there.new.counted) (omega (arith, one))
 
 pub returns-in-Ok-clause-reads : goal.returns-in-Ok-clause-reads
 returns-in-Ok-clause-reads c = λ tree above f at fits given.

@@ -102,15 +102,15 @@ returns-in-Err-clause-amends c = λ tree above f at.
     (holds_at s mid tree above row f at_mid) (shows_at s mid tree above row f at_mid)
 
 pub returns-in_err-numbers-in-Ok-clause-reads : goal.returns-in_err-numbers-in-Ok-clause-reads
-returns-in_err-numbers-in-Ok-clause-reads c = λ tree above f at fits given. memory_within c.from_residual.result _ _ _ c.from_residual.ensures.1
+returns-in_err-numbers-in-Ok-clause-reads c = λ tree above f at fits given. memory_within c.from_residual.result _ (store_of c.args.counted.now) (store_of c.numbers_of.new.counted) c.from_residual.ensures.1
 
 pub returns-in_err-take_part-in-Ok-clause-reads : goal.returns-in_err-take_part-in-Ok-clause-reads
 returns-in_err-take_part-in-Ok-clause-reads c = λ tree above f at fits given.
-    memory_within c.from_residual-in_err-take_part-in-Ok.result _ _ _ c.from_residual-in_err-take_part-in-Ok.ensures.1
+    memory_within c.from_residual-in_err-take_part-in-Ok.result _ (store_of c.args.counted.now) (store_of c.take_part.new.counted) c.from_residual-in_err-take_part-in-Ok.ensures.1
 
 pub returns-in-Err-clause-reads : goal.returns-in-Err-clause-reads
 returns-in-Err-clause-reads c = λ tree above f at fits given.
-    let two = c.in-Err.ensures.reads in refused_within (Unit {0}) c.in-Err.fault _ _ _ (omega (arith, two))
+    let two = c.in-Err.ensures.reads in refused_within (Unit {0}) c.in-Err.fault _ (store_of c.args.counted.now) (store_of c.instance_meant.new.counted) (omega (arith, two))
 
 pub returns-in_ok-take_part-in-Ok-clause-reads : goal.returns-in_ok-take_part-in-Ok-clause-reads
 returns-in_ok-take_part-in-Ok-clause-reads c = λ tree above f at fits given.

@@ -119,15 +119,15 @@ put_part-requires-clause-sorted c =
     (value_in_order (schema_view.view c.args.schema.now) c.args.place.last.id.0 c.args.value.now (branch_of c.in-Ok-part.part) (numbered c.args.schema.now) c.in-Ok-part.ensures).1
 
 pub returns-in_err-numbers-in-Ok-part-clause-reads : goal.returns-in_err-numbers-in-Ok-part-clause-reads
-returns-in_err-numbers-in-Ok-part-clause-reads c = λ tree above f at fits given. memory_within c.from_residual.result _ _ _ c.from_residual.ensures.1
+returns-in_err-numbers-in-Ok-part-clause-reads c = λ tree above f at fits given. memory_within c.from_residual.result _ (store_of c.args.counted.now) (store_of c.numbers_of.new.counted) c.from_residual.ensures.1
 
 pub returns-in-Err-part-clause-reads : goal.returns-in-Err-part-clause-reads
 returns-in-Err-part-clause-reads c = λ tree above f at fits given.
-    let two = c.in-Ok.ensures.reads in refused_within (Unit {0}) c.in-Err-part.fault _ _ _ (omega (arith, two))
+    let two = c.in-Ok.ensures.reads in refused_within (Unit {0}) c.in-Err-part.fault _ (store_of c.args.counted.now) (store_of c.instance_meant.new.counted) (omega (arith, two))
 
 pub returns-in-Err-clause-reads : goal.returns-in-Err-clause-reads
 returns-in-Err-clause-reads c = λ tree above f at fits given.
-    let two = c.in-Err.ensures.reads in refused_within (Unit {0}) c.in-Err.fault _ _ _ (omega (arith, two))
+    let two = c.in-Err.ensures.reads in refused_within (Unit {0}) c.in-Err.fault _ (store_of c.args.counted.now) (store_of c.instance_meant.new.counted) (omega (arith, two))
 
 pub returns-in_ok-numbers-in-Ok-part-clause-reads : goal.returns-in_ok-numbers-in-Ok-part-clause-reads
 returns-in_ok-numbers-in-Ok-part-clause-reads c = λ tree above f at fits given.

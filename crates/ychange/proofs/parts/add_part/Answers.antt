@@ -23,7 +23,7 @@ returns-in-false-clause-amends c = λ tree steps f at.
     c.refused.result c.in_ok-hang_part.field-0 c.in-false.is c.refused.ensures (c.in_ok-hang_part.ensures.hangs tree steps f at)
 
 pub returns-in_err-hang_part-clause-reads : goal.returns-in_err-hang_part-clause-reads
-returns-in_err-hang_part-clause-reads c = λ tree steps f last at fits given. memory_within c.from_residual.result _ _ _ c.from_residual.ensures.1
+returns-in_err-hang_part-clause-reads c = λ tree steps f last at fits given. memory_within c.from_residual.result _ (store_of c.args.counted.now) (store_of c.hang_part.new.counted) c.from_residual.ensures.1
 
 pub returns-in-true-clause-reads : goal.returns-in-true-clause-reads
 returns-in-true-clause-reads c = λ tree steps f last at fits given.
@@ -31,5 +31,5 @@ returns-in-true-clause-reads c = λ tree steps f last at fits given.
 
 pub returns-in-false-clause-reads : goal.returns-in-false-clause-reads
 returns-in-false-clause-reads c = λ tree steps f last at fits given.
-    refused_within (Unit {0}) c.refused.result _ _ _
+    refused_within (Unit {0}) c.refused.result _ (store_of c.args.counted.now) (store_of c.hang_part.new.counted)
     (c.in_ok-hang_part.ensures.reads tree steps f last at fits (fits_within (schema_view.view c.args.schema.now) (edit_at steps (with_branch (branch_of c.args.part.now)) tree) given))

@@ -86,17 +86,17 @@ returns-in_err-change_row-clause-amends c = λ tree steps f step schema at is sa
     (part.beside s old mid tree steps c.args.above f c.in_ok-new.new label below has made c.insert_part.ensures.fresh at c.requires.sorted)))
 
 pub returns-in_err-new-clause-reads : goal.returns-in_err-new-clause-reads
-returns-in_err-new-clause-reads c = λ tree steps f last step schema at is same fits given. memory_within c.from_residual.result _ _ _ c.from_residual.ensures.1
+returns-in_err-new-clause-reads c = λ tree steps f last step schema at is same fits given. memory_within c.from_residual.result _ (store_of c.args.counted.now) (store_of c.insert_part.new.counted) c.from_residual.ensures.1
 
 pub returns-then-saturating_sub-gt-DOCUMENT_LIMIT-clause-reads : goal.returns-then-saturating_sub-gt-DOCUMENT_LIMIT-clause-reads
 returns-then-saturating_sub-gt-DOCUMENT_LIMIT-clause-reads c = λ tree steps f last step schema at is same fits given.
     let grown = c.insert_part.ensures.grows.reads in
     let gone = removed_reads _ _ _ c.remove_nodes.ensures.store in
-    refused_within (Unit {0}) c.refused.result _ _ _ (omega (arith, grown, gone))
+    refused_within (Unit {0}) c.refused.result _ (store_of c.args.counted.now) (store_of c.remove_nodes.new.counted) (omega (arith, grown, gone))
 
 pub returns-in_err-change_row-clause-reads : goal.returns-in_err-change_row-clause-reads
 returns-in_err-change_row-clause-reads c = λ tree steps f last step schema at is same fits given.
-    memory_within c.from_residual-in_err-change_row.result _ _ _ c.from_residual-in_err-change_row.ensures.1
+    memory_within c.from_residual-in_err-change_row.result _ (store_of c.args.counted.now) (store_of c.change_row.new.counted) c.from_residual-in_err-change_row.ensures.1
 
 pub returns-clause-reads : goal.returns-clause-reads
 returns-clause-reads c = λ tree steps f last step schema at is same fits given.
