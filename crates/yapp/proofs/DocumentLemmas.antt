@@ -11,12 +11,12 @@ use Rattle.yspec.specs.document.Fitting.{Fits}
 use Rattle.yspec.specs.document.Writing.{IsDocument, written_text}
 use Rattle.yspec.specs.edit.EditText.{Edit}
 use Rattle.yspec.specs.edit.Editing as editing
-use Rattle.yspec.specs.edit.Editing.{after}
+use Rattle.yspec.specs.edit.Editing.{Decision, after}
+use Rattle.yspec.specs.edit.Live as live
 use Rattle.yspec.specs.document.Fault as spec_fault
 use Rattle.yspec.specs.document.Faults.{faults_of}
 use Rattle.yprogram.specs.Output.{Outcome, dump, left, report}
 use Rattle.yprogram.specs.Part.{Part, plain}
-use Rattle.yprogram.specs.Script.{after_lines, refused_lines}
 use Rattle.yspec.proofs.EditProofs.FittingEditLemmas.{edits_whole}
 use Rattle.yspec.proofs.EditProofs.LimitLemmas.{edits_within}
 use Rattle.ycheck.specs.View.{view, views}
@@ -25,35 +25,69 @@ use Rattle.ymodel.specs.View as schema_view
 use Rattle.ymodel.specs.declared.schema.Schema.{Schema}
 use Rattle.ymodel.proofs.CallerLemmas.{names_differ, numbered}
 use Rattle.yapp.specs.Asked.{IsScript, Line, refused_part, refused_parts, told_from}
-use Rattle.yapp.specs.Edited.{IsEdited, IsRun, IsSound, refused_of, schema_of, tree_of}
+use Rattle.ylive.specs.Answers.{after_edits}
+use Rattle.yapp.specs.Edited.{IsEdited, IsOf, IsRun, IsSound, IsWhole, live_of, refused_in, refused_of, schema_of, tree_of}
 use Rattle.yapp.specs.Failing.{LeadsTo}
 use Rattle.yapp.specs.declared.document.Document.{Document}
+use Rattle.yapp.specs.declared.edited.EditedDocument.{EditedDocument}
 use Rattle.yapp.specs.declared.failure.Failure.{Failure}
 use Rattle.yapp.specs.declared.failure.Failure.TheVariants as failures
 use Rattle.yapp.specs.declared.script.RefusedLine.{RefusedLine}
 use Rattle.yapp.proofs.ScriptLemmas.{after_is, refused_is}
 
--- what fits after edits is sound as before them
-sound_after : (schema : Schema) (t u : Tree) (edits : List Edit) → IsSound (schema_view.view schema) t → u ≡ after (schema_view.view schema) t edits
-    → Fits (schema_view.view schema) u → IsSound (schema_view.view schema) u
-sound_after schema t u edits sound is fits = let s = schema_view.view schema in record {
-  fits = fits;
+-- edits leave a sound document whole
+whole_after : (schema : Schema) (t u : Tree) (edits : List Edit) → IsSound (schema_view.view schema) t → u ≡ after (schema_view.view schema) t edits
+    → IsWhole (schema_view.view schema) u
+whole_after schema t u edits sound is = let s = schema_view.view schema in record {
   whole = subst (IsDocument s) (sym is) (edits_whole s t edits (numbered schema) (names_differ schema) sound.whole);
   within = subst (λ (v : Tree). size v ≤ document_limit) (sym is) (edits_within s t edits sound.within);
 }
 
 -- a run of the edits of a script is the script's
-pub edited_by : (schema : Schema) (t : Tree) (kinds : List Line) (edits : List Edit) (lines : List Text) (d : Document)
-    → IsSound (schema_view.view schema) t → IsScript kinds edits lines → IsRun (schema_view.view schema) t kinds edits d
-    → IsEdited (schema_view.view schema) t lines d
-edited_by schema t kinds edits lines d sound script run = let s = schema_view.view schema in record {
+pub edited_by : (schema : Schema) (t : Tree) (kinds : List Line) (edits : List Edit) (lines : List Text) (e : EditedDocument)
+    → IsSound (schema_view.view schema) t → IsScript kinds edits lines → IsRun (schema_view.view schema) t kinds edits e
+    → IsEdited (schema_view.view schema) t lines e
+edited_by schema t kinds edits lines e sound script run = let s = schema_view.view schema in record {
   schema_is = run.schema_is;
   tree_is = run.tree_is ∙ ap (after s t) script.edits_are ∙ sym (after_is s t lines);
   refused_is = run.refused_is
       ∙ ap₂ (λ (ks : List Line) (es : List Edit). told_from 1 ks (editing.decisions s t es)) script.kinds_are script.edits_are
       ∙ sym (refused_is s 1 t lines);
-  sound = subst (λ (x : spec.Schema). IsSound x (tree_of d)) (sym run.schema_is) (sound_after schema t (tree_of d) edits sound run.tree_is run.fits);
+  whole = subst (λ (x : spec.Schema). IsWhole x (live_of e).tree) (sym run.schema_is) (whole_after schema t (live_of e).tree edits sound run.tree_is);
 }
+
+-- what is left by a run of edits isn't stale
+pub fresh_after : (before now : live.Live) (edits : List Edit) → before.is_stale ≡ false → now ≡ after_edits edits before → now.is_stale ≡ false
+fresh_after before now edits fresh left = ap (λ (l : live.Live). l.is_stale) left ∙ fresh
+
+pub run_is : (before : live.Live) (kinds : List Line) (edits : List Edit) (told : List Decision) (e : EditedDocument)
+    → told ≡ editing.decisions before.schema before.tree edits → live_of e ≡ after_edits edits before → refused_in e ≡ told_from 1 kinds told
+    → IsRun before.schema before.tree kinds edits e
+run_is before kinds edits told e came left refused = record {
+  schema_is = ap (λ (l : live.Live). l.schema) left;
+  tree_is = ap (λ (l : live.Live). l.tree) left;
+  refused_is = refused ∙ ap (told_from 1 kinds) came;
+}
+
+-- ---- a live document taken apart
+
+pub is_of : (e : EditedDocument) (d : Document) → IsWhole (live_of e).schema (live_of e).tree → schema_of d ≡ (live_of e).schema
+    → tree_of d ≡ (live_of e).tree → Fits (live_of e).schema (tree_of d) → refused_of d ≡ refused_in e → IsOf e d
+is_of e d whole schema_is tree_is fits refused_is = record {
+  schema_is = schema_is;
+  tree_is = tree_is;
+  refused_is = refused_is;
+  sound = subst (λ (s : spec.Schema). IsSound s (tree_of d)) (sym schema_is) (record {
+    fits = fits;
+    whole = subst (IsDocument (live_of e).schema) (sym tree_is) whole.whole;
+    within = subst (λ (v : Tree). size v ≤ document_limit) (sym tree_is) whole.within;
+  });
+}
+
+pub left_of : (is_dump : Bool) (e : EditedDocument) (d : Document) → IsOf e d
+    → left is_dump (schema_of d) (tree_of d) (refused_of d) ≡ left is_dump (live_of e).schema (live_of e).tree (refused_in e)
+left_of is_dump e d of = ap (λ (s : spec.Schema). left is_dump s (tree_of d) (refused_of d)) of.schema_is
+    ∙ ap₂ (left is_dump (live_of e).schema) of.tree_is of.refused_is
 
 -- want of memory leads anywhere
 pub memory_leads : {X : Type 0} (o : Outcome) (next : X → Outcome) (r : Result X Failure) → IsErrAnd r (λ e. e ≡ failures.Memory) → LeadsTo o next r
@@ -63,11 +97,6 @@ memory_leads o next (Err f) e = subst (λ g. LeadsTo o next (Err g)) (sym e) tt
 -- there are refused lines exactly where something is told of them
 pub none_refused : (lines : List RefusedLine) → (length (refused_parts lines) == 0) ≡ (length lines == 0)
 none_refused lines = ap (λ (n : ℕ). n == 0) (length-map lines refused_part)
-
-pub edited_same : (next : spec.Schema → Tree → List Part → Outcome) (s : spec.Schema) (t : Tree) (lines : List Text) (d : Document) → IsEdited s t lines d
-    → next s (after_lines s t lines) (refused_lines s 1 t lines) ≡ next (schema_of d) (tree_of d) (refused_of d)
-edited_same next s t lines d edited = ap (λ (x : spec.Schema). next x (after_lines s t lines) (refused_lines s 1 t lines)) (sym edited.schema_is)
-    ∙ ap₂ (next (schema_of d)) (sym edited.tree_is) (sym edited.refused_is)
 
 -- ---- reports
 

@@ -1,5 +1,5 @@
 -- The lines of faults with what is said of each, as the parts of a report.
-use Rattle.std.proofs.Common.{◌≡◌, Bool, true, false, List, [], ◌∷◌, ◌++◌, Option, Some, None, Global, String, string_bytes, length, map, codes, decimal, refl, sym, ap, ap₂, ◌∙◌, arith}
+use Rattle.std.proofs.Common.{◌≡◌, ℕ, Bool, true, false, List, [], ◌∷◌, ◌++◌, Option, Some, None, Global, String, string_bytes, length, map, codes, decimal, refl, sym, ap, ap₂, ◌∙◌, arith}
 use Rattle.std.specs.Prelude.{IfOk, Result, Ok, Err, if◌then◌else◌, ◌&&◌, not, is_none, is_some}
 use Rattle.std.specs.Option.{option_map_or}
 use Rattle.std.specs.List.{flat_map}
@@ -17,8 +17,11 @@ use Rattle.youtput.specs.Writing.{Side, Writes}
 use Rattle.youtput.proofs.WritingLemmas.{writes_same}
 use Rattle.yprogram.specs.Output.{fault_part, printed, report}
 use Rattle.yprogram.specs.Part.{plain, spelled}
+use Rattle.yspec.specs.edit.Live.{fault_count, faults_in}
+use Rattle.yapp.specs.Edited.{live_of}
 use Rattle.yapp.specs.Explained.{HasNoDocument, IsExplained, explained_line, explained_lines, explanations_due, explanations_in, fault_lines}
 use Rattle.yapp.specs.Failing.{reported}
+use Rattle.yapp.specs.declared.edited.EditedDocument.{EditedDocument}
 use Rattle.yapp.specs.declared.failure.Failure.{Failure}
 use Rattle.yapp.specs.declared.report.Report.{Report}
 use Rattle.yapp.specs.declared.report.Report.TheVariants as reports
@@ -64,6 +67,7 @@ none_explained s (f ∷ faults) (text ∷ all) none = absurd (omega (arith, none
 
 pub nothing_due : (with_reasons : Bool) (r : Result Report Failure) → IfOk r HasNoDocument → IfOk r (IsExplained with_reasons)
 nothing_due with_reasons (Ok (reports.Document r)) other = absurd other
+nothing_due with_reasons (Ok (reports.Edited e)) other = absurd other
 nothing_due with_reasons (Ok (reports.Explanations explanations)) other = tt
 nothing_due with_reasons (Ok (reports.Nodes count)) other = tt
 nothing_due with_reasons (Ok (reports.Diagram schema shown)) other = tt
@@ -92,6 +96,19 @@ report_lines with_reasons r a b result no_text explained written =
     and_true : (b : Bool) → (b && true) ≡ b
     and_true true = refl
     and_true false = refl
+
+-- where nothing is said of faults, the lines of those that a walk gives are what is printed
+pub walked_lines : (with_reasons : Bool) (e : EditedDocument) (s : Schema) (found : List Fault) (count : ℕ) → with_reasons ≡ false → s ≡ (live_of e).schema
+    → found ≡ faults_in (live_of e) → count ≡ fault_count (live_of e)
+    → (printed with_reasons (reported (reports.Edited e))).output ≡ flat_map (line_of s) found ++ (decimal count ++ codes " faults\n")
+walked_lines with_reasons e s found count unasked schema_is all counted =
+    let x = (live_of e).schema in
+    let t = (live_of e).tree in
+    let faults = faults_in (live_of e) in
+    sym (lines_due with_reasons x t faults None (sym (ap (λ (b : Bool). if b then Some (map (explained_fault x t) faults) else None) unasked)))
+    ∙ (ap (λ (n : ℕ). flat_map (line_of x) faults ++ (decimal n ++ codes " faults\n")) (sym counted)
+    ∙ (ap (λ (fs : List Fault). flat_map (line_of x) fs ++ (decimal count ++ codes " faults\n")) (sym all)
+    ∙ ap (λ (y : Schema). flat_map (line_of y) found ++ (decimal count ++ codes " faults\n")) (sym schema_is)))
 
 -- ---- tests of options
 

@@ -10,10 +10,13 @@ use Rattle.yspec.specs.edit.EditText.{Edit}
 use Rattle.yspec.specs.edit.Editing.{after, decisions}
 use Rattle.yprogram.specs.Part.{Part}
 use Rattle.yprogram.specs.Script.{after_lines, refused_lines}
+use Rattle.yspec.specs.edit.Live.{Live}
+use Rattle.ylive.specs.View as live_view
 use Rattle.ymodel.specs.View as schema_view
 use Rattle.ytree.specs.View.{tree_view}
 use Rattle.yapp.specs.Asked.{Line, refused_parts, told_from}
 use Rattle.yapp.specs.declared.document.Document.{Document}
+use Rattle.yapp.specs.declared.edited.EditedDocument.{EditedDocument}
 
 abbrev pub schema_of : Document → Schema
 schema_of d = schema_view.view d.schema
@@ -30,16 +33,35 @@ pub record IsSound (schema : Schema) (tree : Tree) : Type 0 where
   pub whole : IsDocument schema tree
   pub within : size tree ≤ document_limit
 
+-- its values are those of a document that was read, and it isn't too large
+pub record IsWhole (schema : Schema) (tree : Tree) : Type 0 where
+  pub whole : IsDocument schema tree
+  pub within : size tree ≤ document_limit
+
+-- ---- live ones
+
+abbrev pub live_of : EditedDocument → Live
+live_of e = live_view.view e.live
+
+abbrev pub refused_in : EditedDocument → List Part
+refused_in e = refused_parts e.refused.items
+
 -- one that a tree became by a script of lines, of which these kinds are
-pub record IsRun (schema : Schema) (tree : Tree) (kinds : List Line) (edits : List Edit) (d : Document) : Type 0 where
-  pub schema_is : schema_of d ≡ schema
-  pub tree_is : tree_of d ≡ after schema tree edits
-  pub refused_is : refused_of d ≡ told_from 1 kinds (decisions schema tree edits)
-  pub fits : Fits schema (tree_of d)
+pub record IsRun (schema : Schema) (tree : Tree) (kinds : List Line) (edits : List Edit) (e : EditedDocument) : Type 0 where
+  pub schema_is : (live_of e).schema ≡ schema
+  pub tree_is : (live_of e).tree ≡ after schema tree edits
+  pub refused_is : refused_in e ≡ told_from 1 kinds (decisions schema tree edits)
 
 -- one that a tree became by the lines of a script
-pub record IsEdited (schema : Schema) (tree : Tree) (lines : List Text) (d : Document) : Type 0 where
-  pub schema_is : schema_of d ≡ schema
-  pub tree_is : tree_of d ≡ after_lines schema tree lines
-  pub refused_is : refused_of d ≡ refused_lines schema 1 tree lines
+pub record IsEdited (schema : Schema) (tree : Tree) (lines : List Text) (e : EditedDocument) : Type 0 where
+  pub schema_is : (live_of e).schema ≡ schema
+  pub tree_is : (live_of e).tree ≡ after_lines schema tree lines
+  pub refused_is : refused_in e ≡ refused_lines schema 1 tree lines
+  pub whole : IsWhole (live_of e).schema (live_of e).tree
+
+-- the document that a live one is
+pub record IsOf (e : EditedDocument) (d : Document) : Type 0 where
+  pub schema_is : schema_of d ≡ (live_of e).schema
+  pub tree_is : tree_of d ≡ (live_of e).tree
+  pub refused_is : refused_of d ≡ refused_in e
   pub sound : IsSound (schema_of d) (tree_of d)

@@ -1,5 +1,5 @@
 -- What is said of each fault of a report, and the lines that say it.
-use Rattle.std.specs.Prelude.{◌≡◌, ◌++◌, ◌&&◌, Bool, List, [], ◌∷◌, map, codes, decimal, string_bytes, Option, Some, None, option_map, is_none, if◌then◌else◌}
+use Rattle.std.specs.Prelude.{◌≡◌, ◌++◌, ◌&&◌, Bool, false, List, [], ◌∷◌, map, codes, decimal, string_bytes, Option, Some, None, option_map, is_none, if◌then◌else◌}
 use Rattle.std.specs.List.{flat_map}
 use Rattle.ymodel.specs.View as schema_view
 use Rattle.ytree.specs.View.{tree_view}
@@ -26,14 +26,16 @@ explanations_due r = map (explained_fault (schema_view.view r.schema) (tree_view
 -- a report has no document, and so no faults
 abbrev pub HasNoDocument : Report → Type 0
 HasNoDocument (reports.Document r) = ⊥
+HasNoDocument (reports.Edited e) = ⊥
 HasNoDocument (reports.Explanations explanations) = Unit {0}
 HasNoDocument (reports.Nodes count) = Unit {0}
 HasNoDocument (reports.Diagram schema shown) = Unit {0}
 
--- where the reasons and the faults are wanted, a report has what is said of these
+-- where the reasons and the faults are wanted, a report has what is said of these; of a live document's nothing is said
 abbrev pub IsExplained : Bool → Report → Type 0
 IsExplained with_reasons (reports.Document r) =
     explanations_in r ≡ (if with_reasons && is_none r.text then Some (explanations_due r) else None)
+IsExplained with_reasons (reports.Edited e) = with_reasons ≡ false
 IsExplained with_reasons (reports.Explanations explanations) = Unit {0}
 IsExplained with_reasons (reports.Nodes count) = Unit {0}
 IsExplained with_reasons (reports.Diagram schema shown) = Unit {0}

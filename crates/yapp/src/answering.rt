@@ -10,7 +10,7 @@ ghost use Rattle.yapp.specs.Failing.{LeadsTo, reported};
 ghost use Rattle.yapp.specs.Files.{IsOutcome, came_to, store};
 
 use crate::contents::{names_of, read_files};
-use crate::document::{edit_document, read_document, report_on};
+use crate::document::{edit_document, read_document, report_on, report_on_edited};
 use crate::failure::Failure;
 use crate::files::Files;
 use crate::modules::compile_contents;
@@ -114,7 +114,7 @@ fn edit<'a>(
     ensures explained { IfOk result (IsExplained with_reasons) }
 {
     match edit_document(alloc, document, modules, contents) {
-        Ok(edited) => Ok(report_on(alloc, edited, with_reasons, is_dump)?),
+        Ok(edited) => Ok(report_on_edited(alloc, edited, with_reasons, is_dump)?),
         Err(failure) => Err(failure),
     }
 }

@@ -15,11 +15,12 @@ ghost use Rattle.ytree.specs.Told.{code_number};
 ghost use Rattle.ytree.specs.View.{place_view};
 ghost use Rattle.ylive.specs.View as live_view;
 ghost use Rattle.yapp.specs.Asked.{edits_in, kinds_in};
-ghost use Rattle.yapp.specs.Edited.{IsEdited, IsRun, IsSound, refused_of, schema_of, tree_of};
+ghost use Rattle.yapp.specs.Edited.{IsEdited, IsOf, IsRun, IsSound, IsWhole, live_of, refused_in, refused_of, schema_of, tree_of};
 ghost use Rattle.yapp.specs.Explained.{IsExplained};
 ghost use Rattle.yapp.specs.Failing.{FailsWith, LeadsTo, reported};
 
 use crate::contents::{Taken, behind_first, first_of};
+use crate::edited::EditedDocument;
 use crate::failure::Failure;
 use crate::hint::refusal_hint;
 use crate::modules::compile_contents;
@@ -121,10 +122,10 @@ pub(crate) fn read_document<'a, 'b>(
 }
 
 /// A document after the lines of a script.
-fn edit(alloc: Global, document: Document, script: &[u8]) -> Result<Document, AllocError>
+fn edit(alloc: Global, document: Document, script: &[u8]) -> Result<EditedDocument, AllocError>
     requires { IsSound (schema_of document) (tree_of document) }
-    ensures { IfOk result (λ d. IsEdited (schema_of document) (tree_of document)
-        (lines_of script.now) d) }
+    ensures { IfOk result (λ e. IsEdited (schema_of document) (tree_of document)
+        (lines_of script.now) e) }
 {
     let script = Script::read(alloc, script)?;
     match Live::open(alloc, document.schema, document.tree) {
@@ -134,24 +135,14 @@ fn edit(alloc: Global, document: Document, script: &[u8]) -> Result<Document, Al
 }
 
 /// A live document after the lines of a script.
-fn run_script(mut live: Live, script: &Script) -> Result<Document, AllocError>
+fn run_script(mut live: Live, script: &Script) -> Result<EditedDocument, AllocError>
     ensures { let l = live_view.view live in
-        IfOk result (λ d. IsRun l.schema l.tree (kinds_in script.now) (edits_in script.now) d) }
+        IfOk result (λ e. IsRun l.schema l.tree (kinds_in script.now) (edits_in script.now) e) }
 {
     match live.run(script.edits()) {
         Ok(outcomes) => {
             let refused = script.refused(&outcomes)?;
-            match live.into_parts() {
-                Ok(parts) => {
-                    let (schema, tree) = parts;
-                    Ok(Document {
-                        schema,
-                        tree,
-                        refused,
-                    })
-                }
-                Err(_) => Err(AllocError),
-            }
+            Ok(EditedDocument { live, refused })
         }
         Err(_) => Err(AllocError),
     }
@@ -164,18 +155,58 @@ pub fn edit_document<'a>(
     document: &'a str,
     modules: &[&'a str],
     contents: &[Vec<u8>],
-) -> Result<Document, Failure<'a>>
+) -> Result<EditedDocument, Failure<'a>>
     ensures leads { (next : schema_spec.Schema → document_spec.Tree → List Part → Outcome)
         → LeadsTo (with_document document.entry.now (map (λ n. n.now) modules.now)
         (map (λ c. c.items) contents.now) (λ schema tree files.
         next schema (after_lines schema tree (lines_of (first_file files)))
         (refused_lines schema 1 tree (lines_of (first_file files)))))
-        (λ d. next (schema_of d) (tree_of d) (refused_of d)) result }
-    ensures sound { IfOk result (λ d. IsSound (schema_of d) (tree_of d)) }
+        (λ e. next (live_of e).schema (live_of e).tree (refused_in e)) result }
+    ensures whole { IfOk result (λ e. IsWhole (live_of e).schema (live_of e).tree) }
 {
     match read_document(alloc, document, modules, contents) {
         Ok(read) => Ok(edit(alloc, read.value, first_of(read.rest))?),
         Err(failure) => Err(failure),
+    }
+}
+
+/// The document that a live one is.
+fn taken_apart(edited: EditedDocument) -> Result<Document, AllocError>
+    requires { IsWhole (live_of edited).schema (live_of edited).tree }
+    ensures { IfOk result (λ d. IsOf edited d) }
+{
+    let EditedDocument { live, refused, .. } = edited;
+    match live.into_parts() {
+        Ok(parts) => {
+            let (schema, tree) = parts;
+            Ok(Document {
+                schema,
+                tree,
+                refused,
+            })
+        }
+        Err(_) => Err(AllocError),
+    }
+}
+
+/// What is to be told of a document after the lines of a script. Where nothing is said of its faults, and it isn't to be
+/// dumped, that is told by the live document itself.
+pub(crate) fn report_on_edited(
+    alloc: Global,
+    edited: EditedDocument,
+    with_reasons: bool,
+    is_dump: bool,
+) -> Result<Report, AllocError>
+    requires { IsWhole (live_of edited).schema (live_of edited).tree }
+    ensures reported { IfOk result (λ r. reported r
+        ≡ left is_dump (live_of edited).schema (live_of edited).tree (refused_in edited)) }
+    ensures explained { IfOk result (IsExplained with_reasons) }
+{
+    if with_reasons || is_dump {
+        let document = taken_apart(edited)?;
+        report_on(alloc, document, with_reasons, is_dump)
+    } else {
+        Ok(Report::Edited(edited))
     }
 }
 

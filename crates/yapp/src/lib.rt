@@ -4,6 +4,7 @@
 mod answering;
 mod contents;
 mod document;
+mod edited;
 mod failure;
 mod files;
 mod hint;
@@ -16,6 +17,7 @@ mod status;
 
 pub use answering::answer;
 pub use document::{Document, edit_document};
+pub use edited::EditedDocument;
 pub use failure::Failure;
 pub use files::{FileFault, Files};
 pub use program::{refuse, run, tell_memory};

@@ -15,14 +15,18 @@ ghost use Rattle.yapp.specs.Asked.{refused_part, refused_parts};
 ghost use Rattle.yapp.specs.Explained.{IsExplained, explained_line, explained_lines, explanations_in, fault_lines};
 ghost use Rattle.yapp.specs.Failing.{reported};
 ghost use Rattle.ycommand.specs.Running.{WritesBoth};
-ghost use Rattle.yapp.specs.declared.report.Report.TheVariants.{Document};
+ghost use Rattle.yapp.specs.declared.report.Report.TheVariants.{Document, Edited};
+ghost use Rattle.ylist.specs.Seen.{seen_view};
+ghost use Rattle.ylist.specs.Walked.{left};
 
+use crate::edited::EditedDocument;
 use crate::reason::write_reason_where;
 use crate::script::RefusedLine;
 use crate::status::{FAULTY, GOOD};
 use itoa::Buffer;
-use ycheck::{Fault, write_line};
+use ycheck::{Fault, write_line, write_parts};
 use ycodes::{Explanation, write_explanation, write_reason};
+use ylive::{Seen, Walk};
 use ymodel::Schema;
 use youtput::{Sink, SinkFault, write_texts};
 use ytree::Tree;
@@ -37,6 +41,8 @@ pub enum Report {
     /// The diagram of a module, which is given by its number in the set.
     Diagram { schema: Schema, module: usize },
     Document(DocumentReport),
+    /// A document after the lines of a script, of whose faults nothing is said.
+    Edited(EditedDocument),
 }
 
 /// The faults of a document under its schema, in order, and the lines of its script that are refused. Where it is to be
@@ -60,6 +66,7 @@ impl Report {
         match self {
             Report::Explanations(_) | Report::Nodes(_) | Report::Diagram { .. } => GOOD,
             Report::Document(report) => report.status(),
+            Report::Edited(document) => document.status(),
         }
     }
 
@@ -83,6 +90,10 @@ impl Report {
             Report::Document(report) => {
                 write_refused(&report.refused, with_reasons, errors)?;
                 report.write_document(with_reasons, output)
+            }
+            Report::Edited(document) => {
+                write_refused(&document.refused, with_reasons, errors)?;
+                document.write_faults(with_reasons, output)
             }
         }
     }
@@ -136,6 +147,29 @@ impl DocumentReport {
     }
 }
 
+impl EditedDocument {
+    /// The exit status that it brings.
+    fn status(&self) -> u8
+        ensures { result ≡ (reported (Edited self.now)).status }
+    {
+        if self.fault_count() == 0 && self.refused.is_empty() {
+            GOOD
+        } else {
+            FAULTY
+        }
+    }
+
+    /// Writes a line for each fault, as a walk gives them, and then how many there are.
+    fn write_faults<S: Sink>(&self, with_reasons: bool, sink: &mut S) -> Result<(), SinkFault>
+        requires { IsExplained with_reasons (Edited self.now) }
+        ensures { Writes (side S.taken S.failures sink.old) (side S.taken S.failures sink.new)
+            (printed with_reasons (reported (Edited self.now))).output result }
+    {
+        write_seen_lines(self.live.schema(), self.walk(), sink)?;
+        write_count(self.fault_count(), " faults\n", sink)
+    }
+}
+
 /// Writes the diagram of a module.
 fn write_diagram<S: Sink>(schema: &Schema, module: usize, sink: &mut S) -> Result<(), SinkFault>
     ensures { Writes (side S.taken S.failures sink.old) (side S.taken S.failures sink.new)
@@ -168,6 +202,17 @@ fn write_lines<S: Sink>(schema: &Schema, faults: &[Fault], sink: &mut S) -> Resu
 {
     for fault in faults {
         write_fault(schema, fault, sink)?;
+    }
+    Ok(())
+}
+
+/// Writes a line for each fault that a walk gives.
+fn write_seen_lines<S: Sink>(schema: &Schema, walk: Walk<'_>, sink: &mut S) -> Result<(), SinkFault>
+    ensures { Writes (side S.taken S.failures sink.old) (side S.taken S.failures sink.new)
+        (flat_map (line_of (schema_view.view schema.now)) (left walk.entry)) result }
+{
+    for seen in walk {
+        write_seen(schema, &seen, sink)?;
     }
     Ok(())
 }
@@ -218,6 +263,17 @@ fn write_fault<S: Sink>(schema: &Schema, fault: &Fault, sink: &mut S) -> Result<
         (line_of (schema_view.view schema.now) (view fault.now)) result }
 {
     match write_line(schema, fault, sink) {
+        Ok(()) => Ok(()),
+        Err(_) => Err(SinkFault),
+    }
+}
+
+/// Writes the line of a fault that a walk gave.
+fn write_seen<S: Sink>(schema: &Schema, seen: &Seen<'_>, sink: &mut S) -> Result<(), SinkFault>
+    ensures { Writes (side S.taken S.failures sink.old) (side S.taken S.failures sink.new)
+        (line_of (schema_view.view schema.now) (seen_view seen.now)) result }
+{
+    match write_parts(schema, seen.parts(), sink) {
         Ok(()) => Ok(()),
         Err(_) => Err(SinkFault),
     }

@@ -1,2 +1,3 @@
 pub mod NodeLemmas
 pub mod MemberLemmas
+pub mod PartLemmas

@@ -1,4 +1,6 @@
 pub mod Place
 pub mod Member
 pub mod Sentence
+pub mod Step
+pub mod Part
 pub mod Samples

@@ -26,9 +26,10 @@ value_from schema parent (step ∷ steps) d =
 abbrev pub value_at : Schema → List Step → Data → Option Data
 value_at schema steps d = value_from schema None steps d
 
--- the last step to a place, and the number of the node to which it leads; no step leads to the top
+-- the last step to a place; no step leads to the top
 abbrev pub last_step : List Step → Option Step
 last_step = last_or None
 
-abbrev pub number_at : List Step → Option ℕ
-number_at steps = option_map (λ step. step.schema_number) (last_step steps)
+-- the number of the node to which a step leads
+abbrev pub number_after : Option Step → Option ℕ
+number_after step = option_map (λ s. s.schema_number) step

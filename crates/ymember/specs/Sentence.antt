@@ -9,7 +9,7 @@ use Rattle.yspec.specs.document.Document.{Step}
 use Rattle.yspec.specs.document.Reading.{Refusal, json_of}
 use Rattle.yhint.specs.Line.{shown}
 use Rattle.ymember.specs.Member.{due_name, near_name, strange_member}
-use Rattle.ymember.specs.Place.{last_step, number_at, value_at}
+use Rattle.ymember.specs.Place.{last_step, number_after, value_at}
 
 -- ---- J3 and J4; a name of a document stands in quotes, and is shown as a line of a text is
 
@@ -58,15 +58,15 @@ of_kind schema (Some step) d = kind_of_value d ++ (codes " stands where " ++ (wa
 
 -- ---- all
 
--- of the value at the place of a refusal
-abbrev pub said_at : Schema → ℕ → List Step → Data → Text
-said_at schema code steps d = if code == 3 then of_unknown schema (number_at steps) d
-    else (if code == 4 then of_other schema (number_at steps) d
-    else (if code == 5 then of_kind schema (last_step steps) d else []))
+-- of the value at the place of a refusal, by the last step to it
+abbrev pub said_at : Schema → ℕ → Option Step → Data → Text
+said_at schema code step d = if code == 3 then of_unknown schema (number_after step) d
+    else (if code == 4 then of_other schema (number_after step) d
+    else (if code == 5 then of_kind schema step d else []))
 
 -- of the refusal of a value
 abbrev pub said_of_value : Schema → ℕ → List Step → Data → Text
-said_of_value schema code steps d = option_map_or (said_at schema code steps) (value_at schema steps d) []
+said_of_value schema code steps d = option_map_or (said_at schema code (last_step steps)) (value_at schema steps d) []
 
 -- of the refusal of bytes
 unfoldable pub said_of_refusal : Schema → List ℕ → Refusal → Text

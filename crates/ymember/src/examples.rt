@@ -1,7 +1,7 @@
-//! What is said of documents that are refused.
+//! What is said of documents and edits that are refused.
 
 ghost use Rattle.std.specs.Prelude.{◌≡◌, [], codes};
-ghost use Rattle.ymember.specs.Samples.{said_under};
+ghost use Rattle.ymember.specs.Samples.{edit_under, said_under};
 
 /// Members that aren't known, or not in that form (J3, J4).
 pub fn members()
@@ -44,4 +44,42 @@ pub fn values()
     ensures fraction { said_under (codes "{\"p:host\":{\"name\":1.5}}") ≡ [] }
     ensures no_json { said_under (codes "{") ≡ [] }
     ensures is_read { said_under (codes "{}") ≡ codes "read" }
+{}
+
+/// Edits with names in their paths that aren't known, or not in that form (E2).
+pub fn paths()
+    ensures near { edit_under 2 (codes "remove /p:hots/name")
+        ≡ codes "nothing called \"p:hots\" may stand here; near it: p:host." }
+    ensures far { edit_under 2 (codes "create /p:host/uplink 1")
+        ≡ codes "nothing called \"uplink\" may stand here." }
+    ensures below_an_entry { edit_under 2 (codes "replace /p:host/port[2]/sped 1")
+        ≡ codes "nothing called \"sped\" may stand here; near it: speed." }
+    ensures below_a_leaf { edit_under 2 (codes "remove /p:host/name/first")
+        ≡ codes "nothing called \"first\" may stand here." }
+    ensures without_module { edit_under 2 (codes "remove /host/name")
+        ≡ codes "here \"host\" is written p:host." }
+    ensures with_module { edit_under 2 (codes "remove /p:host/p:name")
+        ≡ codes "here \"p:name\" is written name." }
+    ensures first { edit_under 2 (codes "remove /p:host/nmae/sped")
+        ≡ codes "nothing called \"nmae\" may stand here; near it: name." }
+    ensures known { edit_under 2 (codes "remove /p:host/port[id='1']/speed") ≡ [] }
+{}
+
+/// Edits whose values don't fit (E10), and refusals of which nothing is said.
+pub fn parts()
+    ensures near { edit_under 10 (codes "create /p:host/port {\"id\":1,\"sped\":1}")
+        ≡ codes "nothing called \"sped\" may stand here; near it: speed." }
+    ensures below { edit_under 10 (codes "replace /p:host {\"port\":[{\"id\":1},{\"p:id\":2}]}")
+        ≡ codes "here \"p:id\" is written id." }
+    ensures no_object { edit_under 10 (codes "create /p:host []")
+        ≡ codes "an array stands where an object is due." }
+    ensures no_entry { edit_under 10 (codes "create /p:host/port [{\"id\":1}]")
+        ≡ codes "an array stands where an object is due." }
+    ensures no_item { edit_under 10 (codes "replace /p:host/tag[1] {}")
+        ≡ codes "an object stands where an item's value is due." }
+    ensures no_array { edit_under 10 (codes "create /p:host {\"tag\":\"a\"}")
+        ≡ codes "a text stands where an array is due." }
+    ensures fraction { edit_under 10 (codes "create /p:host/name 1.5") ≡ [] }
+    ensures no_json { edit_under 9 (codes "create /p:host/name {") ≡ [] }
+    ensures is_read { edit_under 8 (codes "create /p:host/name \"a\"") ≡ [] }
 {}

@@ -56,24 +56,26 @@ fn module_after(schema: &Schema, step: &Step) -> Option<usize>
     }
 }
 
-/// The value at a place.
-pub(crate) fn value_at<'a>(
+/// The value to which steps lead from that of a node of a module, or from the top.
+pub(crate) fn value_from<'a>(
     alloc: Global,
     schema: &Schema,
+    parent_module: Option<usize>,
     steps: &[Step],
     value: &'a Value,
 ) -> Result<Option<&'a Value>, AllocError>
     ensures { IfOk result (λ found. option_map (λ v. json.view v.now) found
-        ≡ spec.value_at (view schema.now) (place_view steps.now) (json.view value.entry.now)) }
+        ≡ spec.value_from (view schema.now) parent_module (place_view steps.now)
+        (json.view value.entry.now)) }
 {
     let mut found = value;
-    let mut parent_module = None;
+    let mut module = parent_module;
     for step in steps {
-        match value_below(alloc, schema, parent_module, step, found)? {
+        match value_below(alloc, schema, module, step, found)? {
             Some(below) => found = below,
             None => return Ok(None),
         }
-        parent_module = module_after(schema, step);
+        module = module_after(schema, step);
     }
     Ok(Some(found))
 }
@@ -89,11 +91,12 @@ pub(crate) fn last_step(steps: &[Step]) -> Option<&Step>
     }
 }
 
-/// The node to which steps lead; none at the top.
-pub(crate) fn node_at(steps: &[Step]) -> Option<SchemaId>
-    ensures { number_of result ≡ spec.number_at (place_view steps.now) }
+/// The node to which a step leads; none at the top.
+pub(crate) fn node_after(step: Option<&Step>) -> Option<SchemaId>
+    ensures { number_of result
+        ≡ spec.number_after (option_map (λ s. step_view s.now) step.entry) }
 {
-    match last_step(steps) {
+    match step {
         Some(step) => Some(step.id),
         None => None,
     }

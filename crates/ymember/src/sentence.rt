@@ -9,7 +9,7 @@ ghost use Rattle.ytree.specs.View.{place_view, step_view};
 ghost use Rattle.ymember.specs.Sentence as spec;
 
 use crate::member::{due_name, near_name, strange_member};
-use crate::place::{last_step, node_at, value_at};
+use crate::place::{last_step, node_after, value_from};
 use serde_json::Value;
 use std::alloc::{AllocError, Global};
 use yhint::shown;
@@ -32,7 +32,11 @@ fn unknown_near(alloc: Global, name: &str, near: &str) -> Result<String, AllocEr
     .concat(alloc)
 }
 
-fn unknown_member(alloc: Global, name: &str, near: Option<String>) -> Result<String, AllocError>
+pub(crate) fn unknown_member(
+    alloc: Global,
+    name: &str,
+    near: Option<String>,
+) -> Result<String, AllocError>
     ensures { IfOk result (λ text. string_bytes text
         ≡ spec.unknown_member name.now (option_map string_bytes near)) }
 {
@@ -50,7 +54,11 @@ fn written_otherwise(alloc: Global, name: &str, due: &str) -> Result<String, All
     ["here \"", name, "\" is written ", due, "."].concat(alloc)
 }
 
-fn other_member(alloc: Global, name: &str, due: Option<String>) -> Result<String, AllocError>
+pub(crate) fn other_member(
+    alloc: Global,
+    name: &str,
+    due: Option<String>,
+) -> Result<String, AllocError>
     ensures { IfOk result (λ text. string_bytes text
         ≡ spec.other_member name.now (option_map string_bytes due)) }
 {
@@ -176,21 +184,22 @@ fn of_kind(
 
 // ---- all
 
-/// Of the value at the place of a refusal.
-fn said_at(
+/// Of the value at the place of a refusal, by the last step to it.
+pub(crate) fn said_at(
     alloc: Global,
     schema: &Schema,
     code: DocCode,
-    place: &[Step],
+    step: Option<&Step>,
     value: &Value,
 ) -> Result<String, AllocError>
-    ensures { IfOk result (λ text. string_bytes text ≡ spec.said_at (view schema.now)
-        (code_number code) (place_view place.now) (json.view value.now)) }
+    ensures { IfOk result (λ text. string_bytes text
+        ≡ spec.said_at (view schema.now) (code_number code)
+        (option_map (λ step. step_view step.now) step.entry) (json.view value.now)) }
 {
     match code {
-        DocCode::J3 => of_unknown(alloc, schema, node_at(place), value),
-        DocCode::J4 => of_other(alloc, schema, node_at(place), value),
-        DocCode::J5 => of_kind(alloc, schema, last_step(place), value),
+        DocCode::J3 => of_unknown(alloc, schema, node_after(step), value),
+        DocCode::J4 => of_other(alloc, schema, node_after(step), value),
+        DocCode::J5 => of_kind(alloc, schema, step, value),
         DocCode::J1 | DocCode::J2 | DocCode::J6 | DocCode::J7 => Ok(String::new(alloc)),
     }
 }
@@ -206,8 +215,8 @@ fn said_of_value(
     ensures { IfOk result (λ text. string_bytes text ≡ spec.said_of_value (view schema.now)
         (code_number code) (place_view place.now) (json.view value.now)) }
 {
-    match value_at(alloc, schema, place, value)? {
-        Some(found) => said_at(alloc, schema, code, place, found),
+    match value_from(alloc, schema, None, place, value)? {
+        Some(found) => said_at(alloc, schema, code, last_step(place), found),
         None => Ok(String::new(alloc)),
     }
 }

@@ -1,6 +1,6 @@
 use Rattle.std.proofs.Common.{subst}
 use Rattle.std.proofs.lemmas.Result.{IfOk-weaker}
-use Rattle.yspec.specs.edit.Live as spec
+use Rattle.yspec.specs.edit.Live as live
 use Rattle.yprogram.specs.Script.{lines_of}
 use Rattle.yapp.specs.Asked.{edits_in, kinds_in}
 use Rattle.yapp.specs.Edited.{IsRun, tree_of}
@@ -11,7 +11,7 @@ pub returns-in-Ok : goal.returns-in-Ok
 returns-in-Ok c =
     let kinds = kinds_in c.in_ok-script.script in
     let edits = edits_in c.in_ok-script.script in
-    IfOk-weaker c.run_script.result _ _ (λ d run. edited_by c.args.document.schema (tree_of c.args.document) kinds edits (lines_of c.args.script.now) d
+    IfOk-weaker c.run_script.result _ _ (λ e run. edited_by c.args.document.schema (tree_of c.args.document) kinds edits (lines_of c.args.script.now) e
     c.requires c.in_ok-script.ensures
-    (subst (λ (l : spec.Live). IsRun l.schema l.tree kinds edits d) c.in-Ok.ensures.opened run))
+    (subst (λ (l : live.Live). IsRun l.schema l.tree kinds edits e) c.in-Ok.ensures.opened run))
     c.run_script.ensures

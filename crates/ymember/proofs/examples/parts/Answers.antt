@@ -1,0 +1,18 @@
+use Rattle.std.proofs.Common.{refl}
+use Rattle.yspec.proofs.LiteralLemmas.{yspec_on_literals}
+use Rattle.yhint.specs.Near.{is_near, nearest}
+use Rattle.ymember.proofs.examples.parts.Goals as goal
+
+pub returns : goal.returns
+unfolding yspec_on_literals is_near nearest
+returns c = record {
+  near = refl;
+  below = refl;
+  no_object = refl;
+  no_entry = refl;
+  no_item = refl;
+  no_array = refl;
+  fraction = refl;
+  no_json = refl;
+  is_read = refl;
+}

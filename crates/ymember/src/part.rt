@@ -1,0 +1,163 @@
+//! What is said of the value of an edit that doesn't fit the node that it is for (E10), as of a document that is refused.
+
+ghost use Rattle.std.specs.Prelude.{◌≡◌, IfOk, None, string_bytes};
+ghost use Rattle.serde_json.specs.View as json;
+ghost use Rattle.ymodel.specs.Layout.{number_of};
+ghost use Rattle.ymodel.specs.View.{view};
+ghost use Rattle.ypath.specs.Applying.{edit_number};
+ghost use Rattle.ypath.specs.EditView.{edit_view, path_view, steps_view};
+ghost use Rattle.ytree.specs.Told.{code_number};
+ghost use Rattle.ytree.specs.View.{place_view, step_view};
+ghost use Rattle.ymember.specs.Part as spec;
+
+use crate::nodes::module_of;
+use crate::place::{last_step, value_from};
+use crate::sentence::said_at;
+use crate::step::said_of_path;
+use serde_json::Value;
+use std::alloc::{AllocError, Global};
+use ymodel::{Schema, SchemaId};
+use ypath::{Edit, EditCode, NamedStep, Path};
+use ytree::{DocCode, DocFault, Step, read_node};
+
+// ---- values
+
+/// The last step to a place below an instance of a node.
+fn step_below(id: SchemaId, place: &[Step]) -> Step
+    ensures { step_view result ≡ spec.step_below id.0 (place_view place.now) }
+{
+    match last_step(place) {
+        Some(step) => *step,
+        None => Step {
+            id,
+            position: Some(1),
+        },
+    }
+}
+
+/// Of one instance of a node, by the refusal of what it is to hold.
+fn of_refusal(
+    alloc: Global,
+    schema: &Schema,
+    id: SchemaId,
+    value: &Value,
+    code: DocCode,
+    place: &[Step],
+) -> Result<String, AllocError>
+    ensures { IfOk result (λ text. string_bytes text
+        ≡ spec.of_refusal (view schema.now) id.0 (json.view value.now)
+        (record { code = code_number code; place = place_view place.now })) }
+{
+    match value_from(alloc, schema, module_of(schema, Some(id)), place, value)? {
+        Some(found) => {
+            let step = step_below(id, place);
+            said_at(alloc, schema, code, Some(&step), found)
+        }
+        None => Ok(String::new(alloc)),
+    }
+}
+
+/// Of one instance of a node that is to hold a value.
+fn of_value(
+    alloc: Global,
+    schema: &Schema,
+    id: SchemaId,
+    value: &Value,
+) -> Result<String, AllocError>
+    ensures { IfOk result (λ text. string_bytes text
+        ≡ spec.of_value (view schema.now) id.0 (json.view value.now)) }
+{
+    match read_node(alloc, schema, id, value) {
+        Ok(_) => Ok(String::new(alloc)),
+        Err(DocFault::Refused { code, place }) => {
+            of_refusal(alloc, schema, id, value, code, place.as_slice())
+        }
+        Err(DocFault::Memory) => Err(AllocError),
+    }
+}
+
+/// The same, by the text of the value.
+fn of_text(alloc: Global, schema: &Schema, id: SchemaId, text: &str) -> Result<String, AllocError>
+    ensures { IfOk result (λ said. string_bytes said
+        ≡ spec.of_text (view schema.now) id.0 text.now) }
+{
+    match Value::from_slice(alloc, text.as_bytes()) {
+        Ok(value) => of_value(alloc, schema, id, &value),
+        Err(error) if error.is_memory() => Err(AllocError),
+        Err(_) => Ok(String::new(alloc)),
+    }
+}
+
+// ---- edits
+
+/// The node to which steps lead from the top; none where one leads to no child.
+fn node_below(schema: &Schema, steps: &[NamedStep]) -> Option<SchemaId>
+    ensures { number_of result ≡ spec.number_below (view schema.now) None (steps_view steps.now) }
+{
+    let mut parent = None;
+    for step in steps {
+        match schema.child_written(parent, step.name.as_str()) {
+            Some(id) => parent = Some(id),
+            None => return None,
+        }
+    }
+    parent
+}
+
+/// Of the value of an edit at a path.
+fn of_part(alloc: Global, schema: &Schema, path: &Path, text: &str) -> Result<String, AllocError>
+    ensures { IfOk result (λ said. string_bytes said
+        ≡ spec.of_part (view schema.now) (path_view path.now) text.now) }
+{
+    match node_below(schema, path.steps.as_slice()) {
+        Some(id) => of_text(alloc, schema, id, text),
+        None => Ok(String::new(alloc)),
+    }
+}
+
+fn said_of_part(alloc: Global, schema: &Schema, edit: &Edit) -> Result<String, AllocError>
+    ensures { IfOk result (λ said. string_bytes said
+        ≡ spec.said_of_part (view schema.now) (edit_view edit.now)) }
+{
+    match edit {
+        Edit::Create { path, value } => of_part(alloc, schema, path, value.as_str()),
+        Edit::Replace { path, value } => of_part(alloc, schema, path, value.as_str()),
+        Edit::Remove { .. } => Ok(String::new(alloc)),
+    }
+}
+
+fn path_in(edit: &Edit) -> &Path
+    ensures { path_view result.now ≡ spec.path_in (edit_view edit.entry.now) }
+{
+    match edit {
+        Edit::Create { path, .. } => path,
+        Edit::Replace { path, .. } => path,
+        Edit::Remove { path } => path,
+    }
+}
+
+/// What is said of an edit that is refused: of the first name of its path that isn't there, or is in the form that isn't due
+/// (E2), and of its value where that doesn't fit (E10), as of a document; an empty text of all else.
+pub fn said_of_edit(
+    alloc: Global,
+    schema: &Schema,
+    edit: &Edit,
+    code: EditCode,
+) -> Result<String, AllocError>
+    ensures { IfOk result (λ said. string_bytes said
+        ≡ spec.said_of_edit (view schema.now) (edit_view edit.now) (edit_number code)) }
+{
+    match code {
+        EditCode::E2 => said_of_path(alloc, schema, path_in(edit)),
+        EditCode::E10 => said_of_part(alloc, schema, edit),
+        EditCode::E1
+        | EditCode::E3
+        | EditCode::E4
+        | EditCode::E5
+        | EditCode::E6
+        | EditCode::E7
+        | EditCode::E8
+        | EditCode::E9
+        | EditCode::E11 => Ok(String::new(alloc)),
+    }
+}
