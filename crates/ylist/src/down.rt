@@ -15,6 +15,7 @@ ghost use Rattle.ylist.specs.Seen.{seen_view, steps_in};
 
 use crate::place::Place;
 use crate::seen::Seen;
+use ycheck::LentInfo;
 use ymodel::{Schema, SchemaId};
 use ystore::Absence;
 use ytree::Step;
