@@ -228,12 +228,14 @@ yanglive validate - p.yang
 0 faults
 ==
 yanglive edit --explain empty.json script p.yang
-1 6
+1 8
 line 4: E2
+  nothing called \"speed\" may stand here.
   A step of the path names no node there, or in the wrong form. Write /module:name at the top and where the module changes, and /name elsewhere.
 line 5: E7
   What is to be replaced or removed isn't stored. Create it, or leave the line out.
 line 6: E10 J3
+  nothing called \"speed\" may stand here.
   No node of that name may stand there. Correct the name, or give the module that defines it.
 V1 invalid-value - /p:c/id -
   /p:c/id: 300 isn't a value of uint8.
@@ -241,12 +243,14 @@ V1 invalid-value - /p:c/id -
 1 faults
 ==
 yanglive edit --dump --explain empty.json script p.yang
-1 6
+1 8
 line 4: E2
+  nothing called \"speed\" may stand here.
   A step of the path names no node there, or in the wrong form. Write /module:name at the top and where the module changes, and /name elsewhere.
 line 5: E7
   What is to be replaced or removed isn't stored. Create it, or leave the line out.
 line 6: E10 J3
+  nothing called \"speed\" may stand here.
   No node of that name may stand there. Correct the name, or give the module that defines it.
 {\"p:c\":{\"id\":300}}
 ";
@@ -484,6 +488,81 @@ fn explained_faults(rt: HostRuntime) {
         ),
     ];
     for row in FAULTS.split("==\n") {
+        assert!(rt; prints(rt.alloc(), &files, row) == Some(true), "{row}");
+    }
+}
+
+// Refused lines of a script under the same module, of which is said which name of their paths isn't known, and what stands in
+// their values.
+const EDITS: &str = "yanglive edit --explain good refused n.yang
+1 29
+line 2: E2
+  nothing called \"net:hots\" may stand here; near it: net:host.
+  A step of the path names no node there, or in the wrong form. Write /module:name at the top and where the module changes, and /name elsewhere.
+line 3: E2
+  here \"host\" is written net:host.
+  A step of the path names no node there, or in the wrong form. Write /module:name at the top and where the module changes, and /name elsewhere.
+line 4: E2
+  nothing called \"sped\" may stand here; near it: speed.
+  A step of the path names no node there, or in the wrong form. Write /module:name at the top and where the module changes, and /name elsewhere.
+line 5: E2
+  here \"net:speed\" is written speed.
+  A step of the path names no node there, or in the wrong form. Write /module:name at the top and where the module changes, and /name elsewhere.
+line 6: E10 J3
+  nothing called \"sped\" may stand here; near it: speed.
+  No node of that name may stand there. Correct the name, or give the module that defines it.
+line 7: E10 J4
+  here \"net:item\" is written item.
+  A name has a module where it must have none, or none where it must have one. Write module:name at the top and where the module changes, and the name alone elsewhere.
+line 8: E10 J5
+  an array stands where an object is due.
+  A value is of another kind than its node: no object for a container or an entry, no array for a list or leaf-list. Write a container as an object, a list as an array of objects, a leaf-list as an array of values, an empty leaf as [null].
+line 9: E10 J5
+  an object stands where a leaf's value is due.
+  A value is of another kind than its node: no object for a container or an entry, no array for a list or leaf-list. Write a container as an object, a list as an array of objects, a leaf-list as an array of values, an empty leaf as [null].
+line 10: E10 J5
+  null stands where an item's value is due.
+  A value is of another kind than its node: no object for a container or an entry, no array for a list or leaf-list. Write a container as an object, a list as an array of objects, a leaf-list as an array of values, an empty leaf as [null].
+line 11: E10 J6
+  A number has a fraction or an exponent. Write an integer without them; write a decimal64 as a string.
+0 faults
+==
+yanglive edit good refused n.yang
+1 10
+line 2: E2
+line 3: E2
+line 4: E2
+line 5: E2
+line 6: E10 J3
+line 7: E10 J4
+line 8: E10 J5
+line 9: E10 J5
+line 10: E10 J5
+line 11: E10 J6
+0 faults
+";
+
+const REFUSED: &str = "# what is refused is said of
+create /net:hots {}
+remove /host[1]
+replace /net:host[1]/sped 1
+remove /net:host[1]/net:speed
+create /net:host {\"name\":\"b\",\"sped\":2}
+create /net:more {\"net:item\":[1,2]}
+create /net:host [{\"name\":\"b\"}]
+replace /net:host[1]/speed {}
+create /net:host[1]/tag null
+replace /net:host[1]/speed 1.5
+";
+
+#[test]
+fn explained_edits(rt: HostRuntime) {
+    let files = [
+        file("n.yang", NET),
+        file("good", "{\"net:host\":[{\"name\":\"a\",\"speed\":1}]}"),
+        file("refused", REFUSED),
+    ];
+    for row in EDITS.split("==\n") {
         assert!(rt; prints(rt.alloc(), &files, row) == Some(true), "{row}");
     }
 }

@@ -51,7 +51,7 @@ edited_by schema t kinds edits lines e sound script run = let s = schema_view.vi
   schema_is = run.schema_is;
   tree_is = run.tree_is ∙ ap (after s t) script.edits_are ∙ sym (after_is s t lines);
   refused_is = run.refused_is
-      ∙ ap₂ (λ (ks : List Line) (es : List Edit). told_from 1 ks (editing.decisions s t es)) script.kinds_are script.edits_are
+      ∙ ap₂ (λ (ks : List Line) (es : List Edit). told_from s 1 ks es (editing.decisions s t es)) script.kinds_are script.edits_are
       ∙ sym (refused_is s 1 t lines);
   whole = subst (λ (x : spec.Schema). IsWhole x (live_of e).tree) (sym run.schema_is) (whole_after schema t (live_of e).tree edits sound run.tree_is);
 }
@@ -61,12 +61,12 @@ pub fresh_after : (before now : live.Live) (edits : List Edit) → before.is_sta
 fresh_after before now edits fresh left = ap (λ (l : live.Live). l.is_stale) left ∙ fresh
 
 pub run_is : (before : live.Live) (kinds : List Line) (edits : List Edit) (told : List Decision) (e : EditedDocument)
-    → told ≡ editing.decisions before.schema before.tree edits → live_of e ≡ after_edits edits before → refused_in e ≡ told_from 1 kinds told
+    → told ≡ editing.decisions before.schema before.tree edits → live_of e ≡ after_edits edits before → refused_in e ≡ told_from before.schema 1 kinds edits told
     → IsRun before.schema before.tree kinds edits e
 run_is before kinds edits told e came left refused = record {
   schema_is = ap (λ (l : live.Live). l.schema) left;
   tree_is = ap (λ (l : live.Live). l.tree) left;
-  refused_is = refused ∙ ap (told_from 1 kinds) came;
+  refused_is = refused ∙ ap (told_from before.schema 1 kinds edits) came;
 }
 
 -- ---- a live document taken apart

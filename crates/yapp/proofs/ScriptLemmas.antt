@@ -12,9 +12,10 @@ use Rattle.yspec.specs.schema.Schema.{Schema}
 use Rattle.yspec.specs.document.Document.{Tree}
 use Rattle.yspec.specs.edit.EditText.{Edit, is_passed_over}
 use Rattle.yspec.specs.edit.Editing.{EditRefusal, after, applied, decision, decisions, edit_asked, refused, tree_or}
+use Rattle.yprogram.specs.Hint.{hinted}
 use Rattle.yprogram.specs.Part.{Part}
-use Rattle.yprogram.specs.Script.{after_lines, asked_in, line_parts, refused_lines, without_return, without_returns}
-use Rattle.yapp.specs.Asked.{IsScript, Line, decision_parts, edit_of, edits_of, kinds_of, line_of, told_from}
+use Rattle.yprogram.specs.Script.{after_lines, asked_in, edit_in, line_parts, refused_hint, refused_line, refused_lines, without_return, without_returns}
+use Rattle.yapp.specs.Asked.{IsScript, Line, an_edit, decision_parts, edit_of, edits_of, hint_in, kinds_of, line_of, told_from}
 
 -- ---- edits in place of lines
 
@@ -33,21 +34,22 @@ pub after_is : (s : Schema) (t : Tree) (lines : List Text) → after_lines s t l
 after_is s t [] = refl
 after_is s t (line ∷ lines) = after_asked s t (asked_in line) lines (λ t. after_is s t lines)
 
-parts_of_answer : (k : ℕ) (answer : Result Tree EditRefusal) → line_parts k answer ≡ decision_parts k (decision answer)
-parts_of_answer k (Ok tree) = refl
-parts_of_answer k (Err e) = refl
+parts_of_answer : (hint said : EditRefusal → Text) (k : ℕ) (answer : Result Tree EditRefusal) → ((e : EditRefusal) → hint e ≡ said e)
+    → line_parts hint k answer ≡ decision_parts said k (decision answer)
+parts_of_answer hint said k (Ok tree) same = refl
+parts_of_answer hint said k (Err e) same = ap (λ (t : Text). hinted t (refused_line k e) ∷ []) (same e)
 
 refused_asked : (s : Schema) (k : ℕ) (t : Tree) (asked : Result (Option Edit) EditRefusal) (lines : List Text)
-    → ((k : ℕ) (t : Tree) → refused_lines s k t lines ≡ told_from k (kinds_of lines) (decisions s t (edits_of lines)))
-    → line_parts k (done s t asked) ++ refused_lines s (k + 1) (tree_or (done s t asked) t) lines
-    ≡ told_from k (line_of asked ∷ kinds_of lines) (decisions s t (edit_of asked ++ edits_of lines))
+    → ((k : ℕ) (t : Tree) → refused_lines s k t lines ≡ told_from s k (kinds_of lines) (edits_of lines) (decisions s t (edits_of lines)))
+    → line_parts (refused_hint s (edit_in asked)) k (done s t asked) ++ refused_lines s (k + 1) (tree_or (done s t asked) t) lines
+    ≡ told_from s k (line_of asked ∷ kinds_of lines) (edit_of asked ++ edits_of lines) (decisions s t (edit_of asked ++ edits_of lines))
 refused_asked s k t (Ok None) lines rest = rest (k + 1) t
 refused_asked s k t (Ok (Some e)) lines rest =
-    ap₂ (λ (xs ys : List Part). xs ++ ys) (parts_of_answer k (applied s t e)) (rest (k + 1) (tree_or (applied s t e) t))
-refused_asked s k t (Err e) lines rest = ap (λ (xs : List Part). line_parts k (Err e) ++ xs) (rest (k + 1) t)
+    ap₂ (λ (xs ys : List Part). xs ++ ys) (parts_of_answer (refused_hint s (Some e)) (hint_in s an_edit (e ∷ edits_of lines)) k (applied s t e) (λ r. refl)) (rest (k + 1) (tree_or (applied s t e) t))
+refused_asked s k t (Err e) lines rest = ap (λ (xs : List Part). line_parts (refused_hint s None) k (Err e) ++ xs) (rest (k + 1) t)
 
 pub refused_is : (s : Schema) (k : ℕ) (t : Tree) (lines : List Text)
-    → refused_lines s k t lines ≡ told_from k (kinds_of lines) (decisions s t (edits_of lines))
+    → refused_lines s k t lines ≡ told_from s k (kinds_of lines) (edits_of lines) (decisions s t (edits_of lines))
 refused_is s k t [] = refl
 refused_is s k t (line ∷ lines) = refused_asked s k t (asked_in line) lines (λ k t. refused_is s k t lines)
 

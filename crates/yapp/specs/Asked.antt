@@ -1,9 +1,11 @@
 -- What the lines of a script ask for, apart from the edits among them, and what is told of them.
-use Rattle.std.specs.Prelude.{◌≡◌, ℕ, ◌+◌, ◌++◌, List, [], ◌∷◌, map, Option, Some, None, Result, Ok, Err}
+use Rattle.std.specs.Prelude.{◌≡◌, ℕ, ◌+◌, ◌++◌, List, [], ◌∷◌, map, string_bytes, Option, Some, None, Result, Ok, Err}
 use Rattle.std.specs.List.{flat_map}
 use Rattle.yspec.specs.text.Text.{Text}
+use Rattle.yspec.specs.schema.Schema.{Schema}
 use Rattle.yspec.specs.edit.EditText.{Edit}
 use Rattle.yspec.specs.edit.Editing.{Decision, EditRefusal}
+use Rattle.yprogram.specs.Hint.{edit_hint, hinted}
 use Rattle.yprogram.specs.Part.{Part}
 use Rattle.yprogram.specs.Script.{asked_in, line_parts, refused_line}
 use Rattle.ypath.specs.Applying.{refusal_view}
@@ -75,18 +77,33 @@ behind (no_edit e) decisions = decisions
 behind an_edit [] = []
 behind an_edit (d ∷ decisions) = decisions
 
-abbrev pub decision_parts : ℕ → Decision → List Part
-decision_parts number None = []
-decision_parts number (Some e) = line_parts number (Err e)
+-- the edits behind it, of those from it on
+abbrev pub edits_behind : Line → List Edit → List Edit
+edits_behind passed_over edits = edits
+edits_behind (no_edit e) edits = edits
+edits_behind an_edit [] = []
+edits_behind an_edit (e ∷ edits) = edits
+
+-- what is said of a line that is refused so, with the edits from it on
+abbrev pub hint_in : Schema → Line → List Edit → EditRefusal → Text
+hint_in schema passed_over edits refusal = []
+hint_in schema (no_edit e) edits refusal = []
+hint_in schema an_edit [] refusal = []
+hint_in schema an_edit (e ∷ edits) refusal = edit_hint schema e refusal.code
+
+abbrev pub decision_parts : (EditRefusal → Text) → ℕ → Decision → List Part
+decision_parts hint number None = []
+decision_parts hint number (Some e) = line_parts hint number (Err e)
 
 -- those of lines from a number on
-abbrev pub told_from : ℕ → List Line → List Decision → List Part
-told_from number [] decisions = []
-told_from number (line ∷ lines) decisions =
-    decision_parts number (refusal_in line decisions) ++ told_from (number + 1) lines (behind line decisions)
+abbrev pub told_from : Schema → ℕ → List Line → List Edit → List Decision → List Part
+told_from schema number [] edits decisions = []
+told_from schema number (line ∷ lines) edits decisions =
+    decision_parts (hint_in schema line edits) number (refusal_in line decisions)
+    ++ told_from schema (number + 1) lines (edits_behind line edits) (behind line decisions)
 
 abbrev pub refused_part : RefusedLine → Part
-refused_part line = refused_line line.number (refusal_of line.refusal)
+refused_part line = hinted (string_bytes line.hint) (refused_line line.number (refusal_of line.refusal))
 
 abbrev pub refused_parts : List RefusedLine → List Part
 refused_parts = map refused_part

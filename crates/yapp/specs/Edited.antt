@@ -50,7 +50,7 @@ refused_in e = refused_parts e.refused.items
 pub record IsRun (schema : Schema) (tree : Tree) (kinds : List Line) (edits : List Edit) (e : EditedDocument) : Type 0 where
   pub schema_is : (live_of e).schema ≡ schema
   pub tree_is : (live_of e).tree ≡ after schema tree edits
-  pub refused_is : refused_in e ≡ told_from 1 kinds (decisions schema tree edits)
+  pub refused_is : refused_in e ≡ told_from schema 1 kinds edits (decisions schema tree edits)
 
 -- one that a tree became by the lines of a script
 pub record IsEdited (schema : Schema) (tree : Tree) (lines : List Text) (e : EditedDocument) : Type 0 where

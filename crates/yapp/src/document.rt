@@ -141,7 +141,7 @@ fn run_script(mut live: Live, script: &Script) -> Result<EditedDocument, AllocEr
 {
     match live.run(script.edits()) {
         Ok(outcomes) => {
-            let refused = script.refused(&outcomes)?;
+            let refused = script.refused(live.schema(), &outcomes)?;
             Ok(EditedDocument { live, refused })
         }
         Err(_) => Err(AllocError),

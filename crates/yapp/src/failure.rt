@@ -1,10 +1,9 @@
 //! Why there is no report, and the line that says so.
 
-ghost use Rattle.std.specs.Prelude.{◌≡◌, ◌++◌, [], codes, decimal, if◌then◌else◌};
+ghost use Rattle.std.specs.Prelude.{◌≡◌, ◌++◌, codes, decimal};
 ghost use Rattle.yprogram.specs.Output.{document_part, printed, refusal_part};
 ghost use Rattle.yprogram.specs.Hint.{hinted};
 ghost use Rattle.yprogram.specs.Part.{spelled_part};
-ghost use Rattle.ycodes.specs.Codes.{reason_of};
 ghost use Rattle.youtput.specs.Writing.{Writes, side};
 ghost use Rattle.ymodel.specs.View as schema_view;
 ghost use Rattle.ytree.specs.View.{place_view};
@@ -12,7 +11,7 @@ ghost use Rattle.yapp.specs.Failing.{FromFile, outcome_of};
 ghost use Rattle.yapp.specs.declared.failure.Failure.TheVariants.{Memory};
 
 use crate::files::FileFault;
-use crate::reason::write_reason_where;
+use crate::reason::write_hinted_where;
 use crate::status::{FAILED, REFUSED};
 use itoa::Buffer;
 use std::alloc::{AllocError, AllocFailed};
@@ -180,32 +179,6 @@ impl<'a> Failure<'a> {
             Failure::Memory => write_texts(sink, &["memory\n"]),
         }
     }
-}
-
-/// Writes, where reasons are wanted, what is said of a place, and the reason of the code that is told.
-fn write_hinted_where<S: Sink>(
-    with_reasons: bool,
-    hint: &str,
-    letter: &str,
-    code: u8,
-    sink: &mut S,
-) -> Result<(), SinkFault>
-    ensures { Writes (side S.taken S.failures sink.old) (side S.taken S.failures sink.new)
-        (if with_reasons then hint.now ++ reason_of (letter.now ++ decimal code) else []) result }
-{
-    if with_reasons {
-        write_hinted(hint, letter, code, sink)
-    } else {
-        Ok(())
-    }
-}
-
-fn write_hinted<S: Sink>(hint: &str, letter: &str, code: u8, sink: &mut S) -> Result<(), SinkFault>
-    ensures { Writes (side S.taken S.failures sink.old) (side S.taken S.failures sink.new)
-        (hint.now ++ reason_of (letter.now ++ decimal code)) result }
-{
-    write_texts(sink, &[hint])?;
-    write_reason_where(true, letter, code, sink)
 }
 
 /// Writes the line of a module's refusal, by the letter of the code and its number, what is said of it, and why it is told.

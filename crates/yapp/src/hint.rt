@@ -5,6 +5,8 @@ ghost use Rattle.std.specs.Prelude.{◌≡◌, ◌++◌, ◌∷◌, [], IfOk, ma
 ghost use Rattle.ygrammar.specs.BreakView.{break_view, code_number};
 ghost use Rattle.ytext.specs.View.{modules_view};
 ghost use Rattle.ymodel.specs.View as schema_view;
+ghost use Rattle.ypath.specs.Applying.{edit_number};
+ghost use Rattle.ypath.specs.EditView.{edit_view};
 ghost use Rattle.ytree.specs.Told as document;
 ghost use Rattle.ytree.specs.View.{place_view};
 ghost use Rattle.yprogram.specs.Hint as spec;
@@ -12,7 +14,8 @@ ghost use Rattle.yprogram.specs.Hint as spec;
 use std::alloc::{AllocError, Global};
 use ygrammar::{BrokenRule, CompileCode};
 use yhint::{line_sentence, shown_line};
-use ymember::said_of_refusal;
+use yinst::{Edit, EditCode};
+use ymember::{said_of_edit, said_of_refusal};
 use ymodel::Schema;
 use ytext::Module;
 use ytree::{DocCode, Step};
@@ -105,5 +108,19 @@ pub fn refusal_hint(
         (record { code = document.code_number code; place = place_view place.now })) }
 {
     let said = said_of_refusal(alloc, schema, bytes, code, place)?;
+    as_line(alloc, "  ", said.as_str())
+}
+
+/// What is said of an edit that is refused.
+pub fn edit_hint(
+    alloc: Global,
+    schema: &Schema,
+    edit: &Edit,
+    code: EditCode,
+) -> Result<String, AllocError>
+    ensures { IfOk result (λ hint. string_bytes hint ≡ spec.edit_hint
+        (schema_view.view schema.now) (edit_view edit.now) (edit_number code)) }
+{
+    let said = said_of_edit(alloc, schema, edit, code)?;
     as_line(alloc, "  ", said.as_str())
 }

@@ -6,10 +6,10 @@ ghost use Rattle.youtput.specs.Writing.{Writes, side};
 
 use itoa::Buffer;
 use ycodes::write_reason;
-use youtput::{Sink, SinkFault};
+use youtput::{Sink, SinkFault, write_texts};
 
 /// Writes, where reasons are wanted, that of a code, which is given by its letter and its number.
-pub fn write_reason_where<S: Sink>(
+fn write_reason_where<S: Sink>(
     with_reasons: bool,
     letter: &str,
     number: u8,
@@ -24,4 +24,30 @@ pub fn write_reason_where<S: Sink>(
     } else {
         Ok(())
     }
+}
+
+/// Writes, where reasons are wanted, what is said of a line, and the reason of the code that is told.
+pub fn write_hinted_where<S: Sink>(
+    with_reasons: bool,
+    hint: &str,
+    letter: &str,
+    code: u8,
+    sink: &mut S,
+) -> Result<(), SinkFault>
+    ensures { Writes (side S.taken S.failures sink.old) (side S.taken S.failures sink.new)
+        (if with_reasons then hint.now ++ reason_of (letter.now ++ decimal code) else []) result }
+{
+    if with_reasons {
+        write_hinted(hint, letter, code, sink)
+    } else {
+        Ok(())
+    }
+}
+
+fn write_hinted<S: Sink>(hint: &str, letter: &str, code: u8, sink: &mut S) -> Result<(), SinkFault>
+    ensures { Writes (side S.taken S.failures sink.old) (side S.taken S.failures sink.new)
+        (hint.now ++ reason_of (letter.now ++ decimal code)) result }
+{
+    write_texts(sink, &[hint])?;
+    write_reason_where(true, letter, code, sink)
 }

@@ -20,7 +20,7 @@ ghost use Rattle.ylist.specs.Seen.{seen_view};
 ghost use Rattle.ylist.specs.Walked.{left};
 
 use crate::edited::EditedDocument;
-use crate::reason::write_reason_where;
+use crate::reason::write_hinted_where;
 use crate::script::RefusedLine;
 use crate::status::{FAULTY, GOOD};
 use itoa::Buffer;
@@ -298,31 +298,33 @@ fn write_refused<S: Sink>(
         (spelled with_reasons (refused_parts lines.now)) result }
 {
     for line in lines {
-        write_refused_line(*line, with_reasons, sink)?;
+        write_refused_line(line, with_reasons, sink)?;
     }
     Ok(())
 }
 
-/// Writes the line of a refused line, and why its code is told; the document's, where the value doesn't fit.
+/// Writes the line of a refused line, what is said of it, and why its code is told; the document's, where the value doesn't
+/// fit.
 fn write_refused_line<S: Sink>(
-    line: RefusedLine,
+    line: &RefusedLine,
     with_reasons: bool,
     sink: &mut S,
 ) -> Result<(), SinkFault>
     ensures { Writes (side S.taken S.failures sink.old) (side S.taken S.failures sink.new)
-        (spelled_part with_reasons (refused_part line)) result }
+        (spelled_part with_reasons (refused_part line.now)) result }
 {
     write_refused_code(line, sink)?;
+    let hint = line.hint.as_str();
     match line.refusal.doc {
-        Some(doc) => write_reason_where(with_reasons, "J", doc.number(), sink),
-        None => write_reason_where(with_reasons, "E", line.refusal.code.number(), sink),
+        Some(doc) => write_hinted_where(with_reasons, hint, "J", doc.number(), sink),
+        None => write_hinted_where(with_reasons, hint, "E", line.refusal.code.number(), sink),
     }
 }
 
 /// Writes the line of a refused line: `line K: CODE`.
-fn write_refused_code<S: Sink>(line: RefusedLine, sink: &mut S) -> Result<(), SinkFault>
+fn write_refused_code<S: Sink>(line: &RefusedLine, sink: &mut S) -> Result<(), SinkFault>
     ensures { Writes (side S.taken S.failures sink.old) (side S.taken S.failures sink.new)
-        (refused_part line).text result }
+        (refused_part line.now).text result }
 {
     let mut number_digits = Buffer::new();
     let mut code_digits = Buffer::new();

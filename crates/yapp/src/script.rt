@@ -1,6 +1,6 @@
 //! Scripts of edits, one a line.
 
-ghost use Rattle.std.specs.Prelude.{◌≡◌, ◌++◌, ◌==◌, IfOk, OnOk, map, option_map};
+ghost use Rattle.std.specs.Prelude.{◌≡◌, ◌++◌, ◌==◌, IfOk, OnOk, map, option_map, string_bytes};
 ghost use Rattle.std.specs.List.{slice_split};
 ghost use Rattle.yspec.specs.Results.{Gives};
 ghost use Rattle.yspec.specs.edit.EditText as text;
@@ -8,12 +8,16 @@ ghost use Rattle.yprogram.specs.Script as spec;
 ghost use Rattle.yspec.specs.text.Text.{line_feed};
 ghost use Rattle.ypath.specs.Applying.{told_by};
 ghost use Rattle.ypath.specs.EditView.{edit_view};
-ghost use Rattle.ylive.specs.View.{outcomes_view};
-ghost use Rattle.yapp.specs.Asked.{behind, decision_parts, line_view, refusal_in, refusal_of, refused_parts};
+ghost use Rattle.ylive.specs.View.{edits_view, outcomes_view};
+ghost use Rattle.ymodel.specs.View as schema_view;
+ghost use Rattle.yapp.specs.Asked as asked;
+ghost use Rattle.yapp.specs.Asked.{behind, decision_parts, hint_in, line_view, refusal_in, refusal_of, refused_parts};
 
+use crate::hint::edit_hint;
 use std::alloc::{AllocError, Global};
 use yinst::{DocCode, Edit, EditCode, EditFault};
 use ylive::Outcome;
+use ymodel::Schema;
 
 /// Why a line is refused, and with E10 why the value doesn't fit.
 #[derive(Clone, Copy, Debug)]
@@ -32,11 +36,12 @@ enum Asked {
     Refused(Refusal),
 }
 
-/// A refused line of a script, by its number from 1.
-#[derive(Clone, Copy, Debug)]
+/// A refused line of a script, by its number from 1, with what is said of it besides.
+#[derive(Debug, Drop)]
 pub struct RefusedLine {
     pub number: usize,
     pub refusal: Refusal,
+    pub hint: String,
 }
 
 /// A script: what each of its lines asks for, and the edits among them.
@@ -51,6 +56,7 @@ impl Script {
     ghost use Rattle.std.specs.Prelude.{◌≡◌, ◌++◌, [], ◌∷◌, IfOk, OnOk, map};
     ghost use Rattle.yprogram.specs.Script.{asked_in, lines_of, without_return};
     ghost use Rattle.ylive.specs.View.{edits_view, outcomes_view};
+    ghost use Rattle.ymodel.specs.View as schema_view;
     ghost use Rattle.yapp.specs.Asked.{IsScript, edit_of, edits_in, kinds_in, line_of, refused_parts, told_from};
 
     /// A script without lines.
@@ -117,36 +123,91 @@ impl Script {
         &self.edits
     }
 
-    /// Its refused lines, by what came of each edit.
-    pub fn refused(&self, outcomes: &[Outcome]) -> Result<Vec<RefusedLine>, AllocError>
+    /// Its refused lines under a schema, by what came of each edit.
+    pub fn refused(
+        &self,
+        schema: &Schema,
+        outcomes: &[Outcome],
+    ) -> Result<Vec<RefusedLine>, AllocError>
         ensures { IfOk result (λ lines. refused_parts lines.items
-            ≡ told_from 1 (kinds_in self.now) (outcomes_view outcomes.now)) }
+            ≡ told_from (schema_view.view schema.now) 1 (kinds_in self.now) (edits_in self.now)
+            (outcomes_view outcomes.now)) }
     {
         let mut refused = Vec::new(self.alloc);
+        let mut edits = self.edits.as_slice();
         let mut rest = outcomes;
         let mut number = 0;
         for line in &self.lines {
             number += 1;
-            add_refused(&mut refused, number, refusal_of(*line, rest))?;
+            let refusal = refusal_of(*line, rest);
+            add_refused(
+                self.alloc,
+                schema,
+                &mut refused,
+                number,
+                *line,
+                edits,
+                refusal,
+            )?;
+            edits = edits_behind(*line, edits);
             rest = outcomes_behind(*line, rest);
         }
         Ok(refused)
     }
 }
 
-/// Adds a line, where it is refused.
+/// Adds a line, where it is refused, with what is said of it by the edits from it on.
 fn add_refused(
+    alloc: Global,
+    schema: &Schema,
     lines: &mut Vec<RefusedLine>,
     number: usize,
+    line: Asked,
+    edits: &[Edit],
     refusal: Option<Refusal>,
 ) -> Result<(), AllocError>
     ensures { OnOk result (refused_parts lines.new.items ≡ refused_parts lines.old.items
-        ++ decision_parts number (option_map refusal_of refusal)) }
+        ++ decision_parts (hint_in (schema_view.view schema.now) (line_view line) (edits_view edits.now))
+        number (option_map refusal_of refusal)) }
 {
     if let Some(refusal) = refusal {
-        lines.push(RefusedLine { number, refusal })?;
+        let hint = hint_of(alloc, schema, line, edits, refusal)?;
+        lines.push(RefusedLine {
+            number,
+            refusal,
+            hint,
+        })?;
     }
     Ok(())
+}
+
+/// What is said of a refused line, by the edits from it on.
+fn hint_of(
+    alloc: Global,
+    schema: &Schema,
+    line: Asked,
+    edits: &[Edit],
+    refusal: Refusal,
+) -> Result<String, AllocError>
+    ensures { IfOk result (λ hint. string_bytes hint
+        ≡ hint_in (schema_view.view schema.now) (line_view line) (edits_view edits.now)
+        (refusal_of refusal)) }
+{
+    match (line, edits.first()) {
+        (Asked::Edit, Some(edit)) => edit_hint(alloc, schema, edit, refusal.code),
+        _ => Ok(String::new(alloc)),
+    }
+}
+
+/// The edits behind a line.
+fn edits_behind(line: Asked, edits: &[Edit]) -> &[Edit]
+    ensures { edits_view result.now
+        ≡ asked.edits_behind (line_view line) (edits_view edits.entry.now) }
+{
+    match (line, edits.split_first()) {
+        (Asked::Edit, Some((_, behind))) => behind,
+        _ => edits,
+    }
 }
 
 /// Why a line is refused, if it is, by what came of the edits from it on.

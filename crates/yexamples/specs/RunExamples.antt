@@ -44,6 +44,11 @@ one_with_reasons line said code = found 1 (with_reasons line said code ++ codes 
 abbrev pub refused_with_reasons : Text → Text → Text → Printed
 refused_with_reasons line said code = record { output = []; errors = with_reasons line said code; status = 2 }
 
+-- what an edit of a small document under module p by a script dumps, with the reasons of what is told
+abbrev pub edited_with_reasons : Text → Printed
+edited_with_reasons script = printed true (outcome (edit true (codes "d.json") (codes "s.txt") (codes "m.yang" ∷ []))
+    (Some module_p ∷ Some (codes "{\"p:c\":{\"id\":1}}") ∷ Some script ∷ []))
+
 -- what one prints under module p
 abbrev pub shown_by_p : Text → Printed
 shown_by_p document = shown module_p document

@@ -7,7 +7,7 @@ ghost use Rattle.yprogram.specs.Output.{compile, edit, explain, outcome, printed
 ghost use Rattle.yprogram.specs.Script.{lines_of};
 ghost use Rattle.yexamples.specs.SchemaExamples.{hosts, one_host};
 ghost use Rattle.yspec.specs.edit.Examples.{module_p, module_text};
-ghost use Rattle.yexamples.specs.RunExamples.{counted, drawn_as, dumped, faulty, scripted, shown, shown_of_two, without_faults, one_with_reasons, refused_with_reasons, shown_with_reasons, with_reasons};
+ghost use Rattle.yexamples.specs.RunExamples.{counted, drawn_as, dumped, edited_with_reasons, faulty, scripted, shown, shown_of_two, without_faults, one_with_reasons, refused_with_reasons, shown_with_reasons, with_reasons};
 
 /// How many nodes modules define.
 pub fn counts()
@@ -158,7 +158,7 @@ pub fn reasons()
         ≡ found 1 (codes "V3 data-missing - /p:c/id -\n1 faults\n") }
     ensures of_a_value { printed true (outcome (edit true (codes "d.json") (codes "s.txt") (codes "m.yang" ∷ []))
         (Some module_p ∷ Some (codes "{\"p:c\":{\"id\":1}}") ∷ Some (codes "replace /p:c []") ∷ []))
-        ≡ faulty (codes "line 1: E10 J5\n  A value is of another kind than its node: no object for a container or an entry, no array for a list or leaf-list. Write a container as an object, a list as an array of objects, a leaf-list as an array of values, an empty leaf as [null].\n")
+        ≡ faulty (codes "line 1: E10 J5\n  an array stands where an object is due.\n  A value is of another kind than its node: no object for a container or an entry, no array for a list or leaf-list. Write a container as an object, a list as an array of objects, a leaf-list as an array of values, an empty leaf as [null].\n")
         (codes "{\"p:c\":{\"id\":1}}\n") }
     ensures of_a_text { printed true (outcome (compile (codes "m.yang" ∷ []))
         (Some (codes "module a;}") ∷ []))
@@ -229,4 +229,23 @@ pub fn explained_refusals()
         ≡ refused_with_reasons (codes "d.json: J5 /p:c/id") (codes "an object stands where a leaf's value is due.") (codes "J5") }
     ensures nothing_more { shown_with_reasons module_p (codes "{\"p:c\":{\"id\":1.5}}")
         ≡ failed 2 (codes "d.json: J6 /p:c/id\n  A number has a fraction or an exponent. Write an integer without them; write a decimal64 as a string.") }
+{}
+
+/// What is said of the refused lines of a script, where that is asked for: which name of a path isn't known, or is written
+/// otherwise, and which value stands there.
+pub fn explained_edits()
+    ensures near { edited_with_reasons (codes "create /p:c/noet \"x\"")
+        ≡ faulty (with_reasons (codes "line 1: E2") (codes "nothing called \"noet\" may stand here; near it: note.") (codes "E2")) (codes "{\"p:c\":{\"id\":1}}\n") }
+    ensures far { edited_with_reasons (codes "remove /q:box")
+        ≡ faulty (with_reasons (codes "line 1: E2") (codes "nothing called \"q:box\" may stand here.") (codes "E2")) (codes "{\"p:c\":{\"id\":1}}\n") }
+    ensures without_module { edited_with_reasons (codes "# the first line\nremove /c/id")
+        ≡ faulty (with_reasons (codes "line 2: E2") (codes "here \"c\" is written p:c.") (codes "E2")) (codes "{\"p:c\":{\"id\":1}}\n") }
+    ensures with_module { edited_with_reasons (codes "remove /p:c/p:id")
+        ≡ faulty (with_reasons (codes "line 1: E2") (codes "here \"p:id\" is written id.") (codes "E2")) (codes "{\"p:c\":{\"id\":1}}\n") }
+    ensures member { edited_with_reasons (codes "replace /p:c {\"noet\":\"x\"}")
+        ≡ faulty (with_reasons (codes "line 1: E10 J3") (codes "nothing called \"noet\" may stand here; near it: note.") (codes "J3")) (codes "{\"p:c\":{\"id\":1}}\n") }
+    ensures other_member { edited_with_reasons (codes "replace /p:c {\"p:id\":1}")
+        ≡ faulty (with_reasons (codes "line 1: E10 J4") (codes "here \"p:id\" is written id.") (codes "J4")) (codes "{\"p:c\":{\"id\":1}}\n") }
+    ensures value { edited_with_reasons (codes "replace /p:c/id []")
+        ≡ faulty (with_reasons (codes "line 1: E10 J5") (codes "an array stands where a leaf's value is due.") (codes "J5")) (codes "{\"p:c\":{\"id\":1}}\n") }
 {}

@@ -9,6 +9,8 @@ use Rattle.yspec.specs.schema.Schema.{Schema}
 use Rattle.yspec.specs.document.Reading.{Refusal}
 use Rattle.yhint.specs.Line.{shown_line}
 use Rattle.yhint.specs.Sentence.{of_line}
+use Rattle.yspec.specs.edit.EditText.{Edit}
+use Rattle.ymember.specs.Part.{said_of_edit}
 use Rattle.ymember.specs.Sentence.{said_of_refusal}
 use Rattle.yprogram.specs.Part.{Part}
 
@@ -42,3 +44,7 @@ break_hint contents modules b = line_hint b.line (unwrap_or (slice_get contents 
 -- of a document that is refused, by its bytes
 abbrev pub refusal_hint : Schema → List ℕ → Refusal → Text
 refusal_hint schema bytes r = as_line (codes "  ") (said_of_refusal schema bytes r)
+
+-- of an edit that is refused with this number
+abbrev pub edit_hint : Schema → Edit → ℕ → Text
+edit_hint schema e code = as_line (codes "  ") (said_of_edit schema e code)

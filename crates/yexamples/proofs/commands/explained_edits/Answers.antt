@@ -1,0 +1,16 @@
+use Rattle.std.proofs.Common.{refl}
+use Rattle.ycodes.specs.Codes.{explanation_of}
+use Rattle.yprogram.proofs.ProgramLiterals.{yprogram_on_literals}
+use Rattle.yexamples.proofs.commands.explained_edits.Goals as goal
+
+pub returns : goal.returns
+unfolding yprogram_on_literals explanation_of
+returns c = record {
+  near = refl;
+  far = refl;
+  without_module = refl;
+  with_module = refl;
+  member = refl;
+  other_member = refl;
+  value = refl;
+}
