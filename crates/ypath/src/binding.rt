@@ -150,7 +150,9 @@ fn is_last_in_place(schema: &Schema, is_create: bool, step: BoundStep<'_>) -> bo
     }
 }
 
-fn fits_node(schema: &Schema, step: BoundStep<'_>) -> bool
+/// Whether a step bears the predicate that its node wants: a list a position, or its keys where it has any; a leaf-list a
+/// position; others none.
+pub fn fits_node(schema: &Schema, step: BoundStep<'_>) -> bool
     ensures { let s = schema_view.view schema.now in
         result ≡ spec.fits_kind s (node_of s step.entry.id.0).kind
         (predicate_view step.entry.predicate.now) }

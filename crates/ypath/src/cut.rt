@@ -46,7 +46,7 @@ fn stop_offset(bytes: &[u8], stop: u8) -> Option<usize>
 }
 
 /// A text before and behind the first of these ASCII characters that stands outside quotes.
-pub(crate) fn cut(text: &str, stop: u8) -> Option<(&str, &str)>
+pub fn cut(text: &str, stop: u8) -> Option<(&str, &str)>
     requires { stop < 128 }
     ensures sides { option_map sides result ≡ cut_at stop None text.now }
     ensures shorter { IfSome result (λ p. length p.1.now < length text.now) }
@@ -56,7 +56,7 @@ pub(crate) fn cut(text: &str, stop: u8) -> Option<(&str, &str)>
 }
 
 /// What stands behind an ASCII character, where a text begins with it.
-pub(crate) fn behind(text: &str, mark: char) -> Option<&str>
+pub fn behind(text: &str, mark: char) -> Option<&str>
     requires { mark < 128 }
     ensures value { option_map (λ t. t.now) result ≡ behind mark text.now }
     ensures shorter { IfSome result (λ t. length t.now < length text.now) }
@@ -66,7 +66,7 @@ pub(crate) fn behind(text: &str, mark: char) -> Option<&str>
 
 /// What stands behind the spaces that a text begins with.
 #[tactic(auto, using(crate::proofs::CutLemmas::one_space, crate::proofs::CutLemmas::no_space))]
-pub(crate) fn after_spaces(text: &str) -> &str
+pub fn after_spaces(text: &str) -> &str
     ensures { result.now ≡ after_spaces text.now }
 {
     let mut rest = text;

@@ -6,5 +6,7 @@ mod cut;
 mod edit;
 mod paths;
 
-pub use binding::{Bound, BoundStep, bind_path, has_name, refused};
+pub use binding::{Bound, BoundStep, bind_path, fits_node, has_name, refused};
+pub use cut::{after_spaces, behind, cut};
 pub use edit::{Edit, EditCode, EditFault, Key, NamedStep, Path, Predicate};
+pub use paths::{is_step, name_and_predicate, operands};

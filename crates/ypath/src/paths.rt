@@ -153,7 +153,7 @@ fn predicate_of(alloc: Global, text: &str) -> Result<Option<Predicate>, AllocErr
 }
 
 /// A text before its first `[`, and from there on.
-fn name_and_predicate(text: &str) -> (&str, &str)
+pub fn name_and_predicate(text: &str) -> (&str, &str)
     ensures name { result.0.now ≡ (spec.name_and_predicate text.now).0 }
     ensures predicate { result.1.now ≡ (spec.name_and_predicate text.now).1 }
 {
@@ -178,6 +178,14 @@ fn step_of(alloc: Global, text: &str) -> Result<Option<NamedStep>, AllocError>
         })),
         None => Ok(None),
     }
+}
+
+/// Whether a text spells a step of a path.
+pub fn is_step(alloc: Global, text: &str) -> Result<bool, AllocError>
+    ensures { IfOk result (λ answer. answer ≡ is_some (spec.step_of text.now)) }
+{
+    let step = step_of(alloc, text)?;
+    Ok(step.is_some())
 }
 
 /// The steps between slashes.
@@ -218,7 +226,7 @@ fn path_of(alloc: Global, text: &str) -> Result<Option<Path>, AllocError>
 }
 
 /// What follows the verb: the texts of the path and of the value.
-fn operands(text: &str) -> (&str, &str)
+pub fn operands(text: &str) -> (&str, &str)
     ensures path { result.0.now ≡ (spec.operands text.now).0 }
     ensures value { result.1.now ≡ (spec.operands text.now).1 }
 {

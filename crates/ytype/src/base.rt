@@ -19,7 +19,7 @@ use ynumber::{
 
 /// The integer types.
 #[derive(Clone, Copy, Debug)]
-pub(crate) enum Integer {
+pub enum Integer {
     Int8,
     Int16,
     Int32,
@@ -46,14 +46,16 @@ impl Integer {
         }
     }
 
-    pub(crate) fn numbers(self) -> Part
+    /// The numbers that it has.
+    pub fn numbers(self) -> Part
         ensures numbers { result ≡ numbers_of (integer_of self) }
         ensures narrow { IsNarrow result }
     {
         self.bounds()
     }
 
-    fn is_written_as_text(self) -> bool
+    /// Whether documents have its numbers as strings (RFC 7951, 6.1).
+    pub fn is_written_as_text(self) -> bool
         ensures { result ≡ is_written_as_text (integer_of self) }
     {
         matches!(self, Integer::Int64 | Integer::Uint64)
@@ -127,7 +129,7 @@ impl<'a> Found<'a> {
 
 /// A built-in type, or what a derived type begins with. Copies share their names.
 #[derive(Debug, Drop)]
-pub(crate) enum Base {
+pub enum Base {
     Integer(Integer),
     Decimal(FractionDigits),
     Text,

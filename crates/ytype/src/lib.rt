@@ -9,8 +9,12 @@ mod simple;
 mod val;
 mod ytype;
 
+pub use base::{Base, Integer};
 pub use fault::BadValue;
 pub use raw::Raw;
+pub use simple::SimpleType;
 pub use val::Val;
-pub use ynumber::{Bound, FractionDigits, Naming, NarrowFault, Part, Range, Restriction, Span};
+pub use ynumber::{
+    Bound, FractionDigits, Names, Naming, NarrowFault, Part, Range, Restriction, Span,
+};
 pub use ytype::YType;

@@ -153,7 +153,7 @@ enum Form {
 
 /// A type that is no union. Copies share its restrictions.
 #[derive(Debug, Drop)]
-pub(crate) struct SimpleType {
+pub struct SimpleType {
     form: Form,
 }
 
@@ -192,7 +192,8 @@ impl SimpleType {
         }
     }
 
-    fn base(&self) -> &Base
+    /// The built-in type that it begins with.
+    pub fn base(&self) -> &Base
         ensures { base_of result.now ≡ self.now.base }
     {
         match &self.form {
@@ -261,7 +262,8 @@ impl SimpleType {
 }
 
 impl SimpleType {
-    fn range_bounds(&self) -> Option<(Part, u32)>
+    /// The numbers that a range may restrict, in units of the last digit, and how many digits they have after the point.
+    pub fn range_bounds(&self) -> Option<(Part, u32)>
         ensures bounds { result ≡ range_base self.now.base }
         ensures digits { IfSome result (λ b. b.1 ≤ 18) }
     {
@@ -272,7 +274,8 @@ impl SimpleType {
         }
     }
 
-    fn length_bounds(&self) -> Option<(Part, u32)>
+    /// The numbers that a length may restrict, which have no digits after a point.
+    pub fn length_bounds(&self) -> Option<(Part, u32)>
         ensures bounds { result ≡ length_base self.now.base }
         ensures digits { IfSome result (λ b. b.1 ≤ 18) }
     {
@@ -292,7 +295,7 @@ impl SimpleType {
     }
 
     /// The numbers that its restrictions leave of those of its built-in type.
-    fn left<'a>(&'a self, numbers: &'a Part) -> &'a [Part]
+    pub fn left<'a>(&'a self, numbers: &'a Part) -> &'a [Part]
         ensures { result.now ≡ left_by numbers.now self.now.limits }
     {
         match &self.form {

@@ -21,6 +21,7 @@ use crate::val::Val;
 use std::alloc::{AllocError, Global};
 use std::marker::Model;
 use std::rc::Rc;
+use std::slice;
 use ynumber::{FractionDigits, Naming, NarrowFault, Restriction, bit_names, enum_names};
 
 #[derive(Debug, Drop)]
@@ -278,6 +279,16 @@ impl YType {
             (Shape::Single(simple), _) => Some(simple),
             (Shape::Union(_), None) => None,
             (Shape::Union(members), Some(number)) => members.get(number),
+        }
+    }
+
+    /// The members of a union, of unions in it as well; of another type itself, as its only one.
+    pub fn members(&self) -> &[SimpleType]
+        ensures { result.now ≡ members_of self.now.shape }
+    {
+        match &self.shape {
+            Shape::Single(simple) => slice::from_ref(simple),
+            Shape::Union(members) => members.as_slice(),
         }
     }
 
