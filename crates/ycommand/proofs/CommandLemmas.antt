@@ -1,8 +1,10 @@
 -- What clap's answers come to.
 use Rattle.std.proofs.Common.{◌≡◌, ◌⊎◌, inl, inr, List, [], ◌∷◌, ℕ, Bool, Option, Some, None, Bor, map, false, true, refl, sym, subst, ap, ap₂, ◌∙◌}
 use Rattle.std.specs.Prelude.{Result, Ok, Err, IsErrAnd, option_map, unwrap_or, ◌||◌, if◌then◌else◌}
-use Rattle.yprogram.specs.Output.{compile, edit}
-use Rattle.clap.specs.Words.{AddsArg, AddsSubcommand, App, Kinds, IsAmong, Row, Rule, Text, app_of, first_value, rows_of, is_simple, is_simple_and_free, new_app, with_rule, with_subcommand}
+use Rattle.yprogram.specs.Output as spec
+use Rattle.yprogram.specs.Output.{compile, edit, validate}
+use Rattle.clap.specs.Kinds.{or_else}
+use Rattle.clap.specs.Words.{AddsArg, AddsSubcommand, App, Kinds, IsAmong, Row, Rule, Text, app_of, fault_of, first_of, first_value, rows_of, is_simple, is_simple_and_free, new_app, subcommand_of, with_rule, with_subcommand}
 use Rattle.clap.specs.Simple.{app_of_fields}
 use Rattle.clap.specs.declared.builder.arg.Arg.{Arg}
 use Rattle.clap.specs.declared.builder.command.Command.{Command}
@@ -14,7 +16,7 @@ use Rattle.clap.specs.declared.parser.matches.Found.{Found}
 use Rattle.clap.proofs.WalkLemmas.{first_value-rows}
 use Rattle.clap.proofs.OnLiterals.{clap_on_literals}
 use Rattle.ycommand.specs.Application.{IsArgument, IsCommand, yanglive}
-use Rattle.ycommand.specs.Command.{Declines, Explains, Takes, asked_by, asked_of, asks_help, is_help, value_of}
+use Rattle.ycommand.specs.Command.{Declines, Explains, Takes, TakesFormat, asked_by, asked_of, asks_help, explained_by, faults_of, format_fault, format_of, is_help, refused_format, unknown_format, value_of, view}
 use Rattle.ycommand.specs.Running.{refused, shown, with_text}
 use Rattle.ycommand.specs.declared.command.CommandLine.{CommandLine}
 use Rattle.ycommand.specs.declared.command.NoRequest.{NoRequest}
@@ -70,9 +72,21 @@ pub given : (found : Found) (name : Text) (o : Option (Bor Text)) (d b : Bor Tex
 given found name o d b is taken none = ap (λ (x : Bor Text). x.now) taken ∙ (now_or o d ∙ (ap (unwrap_or (option_map (λ s. s.now) o)) none
     ∙ ap (λ (x : Option Text). unwrap_or x []) (is ∙ first_value-rows found name)))
 
-pub edit_same : (d e : Bool) (a b s t : Text) (ms ns : List Text) → d ≡ e → a ≡ b → s ≡ t → ms ≡ ns → edit d a s ms ≡ edit e b t ns
-edit_same d e a b s t ms ns flags documents scripts modules =
-    ap₂ (λ f n. edit f n s ms) flags documents ∙ ap₂ (edit e b) scripts modules
+pub edit_same : (d e : spec.Options) (a b s t : Text) (ms ns : List Text) → d ≡ e → a ≡ b → s ≡ t → ms ≡ ns → edit d a s ms ≡ edit e b t ns
+edit_same d e a b s t ms ns options documents scripts modules =
+    ap₂ (λ f n. edit f n s ms) options documents ∙ ap₂ (edit e b) scripts modules
+
+pub validate_same : (d e : spec.Options) (a b : Text) (ms ns : List Text) → d ≡ e → a ≡ b → ms ≡ ns → validate d a ms ≡ validate e b ns
+validate_same d e a b ms ns options documents modules = ap₂ (λ f n. validate f n ms) options documents ∙ ap (validate e b) modules
+
+-- the text of an option, if it is given
+pub given_first : (found : Found) (name : Text) (o : Option (Bor Text)) → option_map (λ s. s.now) o ≡ first_value found name
+    → option_map (λ s. s.now) o ≡ first_of name (rows_of found)
+given_first found name o is = is ∙ first_value-rows found name
+
+pub given_or : (found : Found) (name : Text) (o : Option (Bor Text)) (d b : Bor Text) → option_map (λ s. s.now) o ≡ first_value found name
+    → b ≡ unwrap_or o d → b.now ≡ unwrap_or (first_of name (rows_of found)) d.now
+given_or found name o d b is taken = ap (λ (x : Bor Text). x.now) taken ∙ (now_or o d ∙ ap (λ (x : Option Text). unwrap_or x d.now) (given_first found name o is))
 
 pub asked_some : (o : Option (Text × List Row)) (name : Text) (rows : List Row) → Some name ≡ option_map (λ p. p.0) o
     → Some rows ≡ option_map (λ p. p.1) o → asked_of name rows ≡ asked_by o
@@ -96,6 +110,30 @@ declined kinds kind (none.Help text) like (inr among) is = said_by kind kinds li
 declined kinds kind (none.Refused text) like (inl e) is = absurd (is.1 e)
 declined kinds kind (none.Refused text) like (inr among) is = (some_cause kinds kind among, said_by kind kinds like among ∙ is.0)
 declined kinds kind none.Memory like among is = tt
+
+-- a cause of clap's stands before one of a format
+pub declined_first : (kinds others : Kinds) (a : NoRequest) → Declines kinds a → Declines (or_else kinds others) a
+declined_first [] others (none.Help text) is = absurd cc
+declined_first [] others (none.Refused text) is = absurd (is.0 refl)
+declined_first [] others none.Memory is = tt
+declined_first (kind ∷ kinds) others a is = is
+
+format_refused : (o : Option Text) (text : _) → (o ≡ None → ⊥) → Declines (refused_format o) (none.Refused text)
+format_refused None text is = absurd (is refl)
+format_refused (Some name) text is = ((λ e. cc), refl)
+
+-- what clap takes is taken, but for a format that isn't known
+pub taken_in_format : (words : List Text) (command : Option (Text × List Row)) (r : Result CommandLine NoRequest)
+    → fault_of yanglive words ≡ [] → subcommand_of yanglive words ≡ command → TakesFormat command r → Takes words r
+taken_in_format words command (Ok line) none named takes = (
+  ap₂ or_else none (ap format_fault named ∙ ap refused_format takes.0),
+  takes.1 ∙ sym (ap asked_by named),
+  takes.2 ∙ sym (ap explained_by named),
+)
+taken_in_format words command (Err (none.Help text)) none named takes = absurd takes
+taken_in_format words command (Err (none.Refused text)) none_wrong named takes =
+    subst (λ kinds. Declines kinds (none.Refused text)) (sym (ap₂ or_else none_wrong (ap format_fault named))) (format_refused (unknown_format command) text takes)
+taken_in_format words command (Err none.Memory) none_wrong named takes = tt
 
 pub declined_by_memory : (words : List Text) (r : Result CommandLine NoRequest) → IsErrAnd r (λ e. e ≡ none.Memory) → Takes words r
 declined_by_memory words (Ok x) e = absurd e

@@ -3,7 +3,7 @@ use Rattle.std.specs.Prelude.{◌≡◌, codes, false, true, Some}
 use Rattle.clap.specs.Lexer.{usize_max}
 use Rattle.clap.specs.Words.{App, Rule, Shape, Text, app_of, new_app, new_rule, rule_of, with_rule, with_subcommand}
 use Rattle.clap.specs.Simple.{on_top}
-use Rattle.clap.specs.declared.builder.action.ArgAction.TheVariants.{SetTrue}
+use Rattle.clap.specs.declared.builder.action.ArgAction.TheVariants.{Set, SetTrue}
 use Rattle.clap.specs.declared.builder.arg.Arg.{Arg}
 use Rattle.clap.specs.declared.builder.command.Command.{Command}
 use Rattle.clap.specs.declared.builder.command.Command.TheViews.{out-Command}
@@ -24,6 +24,10 @@ any_number name = record (new_rule name) { range = Some (record { start_inclusiv
 abbrev pub flag : Text → Rule
 flag name = record (new_rule name) { long = Some name; action = Some SetTrue }
 
+-- an option, as `--format json`, that takes one value, of which help has a name
+abbrev pub option : Text → Rule
+option name = record (new_rule name) { long = Some name; action = Some Set; value_names = 1 }
+
 -- a command over files, of which each takes `--explain`
 abbrev pub over_files : Text → App
 over_files name = with_rule (new_app name) (flag (codes "explain"))
@@ -36,14 +40,18 @@ compile_app = with_rule (over_files (codes "compile")) (wanted_all (codes "MODUL
 abbrev pub tree_app : App
 tree_app = with_rule (with_rule (over_files (codes "tree")) (wanted (codes "NAME"))) (wanted_all (codes "MODULE"))
 
--- `validate [--explain] DATA MODULE..`
-abbrev pub validate_app : App
-validate_app = with_rule (with_rule (over_files (codes "validate")) (wanted (codes "DATA"))) (wanted_all (codes "MODULE"))
+-- a command over a document, of which each takes `--strict` and `--format`
+abbrev pub over_document : Text → App
+over_document name = with_rule (with_rule (over_files name) (flag (codes "strict"))) (option (codes "format"))
 
--- `edit [--explain] [--dump] DATA SCRIPT MODULE..`
+-- `validate [--explain] [--strict] [--format FORMAT] DATA MODULE..`
+abbrev pub validate_app : App
+validate_app = with_rule (with_rule (over_document (codes "validate")) (wanted (codes "DATA"))) (wanted_all (codes "MODULE"))
+
+-- `edit [--explain] [--strict] [--format FORMAT] [--dump] [--output FILE] DATA SCRIPT MODULE..`
 abbrev pub edit_app : App
-edit_app = with_rule (with_rule (with_rule (with_rule (over_files (codes "edit")) (flag (codes "dump")))
-    (wanted (codes "DATA"))) (wanted (codes "SCRIPT"))) (wanted_all (codes "MODULE"))
+edit_app = with_rule (with_rule (with_rule (with_rule (with_rule (over_document (codes "edit")) (flag (codes "dump")))
+    (option (codes "output"))) (wanted (codes "DATA"))) (wanted (codes "SCRIPT"))) (wanted_all (codes "MODULE"))
 
 -- `explain [CODE..]`
 abbrev pub explain_app : App

@@ -1,13 +1,15 @@
 -- What the words of a command line ask for, by clap's own definition of what it takes.
-use Rattle.std.specs.Prelude.{◌≡◌, ◌&&◌, Bool, true, false, List, [], ◌∷◌, map, codes, Option, Some, None, unwrap_or, Result, Ok, Err, if◌then◌else◌}
+use Rattle.std.specs.Prelude.{◌≡◌, ◌&&◌, ◌||◌, Bool, true, false, List, [], ◌∷◌, map, codes, Option, Some, None, option_map, unwrap_or, Result, Ok, Err, if◌then◌else◌}
 use Rattle.std.specs.List.{list_any}
 use Rattle.std.specs.Str.{bytes_eq}
 use Rattle.yprogram.specs.Output as spec
 use Rattle.yprogram.specs.Output.{explain, compile, draw, validate, edit}
+use Rattle.clap.specs.Kinds.{or_else}
 use Rattle.clap.specs.Words.{Kinds, Row, Text, all_of, fault_of, first_of, subcommand_of}
 use Rattle.clap.specs.declared.error.kind.ErrorKind.{ErrorKind}
-use Rattle.clap.specs.declared.error.kind.ErrorKind.TheVariants.{DisplayHelp, DisplayVersion, OutOfMemory}
+use Rattle.clap.specs.declared.error.kind.ErrorKind.TheVariants.{DisplayHelp, DisplayVersion, InvalidValue, OutOfMemory}
 use Rattle.ycommand.specs.Application.{yanglive}
+use Rattle.ycommand.specs.declared.command.Options.{Options}
 use Rattle.ycommand.specs.declared.command.Request.{Request}
 use Rattle.ycommand.specs.declared.command.Request.TheVariants as requests
 use Rattle.ycommand.specs.declared.command.CommandLine.{CommandLine}
@@ -30,10 +32,6 @@ meant (program ∷ word ∷ name ∷ []) = if bytes_eq word (codes "help") && is
     then program ∷ name ∷ codes "--help" ∷ [] else program ∷ word ∷ name ∷ []
 meant words = words
 
--- why clap refuses them, or answers with a text in their place: empty where it takes them
-abbrev pub refusals : List Text → Kinds
-refusals words = fault_of yanglive (meant words)
-
 abbrev pub value_of : Text → List Row → Text
 value_of name rows = unwrap_or (first_of name rows) []
 
@@ -42,6 +40,47 @@ modules_of rows = unwrap_or (all_of (codes "MODULE") rows) []
 
 abbrev pub is_given : Text → List Row → Bool
 is_given name rows = bytes_eq (value_of name rows) (codes "true")
+
+-- how faults are to be told: as lines, or as JSON
+abbrev pub format_of : List Row → Text
+format_of rows = unwrap_or (first_of (codes "format") rows) (codes "text")
+
+abbrev pub is_format : Text → Bool
+is_format name = bytes_eq name (codes "text") || bytes_eq name (codes "json")
+
+-- ---- why words are refused
+
+-- a format that isn't known, where a command's arguments name one
+abbrev pub unknown_format : Option (Text × List Row) → Option Text
+unknown_format None = None
+unknown_format (Some command) = let name = format_of command.1 in if is_format name then None else Some name
+
+-- it is refused as clap refuses a value that isn't among those that it knows
+abbrev pub refused_format : Option Text → Kinds
+refused_format None = []
+refused_format (Some name) = InvalidValue ∷ []
+
+abbrev pub format_fault : Option (Text × List Row) → Kinds
+format_fault command = refused_format (unknown_format command)
+
+-- why words are refused as they stand, or answered with a text in their place: empty where they are taken
+abbrev pub faults_of : List Text → Kinds
+faults_of words = or_else (fault_of yanglive words) (format_fault (subcommand_of yanglive words))
+
+-- the same of what words mean
+abbrev pub refusals : List Text → Kinds
+refusals words = faults_of (meant words)
+
+-- ---- what they ask for
+
+-- how a document is taken, and what is made of it
+abbrev pub options_of : List Row → spec.Options
+options_of rows = record {
+  is_strict = is_given (codes "strict") rows;
+  as_json = bytes_eq (format_of rows) (codes "json");
+  is_dump = is_given (codes "dump") rows;
+  saved_as = first_of (codes "output") rows;
+}
 
 -- what the arguments of a command ask for
 abbrev pub explanation_of : List Row → spec.Request
@@ -54,10 +93,10 @@ abbrev pub drawing_of : List Row → spec.Request
 drawing_of rows = draw (value_of (codes "NAME") rows) (modules_of rows)
 
 abbrev pub validation_of : List Row → spec.Request
-validation_of rows = validate (value_of (codes "DATA") rows) (modules_of rows)
+validation_of rows = validate (options_of rows) (value_of (codes "DATA") rows) (modules_of rows)
 
 abbrev pub edition_of : List Row → spec.Request
-edition_of rows = edit (is_given (codes "dump") rows) (value_of (codes "DATA") rows)
+edition_of rows = edit (options_of rows) (value_of (codes "DATA") rows)
     (value_of (codes "SCRIPT") rows) (modules_of rows)
 
 -- what the command of a name asks for
@@ -86,13 +125,21 @@ asks_reasons words = explained_by (subcommand_of yanglive (meant words))
 
 -- ---- the code's values as these
 
+abbrev pub options_view : Options → spec.Options
+options_view o = record {
+  is_strict = o.is_strict;
+  as_json = o.as_json;
+  is_dump = o.is_dump;
+  saved_as = option_map (λ name. name.now) o.saved_as;
+}
+
 abbrev pub view : Request → spec.Request
 view (requests.Explain names) = explain (map (λ name. name.now) names.items)
 view (requests.Compile modules) = compile (map (λ name. name.now) modules.items)
 view (requests.Tree name modules) = draw name.now (map (λ name. name.now) modules.items)
-view (requests.Validate document modules) = validate document.now (map (λ name. name.now) modules.items)
-view (requests.Edit is_dump document script modules) =
-    edit is_dump document.now script.now (map (λ name. name.now) modules.items)
+view (requests.Validate options document modules) = validate (options_view options) document.now (map (λ name. name.now) modules.items)
+view (requests.Edit options document script modules) =
+    edit (options_view options) document.now script.now (map (λ name. name.now) modules.items)
 
 -- ---- what comes in place of a request
 
@@ -119,12 +166,26 @@ Declines kinds (none.Help text) = asks_help kinds ≡ true
 Declines kinds (none.Refused text) = (kinds ≡ [] → ⊥) × (asks_help kinds ≡ false)
 Declines kinds none.Memory = Unit {0}
 
--- words are taken exactly where clap takes them, and then their request is the definition's
+-- words are taken exactly where nothing is wrong with them, and then their request is the definition's
 abbrev pub Takes : List Text → Result CommandLine NoRequest → Type 0
-Takes words (Ok line) = (fault_of yanglive words ≡ [])
+Takes words (Ok line) = (faults_of words ≡ [])
     × (view line.request ≡ asked_by (subcommand_of yanglive words))
     × (line.with_reasons ≡ explained_by (subcommand_of yanglive words))
-Takes words (Err answer) = Declines (fault_of yanglive words) answer
+Takes words (Err answer) = Declines (faults_of words) answer
+
+-- what a format that isn't known comes to
+abbrev pub RefusesFormat : NoRequest → Type 0
+RefusesFormat (none.Help text) = ⊥
+RefusesFormat (none.Refused text) = Unit {0}
+RefusesFormat none.Memory = Unit {0}
+
+-- of what clap takes, a format that isn't known is refused
+abbrev pub TakesFormat : Option (Text × List Row) → Result CommandLine NoRequest → Type 0
+TakesFormat command (Ok line) = (unknown_format command ≡ None) × (view line.request ≡ asked_by command)
+    × (line.with_reasons ≡ explained_by command)
+TakesFormat command (Err (none.Help text)) = ⊥
+TakesFormat command (Err (none.Refused text)) = unknown_format command ≡ None → ⊥
+TakesFormat command (Err none.Memory) = Unit {0}
 
 -- so for what words mean
 abbrev pub Understands : List Text → Result CommandLine NoRequest → Type 0

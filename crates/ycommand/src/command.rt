@@ -1,10 +1,10 @@
 //! What the words of a command line ask for.
 
-ghost use Rattle.std.specs.Prelude.{◌≡◌, codes, map, string_bytes, true, IfOk};
-ghost use Rattle.clap.specs.Words.{app_of, fault_of, found_of, kind_of, rows_of, subcommand_rows_of};
-ghost use Rattle.ycommand.specs.Application.{IsArgument, IsCommand, any_number, compile_app, edit_app, explain_app, flag, over_files, tree_app, validate_app, wanted, wanted_all, yanglive};
+ghost use Rattle.std.specs.Prelude.{◌≡◌, codes, map, string_bytes, true, IfOk, option_map};
+ghost use Rattle.clap.specs.Words.{app_of, fault_of, first_of, found_of, kind_of, rows_of, subcommand_rows_of};
+ghost use Rattle.ycommand.specs.Application.{IsArgument, IsCommand, any_number, compile_app, edit_app, explain_app, flag, option, over_document, over_files, tree_app, validate_app, wanted, wanted_all, yanglive};
 ghost use Rattle.ycommand.specs.Command as spec;
-ghost use Rattle.ycommand.specs.Command.{Declines, Explains, Takes, Understands, asks_help, asked_by, asked_of, compilation_of, drawing_of, edition_of, explained_by, explanation_of, is_given, modules_of, validation_of, view};
+ghost use Rattle.ycommand.specs.Command.{Declines, Explains, RefusesFormat, Takes, TakesFormat, Understands, asks_help, asked_by, asked_of, compilation_of, drawing_of, edition_of, explained_by, explanation_of, format_of, is_given, modules_of, options_of, options_view, validation_of, view};
 ghost use Rattle.ycommand.specs.declared.command.NoRequest.TheVariants.{Memory};
 
 use clap::error::ErrorKind;
@@ -17,6 +17,19 @@ use thiserror::Error;
 pub struct CommandLine<'a> {
     pub request: Request<'a>,
     pub with_reasons: bool,
+}
+
+/// How a document is taken, and what is made of it.
+#[derive(Clone, Copy, Debug)]
+pub struct Options<'a> {
+    /// A document with a member that comes twice is refused.
+    pub is_strict: bool,
+    /// Faults are told as JSON.
+    pub as_json: bool,
+    /// The document is printed in place of its faults.
+    pub is_dump: bool,
+    /// The file to which the document is written at the end.
+    pub saved_as: Option<&'a str>,
 }
 
 /// What a command asks for. Files are named by the words that were given.
@@ -37,12 +50,13 @@ pub enum Request<'a> {
     },
     /// The faults of a document under modules.
     Validate {
+        options: Options<'a>,
         document: &'a str,
         modules: Vec<&'a str>,
     },
-    /// The same after the edits of a script; or, where it is to be dumped, the document then.
+    /// The same after the edits of a script.
     Edit {
-        is_dump: bool,
+        options: Options<'a>,
         document: &'a str,
         script: &'a str,
         modules: Vec<&'a str>,
@@ -184,6 +198,41 @@ fn modules_argument<'a>(alloc: Global) -> Arg<'a>
         .num_args(1..)
 }
 
+/// `--strict`
+fn strict_argument<'a>(alloc: Global) -> Arg<'a>
+    ensures { IsArgument (flag (codes "strict")) result }
+{
+    Arg::new(alloc, "strict")
+        .long("strict")
+        .action(ArgAction::SetTrue)
+        .help("Refuses a document with a member that comes twice in one object")
+}
+
+/// `--format FORMAT`
+fn format_argument<'a>(alloc: Global) -> Arg<'a>
+    ensures { IsArgument (option (codes "format")) result }
+{
+    Arg::new(alloc, "format")
+        .long("format")
+        .action(ArgAction::Set)
+        .value_name("FORMAT")
+        .help("How faults are printed: text, or json for an object a line")
+}
+
+/// A command over a document, with its texts for help.
+fn command_over_document<'a>(
+    alloc: Global,
+    name: &'a str,
+    about: &'a str,
+    help: &'a str,
+) -> Result<Command<'a>, AllocError>
+    ensures { IfOk result (IsCommand (over_document name.entry.now)) }
+{
+    command_over_files(alloc, name, about, help)?
+        .arg(strict_argument(alloc))?
+        .arg(format_argument(alloc))
+}
+
 /// The document.
 fn document_argument<'a>(alloc: Global) -> Arg<'a>
     ensures { IsArgument (wanted (codes "DATA")) result }
@@ -229,11 +278,11 @@ fn tree_command<'a>(alloc: Global) -> Result<Command<'a>, AllocError>
     .arg(modules_argument(alloc))
 }
 
-/// `validate [--explain] DATA MODULE..`
+/// `validate [--explain] [--strict] [--format FORMAT] DATA MODULE..`
 fn validate_command<'a>(alloc: Global) -> Result<Command<'a>, AllocError>
     ensures { IfOk result (IsCommand validate_app) }
 {
-    command_over_files(
+    command_over_document(
         alloc,
         "validate",
         "Prints the faults of a document under modules",
@@ -262,17 +311,29 @@ fn dump_argument<'a>(alloc: Global) -> Arg<'a>
         .help("Prints the edited document in place of its faults")
 }
 
-/// `edit [--explain] [--dump] DATA SCRIPT MODULE..`
+/// `--output FILE`
+fn output_argument<'a>(alloc: Global) -> Arg<'a>
+    ensures { IsArgument (option (codes "output")) result }
+{
+    Arg::new(alloc, "output")
+        .long("output")
+        .action(ArgAction::Set)
+        .value_name("FILE")
+        .help("Writes the edited document to FILE, once all else is printed")
+}
+
+/// `edit [--explain] [--strict] [--format FORMAT] [--dump] [--output FILE] DATA SCRIPT MODULE..`
 fn edit_command<'a>(alloc: Global) -> Result<Command<'a>, AllocError>
     ensures { IfOk result (IsCommand edit_app) }
 {
-    command_over_files(
+    command_over_document(
         alloc,
         "edit",
         "Edits a document, and prints its faults then",
         EDIT_HELP,
     )?
     .arg(dump_argument(alloc))?
+    .arg(output_argument(alloc))?
     .arg(document_argument(alloc))?
     .arg(script_argument(alloc))?
     .arg(modules_argument(alloc))
@@ -330,6 +391,32 @@ fn has_flag(found: &ArgMatches<'_>, name: &str) -> bool
     found.get_str(name).unwrap_or("") == "true"
 }
 
+/// How faults are to be told.
+fn format_in<'a>(found: &ArgMatches<'a>) -> &'a str
+    ensures { result.now ≡ format_of (rows_of (found_of found.now)) }
+{
+    found.get_str("format").unwrap_or("text")
+}
+
+/// The file of the name that an option gives.
+fn output_in<'a>(found: &ArgMatches<'a>) -> Option<&'a str>
+    ensures { option_map (λ name. name.now) result ≡ first_of (codes "output") (rows_of (found_of found.now)) }
+{
+    found.get_str("output")
+}
+
+/// How a document is taken, and what is made of it.
+fn options_in<'a>(found: &ArgMatches<'a>) -> Options<'a>
+    ensures { options_view result ≡ options_of (rows_of (found_of found.now)) }
+{
+    Options {
+        is_strict: has_flag(found, "strict"),
+        as_json: format_in(found) == "json",
+        is_dump: has_flag(found, "dump"),
+        saved_as: output_in(found),
+    }
+}
+
 /// What the arguments of `explain` ask for.
 fn explanation_in<'a>(alloc: Global, found: &ArgMatches<'a>) -> Result<Request<'a>, AllocError>
     ensures { IfOk result (λ r. view r ≡ explanation_of (rows_of (found_of found.now))) }
@@ -359,21 +446,26 @@ fn drawing_in<'a>(alloc: Global, found: &ArgMatches<'a>) -> Result<Request<'a>, 
 fn validation_in<'a>(alloc: Global, found: &ArgMatches<'a>) -> Result<Request<'a>, AllocError>
     ensures { IfOk result (λ r. view r ≡ validation_of (rows_of (found_of found.now))) }
 {
+    let options = options_in(found);
     let document = found.get_str("DATA").unwrap_or("");
     let modules = modules_in(alloc, found)?;
-    Ok(Request::Validate { document, modules })
+    Ok(Request::Validate {
+        options,
+        document,
+        modules,
+    })
 }
 
 /// What the arguments of `edit` ask for.
 fn edition_in<'a>(alloc: Global, found: &ArgMatches<'a>) -> Result<Request<'a>, AllocError>
     ensures { IfOk result (λ r. view r ≡ edition_of (rows_of (found_of found.now))) }
 {
-    let is_dump = has_flag(found, "dump");
+    let options = options_in(found);
     let document = found.get_str("DATA").unwrap_or("");
     let script = found.get_str("SCRIPT").unwrap_or("");
     let modules = modules_in(alloc, found)?;
     Ok(Request::Edit {
-        is_dump,
+        options,
         document,
         script,
         modules,
@@ -418,6 +510,55 @@ fn line_in<'a>(alloc: Global, matches: &ArgMatches<'a>) -> Result<CommandLine<'a
     }
 }
 
+/// A format that isn't known.
+fn unknown_format<'a>(matches: &ArgMatches<'a>) -> Option<&'a str>
+    ensures { option_map (λ name. name.now) result ≡ spec.unknown_format (subcommand_rows_of matches.now) }
+{
+    match matches.subcommand() {
+        Some((_, found)) => {
+            let format = format_in(found);
+            if is_format(format) {
+                None
+            } else {
+                Some(format)
+            }
+        }
+        None => None,
+    }
+}
+
+/// Whether faults can be told so.
+fn is_format(name: &str) -> bool
+    ensures { result ≡ spec.is_format name.now }
+{
+    name == "text" || name == "json"
+}
+
+/// The refusal of a format that isn't known.
+fn format_refusal(alloc: Global, format: &str) -> NoRequest
+    ensures { RefusesFormat result }
+{
+    match format!(in alloc;
+        "error: invalid value '{format}' for '--format <FORMAT>'\n  [possible values: text, json]\n\nFor more information, try '--help'.\n"
+    ) {
+        Ok(text) => NoRequest::Refused(text),
+        Err(_) => NoRequest::Memory,
+    }
+}
+
+/// What words ask for that clap takes.
+fn line_or_refusal<'a>(
+    alloc: Global,
+    matches: &ArgMatches<'a>,
+) -> Result<CommandLine<'a>, NoRequest>
+    ensures { TakesFormat (subcommand_rows_of matches.now) result }
+{
+    match unknown_format(matches) {
+        Some(format) => Err(format_refusal(alloc, format)),
+        None => Ok(line_in(alloc, matches)?),
+    }
+}
+
 /// What clap's error comes to.
 fn without_request(alloc: Global, error: &clap::Error) -> NoRequest
     ensures { Explains (kind_of error.now) result }
@@ -438,7 +579,7 @@ fn taken_words<'a>(alloc: Global, words: &'a [String]) -> Result<CommandLine<'a>
     ensures { Takes (map string_bytes words.entry.now) result }
 {
     match application(alloc)?.try_get_matches_from(words) {
-        Ok(matches) => Ok(line_in(alloc, &matches)?),
+        Ok(matches) => line_or_refusal(alloc, &matches),
         Err(error) => Err(without_request(alloc, &error)),
     }
 }
@@ -446,7 +587,7 @@ fn taken_words<'a>(alloc: Global, words: &'a [String]) -> Result<CommandLine<'a>
 /// The help for which words ask.
 fn help_for(alloc: Global, words: &[&str]) -> NoRequest
     requires { asks_help (fault_of yanglive (map (λ word. word.now) words.now)) ≡ true }
-    ensures { Declines (fault_of yanglive (map (λ word. word.now) words.now)) result }
+    ensures { Declines (spec.faults_of (map (λ word. word.now) words.now)) result }
 {
     match application(alloc) {
         Ok(application) => match application.try_get_matches_from(words) {

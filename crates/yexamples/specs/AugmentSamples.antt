@@ -1,9 +1,9 @@
 -- Worked examples: modules that augment one another, and the schema that they make or what is told of them.
-use Rattle.std.specs.Prelude.{List, [], ◌∷◌, ◌++◌, map, codes, true, Option, Some, Result, Ok}
+use Rattle.std.specs.Prelude.{List, [], ◌∷◌, ◌++◌, map, codes, Option, Some, Result, Ok}
 use Rattle.yspec.specs.Forest.{Forest}
 use Rattle.yspec.specs.text.Text.{Text}
 use Rattle.yspec.specs.edit.Examples.{module_text}
-use Rattle.yprogram.specs.Output.{Printed, compile, edit, validate}
+use Rattle.yprogram.specs.Output.{Printed, as_dump, compile, edit, plainly, validate}
 use Rattle.yexamples.specs.Printing.{printed_by}
 use Rattle.yspec.specs.schema.Breaks.{Break}
 use Rattle.yspec.specs.schema.Schema.{Schema}
@@ -59,9 +59,9 @@ abbrev pub counted_of_three : Printed
 counted_of_three = printed_by (compile three_names) three_files
 
 abbrev pub shown_of_three : Text → Printed
-shown_of_three document = printed_by (validate (codes "d.json") three_names) (three_files ++ Some document ∷ [])
+shown_of_three document = printed_by (validate plainly (codes "d.json") three_names) (three_files ++ Some document ∷ [])
 
 -- what `edit --dump` prints of a document and a script
 abbrev pub dumped_of_three : Text → Text → Printed
 dumped_of_three document script =
-    printed_by (edit true (codes "d.json") (codes "s.txt") three_names) (three_files ++ Some document ∷ Some script ∷ [])
+    printed_by (edit as_dump (codes "d.json") (codes "s.txt") three_names) (three_files ++ Some document ∷ Some script ∷ [])

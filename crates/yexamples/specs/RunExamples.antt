@@ -1,5 +1,5 @@
 -- Worked examples: runs of the commands over modules and documents whose faults and refusals are known from the standard's rules.
-use Rattle.std.specs.Prelude.{true, false, ◌++◌, [], ◌∷◌, codes, Option, Some, option_map, option_and_then}
+use Rattle.std.specs.Prelude.{true, ◌++◌, [], ◌∷◌, codes, Option, Some, None, option_map, option_and_then}
 use Rattle.std.specs.Result.{result_ok}
 use Rattle.yspec.specs.text.Text.{Text}
 use Rattle.yspec.specs.text.Statement.{module_of}
@@ -9,7 +9,7 @@ use Rattle.yspec.specs.document.Reading.{document_of}
 use Rattle.yspec.specs.document.Writing.{written_text}
 use Rattle.yspec.specs.edit.Examples.{module_p, module_text}
 use Rattle.ycodes.specs.Codes.{reason_of}
-use Rattle.yprogram.specs.Output.{Printed, compile, draw, edit, outcome, printed, validate}
+use Rattle.yprogram.specs.Output.{Printed, as_dump, compile, draw, edit, outcome, plainly, printed, validate}
 use Rattle.yexamples.specs.Printing.{found, printed_by}
 
 -- a mandatory leaf in a container in a container
@@ -20,17 +20,17 @@ nested_module = module_text (codes "q") (codes "  container a {\n    container b
 -- what `validate d.json m.yang` prints of a module's text and a document's
 abbrev pub shown : Text → Text → Printed
 shown module_bytes document =
-    printed_by (validate (codes "d.json") (codes "m.yang" ∷ [])) (Some module_bytes ∷ Some document ∷ [])
+    printed_by (validate plainly (codes "d.json") (codes "m.yang" ∷ [])) (Some module_bytes ∷ Some document ∷ [])
 
 -- the same of two modules' texts
 abbrev pub shown_of_two : Text → Text → Text → Printed
 shown_of_two first second document =
-    printed_by (validate (codes "d.json") (codes "m.yang" ∷ codes "n.yang" ∷ [])) (Some first ∷ Some second ∷ Some document ∷ [])
+    printed_by (validate plainly (codes "d.json") (codes "m.yang" ∷ codes "n.yang" ∷ [])) (Some first ∷ Some second ∷ Some document ∷ [])
 
 -- the same of one module, with the reasons of what is told
 abbrev pub shown_with_reasons : Text → Text → Printed
 shown_with_reasons module_bytes document =
-    printed true (outcome (validate (codes "d.json") (codes "m.yang" ∷ [])) (Some module_bytes ∷ Some document ∷ []))
+    printed true (outcome (validate plainly (codes "d.json") (codes "m.yang" ∷ [])) (Some module_bytes ∷ Some document ∷ []))
 
 -- the line of a fault, what is said of its place, and why its code is told
 abbrev pub with_reasons : Text → Text → Text → Text
@@ -42,11 +42,11 @@ one_with_reasons line said code = found 1 (with_reasons line said code ++ codes 
 
 -- a document that is refused in a line: what is said of what stands at its place, and why its code is told
 abbrev pub refused_with_reasons : Text → Text → Text → Printed
-refused_with_reasons line said code = record { output = []; errors = with_reasons line said code; status = 2 }
+refused_with_reasons line said code = record { output = []; errors = with_reasons line said code; status = 2; saved = None }
 
 -- what an edit of a small document under module p by a script dumps, with the reasons of what is told
 abbrev pub edited_with_reasons : Text → Printed
-edited_with_reasons script = printed true (outcome (edit true (codes "d.json") (codes "s.txt") (codes "m.yang" ∷ []))
+edited_with_reasons script = printed true (outcome (edit as_dump (codes "d.json") (codes "s.txt") (codes "m.yang" ∷ []))
     (Some module_p ∷ Some (codes "{\"p:c\":{\"id\":1}}") ∷ Some script ∷ []))
 
 -- what one prints under module p
@@ -80,14 +80,14 @@ drawn_as name module_bytes = printed_by (draw name (codes "m.yang" ∷ [])) (Som
 
 -- what `edit d.json s.txt m.yang` prints of a module's text, a document's and a script's
 abbrev pub scripted : Text → Text → Text → Printed
-scripted module_bytes document script = printed_by (edit false (codes "d.json") (codes "s.txt") (codes "m.yang" ∷ []))
+scripted module_bytes document script = printed_by (edit plainly (codes "d.json") (codes "s.txt") (codes "m.yang" ∷ []))
     (Some module_bytes ∷ Some document ∷ Some script ∷ [])
 
 -- the same with `--dump`
 abbrev pub dumped : Text → Text → Text → Printed
-dumped module_bytes document script = printed_by (edit true (codes "d.json") (codes "s.txt") (codes "m.yang" ∷ []))
+dumped module_bytes document script = printed_by (edit as_dump (codes "d.json") (codes "s.txt") (codes "m.yang" ∷ []))
     (Some module_bytes ∷ Some document ∷ Some script ∷ [])
 
 -- what is printed on both sides where there is a fault, or a refused edit
 abbrev pub faulty : Text → Text → Printed
-faulty errors output = record { output = output; errors = errors; status = 1 }
+faulty errors output = record { output = output; errors = errors; status = 1; saved = None }

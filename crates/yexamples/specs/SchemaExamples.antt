@@ -11,7 +11,7 @@ use Rattle.yspec.specs.document.Writing.{written_text}
 use Rattle.yspec.specs.document.Faults.{faults_of}
 use Rattle.yspec.specs.edit.EditText.{Edit}
 use Rattle.yspec.specs.edit.Editing.{Decision, after, decisions}
-use Rattle.yprogram.specs.Output.{Printed, printed, with_tree, report, edited}
+use Rattle.yprogram.specs.Output.{Printed, plainly, printed, with_tree, report, edited}
 use Rattle.yprogram.specs.Part.{spelled}
 use Rattle.yspec.specs.edit.Examples.{edits_of}
 
@@ -142,7 +142,7 @@ m_schema = record {
 -- what is printed of a document under a schema
 abbrev pub shown_under : Schema → Text → Printed
 shown_under schema document =
-    printed false (with_tree schema (codes "d.json") document (document_of schema document) (λ tree. edited false schema tree []))
+    printed false (with_tree schema (codes "d.json") document (document_of schema document) (λ tree. edited plainly schema tree []))
 
 -- the first refusal of a document where there is room for so many nodes
 abbrev pub refused_within : ℕ → Schema → Text → Option Refusal

@@ -3,7 +3,7 @@
 ghost use Rattle.std.specs.Prelude.{◌≡◌, ◌++◌, [], ◌∷◌, Some, codes, false, true};
 ghost use Rattle.yexamples.specs.CompilingSamples.{net_module, k_module, t_module, restricted_module};
 ghost use Rattle.yexamples.specs.Printing.{failed, found};
-ghost use Rattle.yprogram.specs.Output.{compile, edit, explain, outcome, printed, validate};
+ghost use Rattle.yprogram.specs.Output.{as_dump, compile, edit, explain, outcome, plainly, printed, validate};
 ghost use Rattle.yprogram.specs.Script.{lines_of};
 ghost use Rattle.yexamples.specs.SchemaExamples.{hosts, one_host};
 ghost use Rattle.yspec.specs.edit.Examples.{module_p, module_text};
@@ -150,13 +150,13 @@ pub fn derived_values()
 
 /// What is said of codes: by the command, and where it is asked for below the lines that tell them.
 pub fn reasons()
-    ensures of_a_fault { printed true (outcome (validate (codes "d.json") (codes "m.yang" ∷ []))
+    ensures of_a_fault { printed true (outcome (validate plainly (codes "d.json") (codes "m.yang" ∷ []))
         (Some module_p ∷ Some (codes "{\"p:c\":{}}") ∷ []))
         ≡ found 1 (codes "V3 data-missing - /p:c/id -\n  /p:c: id is missing.\n  A leaf that must be there is missing. Add it, or take the node out around which it must be there.\n1 faults\n") }
-    ensures unasked { printed false (outcome (validate (codes "d.json") (codes "m.yang" ∷ []))
+    ensures unasked { printed false (outcome (validate plainly (codes "d.json") (codes "m.yang" ∷ []))
         (Some module_p ∷ Some (codes "{\"p:c\":{}}") ∷ []))
         ≡ found 1 (codes "V3 data-missing - /p:c/id -\n1 faults\n") }
-    ensures of_a_value { printed true (outcome (edit true (codes "d.json") (codes "s.txt") (codes "m.yang" ∷ []))
+    ensures of_a_value { printed true (outcome (edit as_dump (codes "d.json") (codes "s.txt") (codes "m.yang" ∷ []))
         (Some module_p ∷ Some (codes "{\"p:c\":{\"id\":1}}") ∷ Some (codes "replace /p:c []") ∷ []))
         ≡ faulty (codes "line 1: E10 J5\n  an array stands where an object is due.\n  A value is of another kind than its node: no object for a container or an entry, no array for a list or leaf-list. Write a container as an object, a list as an array of objects, a leaf-list as an array of values, an empty leaf as [null].\n")
         (codes "{\"p:c\":{\"id\":1}}\n") }
@@ -205,7 +205,7 @@ pub fn explained_faults()
     ensures no_target { shown_with_reasons net_module
         (hosts (codes "{\"name\":\"a\",\"auto\":[null],\"uplink\":\"b\"}"))
         ≡ one_with_reasons (codes "V11 data-missing instance-required /ex-net:net/host[1]/uplink -") (codes "/ex-net:net/host[name='a']/uplink: no instance of /ex-net:net/host/name is \"b\".") (codes "V11") }
-    ensures after_edits { printed true (outcome (edit false (codes "d.json") (codes "s.txt") (codes "m.yang" ∷ []))
+    ensures after_edits { printed true (outcome (edit plainly (codes "d.json") (codes "s.txt") (codes "m.yang" ∷ []))
         (Some module_p ∷ Some (codes "{\"p:c\":{\"id\":1}}")
         ∷ Some (codes "replace /p:c/id 300") ∷ []))
         ≡ one_with_reasons (codes "V1 invalid-value - /p:c/id -") (codes "/p:c/id: 300 isn't a value of uint8.") (codes "V1") }
@@ -224,7 +224,7 @@ pub fn explained_refusals()
         ≡ refused_with_reasons (codes "d.json: J4 /p:c") (codes "here \"p:id\" is written id.") (codes "J4") }
     ensures another_kind { shown_with_reasons module_p (codes "{\"p:c\":[]}")
         ≡ refused_with_reasons (codes "d.json: J5 /p:c") (codes "an array stands where an object is due.") (codes "J5") }
-    ensures before_edits { printed true (outcome (edit true (codes "d.json") (codes "s.txt") (codes "m.yang" ∷ []))
+    ensures before_edits { printed true (outcome (edit as_dump (codes "d.json") (codes "s.txt") (codes "m.yang" ∷ []))
         (Some module_p ∷ Some (codes "{\"p:c\":{\"id\":{}}}") ∷ Some [] ∷ []))
         ≡ refused_with_reasons (codes "d.json: J5 /p:c/id") (codes "an object stands where a leaf's value is due.") (codes "J5") }
     ensures nothing_more { shown_with_reasons module_p (codes "{\"p:c\":{\"id\":1.5}}")

@@ -1,7 +1,7 @@
 //! Worked examples, from the bytes of a module and a document to the bytes that are printed.
 
 ghost use Rattle.std.specs.Prelude.{◌≡◌, ◌++◌, [], ◌∷◌, codes, Some, None};
-ghost use Rattle.yprogram.specs.Output.{validate};
+ghost use Rattle.yprogram.specs.Output.{plainly, validate};
 ghost use Rattle.yexamples.specs.Printing.{failed, found, printed_by};
 ghost use Rattle.yspec.specs.edit.Examples.{module_text, module_p, container_module};
 ghost use Rattle.yexamples.specs.RunExamples.{shown, shown_of_two, shown_by_p, compiled_alone, without_faults, nested_module, rewritten};
@@ -100,9 +100,9 @@ pub fn sets_of_modules()
 
 /// The first file that can't be read is told, and nothing else.
 pub fn unread_files()
-    ensures of_a_document { printed_by (validate (codes "d.json") (codes "m.yang" ∷ [])) (Some module_p
+    ensures of_a_document { printed_by (validate plainly (codes "d.json") (codes "m.yang" ∷ [])) (Some module_p
         ∷ None ∷ [])
         ≡ failed 4 (codes "cannot read d.json") }
-    ensures of_a_module { printed_by (validate (codes "d.json") (codes "m.yang" ∷ [])) (None ∷ [])
+    ensures of_a_module { printed_by (validate plainly (codes "d.json") (codes "m.yang" ∷ [])) (None ∷ [])
         ≡ failed 4 (codes "cannot read m.yang") }
 {}

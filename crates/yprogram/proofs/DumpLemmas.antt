@@ -10,7 +10,7 @@ use Rattle.yspec.specs.document.Fitting.{FitsBy}
 use Rattle.yspec.specs.document.Writing.{IsDocument}
 use Rattle.yprogram.specs.Part.{plain, spelled}
 use Rattle.yprogram.specs.Script.{after_lines, lines_of}
-use Rattle.yprogram.specs.Output.{Outcome, dump, edit, edited, first_file, outcome, printed, validate, with_document, with_files, with_first, with_tree}
+use Rattle.yprogram.specs.Output.{Options, Outcome, as_dump, dump, edit, edited, first_file, outcome, plainly, printed, validate, with_document, with_files, with_first, with_tree}
 use Rattle.yspec.proofs.DocumentProofs.ReadTextLemmas.{HoldsText, read_holds}
 use Rattle.yspec.proofs.DocumentProofs.ReadWholeLemmas.{read_whole}
 use Rattle.yspec.proofs.DocumentProofs.RightNodeLemmas.{read_within}
@@ -84,25 +84,25 @@ module _ (document script : Text) (names : List Text) (answers : List (Option (L
 
   -- another document under the same modules is validated so
   validated : (run : HasRun) (name : Text) (bytes : List ℕ) (tree : Tree) → document_of run.code.schema bytes ≡ Ok tree
-      → outcome (validate name names) (take (length names) answers ++ Some bytes ∷ []) ≡ edited false run.code.schema tree []
+      → outcome (validate plainly name names) (take (length names) answers ++ Some bytes ∷ []) ≡ edited plainly run.code.schema tree []
   unfolding outcome
   validated run name bytes tree found =
-      let next : Next = λ schema tree files. edited false schema tree [] in
+      let next : Next = λ schema tree files. edited plainly schema tree [] in
       run.files.read.again (name ∷ []) (Some bytes ∷ []) (λ contents. with_document name names contents next)
       ∙ (run.code.is (bytes ∷ []) (with_first name next)
-      ∙ with_found run.code.schema name bytes tree (λ tree. edited false run.code.schema tree []) found)
+      ∙ with_found run.code.schema name bytes tree (λ tree. edited plainly run.code.schema tree []) found)
 
   -- the document after the lines of the script
   abbrev left_by : HasRun → Tree
   left_by run = after_lines run.code.schema run.tree (lines_of run.files.lines)
 
-  run_is : (is_dump : Bool) (run : HasRun) → outcome (edit is_dump document script names) answers ≡ edited is_dump run.code.schema run.tree (lines_of run.files.lines)
+  run_is : (options : Options) (run : HasRun) → outcome (edit options document script names) answers ≡ edited options run.code.schema run.tree (lines_of run.files.lines)
   unfolding outcome
-  run_is is_dump run = made_is run (λ schema tree files. edited is_dump schema tree (lines_of (first_file files)))
+  run_is options run = made_is run (λ schema tree files. edited options schema tree (lines_of (first_file files)))
 
-  run_of : (is_dump : Bool) → IsReport (outcome (edit is_dump document script names) answers) → HasRun
+  run_of : (options : Options) → IsReport (outcome (edit options document script names) answers) → HasRun
   unfolding outcome
-  run_of is_dump shown = has_run (λ schema tree files. edited is_dump schema tree (lines_of (first_file files))) shown
+  run_of options shown = has_run (λ schema tree files. edited options schema tree (lines_of (first_file files))) shown
 
   -- what is dumped of it reads as it
   dump_read : (run : HasRun) → document_of run.code.schema (dump run.code.schema (left_by run)) ≡ Ok (left_by run)
@@ -118,13 +118,13 @@ module _ (document script : Text) (names : List Text) (answers : List (Option (L
       ended_read s t numbered differ (linked_bare run.code.top s run.code.compiles) (linked_within run.code.top s run.code.compiles)
       (linked_texts run.code.top s run.code.compiles) whole holds within
 
-  pub dump_validated : (name : Text) → let shown = outcome (edit false document script names) answers in
-      let dumped = (printed false (outcome (edit true document script names) answers)).output in
-      let again = outcome (validate name names) (take (length names) answers ++ Some dumped ∷ []) in
+  pub dump_validated : (name : Text) → let shown = outcome (edit plainly document script names) answers in
+      let bytes = (printed false (outcome (edit as_dump document script names) answers)).output in
+      let again = outcome (validate plainly name names) (take (length names) answers ++ Some bytes ∷ []) in
       IsReport shown → (again.output ≡ shown.output) × (again.errors ≡ [])
   dump_validated name shown =
-      let run = run_of false shown in
+      let run = run_of plainly shown in
       let s = run.code.schema in
-      let again = λ (bytes : List ℕ). outcome (validate name names) (take (length names) answers ++ Some bytes ∷ []) in
-      let is = ap again (ap (λ (o : Outcome). (printed false o).output) (run_is true run) ∙ alone (dump s (left_by run))) ∙ validated run name (dump s (left_by run)) (left_by run) (dump_read run) in
-      (ap (λ (o : Outcome). o.output) is ∙ sym (ap (λ (o : Outcome). o.output) (run_is false run)), ap (λ (o : Outcome). o.errors) is)
+      let again = λ (bytes : List ℕ). outcome (validate plainly name names) (take (length names) answers ++ Some bytes ∷ []) in
+      let is = ap again (ap (λ (o : Outcome). (printed false o).output) (run_is as_dump run) ∙ alone (dump s (left_by run))) ∙ validated run name (dump s (left_by run)) (left_by run) (dump_read run) in
+      (ap (λ (o : Outcome). o.output) is ∙ sym (ap (λ (o : Outcome). o.output) (run_is plainly run)), ap (λ (o : Outcome). o.errors) is)

@@ -1,5 +1,5 @@
 -- What a run of the program prints, as a function of the files that it asks for and of what they contain.
-use Rattle.std.specs.Prelude.{ℕ, ◌++◌, ◌&&◌, Bool, false, List, [], ◌∷◌, length, map, codes, decimal, Option, Some, None, Result, Ok, Err, if◌then◌else◌, ◌==◌, position, slice_get, unwrap_or}
+use Rattle.std.specs.Prelude.{ℕ, ◌++◌, ◌&&◌, Bool, false, List, [], ◌∷◌, length, map, codes, decimal, Option, Some, None, Result, Ok, Err, if◌then◌else◌, ◌==◌, option_map, position, slice_get, unwrap_or}
 use Rattle.std.specs.List.{flat_map}
 use Rattle.ycodes.specs.Codes.{all_explanations, explained, explanations_of, reason_of, unknown_among}
 use Rattle.yspec.specs.Forest.{Forest, end, join, size}
@@ -21,6 +21,23 @@ use Rattle.yprogram.specs.Hint.{break_hint, hinted, line_hint, refusal_hint}
 use Rattle.yprogram.specs.Part.{Part, line_about, plain, spelled}
 use Rattle.yprogram.specs.Script.{after_lines, lines_of, refused_lines}
 
+-- how a document is taken, and what is made of it
+pub record Options : Type 0 where
+  -- one with a member that comes twice is refused
+  pub is_strict : Bool
+  -- faults are told as JSON
+  pub as_json : Bool
+  -- the document is printed in place of its faults
+  pub is_dump : Bool
+  -- the file to which the document is written at the end
+  pub saved_as : Option Text
+
+abbrev pub plainly : Options
+plainly = record { is_strict = false; as_json = false; is_dump = false; saved_as = None }
+
+abbrev pub as_dump : Options
+as_dump = record plainly { is_dump = true }
+
 -- what the words of a command line ask for
 pub data Request : Type 0 where
   -- what is said of codes; of all where none is named
@@ -30,32 +47,39 @@ pub data Request : Type 0 where
   -- the tree diagram of the module of a name
   draw : Text → List Text → Request
   -- the faults of a document under modules
-  validate : Text → List Text → Request
-  -- the same after the edits of a script; or, where it is to be dumped, the document then
-  edit : Bool → Text → Text → List Text → Request
+  validate : Options → Text → List Text → Request
+  -- the same after the edits of a script
+  edit : Options → Text → Text → List Text → Request
 
--- what goes to both sides, and the exit status
+-- a file with what it is to contain
+pub record SavedFile : Type 0 where
+  pub name : Text
+  pub text : List ℕ
+
+-- what goes to both sides, the exit status, and the file that is written once all else is
 pub record Outcome : Type 0 where
   pub output : List Part
   pub errors : List Part
   pub status : ℕ
+  pub saved : Option SavedFile
 
--- both sides' bytes, and the exit status
+-- both sides' bytes, the exit status, and that file
 pub record Printed : Type 0 where
   pub output : List ℕ
   pub errors : List ℕ
   pub status : ℕ
+  pub saved : Option SavedFile
 
 -- what an outcome prints, with or without the reasons of its parts
 abbrev pub printed : Bool → Outcome → Printed
 printed with_reasons o =
-    record { output = spelled with_reasons o.output; errors = spelled with_reasons o.errors; status = o.status }
+    record { output = spelled with_reasons o.output; errors = spelled with_reasons o.errors; status = o.status; saved = o.saved }
 
 abbrev pub found : ℕ → List ℕ → Outcome
-found status output = record { output = plain output ∷ []; errors = []; status = status }
+found status output = record { output = plain output ∷ []; errors = []; status = status; saved = None }
 
 abbrev pub failed_with : ℕ → Part → Outcome
-failed_with status part = record { output = []; errors = part ∷ []; status = status }
+failed_with status part = record { output = []; errors = part ∷ []; status = status; saved = None }
 
 abbrev pub failed : ℕ → List ℕ → Outcome
 failed status line = failed_with status (plain (line ++ codes "\n"))
@@ -67,8 +91,8 @@ abbrev pub files_of : Request → List Text
 files_of (explain names) = []
 files_of (compile modules) = modules
 files_of (draw name modules) = modules
-files_of (validate document modules) = modules ++ document ∷ []
-files_of (edit is_dump document script modules) = modules ++ document ∷ script ∷ []
+files_of (validate options document modules) = modules ++ document ∷ []
+files_of (edit options document script modules) = modules ++ document ∷ script ∷ []
 
 abbrev pub unread : Text → Outcome
 unread name = failed 4 (codes "cannot read " ++ name)
@@ -173,17 +197,22 @@ report schema tree faults = map (fault_part schema tree) faults ++ plain (decima
 abbrev pub dump : Schema → Tree → List ℕ
 dump schema tree = written_text schema tree ++ codes "\n"
 
+-- the file to which a document is written, if to any
+abbrev pub saved_by : Options → Schema → Tree → Option SavedFile
+saved_by options schema tree = option_map (λ name. record { name = name; text = dump schema tree }) options.saved_as
+
 -- a document after edits, of which the refused ones are told in these lines
-abbrev pub left : Bool → Schema → Tree → List Part → Outcome
-left is_dump schema tree refused = let faults = faults_of schema tree in record {
-  output = if is_dump then plain (dump schema tree) ∷ [] else report schema tree faults;
+abbrev pub left : Options → Schema → Tree → List Part → Outcome
+left options schema tree refused = let faults = faults_of schema tree in record {
+  output = if options.is_dump then plain (dump schema tree) ∷ [] else report schema tree faults;
   errors = refused;
   status = if length faults == 0 && length refused == 0 then 0 else 1;
+  saved = saved_by options schema tree;
 }
 
 -- a document after the lines of a script
-abbrev pub edited : Bool → Schema → Tree → List Text → Outcome
-edited is_dump schema tree lines = left is_dump schema (after_lines schema tree lines) (refused_lines schema 1 tree lines)
+abbrev pub edited : Options → Schema → Tree → List Text → Outcome
+edited options schema tree lines = left options schema (after_lines schema tree lines) (refused_lines schema 1 tree lines)
 
 -- ---- what is printed where all files could be read, and have these contents
 
@@ -195,12 +224,12 @@ drawing name names contents = with_schema names contents (λ schema files.
     drawn schema name (position (λ m. is_text m.name name) schema.modules))
 
 -- as an edit by a script without lines
-abbrev pub validation : Text → List Text → List (List ℕ) → Outcome
-validation document names contents = with_document document names contents (λ schema tree files. edited false schema tree [])
+abbrev pub validation : Options → Text → List Text → List (List ℕ) → Outcome
+validation options document names contents = with_document document names contents (λ schema tree files. edited options schema tree [])
 
-abbrev pub edition : Bool → Text → List Text → List (List ℕ) → Outcome
-edition is_dump document names contents = with_document document names contents (λ schema tree files.
-    edited is_dump schema tree (lines_of (first_file files)))
+abbrev pub edition : Options → Text → List Text → List (List ℕ) → Outcome
+edition options document names contents = with_document document names contents (λ schema tree files.
+    edited options schema tree (lines_of (first_file files)))
 
 -- what is said of codes, or the first word that is none
 abbrev pub explanation_found : List Text → Option Text → Outcome
@@ -215,8 +244,8 @@ abbrev pub performed : Request → List (List ℕ) → Outcome
 performed (explain names) contents = explanation names
 performed (compile names) contents = compilation names contents
 performed (draw name names) contents = drawing name names contents
-performed (validate document names) contents = validation document names contents
-performed (edit is_dump document script names) contents = edition is_dump document names contents
+performed (validate options document names) contents = validation options document names contents
+performed (edit options document script names) contents = edition options document names contents
 
 -- the outcome of a request, where the files answered so, in order and up to the first failure
 unfoldable pub outcome : Request → List (Option (List ℕ)) → Outcome

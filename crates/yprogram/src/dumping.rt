@@ -2,22 +2,22 @@
 
 ghost use Rattle.std.specs.Prelude.{◌≡◌, ◌≤◌, ◌++◌, ◌∷◌, [], ℕ, List, Option, Some, false, true, length, take};
 ghost use Rattle.yspec.specs.text.Text.{Text};
-ghost use Rattle.yprogram.specs.Output.{edit, outcome, printed, validate};
+ghost use Rattle.yprogram.specs.Output.{as_dump, edit, outcome, plainly, printed, validate};
 
 /// Where `edit` reports on a document (status 0 or 1), `validate` reports the same, under the same modules, on a file with
 /// the bytes that `edit --dump` writes, and refuses nothing of it.
 pub fn dumped_documents_are_validated()
-    ensures alike { (document script dumped : Text) (modules : List Text)
+    ensures alike { (document script name : Text) (modules : List Text)
         (answers : List (Option (List ℕ)))
-        → let shown = outcome (edit false document script modules) answers in
-        let bytes = (printed false (outcome (edit true document script modules) answers)).output in
-        let again = outcome (validate dumped modules) (take (length modules) answers ++ Some bytes
+        → let shown = outcome (edit plainly document script modules) answers in
+        let bytes = (printed false (outcome (edit as_dump document script modules) answers)).output in
+        let again = outcome (validate plainly name modules) (take (length modules) answers ++ Some bytes
         ∷ []) in
         shown.status ≤ 1 → again.output ≡ shown.output }
-    ensures unrefused { (document script dumped : Text) (modules : List Text)
+    ensures unrefused { (document script name : Text) (modules : List Text)
         (answers : List (Option (List ℕ)))
-        → let bytes = (printed false (outcome (edit true document script modules) answers)).output in
-        let again = outcome (validate dumped modules) (take (length modules) answers ++ Some bytes
+        → let bytes = (printed false (outcome (edit as_dump document script modules) answers)).output in
+        let again = outcome (validate plainly name modules) (take (length modules) answers ++ Some bytes
         ∷ []) in
-        (outcome (edit false document script modules) answers).status ≤ 1 → again.errors ≡ [] }
+        (outcome (edit plainly document script modules) answers).status ≤ 1 → again.errors ≡ [] }
 {}

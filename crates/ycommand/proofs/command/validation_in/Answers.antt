@@ -1,10 +1,9 @@
-use Rattle.std.proofs.Common.{codes, ap₂, refl}
+use Rattle.std.proofs.Common.{codes, refl}
 use Rattle.clap.specs.Words.{found_of}
-use Rattle.yprogram.specs.Output.{validate}
-use Rattle.ycommand.proofs.CommandLemmas.{given}
+use Rattle.ycommand.proofs.CommandLemmas.{given, validate_same}
 use Rattle.ycommand.proofs.command.validation_in.Goals as goal
 
 pub returns : goal.returns
 returns c =
     let found = found_of c.args.found.now in
-    ap₂ validate (given found (codes "DATA") c.get_str.result _ c.unwrap_or-document.result c.get_str.ensures c.unwrap_or-document.ensures refl) c.in_ok-modules.ensures
+    validate_same _ _ _ _ _ _ c.options_in-options.ensures (given found (codes "DATA") c.get_str.result _ c.unwrap_or-document.result c.get_str.ensures c.unwrap_or-document.ensures refl) c.in_ok-modules.ensures

@@ -3,6 +3,6 @@ use Rattle.yprogram.proofs.dumping.dumped_documents_are_validated.Goals as goal
 
 pub returns : goal.returns
 returns c = record {
-  alike = λ document script dumped modules answers shown. (dump_validated document script modules answers dumped shown).0;
-  unrefused = λ document script dumped modules answers shown. (dump_validated document script modules answers dumped shown).1;
+  alike = λ document script name modules answers shown. (dump_validated document script modules answers name shown).0;
+  unrefused = λ document script name modules answers shown. (dump_validated document script modules answers name shown).1;
 }
