@@ -1,6 +1,6 @@
 -- From the run of any files to that of known ones.
 use Rattle.std.proofs.Common.{◌≡◌, inl, inr, false, ℕ, List, [], ◌∷◌, codes, Some, None, refl, sym, subst, ap, ◌∙◌, arith}
-use Rattle.yprogram.specs.Output.{Outcome, Request, files_of, outcome, validate}
+use Rattle.yprogram.specs.Output.{Outcome, Request, files_of, outcome, plainly, validate}
 use Rattle.clap.proofs.OnLiterals.{clap_on_literals}
 use Rattle.ycommand.specs.Command.{asks_reasons, refusals, request_of}
 use Rattle.yapp.specs.Files.{Answered, Contents, FileAnswers, IsOutcome, Store, WereRead, unread_in}
@@ -11,7 +11,7 @@ pub are_taken : refusals validate_words ≡ []
 unfolding clap_on_literals
 are_taken = refl
 
-pub ask_for : request_of validate_words ≡ validate (codes "d.json") (codes "p.yang" ∷ [])
+pub ask_for : request_of validate_words ≡ validate plainly (codes "d.json") (codes "p.yang" ∷ [])
 unfolding clap_on_literals
 ask_for = refl
 
@@ -32,11 +32,11 @@ known_answers names texts (Some a ∷ Some b ∷ []) answered none =
 known_answers names texts (Some a ∷ Some b ∷ answer ∷ answers) answered none = absurd answered.1.1
 
 pub is_known : (before after : Store) (request : Request) (names : List Text) (texts : List (List ℕ)) (o : Outcome) → before.contents ≡ told_in names texts
-    → after.failures ≡ before.failures → request ≡ validate (codes "d.json") (codes "p.yang" ∷ []) → IsOutcome before after request o → IsKnown names texts o
+    → after.failures ≡ before.failures → request ≡ validate plainly (codes "d.json") (codes "p.yang" ∷ []) → IsOutcome before after request o → IsKnown names texts o
 is_known before after request names texts o tells same asked (inl came) =
     let read = subst (λ (r : Request). WereRead before after (files_of r) came.0) asked came.1 in
     let none : unread_in came.0 ≡ 0 = omega (arith, read.failures, same) in
     let answered = subst (λ (contents : Contents). Answered contents (codes "p.yang" ∷ codes "d.json" ∷ []) came.0) tells read.answered in
     inl (came.2 ∙ ap (λ (r : Request). outcome r came.0) asked
-    ∙ ap (outcome (validate (codes "d.json") (codes "p.yang" ∷ []))) (known_answers names texts came.0 answered none))
+    ∙ ap (outcome (validate plainly (codes "d.json") (codes "p.yang" ∷ []))) (known_answers names texts came.0 answered none))
 is_known before after request names texts o tells same asked (inr none) = inr none.1

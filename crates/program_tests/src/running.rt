@@ -4,10 +4,11 @@ ghost use Rattle.std.specs.Prelude.{◌≡◌, IfOk, false, map, string_bytes};
 ghost use Rattle.yprogram.specs.Output.{Outcome, printed};
 ghost use Rattle.youtput.specs.Writing.{side};
 ghost use Rattle.ycommand.specs.Running.{Brings};
+ghost use Rattle.yapp.specs.Saving.{end_of};
 ghost use Rattle.program_tests.specs.Known.{IsKnown, contents_in, told_in, validate_words};
 
 use std::alloc::{AllocError, Global};
-use yapp::{FileFault, Files, run};
+use yapp::{Ended, FileFault, Files, SavedFile, run};
 use ytext::{CallCount, Cut, Sink};
 
 pub const MODULE: &str = "module p {
@@ -146,16 +147,16 @@ fn validate_words(alloc: Global) -> Result<Vec<String>, AllocError>
     Ok(words)
 }
 
-/// Checks a document under a module in files whose contents are known, and answers the status.
+/// Checks a document under a module in files whose contents are known, and answers how that ends.
 fn validate_known<O: Sink, E: Sink>(
     alloc: Global,
     files: &mut Known<'_>,
     output: &mut O,
     errors: &mut E,
-) -> Result<u8, AllocError>
-    ensures { IfOk result (λ status. (o : Outcome) × IsKnown (map (λ f. f.name.now) files.old.files.now) (map (λ f. f.bytes.now) files.old.files.now) o
+) -> Result<Ended, AllocError>
+    ensures { IfOk result (λ ended. (o : Outcome) × IsKnown (map (λ f. f.name.now) files.old.files.now) (map (λ f. f.bytes.now) files.old.files.now) o
         × Brings (side O.taken O.failures output.old) (side O.taken O.failures output.new)
-        (side E.taken E.failures errors.old) (side E.taken E.failures errors.new) (printed false o) status) }
+        (side E.taken E.failures errors.old) (side E.taken E.failures errors.new) (printed false o) (end_of ended)) }
 {
     let words = validate_words(alloc)?;
     Ok(run(alloc, &words, files, output, errors))
@@ -173,12 +174,13 @@ pub const WHOLLY: Way = Way {
     failing_call: None,
 };
 
-/// What a run left on both sides, its status, and how many files it asked for.
+/// What a run left on both sides, its status, the file that is to be written then, and how many files it asked for.
 #[derive(Drop)]
 pub struct Shown {
     pub output: Cut,
     pub errors: Cut,
     pub status: u8,
+    pub saved: Option<SavedFile>,
     pub reads: u64,
 }
 
@@ -205,11 +207,12 @@ pub fn shown_by(
     let words = words_of(alloc, line)?;
     let mut output = side(alloc, output_way)?;
     let mut errors = side(alloc, errors_way)?;
-    let status = run(alloc, &words, &mut files, &mut output, &mut errors);
+    let Ended { status, saved } = run(alloc, &words, &mut files, &mut output, &mut errors);
     Ok(Shown {
         output,
         errors,
         status,
+        saved,
         reads: files.known.reads,
     })
 }
@@ -240,11 +243,12 @@ pub fn validated(alloc: Global, module: &[u8], document: &[u8]) -> Result<Shown,
         },
     ];
     let mut files = Known::new(alloc, &files);
-    let status = validate_known(alloc, &mut files, &mut output, &mut errors)?;
+    let Ended { status, saved } = validate_known(alloc, &mut files, &mut output, &mut errors)?;
     Ok(Shown {
         output,
         errors,
         status,
+        saved,
         reads: files.reads,
     })
 }

@@ -7,7 +7,7 @@ use std::io::{BufWriter, Write};
 use std::process::ExitCode;
 use std::{env, io};
 use system::{FileSystem, Stream};
-use yapp::{FAILED, refuse, run, tell_memory};
+use yapp::{Ended, FAILED, refuse, run, save, tell_memory};
 use ytext::{Sink, SinkFault};
 
 /// The words of the command line.
@@ -16,17 +16,23 @@ fn words_of(rt: &HostRuntime) -> io::Result<Vec<String>> {
     Ok(words)
 }
 
-/// Does what the words of the command line ask for, and answers the exit status. The output is written out at the end.
+/// Does what the words of the command line ask for, and answers the exit status. The output is written out at the end, and
+/// behind it the file that is due.
 fn answer<W: Write + Drop, E: Sink>(rt: &HostRuntime, stdout: BufWriter<W>, errors: &mut E) -> u8 {
     let mut files = FileSystem::new(rt);
     let mut output = Stream::new(stdout);
-    let status = match words_of(rt) {
+    let ended = match words_of(rt) {
         Ok(words) => run(rt.alloc(), &words, &mut files, &mut output, errors),
-        Err(error) if error.kind() == io::ErrorKind::OutOfMemory => tell_memory(errors),
-        Err(_) => refuse("error: a word of the command line isn't text\n", errors),
+        Err(error) if error.kind() == io::ErrorKind::OutOfMemory => {
+            Ended::with_status(tell_memory(errors))
+        }
+        Err(_) => Ended::with_status(refuse(
+            "error: a word of the command line isn't text\n",
+            errors,
+        )),
     };
     match output.finish() {
-        Ok(()) => status,
+        Ok(()) => save(&ended, &mut files, errors),
         Err(SinkFault) => FAILED,
     }
 }

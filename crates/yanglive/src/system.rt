@@ -2,13 +2,17 @@
 
 ghost use Rattle.std.specs.Prelude.{None};
 
+use std::fs::File;
 use std::io::{BufWriter, ErrorKind, Write};
-use std::{fs, rt};
-use yapp::{FileFault, Files};
+use std::{fs, io, rt};
+use yapp::{FileFault, Files, SavedFile, Shelf, Unsaved};
 use ytext::{CallCount, Sink, SinkFault};
 
 /// Where the system has what it is given on its standard input.
 const STANDARD_INPUT: &str = "/dev/stdin";
+
+/// What stands behind the name of a file that isn't in its place yet.
+const BESIDE: &str = ".part";
 
 /// The system's files; `-` is its standard input.
 #[derive(Drop)]
@@ -16,6 +20,7 @@ pub struct FileSystem<'a, R> {
     runtime: &'a R,
     reads: CallCount,
     count: CallCount,
+    unsaved: CallCount,
 }
 
 impl<'a, R> FileSystem<'a, R> {
@@ -25,6 +30,48 @@ impl<'a, R> FileSystem<'a, R> {
             runtime,
             reads: CallCount::new(),
             count: CallCount::new(),
+            unsaved: CallCount::new(),
+        }
+    }
+}
+
+impl<R: rt::Files + AllocGlobal> FileSystem<'_, R> {
+    /// Writes a file beside its place, and then puts it there.
+    fn put(&self, file: &SavedFile) -> io::Result<()> {
+        let beside = [file.name.as_str(), BESIDE].concat(self.runtime.alloc())?;
+        let written = self.write(beside.as_str(), file.text.as_bytes());
+        let put = written.and_then(|()| fs::rename(
+            self.runtime,
+            beside.as_str(),
+            file.name.as_str(),
+        ));
+        if put.is_err() {
+            // What was written of it isn't needed; whether it goes away changes nothing.
+            let _ = fs::remove_file(self.runtime, beside.as_str());
+        }
+        put
+    }
+
+    /// Writes a file of a name, down to the device.
+    fn write(&self, name: &str, bytes: &[u8]) -> io::Result<()> {
+        let mut file = File::create(self.runtime, name)?;
+        file.write_all(bytes)?;
+        file.sync_all()
+    }
+}
+
+impl<R: rt::Files + AllocGlobal> Shelf for FileSystem<'_, R> {
+    ghost written = { λ _. None };
+
+    ghost failures = { λ s. s.unsaved.calls };
+
+    fn save(&mut self, file: &SavedFile) -> Result<(), Unsaved> {
+        match self.put(file) {
+            Ok(()) => Ok(()),
+            Err(_) => {
+                self.unsaved.rise();
+                Err(Unsaved)
+            }
         }
     }
 }

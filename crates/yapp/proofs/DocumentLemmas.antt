@@ -1,6 +1,6 @@
 -- Documents after the lines of a script, and what is told of them.
 use Rattle.std.proofs.Common.{◌≡◌, ◌≤◌, ℕ, Bool, true, false, List, [], ◌∷◌, ◌++◌, Option, Some, None, Global, String, string_bytes, codes, length, refl, sym, subst, ap, ap₂, ◌∙◌}
-use Rattle.std.specs.Prelude.{◌==◌, ◌&&◌, Result, Ok, Err, IsErrAnd, option_map, if◌then◌else◌}
+use Rattle.std.specs.Prelude.{◌==◌, ◌&&◌, ◌||◌, Result, Ok, Err, IsErrAnd, is_some, option_map, if◌then◌else◌}
 use Rattle.std.specs.Option.{option_map_or}
 use Rattle.std.proofs.lemmas.List.{length-map}
 use Rattle.yspec.specs.Forest.{size}
@@ -15,7 +15,7 @@ use Rattle.yspec.specs.edit.Editing.{Decision, after}
 use Rattle.yspec.specs.edit.Live as live
 use Rattle.yspec.specs.document.Fault as spec_fault
 use Rattle.yspec.specs.document.Faults.{faults_of}
-use Rattle.yprogram.specs.Output.{Outcome, dump, left, report}
+use Rattle.yprogram.specs.Output.{Options, Outcome, SavedFile, dump, left, plainly, report, saved_by}
 use Rattle.yprogram.specs.Part.{Part, plain}
 use Rattle.yspec.proofs.EditProofs.FittingEditLemmas.{edits_whole}
 use Rattle.yspec.proofs.EditProofs.LimitLemmas.{edits_within}
@@ -84,10 +84,21 @@ is_of e d whole schema_is tree_is fits refused_is = record {
   });
 }
 
-pub left_of : (is_dump : Bool) (e : EditedDocument) (d : Document) → IsOf e d
-    → left is_dump (schema_of d) (tree_of d) (refused_of d) ≡ left is_dump (live_of e).schema (live_of e).tree (refused_in e)
-left_of is_dump e d of = ap (λ (s : spec.Schema). left is_dump s (tree_of d) (refused_of d)) of.schema_is
-    ∙ ap₂ (left is_dump (live_of e).schema) of.tree_is of.refused_is
+pub left_of : (options : Options) (e : EditedDocument) (d : Document) → IsOf e d
+    → left options (schema_of d) (tree_of d) (refused_of d) ≡ left options (live_of e).schema (live_of e).tree (refused_in e)
+left_of options e d of = ap (λ (s : spec.Schema). left options s (tree_of d) (refused_of d)) of.schema_is
+    ∙ ap₂ (left options (live_of e).schema) of.tree_is of.refused_is
+
+-- one that is neither dumped nor written to a file is told plainly
+pub left_plainly : (options : Options) → (options.is_dump || is_some options.saved_as) ≡ false → (s : spec.Schema) (t : Tree) (refused : List Part)
+    → left options s t refused ≡ left plainly s t refused
+left_plainly options unwritten s t refused = by options.is_dump options.saved_as unwritten
+  where
+    by : (is_dump : Bool) (saved_as : Option Text) → (is_dump || is_some saved_as) ≡ false
+        → left (record options { is_dump = is_dump; saved_as = saved_as }) s t refused ≡ left plainly s t refused
+    by true saved_as is = cc
+    by false None is = refl
+    by false (Some name) is = cc
 
 -- want of memory leads anywhere
 pub memory_leads : {X : Type 0} (o : Outcome) (next : X → Outcome) (r : Result X Failure) → IsErrAnd r (λ e. e ≡ failures.Memory) → LeadsTo o next r
@@ -100,9 +111,9 @@ none_refused lines = ap (λ (n : ℕ). n == 0) (length-map lines refused_part)
 
 -- ---- reports
 
-abbrev outcome_with : List Part → List Part → Bool → Bool → Outcome
-outcome_with output errors no_fault none_refused =
-    record { output = output; errors = errors; status = if no_fault && none_refused then 0 else 1 }
+abbrev outcome_with : Option SavedFile → List Part → List Part → Bool → Bool → Outcome
+outcome_with saved output errors no_fault none_refused =
+    record { output = output; errors = errors; status = if no_fault && none_refused then 0 else 1; saved = saved }
 
 abbrev text_parts : Text → List Part
 text_parts text = plain (text ++ codes "\n") ∷ []
@@ -118,12 +129,15 @@ text_shown true text written shown is = by_text text ∙ ap (λ (o : Option Text
 text_shown false None written shown is = refl
 text_shown false (Some t) written shown is = cc
 
-pub report_is : (is_dump : Bool) (s : spec.Schema) (t : Tree) (found : List Fault) (refused : List RefusedLine) (text : Option (String Global))
-    → views found ≡ faults_of s t → option_map string_bytes text ≡ (if is_dump then Some (written_text s t) else None)
-    → outcome_with (option_map_or (λ t. text_parts (string_bytes t)) text (report s t (views found))) (refused_parts refused) (length found == 0) (length refused == 0)
-    ≡ left is_dump s t (refused_parts refused)
-report_is is_dump s t found refused text same is =
-    ap (λ (b : Bool). outcome_with (option_map_or (λ t. text_parts (string_bytes t)) text (report s t (views found))) (refused_parts refused) (length found == 0) b) (sym (none_refused refused))
-    ∙ (ap (λ (o : List Part). outcome_with o (refused_parts refused) (length found == 0) (length (refused_parts refused) == 0)) (text_shown is_dump text (written_text s t) (report s t (views found)) is)
-    ∙ (ap (λ (n : ℕ). outcome_with (if is_dump then plain (dump s t) ∷ [] else report s t (views found)) (refused_parts refused) (n == 0) (length (refused_parts refused) == 0)) (sym (length-map found view))
-    ∙ ap (λ (fs : List spec_fault.Fault). outcome_with (if is_dump then plain (dump s t) ∷ [] else report s t fs) (refused_parts refused) (length fs == 0) (length (refused_parts refused) == 0)) same))
+pub report_is : (options : Options) (s : spec.Schema) (t : Tree) (found : List Fault) (refused : List RefusedLine) (text : Option (String Global)) (saved : Option SavedFile)
+    → views found ≡ faults_of s t → option_map string_bytes text ≡ (if options.is_dump then Some (written_text s t) else None) → saved ≡ saved_by options s t
+    → outcome_with saved (option_map_or (λ t. text_parts (string_bytes t)) text (report s t (views found))) (refused_parts refused) (length found == 0) (length refused == 0)
+    ≡ left options s t (refused_parts refused)
+report_is options s t found refused text saved same is saved_is =
+    let made = outcome_with (saved_by options s t) in
+    let parts = refused_parts refused in
+    ap (λ (o : Option SavedFile). outcome_with o (option_map_or (λ t. text_parts (string_bytes t)) text (report s t (views found))) parts (length found == 0) (length refused == 0)) saved_is
+    ∙ (ap (λ (b : Bool). made (option_map_or (λ t. text_parts (string_bytes t)) text (report s t (views found))) parts (length found == 0) b) (sym (none_refused refused))
+    ∙ (ap (λ (o : List Part). made o parts (length found == 0) (length parts == 0)) (text_shown options.is_dump text (written_text s t) (report s t (views found)) is)
+    ∙ (ap (λ (n : ℕ). made (if options.is_dump then plain (dump s t) ∷ [] else report s t (views found)) parts (n == 0) (length parts == 0)) (sym (length-map found view))
+    ∙ ap (λ (fs : List spec_fault.Fault). made (if options.is_dump then plain (dump s t) ∷ [] else report s t fs) parts (length fs == 0) (length parts == 0)) same)))

@@ -1,11 +1,11 @@
 -- A run that writes to one side alone.
 use Rattle.std.proofs.Common.{◌≡◌, inl, inr, codes, ℕ, Bool, true, false, List, [], ◌∷◌, ◌++◌, ap, sym, ◌∙◌, refl, subst, append_assoc, length, take}
-use Rattle.yprogram.specs.Output.{Outcome, Printed, printed}
+use Rattle.yprogram.specs.Output.{Outcome, Printed, SavedFile, printed}
 use Rattle.std.proofs.lemmas.List.{append-nil}
 use Rattle.yprogram.specs.Part.{Part, plain, spelled, spelled_part}
 use Rattle.std.specs.Prelude.{Result, Ok, Err, IsErr, is_ok, if◌then◌else◌}
 use Rattle.youtput.specs.Writing.{Broke, Side, Writes, Wrote}
-use Rattle.ycommand.specs.Running.{Brings, Ends, WritesBoth, memory_told, without_memory}
+use Rattle.ycommand.specs.Running.{Brings, End, Ends, WritesBoth, broken, ended, memory_told, well, with_status, without_memory}
 use Rattle.std.specs.Prelude.{Option, Some, None, decimal, option_map}
 use Rattle.std.specs.Option.{option_map_or}
 use Rattle.ytree.specs.Told.{code_number}
@@ -21,17 +21,21 @@ use Rattle.yapp.specs.declared.failure.Failure.TheVariants as failures
 use Rattle.std.proofs.Math.Seq.{take-length}
 use Rattle.youtput.proofs.WritingLemmas.{wrote_none, wrote_same}
 
-pub on_output : (output output_after errors : Side) (o : Printed) (result : ℕ) → o.errors ≡ []
-    → Ends output output_after o.output o.status result → Brings output output_after errors errors o result
-on_output output output_after errors o result none (inl all) =
-    inl (all.0, wrote_same errors errors [] o.errors (sym none) (wrote_none errors), all.1)
-on_output output output_after errors o result none (inr broke) = inr (inl (0, broke.0, wrote_none errors, broke.1))
+-- a status alone ends a run well that writes no file
+well_by : (o : Printed) (result : ℕ) → o.saved ≡ None → result ≡ o.status → with_status result ≡ well o
+well_by o result unsaved is = ap with_status is ∙ ap (ended o.status) (sym unsaved)
 
-pub on_errors : (output errors errors_after : Side) (o : Printed) (result : ℕ) → o.output ≡ []
-    → Ends errors errors_after o.errors o.status result → Brings output output errors errors_after o result
-on_errors output errors errors_after o result none (inl all) =
-    inl (wrote_same output output [] o.output (sym none) (wrote_none output), all.0, all.1)
-on_errors output errors errors_after o result none (inr broke) = inr (inr (0, wrote_none output, broke.0, broke.1))
+pub on_output : (output output_after errors : Side) (o : Printed) (result : ℕ) (end : End) → o.errors ≡ [] → o.saved ≡ None
+    → Ends output output_after o.output o.status result → end ≡ with_status result → Brings output output_after errors errors o end
+on_output output output_after errors o result end none unsaved (inl all) is =
+    inl (all.0, wrote_same errors errors [] o.errors (sym none) (wrote_none errors), is ∙ well_by o result unsaved all.1)
+on_output output output_after errors o result end none unsaved (inr broke) is = inr (inl (0, broke.0, wrote_none errors, is ∙ ap with_status broke.1))
+
+pub on_errors : (output errors errors_after : Side) (o : Printed) (result : ℕ) (end : End) → o.output ≡ [] → o.saved ≡ None
+    → Ends errors errors_after o.errors o.status result → end ≡ with_status result → Brings output output errors errors_after o end
+on_errors output errors errors_after o result end none unsaved (inl all) is =
+    inl (wrote_same output output [] o.output (sym none) (wrote_none output), all.0, is ∙ well_by o result unsaved all.1)
+on_errors output errors errors_after o result end none unsaved (inr broke) is = inr (inr (0, wrote_none output, broke.0, is ∙ ap with_status broke.1))
 
 -- a text that is written alone ends a run
 pub ends : {X E : Type 0} → (a b : Side) (bytes : List ℕ) (status result : ℕ) (r : Result X E) → Writes a b bytes r
@@ -60,20 +64,46 @@ no_output with_reasons (failures.NoModule name) = refl
 no_output with_reasons (failures.NoCode word) = refl
 no_output with_reasons failures.Memory = refl
 
-pub on_failure : (with_reasons : Bool) (output errors errors_after : Side) (failure : Failure) (result : ℕ)
+no_file : (failure : Failure) → (outcome_of failure).saved ≡ None
+no_file (failures.Unread name) = refl
+no_file (failures.Text name code line hint) = refl
+no_file (failures.Compile name code line hint) = refl
+no_file (failures.Document name schema code place hint) = refl
+no_file (failures.NoModule name) = refl
+no_file (failures.NoCode word) = refl
+no_file failures.Memory = refl
+
+-- a failure that is told ends a run without a file
+pub on_failure : {X E : Type 0} → (with_reasons : Bool) (output errors errors_after : Side) (failure : Failure) (end : End) (r : Result X E)
     → let o = printed with_reasons (outcome_of failure) in
-    Ends errors errors_after o.errors o.status result → Brings output output errors errors_after o result
-on_failure with_reasons output errors errors_after failure result ends =
-    on_errors output errors errors_after (printed with_reasons (outcome_of failure)) result (no_output with_reasons failure) ends
+    Writes errors errors_after o.errors r → end ≡ (if is_ok r then with_status o.status else broken) → Brings output output errors errors_after o end
+on_failure with_reasons output errors errors_after failure end (Ok x) w is =
+    let o = printed with_reasons (outcome_of failure) in
+    on_errors output errors errors_after o o.status end (no_output with_reasons failure) (no_file failure) (inl (w, refl)) is
+on_failure with_reasons output errors errors_after failure end (Err x) w is =
+    let o = printed with_reasons (outcome_of failure) in
+    on_errors output errors errors_after o 4 end (no_output with_reasons failure) (no_file failure) (inr (w, refl)) is
 
 -- both sides are written, the error side first
-pub both_end : {X E : Type 0} → (output output_after errors errors_after : Side) (o : Printed) (result : ℕ) (r : Result X E)
-    → WritesBoth output output_after errors errors_after o r → result ≡ (if is_ok r then o.status else 4)
-    → Brings output output_after errors errors_after o result
-both_end output output_after errors errors_after o result (Ok x) w e = inl (w.0, w.1, e)
-both_end output output_after errors errors_after o result (Err x) (inl w) e = inr (inl (length o.errors, w.0, wrote_same errors errors_after o.errors (take (length o.errors) o.errors) (sym (take-length o.errors)) w.1, e))
-both_end output output_after errors errors_after o result (Err x) (inr w) e =
+pub both_end : {X E : Type 0} → (output output_after errors errors_after : Side) (o : Printed) (end : End) (r : Result X E)
+    → WritesBoth output output_after errors errors_after o r → end ≡ (if is_ok r then well o else broken)
+    → Brings output output_after errors errors_after o end
+both_end output output_after errors errors_after o end (Ok x) w e = inl (w.0, w.1, e)
+both_end output output_after errors errors_after o end (Err x) (inl w) e = inr (inl (length o.errors, w.0, wrote_same errors errors_after o.errors (take (length o.errors) o.errors) (sym (take-length o.errors)) w.1, e))
+both_end output output_after errors errors_after o end (Err x) (inr w) e =
     inr (inr (0, subst (λ side. Wrote output side []) (sym w.0) (wrote_none output), w.1, e))
+
+-- an end without a file
+pub unsaved_end : {X E : Type 0} → (end : End) (status due : ℕ) (r : Result X E)
+    → end ≡ (if is_ok r then with_status status else broken) → status ≡ due → end ≡ (if is_ok r then with_status due else broken)
+unsaved_end end status due r is status_is = is ∙ ap (λ (s : ℕ). if is_ok r then with_status s else broken) status_is
+
+-- the end of what was told
+pub end_is : {X E : Type 0} → (o : Printed) (end : End) (status : ℕ) (saved : Option SavedFile) (r : Result X E)
+    → end ≡ (if is_ok r then ended status saved else broken) → status ≡ o.status → saved ≡ o.saved
+    → end ≡ (if is_ok r then well o else broken)
+end_is o end status saved r is status_is saved_is =
+    is ∙ ap₂ (λ (s : ℕ) (f : Option SavedFile). if is_ok r then ended s f else broken) status_is saved_is
 
 -- the output alone, where nothing is due on the error side
 pub both_of_output : {X E : Type 0} → (output output_after errors : Side) (o : Printed) (r : Result X E) → o.errors ≡ []
@@ -93,11 +123,11 @@ pub both_broken : {X E : Type 0} → (output errors errors_after : Side) (o : Pr
 both_broken output errors errors_after o (Ok x) failed broken = cc
 both_broken output errors errors_after o (Err x) failed broken = inr (refl, broken)
 
-pub told_of : (with_reasons : Bool) (output output_after errors errors_after : Side) (found given : Result Report Failure) (status : ℕ) → found ≡ given
-    → Brings output output_after errors errors_after (printed with_reasons (came_to given)) status
-    → Brings output output_after errors errors_after (printed with_reasons (came_to found)) status
-told_of with_reasons output output_after errors errors_after found given status is brings =
-    subst (λ (r : Result Report Failure). Brings output output_after errors errors_after (printed with_reasons (came_to r)) status) (sym is) brings
+pub told_of : (with_reasons : Bool) (output output_after errors errors_after : Side) (found given : Result Report Failure) (end : End) → found ≡ given
+    → Brings output output_after errors errors_after (printed with_reasons (came_to given)) end
+    → Brings output output_after errors errors_after (printed with_reasons (came_to found)) end
+told_of with_reasons output output_after errors errors_after found given end is brings =
+    subst (λ (r : Result Report Failure). Brings output output_after errors errors_after (printed with_reasons (came_to r)) end) (sym is) brings
 
 -- ---- parts
 
@@ -116,17 +146,17 @@ parts_behind with_reasons (x ∷ xs) ys = ap (λ t. spelled_part with_reasons x 
     ∙ sym (append_assoc (spelled_part with_reasons x) (spelled with_reasons xs) (spelled with_reasons ys))
 
 -- of want of memory nothing is said besides
-pub memory_either : (with_reasons : Bool) (output output_after errors errors_after : Side) (status : ℕ)
-    → Brings output output_after errors errors_after memory_told status
-    → Brings output output_after errors errors_after (printed with_reasons without_memory) status
-memory_either true output output_after errors errors_after status brings = brings
-memory_either false output output_after errors errors_after status brings = brings
+pub memory_either : (with_reasons : Bool) (output output_after errors errors_after : Side) (end : End)
+    → Brings output output_after errors errors_after memory_told end
+    → Brings output output_after errors errors_after (printed with_reasons without_memory) end
+memory_either true output output_after errors errors_after end brings = brings
+memory_either false output output_after errors errors_after end brings = brings
 
-pub reasons_same : (output output_after errors errors_after : Side) (given asked : Bool) (o : Outcome) (status : ℕ) → given ≡ asked
-    → Brings output output_after errors errors_after (printed given o) status
-    → Brings output output_after errors errors_after (printed asked o) status
-reasons_same output output_after errors errors_after given asked o status is brings =
-    subst (λ (b : Bool). Brings output output_after errors errors_after (printed b o) status) is brings
+pub reasons_same : (output output_after errors errors_after : Side) (given asked : Bool) (o : Outcome) (end : End) → given ≡ asked
+    → Brings output output_after errors errors_after (printed given o) end
+    → Brings output output_after errors errors_after (printed asked o) end
+reasons_same output output_after errors errors_after given asked o end is brings =
+    subst (λ (b : Bool). Brings output output_after errors errors_after (printed b o) end) is brings
 
 -- ---- the code that says most of a refused line
 

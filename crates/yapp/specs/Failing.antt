@@ -1,5 +1,5 @@
 -- What a report or a failure comes to, as the outcome that it prints.
-use Rattle.std.specs.Prelude.{◌≡◌, ◌++◌, ◌==◌, ◌&&◌, false, List, [], ◌∷◌, length, map, codes, decimal, string_bytes, Result, Ok, Err, if◌then◌else◌}
+use Rattle.std.specs.Prelude.{◌≡◌, ◌++◌, ◌==◌, ◌&&◌, List, [], ◌∷◌, length, map, option_map, codes, decimal, string_bytes, Result, Ok, Err, if◌then◌else◌}
 use Rattle.std.specs.List.{flat_map}
 use Rattle.std.specs.Option.{option_map_or}
 use Rattle.ytext.specs.Told.{number_of}
@@ -9,7 +9,7 @@ use Rattle.ytree.specs.Told as document
 use Rattle.ytree.specs.View.{place_view, tree_view}
 use Rattle.ycheck.specs.View.{views}
 use Rattle.yspec.specs.schema.Diagram.{diagram}
-use Rattle.yprogram.specs.Output.{Outcome, document_part, failed, failed_with, found, left, refusal_part, report, unread}
+use Rattle.yprogram.specs.Output.{Outcome, document_part, failed, failed_with, found, left, plainly, refusal_part, report, unread}
 use Rattle.yprogram.specs.Hint.{hinted}
 use Rattle.yprogram.specs.Part.{Part, plain}
 use Rattle.ycodes.specs.Codes.{explained}
@@ -17,6 +17,7 @@ use Rattle.ycodes.specs.View.{explanation_view}
 use Rattle.yspec.specs.text.Text.{Text}
 use Rattle.yapp.specs.Asked.{refused_parts}
 use Rattle.yapp.specs.Edited.{live_of, refused_in}
+use Rattle.yapp.specs.Saving.{saved_view}
 use Rattle.ycommand.specs.Running.{without_memory}
 use Rattle.yapp.specs.declared.failure.Failure.{Failure}
 use Rattle.yapp.specs.declared.failure.Failure.TheVariants as failures
@@ -52,8 +53,9 @@ reported (reports.Document r) = record {
   output = document_parts r;
   errors = refused_parts r.refused.items;
   status = if length r.faults.items == 0 && length r.refused.items == 0 then 0 else 1;
+  saved = option_map saved_view r.saved;
 }
-reported (reports.Edited e) = left false (live_of e).schema (live_of e).tree (refused_in e)
+reported (reports.Edited e) = left plainly (live_of e).schema (live_of e).tree (refused_in e)
 
 -- the failure of the file of a name
 abbrev pub FromFile : Text → FileFault → Failure → Type 0

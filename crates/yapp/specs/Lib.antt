@@ -3,3 +3,4 @@ pub mod Edited
 pub mod Explained
 pub mod Failing
 pub mod Files
+pub mod Saving

@@ -4,7 +4,7 @@ ghost use Rattle.std.specs.Prelude.{IfOk, map, position};
 ghost use Rattle.yspec.specs.text.Text.{is_text};
 ghost use Rattle.yprogram.specs.Output.{compilation, drawing, drawn, edition, explanation, performed, validation};
 ghost use Rattle.ymodel.specs.View as schema_view;
-ghost use Rattle.ycommand.specs.Command.{view};
+ghost use Rattle.ycommand.specs.Command.{options_view, view};
 ghost use Rattle.yapp.specs.Explained.{HasNoDocument, IsExplained};
 ghost use Rattle.yapp.specs.Failing.{LeadsTo, reported};
 ghost use Rattle.yapp.specs.Files.{IsOutcome, came_to, store};
@@ -17,7 +17,7 @@ use crate::modules::compile_contents;
 use crate::report::Report;
 use std::alloc::Global;
 use ycodes::{all_explanations, explanations, first_unknown};
-use ycommand::Request;
+use ycommand::{Options, Request};
 use ymodel::Schema;
 
 /// What is said of codes; of all where none is named.
@@ -85,36 +85,37 @@ fn draw<'a>(
 /// The faults of a document under modules, by the contents of the files.
 fn validate<'a>(
     alloc: Global,
+    options: Options<'a>,
     document: &'a str,
     modules: &[&'a str],
     contents: &[Vec<u8>],
     with_reasons: bool,
 ) -> Result<Report, Failure<'a>>
-    ensures leads { LeadsTo (validation document.entry.now (map (λ n. n.now) modules.now)
+    ensures leads { LeadsTo (validation (options_view options) document.entry.now (map (λ n. n.now) modules.now)
         (map (λ c. c.items) contents.now)) reported result }
     ensures explained { IfOk result (IsExplained with_reasons) }
 {
     match read_document(alloc, document, modules, contents) {
-        Ok(read) => Ok(report_on(alloc, read.value, with_reasons, false)?),
+        Ok(read) => Ok(report_on(alloc, read.value, with_reasons, options)?),
         Err(failure) => Err(failure),
     }
 }
 
-/// The same after the edits of a script; or, where it is to be dumped, the document then.
+/// The same after the edits of a script.
 fn edit<'a>(
     alloc: Global,
-    is_dump: bool,
+    options: Options<'a>,
     document: &'a str,
     modules: &[&'a str],
     contents: &[Vec<u8>],
     with_reasons: bool,
 ) -> Result<Report, Failure<'a>>
-    ensures leads { LeadsTo (edition is_dump document.entry.now (map (λ n. n.now) modules.now)
+    ensures leads { LeadsTo (edition (options_view options) document.entry.now (map (λ n. n.now) modules.now)
         (map (λ c. c.items) contents.now)) reported result }
     ensures explained { IfOk result (IsExplained with_reasons) }
 {
     match edit_document(alloc, document, modules, contents) {
-        Ok(edited) => Ok(report_on_edited(alloc, edited, with_reasons, is_dump)?),
+        Ok(edited) => Ok(report_on_edited(alloc, edited, with_reasons, options)?),
         Err(failure) => Err(failure),
     }
 }
@@ -134,15 +135,17 @@ fn perform<'a>(
         Request::Explain { codes } => explain(alloc, codes),
         Request::Compile { modules } => count_nodes(alloc, modules, contents),
         Request::Tree { name, modules } => draw(alloc, *name, modules, contents),
-        Request::Validate { document, modules } => {
-            validate(alloc, *document, modules, contents, with_reasons)
-        }
+        Request::Validate {
+            options,
+            document,
+            modules,
+        } => validate(alloc, *options, *document, modules, contents, with_reasons),
         Request::Edit {
-            is_dump,
+            options,
             document,
             modules,
             ..
-        } => edit(alloc, *is_dump, *document, modules, contents, with_reasons),
+        } => edit(alloc, *options, *document, modules, contents, with_reasons),
     }
 }
 

@@ -46,7 +46,11 @@ pub fn names_of<'a>(alloc: Global, request: &Request<'a>) -> Result<Vec<&'a str>
         Request::Compile { modules } | Request::Tree { modules, .. } => {
             Vec::from_slice(alloc, modules)
         }
-        Request::Validate { document, modules } => names_with(alloc, modules, &[*document]),
+        Request::Validate {
+            document,
+            modules,
+            ..
+        } => names_with(alloc, modules, &[*document]),
         Request::Edit {
             document,
             script,

@@ -1,10 +1,10 @@
 //! Documents: read, edited, and reported on.
 
-ghost use Rattle.std.specs.Prelude.{◌≡◌, [], ℕ, List, IfOk, map, option_map, string_bytes, Option, Some, None, if◌then◌else◌};
+ghost use Rattle.std.specs.Prelude.{◌≡◌, [], ℕ, List, IfOk, map, option_map, string_bytes, Option, Some, None, false, if◌then◌else◌};
 ghost use Rattle.yspec.specs.document.Document as document_spec;
 ghost use Rattle.yspec.specs.document.Reading.{document_of};
 ghost use Rattle.yspec.specs.document.Writing.{written_text};
-ghost use Rattle.yprogram.specs.Output.{Outcome, first_file, left, not_read, with_document, with_tree};
+ghost use Rattle.yprogram.specs.Output.{Outcome, dump, first_file, left, not_read, plainly, saved_by, with_document, with_tree};
 ghost use Rattle.yprogram.specs.Part.{Part};
 ghost use Rattle.yprogram.specs.Script.{after_lines, lines_of, refused_lines};
 ghost use Rattle.yspec.specs.schema.Schema as schema_spec;
@@ -18,6 +18,8 @@ ghost use Rattle.yapp.specs.Asked.{edits_in, kinds_in};
 ghost use Rattle.yapp.specs.Edited.{IsEdited, IsOf, IsRun, IsSound, IsWhole, live_of, refused_in, refused_of, schema_of, tree_of};
 ghost use Rattle.yapp.specs.Explained.{IsExplained};
 ghost use Rattle.yapp.specs.Failing.{FailsWith, LeadsTo, reported};
+ghost use Rattle.yapp.specs.Saving.{saved_view};
+ghost use Rattle.ycommand.specs.Command.{options_view};
 
 use crate::contents::{Taken, behind_first, first_of};
 use crate::edited::EditedDocument;
@@ -25,9 +27,11 @@ use crate::failure::Failure;
 use crate::hint::refusal_hint;
 use crate::modules::compile_contents;
 use crate::report::{DocumentReport, Report};
+use crate::saving::SavedFile;
 use crate::script::{RefusedLine, Script};
 use std::alloc::{AllocError, Global};
 use ycheck::{Fault, faults};
+use ycommand::Options;
 use yexplain::explanation_of;
 use ylive::Live;
 use ymodel::Schema;
@@ -189,25 +193,33 @@ fn taken_apart(edited: EditedDocument) -> Result<Document, AllocError>
     }
 }
 
-/// What is to be told of a document after the lines of a script. Where nothing is said of its faults, and it isn't to be
-/// dumped, that is told by the live document itself.
+/// What is to be told of a document after the lines of a script. Where nothing is said of its faults, and it is neither to be
+/// dumped nor written to a file, that is told by the live document itself.
 pub(crate) fn report_on_edited(
     alloc: Global,
     edited: EditedDocument,
     with_reasons: bool,
-    is_dump: bool,
+    options: Options<'_>,
 ) -> Result<Report, AllocError>
     requires { IsWhole (live_of edited).schema (live_of edited).tree }
     ensures reported { IfOk result (λ r. reported r
-        ≡ left is_dump (live_of edited).schema (live_of edited).tree (refused_in edited)) }
+        ≡ left (options_view options) (live_of edited).schema (live_of edited).tree (refused_in edited)) }
     ensures explained { IfOk result (IsExplained with_reasons) }
 {
-    if with_reasons || is_dump {
+    if with_reasons || is_written(options) {
         let document = taken_apart(edited)?;
-        report_on(alloc, document, with_reasons, is_dump)
+        report_on(alloc, document, with_reasons, options)
     } else {
         Ok(Report::Edited(edited))
     }
+}
+
+/// Whether a document is to be dumped or written to a file.
+fn is_written(options: Options<'_>) -> bool
+    ensures { result ≡ false → (s : schema_spec.Schema) (t : document_spec.Tree)
+        (refused : List Part) → left (options_view options) s t refused ≡ left plainly s t refused }
+{
+    options.is_dump || options.saved_as.is_some()
 }
 
 /// What is to be told of a document: its faults, where that is wanted with what is said of each, or its text where it is
@@ -216,15 +228,16 @@ pub(crate) fn report_on(
     alloc: Global,
     document: Document,
     with_reasons: bool,
-    is_dump: bool,
+    options: Options<'_>,
 ) -> Result<Report, AllocError>
     requires { IsSound (schema_of document) (tree_of document) }
     ensures reported { IfOk result (λ r. reported r
-        ≡ left is_dump (schema_of document) (tree_of document) (refused_of document)) }
+        ≡ left (options_view options) (schema_of document) (tree_of document) (refused_of document)) }
     ensures explained { IfOk result (IsExplained with_reasons) }
 {
     let faults = faults(alloc, &document.schema, &document.tree)?;
-    let text = text_of(alloc, &document, is_dump)?;
+    let text = text_of(alloc, &document, options.is_dump)?;
+    let saved = saved_file(alloc, &document, options)?;
     let explanations = explanations_of(alloc, &document, &faults, with_reasons & text.is_none())?;
     Ok(Report::Document(DocumentReport {
         schema: document.schema,
@@ -233,6 +246,7 @@ pub(crate) fn report_on(
         explanations,
         refused: document.refused,
         text,
+        saved,
     }))
 }
 
@@ -280,6 +294,36 @@ fn explained(alloc: Global, document: &Document, fault: &Fault) -> Result<String
         ≡ explained_fault (schema_of document.now) (tree_of document.now) (view fault.now)) }
 {
     explanation_of(alloc, &document.schema, &document.tree, fault)
+}
+
+/// The file to which a document is to be written.
+fn saved_file(
+    alloc: Global,
+    document: &Document,
+    options: Options<'_>,
+) -> Result<Option<SavedFile>, AllocError>
+    requires { IsSound (schema_of document.now) (tree_of document.now) }
+    ensures { IfOk result (λ file. option_map saved_view file
+        ≡ saved_by (options_view options) (schema_of document.now) (tree_of document.now)) }
+{
+    match options.saved_as {
+        Some(name) => Ok(Some(SavedFile {
+            name: String::from_str(alloc, name)?,
+            text: dumped(alloc, document)?,
+        })),
+        None => Ok(None),
+    }
+}
+
+/// The text of a document, with a line feed at its end.
+fn dumped(alloc: Global, document: &Document) -> Result<String, AllocError>
+    requires { IsSound (schema_of document.now) (tree_of document.now) }
+    ensures { IfOk result (λ text. string_bytes text
+        ≡ dump (schema_of document.now) (tree_of document.now)) }
+{
+    let mut text = write(alloc, &document.schema, &document.tree)?;
+    text.push_str("\n")?;
+    Ok(text)
 }
 
 /// The text of a document that is to be dumped.

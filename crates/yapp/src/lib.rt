@@ -12,6 +12,7 @@ mod modules;
 mod program;
 mod reason;
 mod report;
+mod saving;
 mod script;
 mod status;
 
@@ -22,6 +23,7 @@ pub use failure::Failure;
 pub use files::{FileFault, Files};
 pub use program::{refuse, run, tell_memory};
 pub use report::{DocumentReport, Report};
+pub use saving::{Ended, SavedFile, Shelf, Unsaved, save};
 pub use script::{Refusal, RefusedLine};
 pub use status::{FAILED, FAULTY, GOOD, MISUSED, REFUSED};
-pub use ycommand::{CommandLine, NoRequest, Request, read_words};
+pub use ycommand::{CommandLine, NoRequest, Options, Request, read_words};

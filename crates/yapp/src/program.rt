@@ -1,6 +1,7 @@
 //! A run of the program.
 
 ghost use Rattle.std.specs.Prelude.{◌≡◌, [], IfOk, is_ok, if◌then◌else◌, map, string_bytes};
+ghost use Rattle.yapp.specs.Saving.{end_of};
 ghost use Rattle.yprogram.specs.Output.{Outcome, Printed, printed};
 ghost use Rattle.ycommand.specs.Command.{asks_reasons, refusals, request_of};
 ghost use Rattle.yapp.specs.Explained.{IsExplained};
@@ -12,6 +13,7 @@ use crate::answering::answer;
 use crate::failure::Failure;
 use crate::files::Files;
 use crate::report::Report;
+use crate::saving::{Ended, ended_after};
 use crate::status::{FAILED, GOOD, MISUSED};
 use std::alloc::Global;
 use ycommand::{NoRequest, read_words};
@@ -51,43 +53,51 @@ fn show<O: Sink>(text: &str, output: &mut O) -> u8
     status_after(write_texts(output, &[text]), GOOD)
 }
 
-/// Tells what was found, or why nothing was; where that is wanted, with the reasons.
+/// Tells what was found, or why nothing was; where that is wanted, with the reasons. Answers how the run ends.
 fn tell<O: Sink, E: Sink>(
     found: Result<Report, Failure<'_>>,
     with_reasons: bool,
     output: &mut O,
     errors: &mut E,
-) -> u8
+) -> Ended
     requires { IfOk found (IsExplained with_reasons) }
     ensures { Brings (side O.taken O.failures output.old) (side O.taken O.failures output.new)
         (side E.taken E.failures errors.old) (side E.taken E.failures errors.new)
-        (printed with_reasons (came_to found.entry)) result }
+        (printed with_reasons (came_to found.entry)) (end_of result) }
 {
     match found {
-        Ok(report) => status_after(report.write(with_reasons, output, errors), report.status()),
-        Err(failure) => status_after(failure.write(with_reasons, errors), failure.status()),
+        Ok(report) => {
+            let written = report.write(with_reasons, output, errors);
+            let status = report.status();
+            ended_after(written, status, report.into_saved())
+        }
+        Err(failure) => {
+            let written = failure.write(with_reasons, errors);
+            ended_after(written, failure.status(), None)
+        }
     }
 }
 
-/// Runs the program on the words of a command line, the first of which is its name, and answers the exit status.
-/// After a failed write nothing more is written on either side.
+/// Runs the program on the words of a command line, the first of which is its name, and answers the exit status, with the
+/// file that is to be written once the output is out. After a failed write nothing more is written on either side, and no
+/// file.
 pub fn run<F: Files, O: Sink, E: Sink>(
     alloc: Global,
     words: &[String],
     files: &mut F,
     output: &mut O,
     errors: &mut E,
-) -> u8
+) -> Ended
     ensures taken { (refusals (map string_bytes words.now) ≡ []) → (o : Outcome)
         × IsOutcome (store F.contents F.reads F.failures files.old)
         (store F.contents F.reads F.failures files.new) (request_of (map string_bytes words.now)) o
         × Brings (side O.taken O.failures output.old) (side O.taken O.failures output.new)
         (side E.taken E.failures errors.old) (side E.taken E.failures errors.new)
-        (printed (asks_reasons (map string_bytes words.now)) o) result }
+        (printed (asks_reasons (map string_bytes words.now)) o) (end_of result) }
     ensures words { ¬ (refusals (map string_bytes words.now) ≡ []) → (o : Printed)
         × AnswersWords (refusals (map string_bytes words.now)) o
         × Brings (side O.taken O.failures output.old) (side O.taken O.failures output.new)
-        (side E.taken E.failures errors.old) (side E.taken E.failures errors.new) o result }
+        (side E.taken E.failures errors.old) (side E.taken E.failures errors.new) o (end_of result) }
     ensures untouched { ¬ (refusals (map string_bytes words.now) ≡ []) → files.new ≡ files.old }
 {
     match read_words(alloc, words) {
@@ -97,8 +107,8 @@ pub fn run<F: Files, O: Sink, E: Sink>(
             output,
             errors,
         ),
-        Err(NoRequest::Help(text)) => show(text.as_str(), output),
-        Err(NoRequest::Refused(text)) => refuse(text.as_str(), errors),
-        Err(NoRequest::Memory) => tell_memory(errors),
+        Err(NoRequest::Help(text)) => Ended::with_status(show(text.as_str(), output)),
+        Err(NoRequest::Refused(text)) => Ended::with_status(refuse(text.as_str(), errors)),
+        Err(NoRequest::Memory) => Ended::with_status(tell_memory(errors)),
     }
 }

@@ -1,6 +1,6 @@
 //! What a command found, and how it is printed.
 
-ghost use Rattle.std.specs.Prelude.{◌≡◌, ◌++◌, codes, decimal, length, map, string_bytes};
+ghost use Rattle.std.specs.Prelude.{◌≡◌, ◌++◌, codes, decimal, length, map, option_map, string_bytes};
 ghost use Rattle.std.specs.List.{flat_map};
 ghost use Rattle.yspec.specs.schema.Diagram.{diagram};
 ghost use Rattle.yspec.specs.document.Faults.{line_of};
@@ -14,6 +14,7 @@ ghost use Rattle.ycheck.specs.View.{view, views};
 ghost use Rattle.yapp.specs.Asked.{refused_part, refused_parts};
 ghost use Rattle.yapp.specs.Explained.{IsExplained, explained_line, explained_lines, explanations_in, fault_lines};
 ghost use Rattle.yapp.specs.Failing.{reported};
+ghost use Rattle.yapp.specs.Saving.{saved_view};
 ghost use Rattle.ycommand.specs.Running.{WritesBoth};
 ghost use Rattle.yapp.specs.declared.report.Report.TheVariants.{Document, Edited};
 ghost use Rattle.ylist.specs.Seen.{seen_view};
@@ -21,6 +22,7 @@ ghost use Rattle.ylist.specs.Walked.{left};
 
 use crate::edited::EditedDocument;
 use crate::reason::write_hinted_where;
+use crate::saving::SavedFile;
 use crate::script::RefusedLine;
 use crate::status::{FAULTY, GOOD};
 use itoa::Buffer;
@@ -56,6 +58,8 @@ pub struct DocumentReport {
     pub explanations: Option<Vec<String>>,
     pub refused: Vec<RefusedLine>,
     pub text: Option<String>,
+    /// The file to which it is to be written at the end.
+    pub saved: Option<SavedFile>,
 }
 
 impl Report {
@@ -67,6 +71,19 @@ impl Report {
             Report::Explanations(_) | Report::Nodes(_) | Report::Diagram { .. } => GOOD,
             Report::Document(report) => report.status(),
             Report::Edited(document) => document.status(),
+        }
+    }
+
+    /// The file that is to be written at the end.
+    pub fn into_saved(self) -> Option<SavedFile>
+        ensures { option_map saved_view result ≡ (reported self.entry).saved }
+    {
+        match self {
+            Report::Document(report) => report.into_saved(),
+            Report::Explanations(_)
+            | Report::Nodes(_)
+            | Report::Diagram { .. }
+            | Report::Edited(_) => None,
         }
     }
 
@@ -100,6 +117,14 @@ impl Report {
 }
 
 impl DocumentReport {
+    /// The file that is to be written at the end.
+    fn into_saved(self) -> Option<SavedFile>
+        ensures { result ≡ self.entry.saved }
+    {
+        let DocumentReport { saved, .. } = self;
+        saved
+    }
+
     /// The exit status that it brings.
     fn status(&self) -> u8
         ensures { result ≡ (reported (Document self.now)).status }

@@ -1,7 +1,7 @@
 -- What a run comes to: an outcome, and what of it goes out on the two sides.
-use Rattle.std.specs.Prelude.{◌≡◌, ◌⊎◌, ℕ, false, List, [], codes, take, Result, Ok, Err, if◌then◌else◌}
+use Rattle.std.specs.Prelude.{◌≡◌, ◌⊎◌, ℕ, false, List, [], codes, take, Option, None, Result, Ok, Err, if◌then◌else◌}
 use Rattle.clap.specs.Words.{Kinds}
-use Rattle.yprogram.specs.Output.{Outcome, Printed, failed, printed}
+use Rattle.yprogram.specs.Output.{Outcome, Printed, SavedFile, failed, printed}
 use Rattle.youtput.specs.Writing.{Side, Wrote, Broke}
 use Rattle.ycommand.specs.Command.{asks_help}
 
@@ -9,24 +9,43 @@ use Rattle.ycommand.specs.Command.{asks_help}
 abbrev pub failure : ℕ
 failure = 4
 
-abbrev pub BringsAll : Side → Side → Side → Side → Printed → ℕ → Type 0
-BringsAll output output_after errors errors_after o status =
-    Wrote output output_after o.output × Wrote errors errors_after o.errors × (status ≡ o.status)
+-- how a run ends: with a status, and with a file that is to be written then, where there is one
+pub record End : Type 0 where
+  pub status : ℕ
+  pub saved : Option SavedFile
 
-abbrev pub OutputBreaks : Side → Side → Side → Side → Printed → ℕ → Type 0
-OutputBreaks output output_after errors errors_after o status =
-    (n : ℕ) × Broke output output_after o.output × Wrote errors errors_after (take n o.errors) × (status ≡ failure)
+abbrev pub ended : ℕ → Option SavedFile → End
+ended status saved = record { status = status; saved = saved }
 
-abbrev pub ErrorsBreak : Side → Side → Side → Side → Printed → ℕ → Type 0
-ErrorsBreak output output_after errors errors_after o status =
-    (n : ℕ) × Wrote output output_after (take n o.output) × Broke errors errors_after o.errors × (status ≡ failure)
+abbrev pub with_status : ℕ → End
+with_status status = ended status None
 
--- The sides get an outcome and the status is the outcome's. Or one call fails: then what is taken on each side is a
--- beginning of what was due there, and the status says that something failed.
-abbrev pub Brings : Side → Side → Side → Side → Printed → ℕ → Type 0
-Brings output output_after errors errors_after o status = BringsAll output output_after errors errors_after o status
-    ⊎ (OutputBreaks output output_after errors errors_after o status
-    ⊎ ErrorsBreak output output_after errors errors_after o status)
+-- as what it printed says
+abbrev pub well : Printed → End
+well o = ended o.status o.saved
+
+-- once something failed, no file is written
+abbrev pub broken : End
+broken = with_status failure
+
+abbrev pub BringsAll : Side → Side → Side → Side → Printed → End → Type 0
+BringsAll output output_after errors errors_after o end =
+    Wrote output output_after o.output × Wrote errors errors_after o.errors × (end ≡ well o)
+
+abbrev pub OutputBreaks : Side → Side → Side → Side → Printed → End → Type 0
+OutputBreaks output output_after errors errors_after o end =
+    (n : ℕ) × Broke output output_after o.output × Wrote errors errors_after (take n o.errors) × (end ≡ broken)
+
+abbrev pub ErrorsBreak : Side → Side → Side → Side → Printed → End → Type 0
+ErrorsBreak output output_after errors errors_after o end =
+    (n : ℕ) × Wrote output output_after (take n o.output) × Broke errors errors_after o.errors × (end ≡ broken)
+
+-- The sides get an outcome, and the end is the outcome's. Or one call fails: then what is taken on each side is a
+-- beginning of what was due there, the status says that something failed, and no file is written.
+abbrev pub Brings : Side → Side → Side → Side → Printed → End → Type 0
+Brings output output_after errors errors_after o end = BringsAll output output_after errors errors_after o end
+    ⊎ (OutputBreaks output output_after errors errors_after o end
+    ⊎ ErrorsBreak output output_after errors errors_after o end)
 
 -- The error side gets its part of an outcome, and then the output. Or one call fails: then the output isn't begun, or
 -- the error side has got its part.
@@ -52,10 +71,10 @@ abbrev pub memory_told : Printed
 memory_told = printed false without_memory
 
 abbrev pub shown : List ℕ → Printed
-shown text = record { output = text; errors = []; status = 0 }
+shown text = record { output = text; errors = []; status = 0; saved = None }
 
 abbrev pub refused : List ℕ → Printed
-refused text = record { output = []; errors = text; status = 3 }
+refused text = record { output = []; errors = text; status = 3; saved = None }
 
 -- clap's text: as help, or as a refusal
 abbrev pub with_text : Kinds → List ℕ → Printed

@@ -3,4 +3,4 @@
 
 mod command;
 
-pub use command::{CommandLine, NoRequest, Request, read_words};
+pub use command::{CommandLine, NoRequest, Options, Request, read_words};

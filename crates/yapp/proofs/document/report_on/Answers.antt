@@ -1,10 +1,12 @@
 use Rattle.std.proofs.Common.{Bool, List, Some, None, map, ap₂, ◌∙◌}
-use Rattle.std.specs.Prelude.{if◌then◌else◌, ◌&&◌}
+use Rattle.std.specs.Prelude.{if◌then◌else◌, ◌&&◌, option_map}
 use Rattle.yspec.proofs.DocumentProofs.SortingLemmas.{in_order}
 use Rattle.ycheck.specs.View.{views}
 use Rattle.yexplain.specs.Sentences.{explained_fault}
 use Rattle.ycheck.specs.declared.fault.Fault.{Fault}
+use Rattle.ycommand.specs.Command.{options_view}
 use Rattle.yapp.specs.Edited.{schema_of, tree_of}
+use Rattle.yapp.specs.Saving.{saved_view}
 use Rattle.yapp.proofs.DocumentLemmas.{report_is}
 use Rattle.yapp.proofs.ExplainedLemmas.{none_so}
 use Rattle.yapp.proofs.document.report_on.Goals as goal
@@ -13,8 +15,8 @@ pub returns-clause-reported : goal.returns-clause-reported
 returns-clause-reported c =
     let s = schema_of c.args.document in
     let t = tree_of c.args.document in
-    report_is c.args.is_dump s t c.in_ok-faults.faults.items c.args.document.refused.items c.in_ok-text.text
-    (c.in_ok-faults.ensures (in_order s t c.requires.fits)) c.in_ok-text.ensures
+    report_is (options_view c.args.options) s t c.in_ok-faults.faults.items c.args.document.refused.items c.in_ok-text.text
+    (option_map saved_view c.in_ok-saved.saved) (c.in_ok-faults.ensures (in_order s t c.requires.fits)) c.in_ok-text.ensures c.in_ok-saved.ensures
 
 pub returns-clause-explained : goal.returns-clause-explained
 returns-clause-explained c =

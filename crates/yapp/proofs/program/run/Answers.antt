@@ -24,7 +24,7 @@ returns-in-Err-Help g c =
       words = λ not_taken. (
         shown c.as_str.result.now,
         inr (c.as_str.result.now, text_is kinds true c.as_str.result.now because),
-        on_output _ _ _ (shown c.as_str.result.now) _ refl c.show.ensures,
+        on_output _ _ _ (shown c.as_str.result.now) _ _ refl refl c.show.ensures c.with_status.ensures,
       );
       untouched = λ not_taken. refl;
     }
@@ -39,7 +39,7 @@ returns-in-Err-Refused g c =
       words = λ not_taken. (
         refused text,
         inr (text, text_is kinds false text because.1),
-        on_errors _ _ _ (refused text) _ refl c.refuse.ensures,
+        on_errors _ _ _ (refused text) _ _ refl refl c.refuse.ensures c.with_status-in-Err-Refused.ensures,
       );
       untouched = λ not_taken. refl;
     }
@@ -49,8 +49,8 @@ returns-in-Err-Memory g c = record {
   taken = λ taken. (
     without_memory,
     inr (record { failures = refl; reads = omega arith }, refl),
-    memory_either (asks_reasons (map string_bytes c.args.words.now)) _ _ _ _ _ (on_errors _ _ _ memory_told _ refl c.tell_memory.ensures),
+    memory_either (asks_reasons (map string_bytes c.args.words.now)) _ _ _ _ _ (on_errors _ _ _ memory_told _ _ refl refl c.tell_memory.ensures c.with_status-in-Err-Memory.ensures),
   );
-  words = λ not_taken. (memory_told, inl refl, on_errors _ _ _ memory_told _ refl c.tell_memory.ensures);
+  words = λ not_taken. (memory_told, inl refl, on_errors _ _ _ memory_told _ _ refl refl c.tell_memory.ensures c.with_status-in-Err-Memory.ensures);
   untouched = λ not_taken. refl;
 }
