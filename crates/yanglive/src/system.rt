@@ -2,7 +2,7 @@
 
 ghost use Rattle.std.specs.Prelude.{None};
 
-use std::fs::File;
+use std::fs::{File, OpenFile};
 use std::io::{BufWriter, ErrorKind, Write};
 use std::{fs, io, rt};
 use yapp::{FileFault, Files, SavedFile, Shelf, Unsaved};
