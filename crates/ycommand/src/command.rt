@@ -112,8 +112,8 @@ Example: yanglive tree net net.yang";
 
 /// What `validate` says at the end of its help.
 const VALIDATE_HELP: &str =
-    "Prints a line for each fault, and then how many there are, as `0 faults`. The line has the code (V1 to V11), error-tag, error-app-tag, path, and the choice (V4, V5) or the number of the unique (V9), or - for none; [N] in a path is the position of an entry or item, from 1.
-A refused module is told as FILE:LINE: CODE (L1 to L8, C1 to C18), a refused document as FILE: CODE PATH (J1 to J7); `yanglive explain CODE` says what it means.
+    "Prints a line for each fault, and then how many there are, as `0 faults`. The line has the code (V1 to V11), error-tag, error-app-tag, path, and the choice (V4, V5) or the number of the unique (V9), or - for none; [N] in a path is the position of an entry or item, from 1. With --format json a fault is an object on a line of its own, in the words of RESTCONF (RFC 8040, 7.1), and so is their number.
+A refused module is told as FILE:LINE: CODE (L1 to L8, C1 to C18), a refused document as FILE: CODE PATH (J1 to J7, with --strict J8); `yanglive explain CODE` says what it means.
 
 Exit status:
   0  There is no fault
@@ -134,10 +134,11 @@ An edit stands on a line of its own; empty lines and those that begin with # are
 PATH is a step or more: /module:name at the top and where the module changes, /name elsewhere, without choices and cases. Behind the name of an entry stands [N], its position from 1, or [key='text'] for each of its keys; behind that of an item [N]. The last step of create has none: an entry or item comes last.
 VALUE is JSON, up to the end of the line: an object for a container or an entry, as the document has it.
 A refused edit changes nothing, and the others are applied. Its line and why it is refused stand on the error side, as `line 4: E7`; `yanglive explain E7` says what it means.
+With --output the edited document is written to a file beside FILE, which takes its place once all else is out; where something failed before, FILE stays as it is.
 
 Exit status:
   0  There is no fault, and no edit is refused
-  1  There are faults or refused edits
+  1  There are faults or refused edits; FILE is written all the same
   2  A module or the document is refused
   3  The command line is refused
   4  A file, a stream or memory failed
