@@ -9,7 +9,7 @@ use Rattle.ytree.specs.Told as document
 use Rattle.ytree.specs.View.{place_view, tree_view}
 use Rattle.ycheck.specs.View.{views}
 use Rattle.yspec.specs.schema.Diagram.{diagram}
-use Rattle.yprogram.specs.Output.{Outcome, document_part, failed, failed_with, found, left, plainly, refusal_part, report, unread}
+use Rattle.yprogram.specs.Output.{Outcome, Stop, failed, failed_with, found, left, plainly, refusal_part, refused_document, report, unread}
 use Rattle.yprogram.specs.Hint.{hinted}
 use Rattle.yprogram.specs.Part.{Part, plain}
 use Rattle.ycodes.specs.Codes.{explained}
@@ -20,6 +20,7 @@ use Rattle.yapp.specs.Edited.{live_of, refused_in}
 use Rattle.yapp.specs.Saving.{saved_view}
 use Rattle.ycommand.specs.Running.{without_memory}
 use Rattle.yapp.specs.declared.failure.Failure.{Failure}
+use Rattle.yapp.specs.declared.failure.Stop as declared
 use Rattle.yapp.specs.declared.failure.Failure.TheVariants as failures
 use Rattle.yapp.specs.declared.files.FileFault.{FileFault}
 use Rattle.yapp.specs.declared.files.FileFault.TheVariants.{Unread, Memory}
@@ -33,8 +34,8 @@ outcome_of (failures.Text name code line hint) =
     failed_with 2 (hinted (string_bytes hint) (refusal_part name.now line (codes "L") (number_of code)))
 outcome_of (failures.Compile name code line hint) =
     failed_with 2 (hinted (string_bytes hint) (refusal_part name.now line (codes "C") (code_number code)))
-outcome_of (failures.Document name schema code place hint) = failed_with 2 (hinted (string_bytes hint)
-    (document_part (schema_view.view schema) name.now (record { code = document.code_number code; place = place_view place.items })))
+outcome_of (failures.Document name schema code place hint stop) = refused_document (string_bytes hint) (schema_view.view schema) name.now
+    (record { code = document.code_number code; place = place_view place.items })
 outcome_of (failures.NoModule name) = failed 2 (name.now ++ codes ": no such module")
 outcome_of (failures.NoCode word) = failed 2 (word.now ++ codes ": no such code")
 outcome_of failures.Memory = without_memory
@@ -54,8 +55,17 @@ reported (reports.Document r) = record {
   errors = refused_parts r.refused.items;
   status = if length r.faults.items == 0 && length r.refused.items == 0 then 0 else 1;
   saved = option_map saved_view r.saved;
+  no_json = None;
 }
 reported (reports.Edited e) = left plainly (live_of e).schema (live_of e).tree (refused_in e)
+
+-- where the reader of a document that isn't JSON stops
+abbrev pub stop_view : declared.Stop → Stop
+stop_view s = record { line = s.line; column = s.column }
+
+abbrev pub stop_in : Failure → Stop
+stop_in (failures.Document name schema code place hint stop) = stop_view stop
+stop_in _ = record { line = 0; column = 0 }
 
 -- the failure of the file of a name
 abbrev pub FromFile : Text → FileFault → Failure → Type 0
@@ -67,7 +77,7 @@ abbrev pub FailsWith : Failure → Outcome → Type 0
 FailsWith (failures.Unread name) o = o ≡ outcome_of (failures.Unread name)
 FailsWith (failures.Text name code line hint) o = o ≡ outcome_of (failures.Text name code line hint)
 FailsWith (failures.Compile name code line hint) o = o ≡ outcome_of (failures.Compile name code line hint)
-FailsWith (failures.Document name schema code place hint) o = o ≡ outcome_of (failures.Document name schema code place hint)
+FailsWith (failures.Document name schema code place hint stop) o = o ≡ outcome_of (failures.Document name schema code place hint stop)
 FailsWith (failures.NoModule name) o = o ≡ outcome_of (failures.NoModule name)
 FailsWith (failures.NoCode word) o = o ≡ outcome_of (failures.NoCode word)
 FailsWith failures.Memory o = Unit {0}

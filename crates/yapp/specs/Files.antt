@@ -1,8 +1,8 @@
 -- What files contain, as far as that is told, how often one was read, and how often that failed.
 use Rattle.std.specs.Prelude.{◌≡◌, ◌⊎◌, ℕ, ◌+◌, ◌≤◌, List, [], ◌∷◌, length, map, Option, Some, None, Result, Ok, Err}
-use Rattle.yprogram.specs.Output.{Outcome, Request, files_of, outcome, with_files}
+use Rattle.yprogram.specs.Output.{Outcome, Request, Stop, files_of, outcome, with_files}
 use Rattle.yspec.specs.text.Text.{Text}
-use Rattle.yapp.specs.Failing.{outcome_of, reported}
+use Rattle.yapp.specs.Failing.{outcome_of, reported, stop_in}
 use Rattle.ycommand.specs.Running.{without_memory}
 use Rattle.yapp.specs.declared.failure.Failure.{Failure}
 use Rattle.yapp.specs.declared.failure.Failure.TheVariants.{Memory}
@@ -82,3 +82,8 @@ IsOutcome before after request o =
 abbrev pub came_to : Result Report Failure → Outcome
 came_to (Ok r) = reported r
 came_to (Err failure) = outcome_of failure
+
+-- where the reader of a document that isn't JSON stopped
+abbrev pub stopped : Result Report Failure → Stop
+stopped (Ok r) = record { line = 0; column = 0 }
+stopped (Err failure) = stop_in failure

@@ -23,12 +23,13 @@ ghost use Rattle.ycommand.specs.Command.{options_view};
 
 use crate::contents::{Taken, behind_first, first_of};
 use crate::edited::EditedDocument;
-use crate::failure::Failure;
+use crate::failure::{Failure, Stop};
 use crate::hint::refusal_hint;
 use crate::modules::compile_contents;
 use crate::report::{DocumentReport, Report};
 use crate::saving::SavedFile;
 use crate::script::{RefusedLine, Script};
+use serde_json::Value;
 use std::alloc::{AllocError, Global};
 use ycheck::{Fault, faults};
 use ycommand::Options;
@@ -84,6 +85,7 @@ fn document_failure<'a>(
     ensures { FailsWith result (not_read (schema_view.view schema) name.entry.now bytes.now
         (record { code = code_number code; place = place_view place.items })) }
 {
+    let stop = stop_of(alloc, bytes, code);
     match refusal_hint(alloc, &schema, bytes, code, &place) {
         Ok(hint) => Failure::Document {
             name,
@@ -91,8 +93,23 @@ fn document_failure<'a>(
             code,
             place,
             hint,
+            stop,
         },
         Err(_) => Failure::Memory,
+    }
+}
+
+/// Where the reader stops in bytes that aren't JSON (J1); at the beginning of all others.
+fn stop_of(alloc: Global, bytes: &[u8], code: DocCode) -> Stop {
+    match code {
+        DocCode::J1 => match Value::from_slice(alloc, bytes) {
+            Ok(_) => Stop { line: 1, column: 1 },
+            Err(error) => Stop {
+                line: error.line(),
+                column: error.column(),
+            },
+        },
+        _ => Stop { line: 1, column: 1 },
     }
 }
 

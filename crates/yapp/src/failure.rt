@@ -1,13 +1,13 @@
 //! Why there is no report, and the line that says so.
 
-ghost use Rattle.std.specs.Prelude.{◌≡◌, ◌++◌, codes, decimal};
-ghost use Rattle.yprogram.specs.Output.{document_part, printed, refusal_part};
+ghost use Rattle.std.specs.Prelude.{◌≡◌, ◌++◌, codes, decimal, true};
+ghost use Rattle.yprogram.specs.Output.{document_part, not_json, printed, printed_with, refusal_part, stop_line, stop_lines};
 ghost use Rattle.yprogram.specs.Hint.{hinted};
 ghost use Rattle.yprogram.specs.Part.{spelled_part};
 ghost use Rattle.youtput.specs.Writing.{Writes, side};
 ghost use Rattle.ymodel.specs.View as schema_view;
 ghost use Rattle.ytree.specs.View.{place_view};
-ghost use Rattle.yapp.specs.Failing.{FromFile, outcome_of};
+ghost use Rattle.yapp.specs.Failing.{FromFile, outcome_of, stop_in, stop_view};
 ghost use Rattle.yapp.specs.declared.failure.Failure.TheVariants.{Memory};
 
 use crate::files::FileFault;
@@ -23,6 +23,13 @@ use youtput::{Sink, SinkFault, write_texts};
 use yschema::CompileCode;
 use ytext::TextCode;
 use ytree::{DocCode, Step};
+
+/// Where the kit's reader of JSON stops in a text, by line and column.
+#[derive(Clone, Copy, Debug)]
+pub struct Stop {
+    pub line: usize,
+    pub column: usize,
+}
 
 /// Why a command gives no report. Files are named by the words that were given.
 #[derive(Drop, Error)]
@@ -48,7 +55,7 @@ pub enum Failure<'a> {
         line: u32,
         hint: String,
     },
-    /// A document is refused at a node of a schema, with what is said of it.
+    /// A document is refused at a node of a schema, with what is said of it, and where its reader stops if it isn't JSON.
     #[error("{name}: {code}")]
     Document {
         name: &'a str,
@@ -56,6 +63,7 @@ pub enum Failure<'a> {
         code: DocCode,
         place: Vec<Step>,
         hint: String,
+        stop: Stop,
     },
     /// No module has the name of the one that is to be drawn.
     #[error("{name}: no such module")]
@@ -118,8 +126,42 @@ impl<'a> Failure<'a> {
         }
     }
 
-    /// Writes its line, and below it why a code in it is told, where that is wanted.
+    /// Writes its line; where that is wanted, below it why a code in it is told, and where a document stops being JSON.
     pub fn write<S: Sink>(&self, with_reasons: bool, sink: &mut S) -> Result<(), SinkFault>
+        ensures { Writes (side S.taken S.failures sink.old) (side S.taken S.failures sink.new)
+            (printed_with (stop_in self.now) with_reasons (outcome_of self.now)).errors result }
+    {
+        self.write_part(with_reasons, sink)?;
+        if with_reasons {
+            self.write_stop(sink)
+        } else {
+            Ok(())
+        }
+    }
+
+    /// Writes where the document stops being JSON, if it is refused for that.
+    fn write_stop<S: Sink>(&self, sink: &mut S) -> Result<(), SinkFault>
+        ensures { Writes (side S.taken S.failures sink.old) (side S.taken S.failures sink.new)
+            (stop_lines true (stop_in self.now) (outcome_of self.now).no_json) result }
+    {
+        match self {
+            Failure::Document {
+                name,
+                code,
+                stop,
+                ..
+            } => write_stop_where(*name, code.number(), *stop, sink),
+            Failure::Unread { .. }
+            | Failure::Text { .. }
+            | Failure::Compile { .. }
+            | Failure::NoModule { .. }
+            | Failure::NoCode { .. }
+            | Failure::Memory => Ok(()),
+        }
+    }
+
+    /// Writes its line, and below it why a code in it is told, where that is wanted.
+    fn write_part<S: Sink>(&self, with_reasons: bool, sink: &mut S) -> Result<(), SinkFault>
         ensures { Writes (side S.taken S.failures sink.old) (side S.taken S.failures sink.new)
             (printed with_reasons (outcome_of self.now)).errors result }
     {
@@ -163,6 +205,7 @@ impl<'a> Failure<'a> {
                 code,
                 place,
                 hint,
+                ..
             } => {
                 write_document_refusal(
                     *name,
@@ -233,6 +276,38 @@ fn write_document_refusal<S: Sink>(
 {
     write_document_line(name, schema, code, place, sink)?;
     write_hinted_where(with_reasons, hint, "J", code, sink)
+}
+
+/// Writes where a document stops being JSON, if its refusal has that number.
+fn write_stop_where<S: Sink>(
+    name: &str,
+    code: u8,
+    stop: Stop,
+    sink: &mut S,
+) -> Result<(), SinkFault>
+    ensures { Writes (side S.taken S.failures sink.old) (side S.taken S.failures sink.new)
+        (stop_lines true (stop_view stop) (not_json name.now code)) result }
+{
+    if code == 1 {
+        write_stop_line(name, stop, sink)
+    } else {
+        Ok(())
+    }
+}
+
+/// Writes where a document stops being JSON: `FILE:LINE:COLUMN: ..`.
+fn write_stop_line<S: Sink>(name: &str, stop: Stop, sink: &mut S) -> Result<(), SinkFault>
+    ensures { Writes (side S.taken S.failures sink.old) (side S.taken S.failures sink.new)
+        (stop_line (stop_view stop) name.now) result }
+{
+    let mut line_digits = Buffer::new();
+    let mut column_digits = Buffer::new();
+    let line = line_digits.format(stop.line);
+    let column = column_digits.format(stop.column);
+    write_texts(
+        sink,
+        &[name, ":", line, ":", column, ": it stops being JSON here\n"],
+    )
 }
 
 /// Writes the line of a document's refusal: `FILE: CODE PLACE`.

@@ -19,7 +19,7 @@ mod status;
 pub use answering::answer;
 pub use document::{Document, edit_document};
 pub use edited::EditedDocument;
-pub use failure::Failure;
+pub use failure::{Failure, Stop};
 pub use files::{FileFault, Files};
 pub use program::{refuse, run, tell_memory};
 pub use report::{DocumentReport, Report};

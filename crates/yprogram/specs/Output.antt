@@ -1,6 +1,7 @@
 -- What a run of the program prints, as a function of the files that it asks for and of what they contain.
 use Rattle.std.specs.Prelude.{ℕ, ◌++◌, ◌&&◌, Bool, false, List, [], ◌∷◌, length, map, codes, decimal, Option, Some, None, Result, Ok, Err, if◌then◌else◌, ◌==◌, option_map, position, slice_get, unwrap_or}
 use Rattle.std.specs.List.{flat_map}
+use Rattle.std.specs.Option.{option_map_or}
 use Rattle.ycodes.specs.Codes.{all_explanations, explained, explanations_of, reason_of, unknown_among}
 use Rattle.yspec.specs.Forest.{Forest, end, join, size}
 use Rattle.yspec.specs.text.Text.{Text, is_text}
@@ -56,12 +57,14 @@ pub record SavedFile : Type 0 where
   pub name : Text
   pub text : List ℕ
 
--- what goes to both sides, the exit status, and the file that is written once all else is
+-- What goes to both sides, the exit status, the file that is written once all else is, and the name of the document that
+-- isn't JSON, where it is refused for that.
 pub record Outcome : Type 0 where
   pub output : List Part
   pub errors : List Part
   pub status : ℕ
   pub saved : Option SavedFile
+  pub no_json : Option Text
 
 -- both sides' bytes, the exit status, and that file
 pub record Printed : Type 0 where
@@ -75,11 +78,28 @@ abbrev pub printed : Bool → Outcome → Printed
 printed with_reasons o =
     record { output = spelled with_reasons o.output; errors = spelled with_reasons o.errors; status = o.status; saved = o.saved }
 
+-- where a reader of JSON stops in a text, by line and column
+pub record Stop : Type 0 where
+  pub line : ℕ
+  pub column : ℕ
+
+-- `FILE:LINE:COLUMN: ..`, where the document of a name stops being JSON
+abbrev pub stop_line : Stop → Text → List ℕ
+stop_line stop name = name ++ (codes ":" ++ (decimal stop.line ++ (codes ":" ++ (decimal stop.column ++ codes ": it stops being JSON here\n"))))
+
+abbrev pub stop_lines : Bool → Stop → Option Text → List ℕ
+stop_lines with_reasons stop no_json = if with_reasons then option_map_or (stop_line stop) no_json [] else []
+
+-- what an outcome prints, where a reader of JSON stops there in a document that isn't JSON
+abbrev pub printed_with : Stop → Bool → Outcome → Printed
+printed_with stop with_reasons o = let p = printed with_reasons o in
+    record p { errors = p.errors ++ stop_lines with_reasons stop o.no_json }
+
 abbrev pub found : ℕ → List ℕ → Outcome
-found status output = record { output = plain output ∷ []; errors = []; status = status; saved = None }
+found status output = record { output = plain output ∷ []; errors = []; status = status; saved = None; no_json = None }
 
 abbrev pub failed_with : ℕ → Part → Outcome
-failed_with status part = record { output = []; errors = part ∷ []; status = status; saved = None }
+failed_with status part = record { output = []; errors = part ∷ []; status = status; saved = None; no_json = None }
 
 abbrev pub failed : ℕ → List ℕ → Outcome
 failed status line = failed_with status (plain (line ++ codes "\n"))
@@ -149,8 +169,16 @@ abbrev pub document_part : Schema → Text → Refusal → Part
 document_part schema name r = let code = codes "J" ++ decimal r.code in
     line_about code (name ++ (codes ": " ++ (code ++ (codes " " ++ path_text schema r.place))))
 
+-- the name of a document that isn't JSON, by the number of its refusal
+abbrev pub not_json : Text → ℕ → Option Text
+not_json name code = if code == 1 then Some name else None
+
+-- a document is refused, of which this is said besides
+abbrev pub refused_document : Text → Schema → Text → Refusal → Outcome
+refused_document hint schema name r = record (failed_with 2 (hinted hint (document_part schema name r))) { no_json = not_json name r.code }
+
 abbrev pub not_read : Schema → Text → List ℕ → Refusal → Outcome
-not_read schema name bytes r = failed_with 2 (hinted (refusal_hint schema bytes r) (document_part schema name r))
+not_read schema name bytes r = refused_document (refusal_hint schema bytes r) schema name r
 
 abbrev pub with_tree : Schema → Text → List ℕ → Result Tree Refusal → (Tree → Outcome) → Outcome
 with_tree schema name bytes (Err r) next = not_read schema name bytes r
@@ -208,6 +236,7 @@ left options schema tree refused = let faults = faults_of schema tree in record 
   errors = refused;
   status = if length faults == 0 && length refused == 0 then 0 else 1;
   saved = saved_by options schema tree;
+  no_json = None;
 }
 
 -- a document after the lines of a script

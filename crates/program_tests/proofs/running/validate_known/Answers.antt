@@ -9,6 +9,7 @@ returns g c =
     let same = ap (map string_bytes) c.deref.ensures.value ∙ c.in_ok-words.ensures in
     let came = c.run.ensures.taken (ap refusals same ∙ are_taken) in (
       came.0,
-      is_known _ _ _ (map (λ f. f.name.now) c.args.files.now.files.now) (map (λ f. f.bytes.now) c.args.files.now.files.now) came.0 refl refl (ap request_of same ∙ ask_for) came.1,
-      reasons_same _ _ _ _ _ _ _ _ (ap asks_reasons same ∙ ask_no_reasons) came.2,
+      came.1,
+      is_known _ _ _ (map (λ f. f.name.now) c.args.files.now.files.now) (map (λ f. f.bytes.now) c.args.files.now.files.now) came.0 refl refl (ap request_of same ∙ ask_for) came.2,
+      reasons_same came.1 _ _ _ _ _ _ _ _ (ap asks_reasons same ∙ ask_no_reasons) came.3,
     )

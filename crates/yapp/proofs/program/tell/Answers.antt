@@ -1,13 +1,16 @@
 use Rattle.yprogram.specs.Output.{printed}
 use Rattle.yapp.specs.Failing.{outcome_of, reported}
-use Rattle.yapp.proofs.RunningLemmas.{both_end, end_is, on_failure, told_of, unsaved_end}
+use Rattle.yapp.specs.Files.{stopped}
+use Rattle.yapp.proofs.RunningLemmas.{both_end, end_is, on_failure, reported_alike, told_of, unsaved_end}
+use Rattle.std.specs.Prelude.{Ok}
 use Rattle.yapp.proofs.program.tell.Goals as goal
 
 pub returns-in-Ok : goal.returns-in-Ok
 returns-in-Ok g c =
-    let o = printed c.args.with_reasons (reported c.in-Ok.report) in
-    told_of c.args.with_reasons _ _ _ _ _ _ _ c.in-Ok.is (both_end _ _ _ _ o _ c.write-written.result c.write-written.ensures
-    (end_is o _ _ _ c.write-written.result c.ended_after.ensures c.status-status.ensures c.into_saved.ensures))
+    let r = c.in-Ok.report in
+    let o = printed c.args.with_reasons (reported r) in
+    told_of c.args.with_reasons _ _ _ _ _ _ _ c.in-Ok.is (reported_alike (stopped (Ok r)) c.args.with_reasons _ _ _ _ r _ (both_end _ _ _ _ o _ c.write-written.result c.write-written.ensures
+    (end_is o _ _ _ c.write-written.result c.ended_after.ensures c.status-status.ensures c.into_saved.ensures)))
 
 pub returns-in-Err : goal.returns-in-Err
 returns-in-Err g c = told_of c.args.with_reasons _ _ _ _ _ _ _ c.in-Err.is (on_failure c.args.with_reasons _ _ _ c.in-Err.failure _ c.write-written-2.result c.write-written-2.ensures

@@ -1,21 +1,8 @@
-use Rattle.std.proofs.Common.{codes, sym, ap, ◌∙◌, append_assoc}
-use Rattle.yprogram.specs.Part.{spelled}
-use Rattle.youtput.proofs.WritingLemmas.{writes_same}
-use Rattle.yapp.specs.Failing.{outcome_of}
-use Rattle.yapp.proofs.RunningLemmas.{one_plain}
+use Rattle.youtput.proofs.WritingLemmas.{left_all, left_after, left_failed, left_last, left_same}
+use Rattle.yprogram.specs.Output.{printed, stop_lines}
+use Rattle.yapp.specs.Failing.{outcome_of, stop_in}
+use Rattle.yapp.proofs.RunningLemmas.{no_stop}
 use Rattle.yapp.proofs.failure.Failure.write.Goals as goal
 
-pub returns-in-Unread : goal.returns-in-Unread
-returns-in-Unread g c = writes_same _ _ _ _ c.write_texts.result
-    (one_plain c.args.with_reasons _ ∙ ap (λ f. spelled c.args.with_reasons (outcome_of f).errors) (sym c.in-Unread.is))
-    c.write_texts.ensures
-
-pub returns-in-NoModule : goal.returns-in-NoModule
-returns-in-NoModule g c = writes_same _ _ _ _ c.write_texts-in-NoModule.result
-    (sym (append_assoc c.in-NoModule.name.now (codes ": no such module") (codes "\n")) ∙ (one_plain c.args.with_reasons _
-    ∙ ap (λ f. spelled c.args.with_reasons (outcome_of f).errors) (sym c.in-NoModule.is))) c.write_texts-in-NoModule.ensures
-
-pub returns-in-NoCode : goal.returns-in-NoCode
-returns-in-NoCode g c = writes_same _ _ _ _ c.write_texts-in-NoCode.result
-    (sym (append_assoc c.in-NoCode.word.now (codes ": no such code") (codes "\n")) ∙ (one_plain c.args.with_reasons _
-    ∙ ap (λ f. spelled c.args.with_reasons (outcome_of f).errors) (sym c.in-NoCode.is))) c.write_texts-in-NoCode.ensures
+pub returns-in_err-write_part : goal.returns-in_err-write_part
+returns-in_err-write_part g c = left_failed _ _ _ _ _ _ c.from_residual.result c.from_residual.ensures.0 (left_all _ _) c.in_err-write_part.ensures
