@@ -18,4 +18,6 @@ mod modules;
 #[cfg(test)]
 mod running;
 #[cfg(test)]
+mod saving;
+#[cfg(test)]
 mod telling;

@@ -192,6 +192,23 @@ yanglive edit --dump --dump d.json s.txt p.yang
 errors 3
 '--dump'
 ==
+yanglive validate --format xml d.json p.yang
+errors 3
+error: invalid value 'xml' for '--format <FORMAT>'
+  [possible values: text, json]
+==
+yanglive edit --format= d.json s.txt p.yang
+errors 3
+'--format <FORMAT>'
+==
+yanglive compile --format json p.yang
+errors 3
+'--format'
+==
+yanglive tree --strict p p.yang
+errors 3
+'--strict'
+==
 yanglive --help
 output 0
   validate  

@@ -2,11 +2,11 @@
 #![tactic(auto)]
 
 mod binding;
-mod cut;
+mod cutting;
 mod edit;
 mod paths;
 
 pub use binding::{Bound, BoundStep, bind_path, fits_node, has_name, refused};
-pub use cut::{after_spaces, behind, cut};
+pub use cutting::{after_spaces, behind, cut};
 pub use edit::{Edit, EditCode, EditFault, Key, NamedStep, Path, Predicate};
 pub use paths::{is_step, name_and_predicate, operands};

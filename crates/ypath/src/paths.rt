@@ -8,7 +8,7 @@ ghost use Rattle.ypath.specs.EditView.{key_view, keys_view, predicate_view, step
 ghost use Rattle.ypath.specs.declared.edit.EditCode.TheVariants.{E1};
 ghost use Rattle.ypath.specs.declared.edit.EditFault.TheVariants.{Refused};
 
-use crate::cut::{after_spaces, behind, cut};
+use crate::cutting::{after_spaces, behind, cut};
 use crate::edit::{Edit, EditCode, EditFault, Key, NamedStep, Path, Predicate};
 use std::alloc::{AllocError, Global};
 use ytext::{is_digit, is_identifier, is_name, offset_of};

@@ -1,7 +1,7 @@
 use Rattle.std.proofs.Common.{◌≡◌, ◌-◌, ◌≤◌, length, take, drop, None}
 use Rattle.yspec.specs.edit.EditText.{cut_at}
 use Rattle.ypath.proofs.CutLemmas.{cut_behind}
-use Rattle.ypath.proofs.cut.stop_offset.Given as goal
+use Rattle.ypath.proofs.cutting.stop_offset.Given as goal
 
 abbrev pub invariant-loop-at : goal.invariant-loop-at
 invariant-loop-at l = record {

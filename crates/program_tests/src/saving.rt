@@ -1,0 +1,158 @@
+//! The file to which a document is written at the end.
+
+ghost use Rattle.std.specs.Prelude.{None};
+
+use crate::running::{InMemory, MODULE, Shown, WHOLLY, Way, file, shown_by};
+use std::alloc::{AllocError, Global};
+use yapp::{Ended, SavedFile, Shelf, Unsaved, save};
+use ytext::{CallCount, Cut};
+
+const SCRIPT: &str = "create /p:c {\"id\":300}
+remove /p:d";
+
+/// What words show of the module of the tests, an empty document and a script with a refused line.
+fn shown(alloc: Global, line: &str, output: Way, errors: Way) -> Result<Shown, AllocError> {
+    let files = [
+        file("p.yang", MODULE),
+        file("d.json", "{}"),
+        file("s.txt", SCRIPT),
+        file("none.txt", ""),
+        file("bad.json", "{\"p:d\":1}"),
+    ];
+    let files = InMemory::new(alloc, &files, None);
+    shown_by(alloc, line, files, output, errors)
+}
+
+/// Whether a file is due with this name and text, or none where the name is `-`.
+fn is_due(saved: &Option<SavedFile>, name: &str, text: &str) -> bool {
+    match saved {
+        Some(file) => file.name.as_str() == name && file.text.as_str() == text,
+        None => name == "-",
+    }
+}
+
+/// Whether words end so: the row is the words, the status, the name of the file, its text, and the output.
+fn ends_so(alloc: Global, row: &str) -> Option<bool> {
+    let (line, rest) = row.split_once('|')?;
+    let (status, rest) = rest.split_once('|')?;
+    let (name, rest) = rest.split_once('|')?;
+    let (text, output) = rest.split_once('|')?;
+    let status = status.parse::<u8>().ok()?;
+    let shown = shown(alloc, line, WHOLLY, WHOLLY).ok()?;
+    let is_shown = shown.status == status && shown.output.bytes() == output.as_bytes();
+    Some(is_shown && is_due(&shown.saved, name, text))
+}
+
+#[test]
+fn saved_documents(rt: HostRuntime) {
+    let rows = "yanglive edit --output o.json d.json s.txt p.yang|1|o.json|{\"p:c\":{\"id\":300}}
+|V1 invalid-value - /p:c/id -
+1 faults
+==
+yanglive edit --dump --output=o.json d.json s.txt p.yang|1|o.json|{\"p:c\":{\"id\":300}}
+|{\"p:c\":{\"id\":300}}
+==
+yanglive edit --output d.json d.json none.txt p.yang|0|d.json|{}
+|0 faults
+==
+yanglive edit d.json s.txt p.yang|1|-||V1 invalid-value - /p:c/id -
+1 faults
+==
+yanglive edit --output o.json bad.json s.txt p.yang|2|-||==
+yanglive edit --output o.json d.json s.txt d.json|2|-||==
+yanglive validate --output o.json d.json p.yang|3|-||==
+yanglive edit --output|3|-||";
+    for row in rows.split("==\n") {
+        assert!(rt; ends_so(rt.alloc(), row) == Some(true), "{row}");
+    }
+}
+
+/// Whether no file is due once the call of a number failed on a side.
+fn is_dropped(alloc: Global, call: u64) -> Option<bool> {
+    let line = "yanglive edit --output o.json d.json s.txt p.yang";
+    let failing = Way {
+        bytes_per_call: 1,
+        failing_call: Some(call),
+    };
+    let by_output = shown(alloc, line, failing, WHOLLY).ok()?;
+    let by_errors = shown(alloc, line, WHOLLY, failing).ok()?;
+    let is_cut = by_output.saved.is_none() && by_output.status == 4;
+    Some(is_cut && by_errors.saved.is_none() && by_errors.status == 4)
+}
+
+#[test]
+fn nothing_saved_behind_a_failure(rt: HostRuntime) {
+    for call in 1..13 {
+        assert!(rt; is_dropped(rt.alloc(), call) == Some(true), "{call}");
+    }
+}
+
+/// Keeps the last file that it was given, or fails.
+#[derive(Drop)]
+struct Last {
+    alloc: Global,
+    is_failing: bool,
+    text: String,
+    count: CallCount,
+}
+
+impl Shelf for Last {
+    ghost written = { λ _. None };
+
+    ghost failures = { λ s. s.count.calls };
+
+    fn save(&mut self, file: &SavedFile) -> Result<(), Unsaved> {
+        let copy = [file.name.as_str(), " ", file.text.as_str()].concat(self.alloc);
+        match (self.is_failing, copy) {
+            (false, Ok(text)) => {
+                self.text = text;
+                Ok(())
+            }
+            _ => {
+                self.count.rise();
+                Err(Unsaved)
+            }
+        }
+    }
+}
+
+/// Whether a run that ends with a status and perhaps with a file comes to that: the row is the status, whether there is a
+/// file, whether it can't be written, the status then, what is kept, and what is said.
+fn is_saved(alloc: Global, row: &str) -> Option<bool> {
+    let (before, rest) = row.split_once('|')?;
+    let (is_there, rest) = rest.split_once('|')?;
+    let (is_failing, rest) = rest.split_once('|')?;
+    let (after, rest) = rest.split_once('|')?;
+    let (kept, said) = rest.split_once('|')?;
+    let mut shelf = Last {
+        alloc,
+        is_failing: is_failing == "failing",
+        text: String::new(alloc),
+        count: CallCount::new(),
+    };
+    let file = SavedFile {
+        name: String::from_str(alloc, "o.json").ok()?,
+        text: String::from_str(alloc, "{}").ok()?,
+    };
+    let ended = Ended {
+        status: before.parse::<u8>().ok()?,
+        saved: if is_there == "file" { Some(file) } else { None },
+    };
+    let mut errors = Cut::new(alloc, 100, 7, None).ok()?;
+    let status = save(&ended, &mut shelf, &mut errors);
+    let is_told = errors.bytes() == said.as_bytes()
+        || errors.bytes().strip_suffix(b"\n") == Some(said.as_bytes());
+    Some(is_told && status == after.parse::<u8>().ok()? && shelf.text.as_str() == kept)
+}
+
+#[test]
+fn files_in_their_place(rt: HostRuntime) {
+    let rows = "0|file|whole|0|o.json {}|
+1|file|whole|1|o.json {}|
+0|file|failing|4||cannot write o.json
+1|none|failing|1||
+4|none|whole|4||";
+    for row in rows.lines() {
+        assert!(rt; is_saved(rt.alloc(), row) == Some(true), "{row}");
+    }
+}
