@@ -52,8 +52,9 @@ fn saved_documents(rt: HostRuntime) {
 yanglive edit --dump --output=o.json d.json s.txt p.yang|1|o.json|{\"p:c\":{\"id\":300}}
 |{\"p:c\":{\"id\":300}}
 ==
-yanglive edit --output d.json d.json none.txt p.yang|0|d.json|{}
-|0 faults
+yanglive edit --output d.json d.json none.txt p.yang|1|d.json|{}
+|V3 data-missing - /p:c/id -
+1 faults
 ==
 yanglive edit d.json s.txt p.yang|1|-||V1 invalid-value - /p:c/id -
 1 faults
@@ -82,7 +83,7 @@ fn is_dropped(alloc: Global, call: u64) -> Option<bool> {
 
 #[test]
 fn nothing_saved_behind_a_failure(rt: HostRuntime) {
-    for call in 1..13 {
+    for call in 1..12 {
         assert!(rt; is_dropped(rt.alloc(), call) == Some(true), "{call}");
     }
 }
