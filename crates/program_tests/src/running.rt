@@ -1,7 +1,7 @@
 //! One run of the program, and what it left.
 
 ghost use Rattle.std.specs.Prelude.{◌≡◌, IfOk, false, map, string_bytes};
-ghost use Rattle.yprogram.specs.Output.{Outcome, Stop, printed_with};
+ghost use Rattle.yprogram.specs.Output.{Besides, Outcome, printed_with};
 ghost use Rattle.youtput.specs.Writing.{side};
 ghost use Rattle.ycommand.specs.Running.{Brings};
 ghost use Rattle.yapp.specs.Saving.{end_of};
@@ -129,7 +129,7 @@ impl Files for InMemory<'_> {
         let read = self.known.read(name);
         if self.failing_read == Some(self.known.reads) {
             self.count.rise();
-            return Err(FileFault::Unread);
+            return Err(FileFault::Unread("the tests say so"));
         }
         read
     }
@@ -154,9 +154,9 @@ fn validate_known<O: Sink, E: Sink>(
     output: &mut O,
     errors: &mut E,
 ) -> Result<Ended, AllocError>
-    ensures { IfOk result (λ ended. (o : Outcome) × (stop : Stop) × IsKnown (map (λ f. f.name.now) files.old.files.now) (map (λ f. f.bytes.now) files.old.files.now) o
+    ensures { IfOk result (λ ended. (o : Outcome) × (besides : Besides) × IsKnown (map (λ f. f.name.now) files.old.files.now) (map (λ f. f.bytes.now) files.old.files.now) o
         × Brings (side O.taken O.failures output.old) (side O.taken O.failures output.new)
-        (side E.taken E.failures errors.old) (side E.taken E.failures errors.new) (printed_with stop false o) (end_of ended)) }
+        (side E.taken E.failures errors.old) (side E.taken E.failures errors.new) (printed_with besides false o) (end_of ended)) }
 {
     let words = validate_words(alloc)?;
     Ok(run(alloc, &words, files, output, errors))

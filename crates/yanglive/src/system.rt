@@ -11,6 +11,16 @@ use ytext::{CallCount, Sink, SinkFault};
 /// Where the system has what it is given on its standard input.
 const STANDARD_INPUT: &str = "/dev/stdin";
 
+/// Why a file can't be read, in words.
+fn cause_of(kind: ErrorKind) -> &'static str {
+    match kind {
+        ErrorKind::NotFound => "no such file",
+        ErrorKind::PermissionDenied => "permission is denied",
+        ErrorKind::IsADirectory => "it is a directory",
+        _ => "the system can't read it",
+    }
+}
+
 /// What stands behind the name of a file that isn't in its place yet.
 const BESIDE: &str = ".part";
 
@@ -89,9 +99,9 @@ impl<R: rt::Files + AllocGlobal> Files for FileSystem<'_, R> {
         match fs::read(self.runtime, path) {
             Ok(bytes) => Ok(bytes),
             Err(error) if error.kind() == ErrorKind::OutOfMemory => Err(FileFault::Memory),
-            Err(_) => {
+            Err(error) => {
                 self.count.rise();
-                Err(FileFault::Unread)
+                Err(FileFault::Unread(cause_of(error.kind())))
             }
         }
     }

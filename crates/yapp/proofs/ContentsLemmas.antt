@@ -184,7 +184,7 @@ pub reading_fails : (X : Type 0) (before now after : Store) (names left : List T
     → ReadSoFar before.contents names (name ∷ left) texts → now.reads ≡ before.reads + length texts → now.failures ≡ before.failures
     → after.reads ≡ now.reads + 1 → after.failures ≡ now.failures + failed_reads {X = X} (Err fault) → FromFile name fault f
     → ReadsNot before after names f
-reading_fails X before now after names left texts name faults.Unread f so_far reads same one_more counted is = inl (
+reading_fails X before now after names left texts name (faults.Unread cause) f so_far reads same one_more counted is = inl (
   map Some texts ++ None ∷ [],
   record {
     answered = so_far.answered (None ∷ []) refl;
@@ -206,10 +206,10 @@ came_of_answer : (before after : Store) (request : Request) (answers : FileAnswe
     → WereRead before after (files_of request) answers → after.failures ≡ before.failures → LeadsTo (outcome request answers) reported r
     → IsOutcome before after request (came_to r)
 came_of_answer before after request answers (Ok report) read same is = inl (answers, read, sym is)
-came_of_answer before after request answers (Err (failures.Unread name)) read same is = inl (answers, read, sym is)
+came_of_answer before after request answers (Err (failures.Unread name cause)) read same is = inl (answers, read, sym is)
 came_of_answer before after request answers (Err (failures.Text name code line hint)) read same is = inl (answers, read, sym is)
 came_of_answer before after request answers (Err (failures.Compile name code line hint)) read same is = inl (answers, read, sym is)
-came_of_answer before after request answers (Err (failures.Document name schema code place hint)) read same is = inl (answers, read, sym is)
+came_of_answer before after request answers (Err (failures.Document name schema code place hint stop)) read same is = inl (answers, read, sym is)
 came_of_answer before after request answers (Err (failures.NoModule name)) read same is = inl (answers, read, sym is)
 came_of_answer before after request answers (Err (failures.NoCode word)) read same is = inl (answers, read, sym is)
 came_of_answer before after request answers (Err failures.Memory) read same is =

@@ -1,6 +1,6 @@
 -- A run that writes to one side alone.
 use Rattle.std.proofs.Common.{◌≡◌, inl, inr, codes, ℕ, Bool, true, false, List, [], ◌∷◌, ◌++◌, ap, sym, ◌∙◌, refl, subst, append_assoc, length, take}
-use Rattle.yprogram.specs.Output.{Outcome, Printed, SavedFile, Stop, printed, printed_with, stop_line, stop_lines}
+use Rattle.yprogram.specs.Output.{Aside, Besides, Outcome, Printed, SavedFile, aside_where, nothing, printed, printed_with}
 use Rattle.std.proofs.lemmas.List.{append-nil}
 use Rattle.yprogram.specs.Part.{Part, plain, spelled, spelled_part}
 use Rattle.std.specs.Prelude.{Result, Ok, Err, IsErr, is_ok, if◌then◌else◌}
@@ -13,8 +13,8 @@ use Rattle.ytree.specs.declared.fault.DocCode.{DocCode}
 use Rattle.yprogram.specs.Script.{telling_code}
 use Rattle.yapp.specs.Asked.{refusal_of}
 use Rattle.yapp.specs.declared.script.Refusal.{Refusal}
-use Rattle.yapp.specs.Failing.{outcome_of, reported, stop_in}
-use Rattle.yapp.specs.Files.{came_to, stopped}
+use Rattle.yapp.specs.Failing.{besides_in, outcome_of, reported}
+use Rattle.yapp.specs.Files.{came_to, said_besides}
 use Rattle.yapp.specs.declared.failure.Failure.{Failure}
 use Rattle.yapp.specs.declared.report.Report.{Report}
 use Rattle.yapp.specs.declared.report.Report.TheVariants as reports
@@ -54,37 +54,36 @@ refusal_parts name number path =
     (append_assoc number (codes " " ++ path) (codes "\n") ∙ sym (append_assoc number (codes " ") (path ++ codes "\n")))
     ∙ sym (append_assoc name (codes ": J" ++ (number ++ codes " ")) (path ++ codes "\n")))
 
--- ---- where a document stops being JSON
+-- ---- what the kit and the system say besides
 
 nothing_either : (b : Bool) → (if b then [] else []) ≡ codes ""
 nothing_either true = refl
 nothing_either false = refl
 
--- nothing is said of it where no document is refused for that
-pub no_stop : (stop : Stop) (with_reasons : Bool) (o : Outcome) → o.no_json ≡ None → printed_with stop with_reasons o ≡ printed with_reasons o
-no_stop stop with_reasons o none =
+pub nothing_besides : (besides : Besides) (with_reasons : Bool) (o : Outcome) → o.aside ≡ nothing → printed_with besides with_reasons o ≡ printed with_reasons o
+nothing_besides besides with_reasons o none =
     let p = printed with_reasons o in
-    ap (λ (said : List ℕ). record p { errors = p.errors ++ said }) (ap (stop_lines with_reasons stop) none ∙ nothing_either with_reasons)
+    ap (λ (said : List ℕ). record p { errors = p.errors ++ said }) (ap (aside_where with_reasons besides) none ∙ nothing_either with_reasons)
     ∙ ap (λ (errors : List ℕ). record p { errors = errors }) (append-nil p.errors)
 
-report_is_json : (r : Report) → (reported r).no_json ≡ None
-report_is_json (reports.Explanations explanations) = refl
-report_is_json (reports.Nodes count) = refl
-report_is_json (reports.Diagram schema shown) = refl
-report_is_json (reports.Document r) = refl
-report_is_json (reports.Edited e) = refl
+report_aside : (r : Report) → (reported r).aside ≡ nothing
+report_aside (reports.Explanations explanations) = refl
+report_aside (reports.Nodes count) = refl
+report_aside (reports.Diagram schema shown) = refl
+report_aside (reports.Document r) = refl
+report_aside (reports.Edited e) = refl
 
 -- so of reports
-pub reported_alike : (stop : Stop) (with_reasons : Bool) (output output_after errors errors_after : Side) (r : Report) (end : End)
+pub reported_alike : (besides : Besides) (with_reasons : Bool) (output output_after errors errors_after : Side) (r : Report) (end : End)
     → Brings output output_after errors errors_after (printed with_reasons (reported r)) end
-    → Brings output output_after errors errors_after (printed_with stop with_reasons (reported r)) end
-reported_alike stop with_reasons output output_after errors errors_after r end brings =
-    subst (λ (p : Printed). Brings output output_after errors errors_after p end) (sym (no_stop stop with_reasons (reported r) (report_is_json r))) brings
+    → Brings output output_after errors errors_after (printed_with besides with_reasons (reported r)) end
+reported_alike besides with_reasons output output_after errors errors_after r end brings =
+    subst (λ (p : Printed). Brings output output_after errors errors_after p end) (sym (nothing_besides besides with_reasons (reported r) (report_aside r))) brings
 
 -- ---- what is told
 
 no_output : (with_reasons : Bool) (failure : Failure) → (printed with_reasons (outcome_of failure)).output ≡ []
-no_output with_reasons (failures.Unread name) = refl
+no_output with_reasons (failures.Unread name cause) = refl
 no_output with_reasons (failures.Text name code line hint) = refl
 no_output with_reasons (failures.Compile name code line hint) = refl
 no_output with_reasons (failures.Document name schema code place hint stop) = refl
@@ -93,7 +92,7 @@ no_output with_reasons (failures.NoCode word) = refl
 no_output with_reasons failures.Memory = refl
 
 no_file : (failure : Failure) → (outcome_of failure).saved ≡ None
-no_file (failures.Unread name) = refl
+no_file (failures.Unread name cause) = refl
 no_file (failures.Text name code line hint) = refl
 no_file (failures.Compile name code line hint) = refl
 no_file (failures.Document name schema code place hint stop) = refl
@@ -103,13 +102,13 @@ no_file failures.Memory = refl
 
 -- a failure that is told ends a run without a file
 pub on_failure : {X E : Type 0} → (with_reasons : Bool) (output errors errors_after : Side) (failure : Failure) (end : End) (r : Result X E)
-    → let o = printed_with (stop_in failure) with_reasons (outcome_of failure) in
+    → let o = printed_with (besides_in failure) with_reasons (outcome_of failure) in
     Writes errors errors_after o.errors r → end ≡ (if is_ok r then with_status o.status else broken) → Brings output output errors errors_after o end
 on_failure with_reasons output errors errors_after failure end (Ok x) w is =
-    let o = printed_with (stop_in failure) with_reasons (outcome_of failure) in
+    let o = printed_with (besides_in failure) with_reasons (outcome_of failure) in
     on_errors output errors errors_after o o.status end (no_output with_reasons failure) (no_file failure) (inl (w, refl)) is
 on_failure with_reasons output errors errors_after failure end (Err x) w is =
-    let o = printed_with (stop_in failure) with_reasons (outcome_of failure) in
+    let o = printed_with (besides_in failure) with_reasons (outcome_of failure) in
     on_errors output errors errors_after o 4 end (no_output with_reasons failure) (no_file failure) (inr (w, refl)) is
 
 -- both sides are written, the error side first
@@ -152,10 +151,10 @@ both_broken output errors errors_after o (Ok x) failed broken = cc
 both_broken output errors errors_after o (Err x) failed broken = inr (refl, broken)
 
 pub told_of : (with_reasons : Bool) (output output_after errors errors_after : Side) (found given : Result Report Failure) (end : End) → found ≡ given
-    → Brings output output_after errors errors_after (printed_with (stopped given) with_reasons (came_to given)) end
-    → Brings output output_after errors errors_after (printed_with (stopped found) with_reasons (came_to found)) end
+    → Brings output output_after errors errors_after (printed_with (said_besides given) with_reasons (came_to given)) end
+    → Brings output output_after errors errors_after (printed_with (said_besides found) with_reasons (came_to found)) end
 told_of with_reasons output output_after errors errors_after found given end is brings =
-    subst (λ (r : Result Report Failure). Brings output output_after errors errors_after (printed_with (stopped r) with_reasons (came_to r)) end) (sym is) brings
+    subst (λ (r : Result Report Failure). Brings output output_after errors errors_after (printed_with (said_besides r) with_reasons (came_to r)) end) (sym is) brings
 
 -- ---- parts
 
@@ -174,17 +173,17 @@ parts_behind with_reasons (x ∷ xs) ys = ap (λ t. spelled_part with_reasons x 
     ∙ sym (append_assoc (spelled_part with_reasons x) (spelled with_reasons xs) (spelled with_reasons ys))
 
 -- of want of memory nothing is said besides
-pub memory_either : (stop : Stop) (with_reasons : Bool) (output output_after errors errors_after : Side) (end : End)
+pub memory_either : (besides : Besides) (with_reasons : Bool) (output output_after errors errors_after : Side) (end : End)
     → Brings output output_after errors errors_after memory_told end
-    → Brings output output_after errors errors_after (printed_with stop with_reasons without_memory) end
-memory_either stop true output output_after errors errors_after end brings = brings
-memory_either stop false output output_after errors errors_after end brings = brings
+    → Brings output output_after errors errors_after (printed_with besides with_reasons without_memory) end
+memory_either besides true output output_after errors errors_after end brings = brings
+memory_either besides false output output_after errors errors_after end brings = brings
 
-pub reasons_same : (stop : Stop) (output output_after errors errors_after : Side) (given asked : Bool) (o : Outcome) (end : End) → given ≡ asked
-    → Brings output output_after errors errors_after (printed_with stop given o) end
-    → Brings output output_after errors errors_after (printed_with stop asked o) end
-reasons_same stop output output_after errors errors_after given asked o end is brings =
-    subst (λ (b : Bool). Brings output output_after errors errors_after (printed_with stop b o) end) is brings
+pub reasons_same : (besides : Besides) (output output_after errors errors_after : Side) (given asked : Bool) (o : Outcome) (end : End) → given ≡ asked
+    → Brings output output_after errors errors_after (printed_with besides given o) end
+    → Brings output output_after errors errors_after (printed_with besides asked o) end
+reasons_same besides output output_after errors errors_after given asked o end is brings =
+    subst (λ (b : Bool). Brings output output_after errors errors_after (printed_with besides b o) end) is brings
 
 -- ---- the code that says most of a refused line
 

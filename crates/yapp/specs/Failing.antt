@@ -9,7 +9,7 @@ use Rattle.ytree.specs.Told as document
 use Rattle.ytree.specs.View.{place_view, tree_view}
 use Rattle.ycheck.specs.View.{views}
 use Rattle.yspec.specs.schema.Diagram.{diagram}
-use Rattle.yprogram.specs.Output.{Outcome, Stop, failed, failed_with, found, left, plainly, refusal_part, refused_document, report, unread}
+use Rattle.yprogram.specs.Output.{Besides, Outcome, failed, failed_with, found, left, nothing, plainly, refusal_part, refused_document, report, unread}
 use Rattle.yprogram.specs.Hint.{hinted}
 use Rattle.yprogram.specs.Part.{Part, plain}
 use Rattle.ycodes.specs.Codes.{explained}
@@ -29,7 +29,7 @@ use Rattle.yapp.specs.declared.report.Report.TheVariants as reports
 use Rattle.yapp.specs.declared.report.DocumentReport.{DocumentReport}
 
 abbrev pub outcome_of : Failure → Outcome
-outcome_of (failures.Unread name) = unread name.now
+outcome_of (failures.Unread name cause) = unread name.now
 outcome_of (failures.Text name code line hint) =
     failed_with 2 (hinted (string_bytes hint) (refusal_part name.now line (codes "L") (number_of code)))
 outcome_of (failures.Compile name code line hint) =
@@ -55,26 +55,31 @@ reported (reports.Document r) = record {
   errors = refused_parts r.refused.items;
   status = if length r.faults.items == 0 && length r.refused.items == 0 then 0 else 1;
   saved = option_map saved_view r.saved;
-  no_json = None;
+  aside = nothing;
 }
 reported (reports.Edited e) = left plainly (live_of e).schema (live_of e).tree (refused_in e)
 
 -- where the reader of a document that isn't JSON stops
-abbrev pub stop_view : declared.Stop → Stop
-stop_view s = record { line = s.line; column = s.column }
+abbrev pub stop_view : declared.Stop → Besides
+stop_view s = record { line = s.line; column = s.column; cause = [] }
 
-abbrev pub stop_in : Failure → Stop
-stop_in (failures.Document name schema code place hint stop) = stop_view stop
-stop_in _ = record { line = 0; column = 0 }
+abbrev pub unsaid : Besides
+unsaid = record { line = 0; column = 0; cause = [] }
+
+-- what the kit or the system says of a failure
+abbrev pub besides_in : Failure → Besides
+besides_in (failures.Unread name cause) = record unsaid { cause = cause.now }
+besides_in (failures.Document name schema code place hint stop) = stop_view stop
+besides_in _ = unsaid
 
 -- the failure of the file of a name
 abbrev pub FromFile : Text → FileFault → Failure → Type 0
-FromFile name Unread failure = outcome_of failure ≡ unread name
+FromFile name (Unread cause) failure = outcome_of failure ≡ unread name
 FromFile name Memory failure = failure ≡ failures.Memory
 
 -- a failure is the outcome; of want of memory nothing is said
 abbrev pub FailsWith : Failure → Outcome → Type 0
-FailsWith (failures.Unread name) o = o ≡ outcome_of (failures.Unread name)
+FailsWith (failures.Unread name cause) o = o ≡ outcome_of (failures.Unread name cause)
 FailsWith (failures.Text name code line hint) o = o ≡ outcome_of (failures.Text name code line hint)
 FailsWith (failures.Compile name code line hint) o = o ≡ outcome_of (failures.Compile name code line hint)
 FailsWith (failures.Document name schema code place hint stop) o = o ≡ outcome_of (failures.Document name schema code place hint stop)

@@ -1,8 +1,8 @@
 -- What files contain, as far as that is told, how often one was read, and how often that failed.
 use Rattle.std.specs.Prelude.{◌≡◌, ◌⊎◌, ℕ, ◌+◌, ◌≤◌, List, [], ◌∷◌, length, map, Option, Some, None, Result, Ok, Err}
-use Rattle.yprogram.specs.Output.{Outcome, Request, Stop, files_of, outcome, with_files}
+use Rattle.yprogram.specs.Output.{Besides, Outcome, Request, files_of, outcome, with_files}
 use Rattle.yspec.specs.text.Text.{Text}
-use Rattle.yapp.specs.Failing.{outcome_of, reported, stop_in}
+use Rattle.yapp.specs.Failing.{besides_in, outcome_of, reported, unsaid}
 use Rattle.ycommand.specs.Running.{without_memory}
 use Rattle.yapp.specs.declared.failure.Failure.{Failure}
 use Rattle.yapp.specs.declared.failure.Failure.TheVariants.{Memory}
@@ -17,7 +17,7 @@ IsTold (Some told) bytes = told ≡ bytes
 
 abbrev pub failed_reads : {X : Type 0} → Result X FileFault → ℕ
 failed_reads (Ok x) = 0
-failed_reads (Err faults.Unread) = 1
+failed_reads (Err (faults.Unread cause)) = 1
 failed_reads (Err faults.Memory) = 0
 
 -- ---- several files
@@ -83,7 +83,7 @@ abbrev pub came_to : Result Report Failure → Outcome
 came_to (Ok r) = reported r
 came_to (Err failure) = outcome_of failure
 
--- where the reader of a document that isn't JSON stopped
-abbrev pub stopped : Result Report Failure → Stop
-stopped (Ok r) = record { line = 0; column = 0 }
-stopped (Err failure) = stop_in failure
+-- what the kit or the system says of a failure
+abbrev pub said_besides : Result Report Failure → Besides
+said_besides (Ok r) = unsaid
+said_besides (Err failure) = besides_in failure

@@ -1,13 +1,13 @@
 //! Why there is no report, and the line that says so.
 
-ghost use Rattle.std.specs.Prelude.{◌≡◌, ◌++◌, codes, decimal, true};
-ghost use Rattle.yprogram.specs.Output.{document_part, not_json, printed, printed_with, refusal_part, stop_line, stop_lines};
+ghost use Rattle.std.specs.Prelude.{◌≡◌, ◌++◌, codes, decimal};
+ghost use Rattle.yprogram.specs.Output.{aside_of, aside_text, document_part, printed, printed_with, refusal_part, stop_line};
 ghost use Rattle.yprogram.specs.Hint.{hinted};
 ghost use Rattle.yprogram.specs.Part.{spelled_part};
 ghost use Rattle.youtput.specs.Writing.{Writes, side};
 ghost use Rattle.ymodel.specs.View as schema_view;
 ghost use Rattle.ytree.specs.View.{place_view};
-ghost use Rattle.yapp.specs.Failing.{FromFile, outcome_of, stop_in, stop_view};
+ghost use Rattle.yapp.specs.Failing.{FromFile, besides_in, outcome_of, stop_view};
 ghost use Rattle.yapp.specs.declared.failure.Failure.TheVariants.{Memory};
 
 use crate::files::FileFault;
@@ -34,10 +34,11 @@ pub struct Stop {
 /// Why a command gives no report. Files are named by the words that were given.
 #[derive(Drop, Error)]
 pub enum Failure<'a> {
-    /// A file couldn't be read.
+    /// A file couldn't be read, for a cause that is put in words.
     #[error("cannot read {name}")]
     Unread {
         name: &'a str,
+        cause: &'static str,
     },
     /// A module's text is refused in a line, with what is said of it.
     #[error("{name}:{line}: {code}")]
@@ -107,7 +108,7 @@ impl<'a> Failure<'a> {
         ensures { FromFile name.entry.now fault result }
     {
         match fault {
-            FileFault::Unread => Failure::Unread { name },
+            FileFault::Unread(cause) => Failure::Unread { name, cause },
             FileFault::Memory => Failure::Memory,
         }
     }
@@ -126,23 +127,23 @@ impl<'a> Failure<'a> {
         }
     }
 
-    /// Writes its line; where that is wanted, below it why a code in it is told, and where a document stops being JSON.
+    /// Writes its line; where that is wanted, below it why a code in it is told, and what the kit or the system says besides.
     pub fn write<S: Sink>(&self, with_reasons: bool, sink: &mut S) -> Result<(), SinkFault>
         ensures { Writes (side S.taken S.failures sink.old) (side S.taken S.failures sink.new)
-            (printed_with (stop_in self.now) with_reasons (outcome_of self.now)).errors result }
+            (printed_with (besides_in self.now) with_reasons (outcome_of self.now)).errors result }
     {
         self.write_part(with_reasons, sink)?;
         if with_reasons {
-            self.write_stop(sink)
+            self.write_aside(sink)
         } else {
             Ok(())
         }
     }
 
-    /// Writes where the document stops being JSON, if it is refused for that.
-    fn write_stop<S: Sink>(&self, sink: &mut S) -> Result<(), SinkFault>
+    /// Writes where the document stops being JSON, if it is refused for that, or why a file can't be read.
+    fn write_aside<S: Sink>(&self, sink: &mut S) -> Result<(), SinkFault>
         ensures { Writes (side S.taken S.failures sink.old) (side S.taken S.failures sink.new)
-            (stop_lines true (stop_in self.now) (outcome_of self.now).no_json) result }
+            (aside_text (besides_in self.now) (outcome_of self.now).aside) result }
     {
         match self {
             Failure::Document {
@@ -151,8 +152,8 @@ impl<'a> Failure<'a> {
                 stop,
                 ..
             } => write_stop_where(*name, code.number(), *stop, sink),
-            Failure::Unread { .. }
-            | Failure::Text { .. }
+            Failure::Unread { cause, .. } => write_texts(sink, &["  ", *cause, ".\n"]),
+            Failure::Text { .. }
             | Failure::Compile { .. }
             | Failure::NoModule { .. }
             | Failure::NoCode { .. }
@@ -166,7 +167,7 @@ impl<'a> Failure<'a> {
             (printed with_reasons (outcome_of self.now)).errors result }
     {
         match self {
-            Failure::Unread { name } => write_texts(sink, &["cannot read ", *name, "\n"]),
+            Failure::Unread { name, .. } => write_texts(sink, &["cannot read ", *name, "\n"]),
             Failure::Text {
                 name,
                 code,
@@ -286,7 +287,7 @@ fn write_stop_where<S: Sink>(
     sink: &mut S,
 ) -> Result<(), SinkFault>
     ensures { Writes (side S.taken S.failures sink.old) (side S.taken S.failures sink.new)
-        (stop_lines true (stop_view stop) (not_json name.now code)) result }
+        (aside_text (stop_view stop) (aside_of name.now code)) result }
 {
     if code == 1 {
         write_stop_line(name, stop, sink)

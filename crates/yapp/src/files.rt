@@ -7,9 +7,9 @@ use thiserror::Error;
 /// Why a file wasn't read.
 #[derive(Clone, Copy, Debug, PartialEq, Eq, Error)]
 pub enum FileFault {
-    /// It couldn't be read.
+    /// It couldn't be read, for a cause that is put in words.
     #[error("cannot read")]
-    Unread,
+    Unread(&'static str),
     /// There was no memory for its contents.
     #[error("memory")]
     Memory,

@@ -2,10 +2,10 @@
 
 ghost use Rattle.std.specs.Prelude.{◌≡◌, [], IfOk, is_ok, if◌then◌else◌, map, string_bytes};
 ghost use Rattle.yapp.specs.Saving.{end_of};
-ghost use Rattle.yprogram.specs.Output.{Outcome, Printed, Stop, printed_with};
+ghost use Rattle.yprogram.specs.Output.{Besides, Outcome, Printed, printed_with};
 ghost use Rattle.ycommand.specs.Command.{asks_reasons, refusals, request_of};
 ghost use Rattle.yapp.specs.Explained.{IsExplained};
-ghost use Rattle.yapp.specs.Files.{IsOutcome, came_to, stopped, store};
+ghost use Rattle.yapp.specs.Files.{IsOutcome, came_to, said_besides, store};
 ghost use Rattle.ycommand.specs.Running.{AnswersWords, Brings, Ends, memory_told, refused};
 ghost use Rattle.youtput.specs.Writing.{side};
 
@@ -63,7 +63,7 @@ fn tell<O: Sink, E: Sink>(
     requires { IfOk found (IsExplained with_reasons) }
     ensures { Brings (side O.taken O.failures output.old) (side O.taken O.failures output.new)
         (side E.taken E.failures errors.old) (side E.taken E.failures errors.new)
-        (printed_with (stopped found.entry) with_reasons (came_to found.entry)) (end_of result) }
+        (printed_with (said_besides found.entry) with_reasons (came_to found.entry)) (end_of result) }
 {
     match found {
         Ok(report) => {
@@ -80,7 +80,8 @@ fn tell<O: Sink, E: Sink>(
 
 /// Runs the program on the words of a command line, the first of which is its name, and answers the exit status, with the
 /// file that is to be written once the output is out. After a failed write nothing more is written on either side, and no
-/// file. Where a document that isn't JSON stops being it the kit's reader says, of which nothing else is said.
+/// file. Where a document that isn't JSON stops being it, and why a file can't be read, is what the
+/// kit and the system say, of which nothing else is said.
 pub fn run<F: Files, O: Sink, E: Sink>(
     alloc: Global,
     words: &[String],
@@ -88,12 +89,12 @@ pub fn run<F: Files, O: Sink, E: Sink>(
     output: &mut O,
     errors: &mut E,
 ) -> Ended
-    ensures taken { (refusals (map string_bytes words.now) ≡ []) → (o : Outcome) × (stop : Stop)
+    ensures taken { (refusals (map string_bytes words.now) ≡ []) → (o : Outcome) × (besides : Besides)
         × IsOutcome (store F.contents F.reads F.failures files.old)
         (store F.contents F.reads F.failures files.new) (request_of (map string_bytes words.now)) o
         × Brings (side O.taken O.failures output.old) (side O.taken O.failures output.new)
         (side E.taken E.failures errors.old) (side E.taken E.failures errors.new)
-        (printed_with stop (asks_reasons (map string_bytes words.now)) o) (end_of result) }
+        (printed_with besides (asks_reasons (map string_bytes words.now)) o) (end_of result) }
     ensures words { ¬ (refusals (map string_bytes words.now) ≡ []) → (o : Printed)
         × AnswersWords (refusals (map string_bytes words.now)) o
         × Brings (side O.taken O.failures output.old) (side O.taken O.failures output.new)

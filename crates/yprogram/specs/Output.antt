@@ -1,7 +1,6 @@
 -- What a run of the program prints, as a function of the files that it asks for and of what they contain.
 use Rattle.std.specs.Prelude.{ℕ, ◌++◌, ◌&&◌, Bool, false, List, [], ◌∷◌, length, map, codes, decimal, Option, Some, None, Result, Ok, Err, if◌then◌else◌, ◌==◌, option_map, position, slice_get, unwrap_or}
 use Rattle.std.specs.List.{flat_map}
-use Rattle.std.specs.Option.{option_map_or}
 use Rattle.ycodes.specs.Codes.{all_explanations, explained, explanations_of, reason_of, unknown_among}
 use Rattle.yspec.specs.Forest.{Forest, end, join, size}
 use Rattle.yspec.specs.text.Text.{Text, is_text}
@@ -57,14 +56,21 @@ pub record SavedFile : Type 0 where
   pub name : Text
   pub text : List ℕ
 
--- What goes to both sides, the exit status, the file that is written once all else is, and the name of the document that
--- isn't JSON, where it is refused for that.
+-- what is printed behind the error side where reasons are wanted, and the system or the kit says it
+pub data Aside : Type 0 where
+  nothing : Aside
+  -- where the document of a name stops being JSON
+  stop_of : Text → Aside
+  -- why a file can't be read
+  cause : Aside
+
+-- what goes to both sides, the exit status, the file that is written once all else is, and what is printed besides
 pub record Outcome : Type 0 where
   pub output : List Part
   pub errors : List Part
   pub status : ℕ
   pub saved : Option SavedFile
-  pub no_json : Option Text
+  pub aside : Aside
 
 -- both sides' bytes, the exit status, and that file
 pub record Printed : Type 0 where
@@ -78,28 +84,35 @@ abbrev pub printed : Bool → Outcome → Printed
 printed with_reasons o =
     record { output = spelled with_reasons o.output; errors = spelled with_reasons o.errors; status = o.status; saved = o.saved }
 
--- where a reader of JSON stops in a text, by line and column
-pub record Stop : Type 0 where
+-- what the kit and the system say: where a reader of JSON stops in a text, and why a file can't be read
+pub record Besides : Type 0 where
   pub line : ℕ
   pub column : ℕ
+  pub cause : Text
 
 -- `FILE:LINE:COLUMN: ..`, where the document of a name stops being JSON
-abbrev pub stop_line : Stop → Text → List ℕ
-stop_line stop name = name ++ (codes ":" ++ (decimal stop.line ++ (codes ":" ++ (decimal stop.column ++ codes ": it stops being JSON here\n"))))
+abbrev pub stop_line : Besides → Text → List ℕ
+stop_line besides name =
+    name ++ (codes ":" ++ (decimal besides.line ++ (codes ":" ++ (decimal besides.column ++ codes ": it stops being JSON here\n"))))
 
-abbrev pub stop_lines : Bool → Stop → Option Text → List ℕ
-stop_lines with_reasons stop no_json = if with_reasons then option_map_or (stop_line stop) no_json [] else []
+abbrev pub aside_text : Besides → Aside → List ℕ
+aside_text besides nothing = []
+aside_text besides (stop_of name) = stop_line besides name
+aside_text besides cause = codes "  " ++ (besides.cause ++ codes ".\n")
 
--- what an outcome prints, where a reader of JSON stops there in a document that isn't JSON
-abbrev pub printed_with : Stop → Bool → Outcome → Printed
-printed_with stop with_reasons o = let p = printed with_reasons o in
-    record p { errors = p.errors ++ stop_lines with_reasons stop o.no_json }
+abbrev pub aside_where : Bool → Besides → Aside → List ℕ
+aside_where with_reasons besides aside = if with_reasons then aside_text besides aside else []
+
+-- what an outcome prints where these are said
+abbrev pub printed_with : Besides → Bool → Outcome → Printed
+printed_with besides with_reasons o = let p = printed with_reasons o in
+    record p { errors = p.errors ++ aside_where with_reasons besides o.aside }
 
 abbrev pub found : ℕ → List ℕ → Outcome
-found status output = record { output = plain output ∷ []; errors = []; status = status; saved = None; no_json = None }
+found status output = record { output = plain output ∷ []; errors = []; status = status; saved = None; aside = nothing }
 
 abbrev pub failed_with : ℕ → Part → Outcome
-failed_with status part = record { output = []; errors = part ∷ []; status = status; saved = None; no_json = None }
+failed_with status part = record { output = []; errors = part ∷ []; status = status; saved = None; aside = nothing }
 
 abbrev pub failed : ℕ → List ℕ → Outcome
 failed status line = failed_with status (plain (line ++ codes "\n"))
@@ -115,7 +128,7 @@ files_of (validate options document modules) = modules ++ document ∷ []
 files_of (edit options document script modules) = modules ++ document ∷ script ∷ []
 
 abbrev pub unread : Text → Outcome
-unread name = failed 4 (codes "cannot read " ++ name)
+unread name = record (failed 4 (codes "cannot read " ++ name)) { aside = cause }
 
 abbrev pub with_contents : Text → Option (List ℕ) → (List ℕ → Outcome) → Outcome
 with_contents name None next = unread name
@@ -169,13 +182,13 @@ abbrev pub document_part : Schema → Text → Refusal → Part
 document_part schema name r = let code = codes "J" ++ decimal r.code in
     line_about code (name ++ (codes ": " ++ (code ++ (codes " " ++ path_text schema r.place))))
 
--- the name of a document that isn't JSON, by the number of its refusal
-abbrev pub not_json : Text → ℕ → Option Text
-not_json name code = if code == 1 then Some name else None
+-- where a document that isn't JSON stops being it is said besides
+abbrev pub aside_of : Text → ℕ → Aside
+aside_of name code = if code == 1 then stop_of name else nothing
 
 -- a document is refused, of which this is said besides
 abbrev pub refused_document : Text → Schema → Text → Refusal → Outcome
-refused_document hint schema name r = record (failed_with 2 (hinted hint (document_part schema name r))) { no_json = not_json name r.code }
+refused_document hint schema name r = record (failed_with 2 (hinted hint (document_part schema name r))) { aside = aside_of name r.code }
 
 abbrev pub not_read : Schema → Text → List ℕ → Refusal → Outcome
 not_read schema name bytes r = refused_document (refusal_hint schema bytes r) schema name r
@@ -236,7 +249,7 @@ left options schema tree refused = let faults = faults_of schema tree in record 
   errors = refused;
   status = if length faults == 0 && length refused == 0 then 0 else 1;
   saved = saved_by options schema tree;
-  no_json = None;
+  aside = nothing;
 }
 
 -- a document after the lines of a script

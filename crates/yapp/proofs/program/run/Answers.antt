@@ -1,5 +1,6 @@
 use Rattle.std.proofs.Common.{arith, inl, inr, refl, map, string_bytes, false, true}
-use Rattle.yapp.specs.Files.{came_to, stopped}
+use Rattle.yapp.specs.Failing.{unsaid}
+use Rattle.yapp.specs.Files.{came_to, said_besides}
 use Rattle.yapp.proofs.ContentsLemmas.{outcome_same}
 use Rattle.ycommand.specs.Command.{Declines, asks_reasons, refusals}
 use Rattle.ycommand.specs.declared.command.NoRequest.TheVariants as none
@@ -11,9 +12,9 @@ use Rattle.yapp.proofs.program.run.Goals as goal
 pub returns-in-Ok-clause-taken : goal.returns-in-Ok-clause-taken
 returns-in-Ok-clause-taken g c = λ taken. (
   came_to c.answer.result,
-  stopped c.answer.result,
+  said_besides c.answer.result,
   outcome_same _ _ _ _ _ c.in-Ok.ensures.1 c.answer.ensures.outcome,
-  reasons_same (stopped c.answer.result) _ _ _ _ _ _ _ _ c.in-Ok.ensures.2 c.tell.ensures,
+  reasons_same (said_besides c.answer.result) _ _ _ _ _ _ _ _ c.in-Ok.ensures.2 c.tell.ensures,
 )
 
 pub returns-in-Err-Help : goal.returns-in-Err-Help
@@ -49,9 +50,9 @@ pub returns-in-Err-Memory : goal.returns-in-Err-Memory
 returns-in-Err-Memory g c = record {
   taken = λ taken. (
     without_memory,
-    record { line = 0; column = 0 },
+    unsaid,
     inr (record { failures = refl; reads = omega arith }, refl),
-    memory_either (record { line = 0; column = 0 }) (asks_reasons (map string_bytes c.args.words.now)) _ _ _ _ _ (on_errors _ _ _ memory_told _ _ refl refl c.tell_memory.ensures c.with_status-in-Err-Memory.ensures),
+    memory_either unsaid (asks_reasons (map string_bytes c.args.words.now)) _ _ _ _ _ (on_errors _ _ _ memory_told _ _ refl refl c.tell_memory.ensures c.with_status-in-Err-Memory.ensures),
   );
   words = λ not_taken. (memory_told, inl refl, on_errors _ _ _ memory_told _ _ refl refl c.tell_memory.ensures c.with_status-in-Err-Memory.ensures);
   untouched = λ not_taken. refl;

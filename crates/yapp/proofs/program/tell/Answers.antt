@@ -1,6 +1,6 @@
 use Rattle.yprogram.specs.Output.{printed}
 use Rattle.yapp.specs.Failing.{outcome_of, reported}
-use Rattle.yapp.specs.Files.{stopped}
+use Rattle.yapp.specs.Files.{said_besides}
 use Rattle.yapp.proofs.RunningLemmas.{both_end, end_is, on_failure, reported_alike, told_of, unsaved_end}
 use Rattle.std.specs.Prelude.{Ok}
 use Rattle.yapp.proofs.program.tell.Goals as goal
@@ -9,7 +9,7 @@ pub returns-in-Ok : goal.returns-in-Ok
 returns-in-Ok g c =
     let r = c.in-Ok.report in
     let o = printed c.args.with_reasons (reported r) in
-    told_of c.args.with_reasons _ _ _ _ _ _ _ c.in-Ok.is (reported_alike (stopped (Ok r)) c.args.with_reasons _ _ _ _ r _ (both_end _ _ _ _ o _ c.write-written.result c.write-written.ensures
+    told_of c.args.with_reasons _ _ _ _ _ _ _ c.in-Ok.is (reported_alike (said_besides (Ok r)) c.args.with_reasons _ _ _ _ r _ (both_end _ _ _ _ o _ c.write-written.result c.write-written.ensures
     (end_is o _ _ _ c.write-written.result c.ended_after.ensures c.status-status.ensures c.into_saved.ensures)))
 
 pub returns-in-Err : goal.returns-in-Err

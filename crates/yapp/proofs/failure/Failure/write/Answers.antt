@@ -1,7 +1,4 @@
 use Rattle.youtput.proofs.WritingLemmas.{left_all, left_after, left_failed, left_last, left_same}
-use Rattle.yprogram.specs.Output.{printed, stop_lines}
-use Rattle.yapp.specs.Failing.{outcome_of, stop_in}
-use Rattle.yapp.proofs.RunningLemmas.{no_stop}
 use Rattle.yapp.proofs.failure.Failure.write.Goals as goal
 
 pub returns-in_err-write_part : goal.returns-in_err-write_part
