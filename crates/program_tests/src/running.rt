@@ -207,7 +207,7 @@ pub fn shown_by(
     let words = words_of(alloc, line)?;
     let mut output = side(alloc, output_way)?;
     let mut errors = side(alloc, errors_way)?;
-    let Ended { status, saved } = run(alloc, &words, &mut files, &mut output, &mut errors);
+    let Ended { status, saved, .. } = run(alloc, &words, &mut files, &mut output, &mut errors);
     Ok(Shown {
         output,
         errors,
@@ -243,7 +243,7 @@ pub fn validated(alloc: Global, module: &[u8], document: &[u8]) -> Result<Shown,
         },
     ];
     let mut files = Known::new(alloc, &files);
-    let Ended { status, saved } = validate_known(alloc, &mut files, &mut output, &mut errors)?;
+    let Ended { status, saved, .. } = validate_known(alloc, &mut files, &mut output, &mut errors)?;
     Ok(Shown {
         output,
         errors,

@@ -4,7 +4,7 @@ ghost use Rattle.std.specs.Prelude.{None};
 
 use crate::running::{InMemory, MODULE, Shown, WHOLLY, Way, file, shown_by};
 use std::alloc::{AllocError, Global};
-use yapp::{Ended, SavedFile, Shelf, Unsaved, save};
+use yapp::{Ended, SavedFile, Shelf, Unsaved, save, tell_unwritten};
 use ytext::{CallCount, Cut};
 
 const SCRIPT: &str = "create /p:c {\"id\":300}
@@ -138,12 +138,33 @@ fn is_saved(alloc: Global, row: &str) -> Option<bool> {
     let ended = Ended {
         status: before.parse::<u8>().ok()?,
         saved: if is_there == "file" { Some(file) } else { None },
+        with_reasons: false,
     };
     let mut errors = Cut::new(alloc, 100, 7, None).ok()?;
     let status = save(&ended, &mut shelf, &mut errors);
     let is_told = errors.bytes() == said.as_bytes()
         || errors.bytes().strip_suffix(b"\n") == Some(said.as_bytes());
     Some(is_told && status == after.parse::<u8>().ok()? && shelf.text.as_str() == kept)
+}
+
+/// Whether that the output couldn't be written out is said where reasons are wanted alone.
+fn is_unwritten_told(alloc: Global, with_reasons: bool, said: &str) -> Option<bool> {
+    let ended = Ended {
+        status: 0,
+        saved: None,
+        with_reasons,
+    };
+    let mut errors = Cut::new(alloc, 100, 7, None).ok()?;
+    let status = tell_unwritten(&ended, &mut errors);
+    Some(status == 4 && errors.bytes() == said.as_bytes())
+}
+
+#[test]
+fn output_that_is_not_written_out(rt: HostRuntime) {
+    let told = is_unwritten_told(rt.alloc(), true, "write failed\n");
+    assert!(rt; told == Some(true), "told");
+    let silent = is_unwritten_told(rt.alloc(), false, "");
+    assert!(rt; silent == Some(true), "silent");
 }
 
 #[test]

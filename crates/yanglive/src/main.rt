@@ -7,7 +7,7 @@ use std::io::{BufWriter, Write};
 use std::process::ExitCode;
 use std::{env, io};
 use system::{FileSystem, Stream};
-use yapp::{Ended, FAILED, refuse, run, save, tell_memory};
+use yapp::{Ended, refuse, run, save, tell_memory, tell_unwritten};
 use ytext::{Sink, SinkFault};
 
 /// The words of the command line.
@@ -33,7 +33,7 @@ fn answer<W: Write + Drop, E: Sink>(rt: &HostRuntime, stdout: BufWriter<W>, erro
     };
     match output.finish() {
         Ok(()) => save(&ended, &mut files, errors),
-        Err(SinkFault) => FAILED,
+        Err(SinkFault) => tell_unwritten(&ended, errors),
     }
 }
 

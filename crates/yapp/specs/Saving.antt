@@ -1,5 +1,5 @@
 -- Files that are written, and what comes of one that is due.
-use Rattle.std.specs.Prelude.{◌≡◌, ◌⊎◌, ℕ, ◌+◌, ◌++◌, List, [], ◌∷◌, codes, Option, Some, None, option_map, string_bytes}
+use Rattle.std.specs.Prelude.{◌≡◌, ◌⊎◌, ℕ, ◌+◌, ◌++◌, Bool, List, [], ◌∷◌, codes, Option, Some, None, option_map, string_bytes, if◌then◌else◌}
 use Rattle.yprogram.specs.Output as spec
 use Rattle.youtput.specs.Writing.{Side, Wrote}
 use Rattle.ycommand.specs.Running.{End, Ends, ended}
@@ -37,6 +37,10 @@ pub record WasNotSaved (before after : Shelf) : Type 0 where
 -- the line that says so
 abbrev pub unsaved_line : spec.SavedFile → List ℕ
 unsaved_line file = codes "cannot write " ++ (file.name ++ codes "\n")
+
+-- what is said where the output couldn't be written out
+abbrev pub unwritten_line : Bool → List ℕ
+unwritten_line with_reasons = if with_reasons then codes "write failed\n" else []
 
 -- A file that is due is written, and the status stays. Or it can't be: then a line says so, and the status too.
 abbrev pub Saves : Option spec.SavedFile → ℕ → Shelf → Shelf → Side → Side → ℕ → Type 0

@@ -23,7 +23,7 @@ pub use failure::{Failure, Stop};
 pub use files::{FileFault, Files};
 pub use program::{refuse, run, tell_memory};
 pub use report::{DocumentReport, Report};
-pub use saving::{Ended, SavedFile, Shelf, Unsaved, save};
+pub use saving::{Ended, SavedFile, Shelf, Unsaved, save, tell_unwritten};
 pub use script::{Refusal, RefusedLine};
 pub use status::{FAILED, FAULTY, GOOD, MISUSED, REFUSED};
 pub use ycommand::{CommandLine, NoRequest, Options, Request, read_words};

@@ -1,6 +1,6 @@
 //! A run of the program.
 
-ghost use Rattle.std.specs.Prelude.{◌≡◌, [], IfOk, is_ok, if◌then◌else◌, map, string_bytes};
+ghost use Rattle.std.specs.Prelude.{◌≡◌, [], IfOk, true, is_ok, if◌then◌else◌, map, string_bytes};
 ghost use Rattle.yapp.specs.Saving.{end_of};
 ghost use Rattle.yprogram.specs.Output.{Besides, Outcome, Printed, printed_with};
 ghost use Rattle.ycommand.specs.Command.{asks_reasons, refusals, request_of};
@@ -61,7 +61,8 @@ fn tell<O: Sink, E: Sink>(
     errors: &mut E,
 ) -> Ended
     requires { IfOk found (IsExplained with_reasons) }
-    ensures { Brings (side O.taken O.failures output.old) (side O.taken O.failures output.new)
+    ensures reasons { result.with_reasons ≡ with_reasons }
+    ensures brings { Brings (side O.taken O.failures output.old) (side O.taken O.failures output.new)
         (side E.taken E.failures errors.old) (side E.taken E.failures errors.new)
         (printed_with (said_besides found.entry) with_reasons (came_to found.entry)) (end_of result) }
 {
@@ -69,11 +70,11 @@ fn tell<O: Sink, E: Sink>(
         Ok(report) => {
             let written = report.write(with_reasons, output, errors);
             let status = report.status();
-            ended_after(written, status, report.into_saved())
+            ended_after(written, status, report.into_saved(), with_reasons)
         }
         Err(failure) => {
             let written = failure.write(with_reasons, errors);
-            ended_after(written, failure.status(), None)
+            ended_after(written, failure.status(), None, with_reasons)
         }
     }
 }
@@ -99,6 +100,8 @@ pub fn run<F: Files, O: Sink, E: Sink>(
         × AnswersWords (refusals (map string_bytes words.now)) o
         × Brings (side O.taken O.failures output.old) (side O.taken O.failures output.new)
         (side E.taken E.failures errors.old) (side E.taken E.failures errors.new) o (end_of result) }
+    ensures reasons { result.with_reasons ≡ true → asks_reasons (map string_bytes words.now)
+        ≡ true }
     ensures untouched { ¬ (refusals (map string_bytes words.now) ≡ []) → files.new ≡ files.old }
 {
     match read_words(alloc, words) {

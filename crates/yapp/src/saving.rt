@@ -1,11 +1,11 @@
 //! The file to which a document is written at the end of a run.
 
-ghost use Rattle.std.specs.Prelude.{◌≡◌, ℕ, ◌+◌, List, Option, IfOk, OnErr, None, is_ok, option_map, if◌then◌else◌};
+ghost use Rattle.std.specs.Prelude.{◌≡◌, ℕ, ◌+◌, List, Option, IfOk, OnErr, None, false, true, is_ok, option_map, if◌then◌else◌};
 ghost use Rattle.yprogram.specs.Output as spec;
 ghost use Rattle.youtput.specs.Writing.{side};
 ghost use Rattle.ycommand.specs.Running.{Ends, broken, ended};
 ghost use Rattle.yapp.specs.Saving as view;
-ghost use Rattle.yapp.specs.Saving.{Saves, end_of, saved_view, unsaved_line};
+ghost use Rattle.yapp.specs.Saving.{Saves, end_of, saved_view, unsaved_line, unwritten_line};
 
 use crate::status::FAILED;
 use thiserror::Error;
@@ -18,11 +18,13 @@ pub struct SavedFile {
     pub text: String,
 }
 
-/// How a run ends: with an exit status, and with a file that is to be written once the output is out.
+/// How a run ends: with an exit status, with a file that is to be written once the output is out, and whether it is to be
+/// said where that can't be written out.
 #[derive(Debug, Drop)]
 pub struct Ended {
     pub status: u8,
     pub saved: Option<SavedFile>,
+    pub with_reasons: bool,
 }
 
 /// A file wasn't written.
@@ -48,17 +50,31 @@ pub trait Shelf {
 }
 
 impl Ended {
-    ghost use Rattle.std.specs.Prelude.{◌≡◌};
-    ghost use Rattle.ycommand.specs.Running.{with_status};
+    ghost use Rattle.std.specs.Prelude.{◌≡◌, false};
+    ghost use Rattle.ycommand.specs.Running.{broken, with_status};
     ghost use Rattle.yapp.specs.Saving.{end_of};
 
     /// An end with a status alone.
     pub fn with_status(status: u8) -> Ended
-        ensures { end_of result ≡ with_status status }
+        ensures end { end_of result ≡ with_status status }
+        ensures reasons { result.with_reasons ≡ false }
     {
         Ended {
             status,
             saved: None,
+            with_reasons: false,
+        }
+    }
+
+    /// The end of a run in which something failed.
+    fn failed(with_reasons: bool) -> Ended
+        ensures end { end_of result ≡ broken }
+        ensures reasons { result.with_reasons ≡ with_reasons }
+    {
+        Ended {
+            status: FAILED,
+            saved: None,
+            with_reasons,
         }
     }
 }
@@ -68,13 +84,40 @@ pub(crate) fn ended_after(
     written: Result<(), SinkFault>,
     status: u8,
     saved: Option<SavedFile>,
+    with_reasons: bool,
 ) -> Ended
-    ensures { end_of result ≡ (if is_ok written then ended status (option_map saved_view saved) else
+    ensures reasons { result.with_reasons ≡ with_reasons }
+    ensures end { end_of result ≡ (if is_ok written then ended status (option_map saved_view saved) else
         broken) }
 {
     match written {
-        Ok(()) => Ended { status, saved },
-        Err(SinkFault) => Ended::with_status(FAILED),
+        Ok(()) => Ended {
+            status,
+            saved,
+            with_reasons,
+        },
+        Err(SinkFault) => Ended::failed(with_reasons),
+    }
+}
+
+/// Says, where reasons are wanted, that the output couldn't be written out, and answers the exit status.
+pub fn tell_unwritten<E: Sink>(ended: &Ended, errors: &mut E) -> u8
+    ensures { Ends (side E.taken E.failures errors.old) (side E.taken E.failures errors.new)
+        (unwritten_line ended.now.with_reasons) 4 result }
+{
+    if ended.with_reasons {
+        tell_failure(errors)
+    } else {
+        FAILED
+    }
+}
+
+fn tell_failure<E: Sink>(errors: &mut E) -> u8
+    ensures { Ends (side E.taken E.failures errors.old) (side E.taken E.failures errors.new)
+        (unwritten_line true) 4 result }
+{
+    match write_texts(errors, &["write failed\n"]) {
+        Ok(()) | Err(SinkFault) => FAILED,
     }
 }
 

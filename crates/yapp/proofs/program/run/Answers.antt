@@ -1,4 +1,4 @@
-use Rattle.std.proofs.Common.{arith, inl, inr, refl, map, string_bytes, false, true}
+use Rattle.std.proofs.Common.{◌≡◌, arith, inl, inr, refl, sym, ◌∙◌, map, string_bytes, false, true}
 use Rattle.yapp.specs.Failing.{unsaid}
 use Rattle.yapp.specs.Files.{came_to, said_besides}
 use Rattle.yapp.proofs.ContentsLemmas.{outcome_same}
@@ -14,7 +14,7 @@ returns-in-Ok-clause-taken g c = λ taken. (
   came_to c.answer.result,
   said_besides c.answer.result,
   outcome_same _ _ _ _ _ c.in-Ok.ensures.1 c.answer.ensures.outcome,
-  reasons_same (said_besides c.answer.result) _ _ _ _ _ _ _ _ c.in-Ok.ensures.2 c.tell.ensures,
+  reasons_same (said_besides c.answer.result) _ _ _ _ _ _ _ _ c.in-Ok.ensures.2 c.tell.ensures.brings,
 )
 
 pub returns-in-Err-Help : goal.returns-in-Err-Help
@@ -26,8 +26,9 @@ returns-in-Err-Help g c =
       words = λ not_taken. (
         shown c.as_str.result.now,
         inr (c.as_str.result.now, text_is kinds true c.as_str.result.now because),
-        on_output _ _ _ (shown c.as_str.result.now) _ _ refl refl c.show.ensures c.with_status.ensures,
+        on_output _ _ _ (shown c.as_str.result.now) _ _ refl refl c.show.ensures c.with_status.ensures.end,
       );
+      reasons = λ asked. let none : false ≡ true = sym c.with_status.ensures.reasons ∙ asked in cc;
       untouched = λ not_taken. refl;
     }
 
@@ -41,8 +42,9 @@ returns-in-Err-Refused g c =
       words = λ not_taken. (
         refused text,
         inr (text, text_is kinds false text because.1),
-        on_errors _ _ _ (refused text) _ _ refl refl c.refuse.ensures c.with_status-in-Err-Refused.ensures,
+        on_errors _ _ _ (refused text) _ _ refl refl c.refuse.ensures c.with_status-in-Err-Refused.ensures.end,
       );
+      reasons = λ asked. let none : false ≡ true = sym c.with_status-in-Err-Refused.ensures.reasons ∙ asked in cc;
       untouched = λ not_taken. refl;
     }
 
@@ -52,8 +54,9 @@ returns-in-Err-Memory g c = record {
     without_memory,
     unsaid,
     inr (record { failures = refl; reads = omega arith }, refl),
-    memory_either unsaid (asks_reasons (map string_bytes c.args.words.now)) _ _ _ _ _ (on_errors _ _ _ memory_told _ _ refl refl c.tell_memory.ensures c.with_status-in-Err-Memory.ensures),
+    memory_either unsaid (asks_reasons (map string_bytes c.args.words.now)) _ _ _ _ _ (on_errors _ _ _ memory_told _ _ refl refl c.tell_memory.ensures c.with_status-in-Err-Memory.ensures.end),
   );
-  words = λ not_taken. (memory_told, inl refl, on_errors _ _ _ memory_told _ _ refl refl c.tell_memory.ensures c.with_status-in-Err-Memory.ensures);
+  words = λ not_taken. (memory_told, inl refl, on_errors _ _ _ memory_told _ _ refl refl c.tell_memory.ensures c.with_status-in-Err-Memory.ensures.end);
+  reasons = λ asked. let none : false ≡ true = sym c.with_status-in-Err-Memory.ensures.reasons ∙ asked in cc;
   untouched = λ not_taken. refl;
 }

@@ -5,13 +5,13 @@ use Rattle.yapp.proofs.RunningLemmas.{both_end, end_is, on_failure, reported_ali
 use Rattle.std.specs.Prelude.{Ok}
 use Rattle.yapp.proofs.program.tell.Goals as goal
 
-pub returns-in-Ok : goal.returns-in-Ok
-returns-in-Ok g c =
+pub returns-in-Ok-clause-brings : goal.returns-in-Ok-clause-brings
+returns-in-Ok-clause-brings g c =
     let r = c.in-Ok.report in
     let o = printed c.args.with_reasons (reported r) in
     told_of c.args.with_reasons _ _ _ _ _ _ _ c.in-Ok.is (reported_alike (said_besides (Ok r)) c.args.with_reasons _ _ _ _ r _ (both_end _ _ _ _ o _ c.write-written.result c.write-written.ensures
-    (end_is o _ _ _ c.write-written.result c.ended_after.ensures c.status-status.ensures c.into_saved.ensures)))
+    (end_is o _ _ _ c.write-written.result c.ended_after.ensures.end c.status-status.ensures c.into_saved.ensures)))
 
-pub returns-in-Err : goal.returns-in-Err
-returns-in-Err g c = told_of c.args.with_reasons _ _ _ _ _ _ _ c.in-Err.is (on_failure c.args.with_reasons _ _ _ c.in-Err.failure _ c.write-written-2.result c.write-written-2.ensures
-    (unsaved_end _ _ (outcome_of c.in-Err.failure).status c.write-written-2.result c.ended_after-in-Err.ensures c.status-in-Err.ensures))
+pub returns-in-Err-clause-brings : goal.returns-in-Err-clause-brings
+returns-in-Err-clause-brings g c = told_of c.args.with_reasons _ _ _ _ _ _ _ c.in-Err.is (on_failure c.args.with_reasons _ _ _ c.in-Err.failure _ c.write-written-2.result c.write-written-2.ensures
+    (unsaved_end _ _ (outcome_of c.in-Err.failure).status c.write-written-2.result c.ended_after-in-Err.ensures.end c.status-in-Err.ensures))
