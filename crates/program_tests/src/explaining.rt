@@ -243,7 +243,7 @@ line 6: E10 J3
 V1 invalid-value - /p:c/id -
   /p:c/id: 300 isn't a value of uint8.
   A value isn't one that its type takes. Look at the type's range, length and names; 64-bit integers and decimal64 are strings.
-1 faults
+1 fault
 ==
 yanglive edit --dump --explain empty.json script p.yang
 1 11
@@ -297,14 +297,14 @@ yanglive validate --explain both n.yang
 V5 bad-element - /net:more how
   /net:more: the choice how has nodes of more than one case: slow, fast.
   Nodes of two or more cases of a choice are there. Leave the nodes of one case.
-1 faults
+1 fault
 ==
 yanglive validate --explain four n.yang
 1 0
 V7 operation-failed too-many-elements /net:host -
   /net:host: it has 4, and may have at most 3.
   A list or leaf-list has more entries or items than it may have. Take some out.
-1 faults
+1 fault
 ==
 yanglive validate --explain twins n.yang
 1 0
@@ -345,7 +345,7 @@ yanglive edit --explain good adding n.yang
 V1 invalid-value - /net:host[2]/port -
   /net:host[name='b']/port: \"7\" isn't a value of uint16.
   A value isn't one that its type takes. Look at the type's range, length and names; 64-bit integers and decimal64 are strings.
-1 faults
+1 fault
 ==
 yanglive edit --dump --explain good adding n.yang
 1 0

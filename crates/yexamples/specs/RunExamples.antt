@@ -38,7 +38,7 @@ with_reasons line said code = line ++ (codes "\n  " ++ (said ++ (codes "\n" ++ r
 
 -- one such fault alone
 abbrev pub one_with_reasons : Text → Text → Text → Printed
-one_with_reasons line said code = found 1 (with_reasons line said code ++ codes "1 faults\n")
+one_with_reasons line said code = found 1 (with_reasons line said code ++ codes "1 fault\n")
 
 -- a document that is refused in a line: what is said of what stands at its place, and why its code is told
 abbrev pub refused_with_reasons : Text → Text → Text → Printed

@@ -152,7 +152,7 @@ pub fn derived_values()
 pub fn reasons()
     ensures of_a_fault { printed true (outcome (validate plainly (codes "d.json") (codes "m.yang" ∷ []))
         (Some module_p ∷ Some (codes "{\"p:c\":{}}") ∷ []))
-        ≡ found 1 (codes "V3 data-missing - /p:c/id -\n  /p:c: id is missing.\n  A leaf that must be there is missing. Add it, or take the node out around which it must be there.\n1 faults\n") }
+        ≡ found 1 (codes "V3 data-missing - /p:c/id -\n  /p:c: id is missing.\n  A leaf that must be there is missing. Add it, or take the node out around which it must be there.\n1 fault\n") }
     ensures unasked { printed false (outcome (validate plainly (codes "d.json") (codes "m.yang" ∷ []))
         (Some module_p ∷ Some (codes "{\"p:c\":{}}") ∷ []))
         ≡ found 1 (codes "V3 data-missing - /p:c/id -\n1 faults\n") }

@@ -17,7 +17,7 @@ use Rattle.ymember.specs.Spelling.{said_of_line}
 use Rattle.yprogram.specs.Part.{Part}
 
 abbrev pub hinted : Text → Part → Part
-hinted hint p = record { text = p.text; reason = hint ++ p.reason }
+hinted hint p = record p { reason = hint ++ p.reason }
 
 -- a text as a line, behind its front; nothing of an empty one
 abbrev pub as_line : Text → Text → Text
