@@ -8,11 +8,13 @@ use Rattle.yspec.specs.document.Document.{Tree, Step, step_to, instances_in}
 use Rattle.yspec.specs.document.FaultCode.{FaultCode, V1, V2, V3, V4, V5, V6, V7, V8, V9, V10, V11}
 use Rattle.yspec.specs.document.Fault.{Fault, Info, choice_name, unique_number}
 use Rattle.yspec.specs.document.Path.{path_text, module_after}
-use Rattle.yexplain.specs.Places.{instance_to, row_at, last_step, steps_above}
+use Rattle.yexplain.specs.Places.{instance_to, row_to, row_at, last_step, steps_above}
 use Rattle.yexplain.specs.Values.{value_text}
 use Rattle.yexplain.specs.KeyedPath.{keyed_path}
 use Rattle.yexplain.specs.Fellows.{fellow_entry, fellow_item, fellow_text}
 use Rattle.yexplain.specs.Cases.{stored_case_names}
+use Rattle.yexplain.specs.TakenWords.{taken_words}
+use Rattle.yexplain.specs.TupleWords.{keys_at, keys_said, unique_at, leafs_said}
 
 -- ---- what the schema says
 
@@ -22,6 +24,10 @@ type_at schema number = option_and_then (λ n. type_in n.kind) (node_at schema n
 -- the name of the type of a leaf or leaf-list as its module writes it
 abbrev pub type_name : Schema → ℕ → Text
 type_name schema number = option_map_or (λ t. t.name) (type_at schema number) []
+
+-- what that type takes
+abbrev pub taken_at : Schema → ℕ → Text
+taken_at schema number = option_map_or (λ t. taken_words t.type) (type_at schema number) []
 
 abbrev pub amount_in : Kind → Option Amount
 amount_in (list tuples amount) = Some amount
@@ -52,7 +58,8 @@ children_at schema steps =
 -- V1
 abbrev pub wrong_value : Schema → Tree → Step → Text
 wrong_value schema row step = value_text (option_and_then (λ found. found.0.value) (instance_to row step))
-    ++ (codes " isn't a value of " ++ (type_name schema step.schema_number ++ codes "."))
+    ++ (codes " isn't a value of " ++ (type_name schema step.schema_number
+    ++ (codes ": it takes " ++ (taken_at schema step.schema_number ++ codes "."))))
 
 -- the name of the node as it is written below a place
 abbrev pub name_below : Schema → List Step → ℕ → Text
@@ -79,18 +86,18 @@ too_many schema row number = codes "it has " ++ (decimal (instances_in row numbe
 
 -- V8
 abbrev pub same_key : Schema → Tree → List Step → Step → Text
-same_key schema row above step =
-    codes "its keys are those of " ++ (fellow_text schema above step.schema_number (fellow_entry schema 0 row step) ++ codes ".")
+same_key schema row above step = keys_said schema (row_to row step) (keys_at schema step.schema_number)
+    ++ (fellow_text schema above step.schema_number (fellow_entry schema 0 row step) ++ codes ".")
 
 -- V9
 abbrev pub same_unique : Schema → Tree → List Step → Step → ℕ → Text
-same_unique schema row above step u = codes "its values of unique " ++ (decimal u ++ (codes " are those of "
-    ++ (fellow_text schema above step.schema_number (fellow_entry schema u row step) ++ codes ".")))
+same_unique schema row above step u = leafs_said schema (row_to row step) (unique_at schema step.schema_number u)
+    ++ (fellow_text schema above step.schema_number (fellow_entry schema u row step) ++ codes ".")
 
 -- V10
 abbrev pub same_item : Schema → Tree → List Step → Step → Text
-same_item schema row above step =
-    codes "its value is that of " ++ (fellow_text schema above step.schema_number (fellow_item schema row step) ++ codes ".")
+same_item schema row above step = codes "its value " ++ (value_text (option_and_then (λ found. found.0.value) (instance_to row step))
+    ++ (codes " is that of " ++ (fellow_text schema above step.schema_number (fellow_item schema row step) ++ codes ".")))
 
 -- V11
 abbrev pub no_target : Schema → Tree → Step → Text

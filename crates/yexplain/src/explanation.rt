@@ -103,8 +103,8 @@ fn sentence_at(
     }
 }
 
-/// What stands behind the colon.
-fn sentence(
+/// What is said of a fault of a document whose rows stand in the order of its schema: what stands there or is missing.
+pub fn sentence(
     alloc: Global,
     schema: &Schema,
     tree: &Tree,

@@ -15,8 +15,10 @@ ghost use Rattle.yexplain.specs.Sentences as spec;
 use crate::cases::stored_case_names;
 use crate::fellows::{fellow_entry, fellow_item, fellow_text};
 use crate::path::module_at;
-use crate::place::{count_of, instance_to, row_at};
+use crate::place::{count_of, instance_to, row_at, row_to};
+use crate::taken::taken_words;
 use crate::target::target_path;
+use crate::tuples::{keys_at, keys_said, leafs_said, unique_at};
 use crate::values::value_text;
 use itoa::Buffer;
 use std::alloc::{AllocError, Global};
@@ -39,6 +41,17 @@ fn type_name(schema: &Schema, id: SchemaId) -> &str
     match type_at(schema, id) {
         Some(leaf_type) => leaf_type.name.text(),
         None => "",
+    }
+}
+
+/// What that type takes.
+fn taken_at(alloc: Global, schema: &Schema, id: SchemaId) -> Result<String, AllocError>
+    ensures { IfOk result (λ text. string_bytes text
+        ≡ spec.taken_at (schema_view.view schema.now) id.0) }
+{
+    match type_at(schema, id) {
+        Some(leaf_type) => taken_words(alloc, &leaf_type.value_type),
+        None => Ok(String::new(alloc)),
     }
 }
 
@@ -110,10 +123,13 @@ pub(crate) fn wrong_value(
         (document_view.step_view step.now)) }
 {
     let value = value_to(alloc, row, step)?;
+    let taken = taken_at(alloc, schema, step.id)?;
     [
         value.as_str(),
         " isn't a value of ",
         type_name(schema, step.id),
+        ": it takes ",
+        taken.as_str(),
         ".",
     ]
     .concat(alloc)
@@ -216,9 +232,10 @@ pub(crate) fn same_key(
         ≡ spec.same_key (schema_view.view schema.now) (document_view.row_view row.now)
         (document_view.place_view above.now) (document_view.step_view step.now)) }
 {
+    let said = keys_said(alloc, schema, row_to(row, step), keys_at(schema, step.id))?;
     let fellow = fellow_entry(alloc, schema, 0, row, step)?;
     let path = fellow_text(alloc, schema, above, step.id, fellow)?;
-    ["its keys are those of ", path.as_str(), "."].concat(alloc)
+    [said.as_str(), path.as_str(), "."].concat(alloc)
 }
 
 pub(crate) fn same_unique(
@@ -233,17 +250,11 @@ pub(crate) fn same_unique(
         ≡ spec.same_unique (schema_view.view schema.now) (document_view.row_view row.now)
         (document_view.place_view above.now) (document_view.step_view step.now) number) }
 {
+    let paths = unique_at(schema, step.id, number);
+    let said = leafs_said(alloc, schema, row_to(row, step), paths)?;
     let fellow = fellow_entry(alloc, schema, number, row, step)?;
     let path = fellow_text(alloc, schema, above, step.id, fellow)?;
-    let mut digits = Buffer::new();
-    [
-        "its values of unique ",
-        digits.format(number),
-        " are those of ",
-        path.as_str(),
-        ".",
-    ]
-    .concat(alloc)
+    [said.as_str(), path.as_str(), "."].concat(alloc)
 }
 
 pub(crate) fn same_item(
@@ -257,9 +268,17 @@ pub(crate) fn same_item(
         ≡ spec.same_item (schema_view.view schema.now) (document_view.row_view row.now)
         (document_view.place_view above.now) (document_view.step_view step.now)) }
 {
+    let value = value_to(alloc, row, step)?;
     let fellow = fellow_item(alloc, schema, row, step)?;
     let path = fellow_text(alloc, schema, above, step.id, fellow)?;
-    ["its value is that of ", path.as_str(), "."].concat(alloc)
+    [
+        "its value ",
+        value.as_str(),
+        " is that of ",
+        path.as_str(),
+        ".",
+    ]
+    .concat(alloc)
 }
 
 pub(crate) fn no_target(
