@@ -78,6 +78,7 @@ const ROWS: &str =
 {"net:host":[{"name":"a","speed":1,"port":5},{"name":"b","speed":1},{"name":"c","speed":1,"port":5}]} => /net:host[name='a']: its port 5 is that of /net:host[3].|/net:host[name='c']: its port 5 is that of /net:host[1].|
 {"net:host":[{"name":"a","speed":1,"tag":["x","y","x","x"]}]} => /net:host[1]/tag[1]: its value "x" is that of /net:host[1]/tag[3].|/net:host[1]/tag[3]: its value "x" is that of /net:host[1]/tag[1].|/net:host[1]/tag[4]: its value "x" is that of /net:host[1]/tag[1].|
 {"net:host":[{"name":"a","speed":1,"uplink":"b"}]} => /net:host[name='a']/uplink: no instance of /net:host/name is "b".|
+{"net:host":[{"name":"core","speed":1},{"name":"edge","speed":1,"uplink":"cora"}]} => /net:host[name='edge']/uplink: no instance of /net:host/name is "cora"; near it: "core".|
 {"net:host":[{"name":"a","speed":1,"added:in":{"port":[{"number":4},{"number":400}]}}]} => /net:host[name='a']/added:in/port[2]/number: 400 isn't a value of int8: it takes an integer without quotes in -128..127.|
 {"net:host":[{"name":"a","speed":1,"added:in":{"port":[{"number":4}]}}],"net:more":{"rate":1,"item":[3,4],"added:of":[4,6]}} => /net:more/added:of[.='6']: no instance of /net:host/added:in/port/number is 6.|
 {"net:site":[{"name":"a","at":{"ip":"x"}},{"name":"b","port":80,"at":{"ip":"x"}},{"name":"c","at":{"ip":"y"}}]} => /net:site[name='a']: its at/ip "x" and port by default are those of /net:site[2].|/net:site[name='b']: its at/ip "x" and port 80 are those of /net:site[1].|

@@ -98,7 +98,7 @@ fn sentence_at(
         FaultCode::V8 => same_key(alloc, schema, row, above, step),
         FaultCode::V9 => same_unique(alloc, schema, row, above, step, unique_in(info)),
         FaultCode::V10 => same_item(alloc, schema, row, above, step),
-        FaultCode::V11 => no_target(alloc, schema, row, step),
+        FaultCode::V11 => no_target(alloc, schema, tree, row, step),
         FaultCode::V4 | FaultCode::V5 => Ok(String::new(alloc)),
     }
 }

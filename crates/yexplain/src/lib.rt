@@ -7,6 +7,7 @@ mod fault;
 mod fellows;
 mod joining;
 mod laws;
+mod near;
 mod path;
 mod place;
 mod sentences;

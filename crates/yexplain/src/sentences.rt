@@ -14,6 +14,7 @@ ghost use Rattle.yexplain.specs.Sentences as spec;
 
 use crate::cases::stored_case_names;
 use crate::fellows::{fellow_entry, fellow_item, fellow_text};
+use crate::near::near_words;
 use crate::path::module_at;
 use crate::place::{count_of, instance_to, row_at, row_to};
 use crate::taken::taken_words;
@@ -24,6 +25,7 @@ use itoa::Buffer;
 use std::alloc::{AllocError, Global};
 use ymodel::{Amount, Children, Kind, LeafType, Schema, SchemaId};
 use ytree::{Step, Stored, Tree};
+use ytype::Raw;
 
 // ---- what the schema says
 
@@ -100,16 +102,25 @@ fn max_elements_of(schema: &Schema, id: SchemaId) -> u32
 
 // ---- what is said of the last step to a place, from the row in which it leads to a node
 
-/// The value of the leaf or item to which a step leads.
+/// The value of the leaf or item to which a step leads, as its document has it.
+fn raw_to<'a>(row: &'a [Stored], step: &Step) -> Option<&'a Raw>
+    ensures { option_map (λ r. held.raw_of r.now) result
+        ≡ option_and_then (λ found. found.0.value)
+        (instance_to (document_view.row_view row.entry.now) (document_view.step_view step.now)) }
+{
+    match instance_to(row, step) {
+        Some(stored) => stored.value(),
+        None => None,
+    }
+}
+
+/// Its text.
 fn value_to(alloc: Global, row: &[Stored], step: &Step) -> Result<String, AllocError>
     ensures { IfOk result (λ text. string_bytes text
         ≡ values.value_text (option_and_then (λ found. found.0.value)
         (instance_to (document_view.row_view row.now) (document_view.step_view step.now)))) }
 {
-    match instance_to(row, step) {
-        Some(stored) => value_text(alloc, stored.value()),
-        None => value_text(alloc, None),
-    }
+    value_text(alloc, raw_to(row, step))
 }
 
 pub(crate) fn wrong_value(
@@ -284,21 +295,24 @@ pub(crate) fn same_item(
 pub(crate) fn no_target(
     alloc: Global,
     schema: &Schema,
+    tree: &Tree,
     row: &[Stored],
     step: &Step,
 ) -> Result<String, AllocError>
     ensures { IfOk result (λ text. string_bytes text
-        ≡ spec.no_target (schema_view.view schema.now) (document_view.row_view row.now)
-        (document_view.step_view step.now)) }
+        ≡ spec.no_target (schema_view.view schema.now) (document_view.tree_view tree.now)
+        (document_view.row_view row.now) (document_view.step_view step.now)) }
 {
-    let target = target_path(alloc, schema, target_at(schema, step.id))?;
+    let target = target_at(schema, step.id);
+    let path = target_path(alloc, schema, target)?;
     let value = value_to(alloc, row, step)?;
+    let near = near_words(alloc, schema, tree, target, raw_to(row, step))?;
     [
         "no instance of ",
-        target.as_str(),
+        path.as_str(),
         " is ",
         value.as_str(),
-        ".",
+        near.as_str(),
     ]
     .concat(alloc)
 }

@@ -9,7 +9,10 @@ use Rattle.yspec.specs.text.Text.{Text}
 use Rattle.yspec.specs.schema.Schema.{Schema}
 use Rattle.yspec.specs.document.Document.{Tree}
 use Rattle.yspec.specs.document.Fault.{Fault, Info, no_info, choice_name, unique_number}
-use Rattle.yformat.specs.FaultData.{with_app_tag, with_info, with_tags, with_message, with_line, fault_data}
+use Rattle.yspec.specs.document.Path.{path_text}
+use Rattle.yexplain.specs.KeyedPath.{keyed_path}
+use Rattle.yexplain.specs.Sentences.{sentence}
+use Rattle.yformat.specs.FaultData.{code_text, with_text, with_app_tag, with_info, with_tags, with_message, with_line, fault_data}
 
 first_whole : (a b : Bool) → (a || b) ≡ false → a ≡ false
 first_whole true b h = absurd cc
@@ -32,6 +35,9 @@ put_whole name d no_members this these = ap₂ ◌||◌ this these
 put_whole name d (member other e ms) this these =
     put_whole_at (slice_cmp nat_cmp name other) name other d e ms this these (put_whole name d ms this (later_whole (has_float e) (members_have_float ms) these))
 
+text_whole : (name t : Text) (ms : Members) → members_have_float ms ≡ false → members_have_float (with_text name t ms) ≡ false
+text_whole name t ms these = put_whole name (string t) ms refl these
+
 -- ---- those of a fault
 
 app_tag_whole : (tag : Option Text) (ms : Members) → members_have_float ms ≡ false → members_have_float (with_app_tag tag ms) ≡ false
@@ -44,16 +50,28 @@ info_whole (choice_name name) ms these = put_whole (codes "yanglive:info") (stri
 info_whole (unique_number n) ms these = put_whole (codes "yanglive:info") (number (unsigned n)) ms refl these
 
 tags_whole : (f : Fault) (ms : Members) → members_have_float ms ≡ false → members_have_float (with_tags f ms) ≡ false
-tags_whole f ms these = app_tag_whole f.app_tag _ (put_whole _ (string f.tag) _ refl (put_whole _ (string _) ms refl these))
+tags_whole f ms these =
+    let first = with_text (codes "error-type") (codes "application") ms in
+    app_tag_whole f.app_tag (with_text (codes "error-tag") f.tag first)
+    (text_whole (codes "error-tag") f.tag first (text_whole (codes "error-type") (codes "application") ms these))
 
 message_whole : (schema : Schema) (tree : Tree) (f : Fault) (ms : Members) → members_have_float ms ≡ false → members_have_float (with_message schema tree f ms) ≡ false
-message_whole schema tree f ms these = put_whole _ (string _) _ refl (put_whole _ (string _) ms refl these)
+message_whole schema tree f ms these =
+    let path = keyed_path schema tree f.steps in
+    text_whole (codes "error-message") (sentence schema tree f.steps f.info f.code) (with_text (codes "error-path") path ms)
+    (text_whole (codes "error-path") path ms these)
 
 line_whole : (schema : Schema) (f : Fault) (ms : Members) → members_have_float ms ≡ false → members_have_float (with_line schema f ms) ≡ false
-line_whole schema f ms these = info_whole f.info _ (put_whole _ (string _) _ refl (put_whole _ (string _) ms refl these))
+line_whole schema f ms these =
+    let first = with_text (codes "yanglive:code") (code_text f.code) ms in
+    let path = path_text schema f.steps in
+    info_whole f.info (with_text (codes "yanglive:path") path first)
+    (text_whole (codes "yanglive:path") path first (text_whole (codes "yanglive:code") (code_text f.code) ms these))
 
 pub fault_whole : (schema : Schema) (tree : Tree) (f : Fault) → has_float (fault_data schema tree f) ≡ false
-fault_whole schema tree f = line_whole schema f _ (message_whole schema tree f _ (tags_whole f no_members refl))
+fault_whole schema tree f =
+    let tagged = with_tags f no_members in
+    line_whole schema f (with_message schema tree f tagged) (message_whole schema tree f tagged (tags_whole f no_members refl))
 
 -- a text that is written of an object without fractions
 pub written : (d e : Data) (text : Text) → d ≡ e → has_float e ≡ false → (has_float d ≡ false → text ≡ compact_text d) → text ≡ compact_text e

@@ -55,11 +55,17 @@ fault_data schema tree f =
 abbrev pub json_line : Schema → Tree → Fault → Text
 json_line schema tree f = compact_text (fault_data schema tree f)
 
+abbrev pub count_data : ℕ → Data
+count_data n = object (put (codes "yanglive:faults") (number (unsigned n)) no_members)
+
 -- the last line says how many there are
 abbrev pub json_count : ℕ → Text
-json_count n = compact_text (object (put (codes "yanglive:faults") (number (unsigned n)) no_members))
+json_count n = compact_text (count_data n)
 
--- a line for each fault of a document, and then the last line, without its line feed
+-- a line for each fault of a document
+abbrev pub json_lines : Schema → Tree → List Fault → Text
+json_lines schema tree faults = flat_map (λ f. json_line schema tree f ++ codes "\n") faults
+
+-- and then the last line, without its line feed
 abbrev pub json_text : Schema → Tree → List Fault → Text
-json_text schema tree faults =
-    flat_map (λ f. json_line schema tree f ++ codes "\n") faults ++ json_count (length faults)
+json_text schema tree faults = json_lines schema tree faults ++ json_count (length faults)

@@ -48,13 +48,19 @@ pub fn json_line(
     fault_value(alloc, schema, tree, fault)?.to_string(alloc)
 }
 
+fn count_value(alloc: Global, count: usize) -> Result<Value, AllocError>
+    ensures { IfOk result (λ value. json.view value ≡ spec.count_data count) }
+{
+    let mut members = Map::new(alloc);
+    put_value(alloc, "yanglive:faults", Value::from(count), &mut members)?;
+    Ok(Value::Object(members))
+}
+
 /// The line that says how many faults there are.
 pub fn json_count(alloc: Global, count: usize) -> Result<String, AllocError>
     ensures { IfOk result (λ text. string_bytes text ≡ spec.json_count count) }
 {
-    let mut members = Map::new(alloc);
-    put_value(alloc, "yanglive:faults", Value::from(count), &mut members)?;
-    Value::Object(members).to_string(alloc)
+    count_value(alloc, count)?.to_string(alloc)
 }
 
 /// Adds the line of a fault.
@@ -76,6 +82,24 @@ fn add_line(
     Ok(())
 }
 
+/// A line for each fault of a document.
+fn json_lines(
+    alloc: Global,
+    schema: &Schema,
+    tree: &Tree,
+    faults: &[Fault],
+) -> Result<String, AllocError>
+    ensures { let t = document_view.tree_view tree.now in
+        IfOk result (λ text. IsSorted t → string_bytes text
+        ≡ spec.json_lines (schema_view.view schema.now) t (fault_view.views faults.now)) }
+{
+    let mut text = String::new(alloc);
+    for fault in faults {
+        add_line(alloc, schema, tree, fault, &mut text)?;
+    }
+    Ok(text)
+}
+
 /// Lines for the faults of a document whose rows stand in the order of its schema, and one that says how many there are;
 /// the last has no line feed.
 pub fn json_text(
@@ -88,11 +112,7 @@ pub fn json_text(
         IfOk result (λ text. IsSorted t → string_bytes text
         ≡ spec.json_text (schema_view.view schema.now) t (fault_view.views faults.now)) }
 {
-    let mut text = String::new(alloc);
-    for fault in faults {
-        add_line(alloc, schema, tree, fault, &mut text)?;
-    }
+    let lines = json_lines(alloc, schema, tree, faults)?;
     let count = json_count(alloc, faults.len())?;
-    text.push_str(count.as_str())?;
-    Ok(text)
+    [lines.as_str(), count.as_str()].concat(alloc)
 }

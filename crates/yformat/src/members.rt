@@ -9,6 +9,7 @@ ghost use Rattle.ytree.specs.View as document_view;
 ghost use Rattle.ycheck.specs.View as fault_view;
 ghost use Rattle.yformat.specs.FaultData as spec;
 
+use itoa::Buffer;
 use serde_json::{Map, Value};
 use std::alloc::{AllocError, Global};
 use ycheck::{ErrorTag, Fault, FaultCode, Info};
@@ -18,22 +19,12 @@ use ytree::Tree;
 
 // ---- names
 
-fn code_text(code: FaultCode) -> &'static str
-    ensures { result.now ≡ spec.code_text (fault_view.code_view code) }
+fn code_text(alloc: Global, code: FaultCode) -> Result<String, AllocError>
+    ensures { IfOk result (λ text. string_bytes text
+        ≡ spec.code_text (fault_view.code_view code)) }
 {
-    match code {
-        FaultCode::V1 => "V1",
-        FaultCode::V2 => "V2",
-        FaultCode::V3 => "V3",
-        FaultCode::V4 => "V4",
-        FaultCode::V5 => "V5",
-        FaultCode::V6 => "V6",
-        FaultCode::V7 => "V7",
-        FaultCode::V8 => "V8",
-        FaultCode::V9 => "V9",
-        FaultCode::V10 => "V10",
-        FaultCode::V11 => "V11",
-    }
+    let mut digits = Buffer::new();
+    ["V", digits.format(code.number())].concat(alloc)
 }
 
 fn tag_text(tag: ErrorTag) -> &'static str
@@ -50,6 +41,18 @@ fn tag_text(tag: ErrorTag) -> &'static str
 
 // ---- members
 
+fn put_member(
+    members: &mut Map<String, Value>,
+    name: String,
+    value: Value,
+) -> Result<(), AllocError>
+    ensures { OnOk result (json.members_view members.new.entries
+        ≡ put (string_bytes name) (json.view value) (json.members_view members.old.entries)) }
+{
+    members.insert(name, value)?;
+    Ok(())
+}
+
 /// Puts in a member.
 pub(crate) fn put_value(
     alloc: Global,
@@ -60,8 +63,7 @@ pub(crate) fn put_value(
     ensures { OnOk result (json.members_view members.new.entries
         ≡ put name.now (json.view value) (json.members_view members.old.entries)) }
 {
-    members.insert(String::from_str(alloc, name)?, value)?;
-    Ok(())
+    put_member(members, String::from_str(alloc, name)?, value)
 }
 
 /// Puts in a member whose value is a text.
@@ -138,7 +140,8 @@ pub(crate) fn put_line(
         (json.members_view members.old.entries)) }
 {
     let path = position_path(alloc, schema, &fault.steps)?;
-    put_text(alloc, "yanglive:code", code_text(fault.code), members)?;
+    let code = code_text(alloc, fault.code)?;
+    put_text(alloc, "yanglive:code", code.as_str(), members)?;
     put_text(alloc, "yanglive:path", path.as_str(), members)?;
     put_info(alloc, &fault.info, members)
 }

@@ -6,7 +6,7 @@ use Rattle.ymodel.specs.View.{view}
 use Rattle.ytree.specs.View.{tree_view}
 use Rattle.ycheck.specs.View.{views}
 use Rattle.yformat.specs.FaultData.{json_line}
-use Rattle.yformat.proofs.line.json_text.Given as goal
+use Rattle.yformat.proofs.line.json_lines.Given as goal
 
 -- the text so far, and the lines of the faults that are left
 abbrev pub invariant-loop-fault : goal.invariant-loop-fault
