@@ -1,4 +1,9 @@
-//! The modules of the documents.
+//! The modules of the documents and edits.
+
+use std::alloc::Global;
+use ymodel::Schema;
+use yschema::compile;
+use ytext::parse;
 
 /// A host with items, entries and a choice, and links.
 pub(crate) const NET: &str = "module net {
@@ -23,3 +28,20 @@ pub(crate) const ADDED: &str = "module added {
   augment /n:host/n:port { leaf label { type string; } container more { leaf depth { type uint8; } } }
 }
 ";
+
+/// A list with a key, one with two and one with none; items, and a container.
+pub(crate) const LINES: &str = "module net {
+  yang-version 1.1; namespace \"urn:net\"; prefix n;
+  container host { leaf name { type string; } leaf-list server { type string; } }
+  list link { key id; leaf id { type string; } leaf mtu { type uint16; } container state { leaf up { type boolean; } } }
+  list route { key \"prefix metric\"; leaf prefix { type string; } leaf metric { type uint8; } }
+  list note { config false; leaf text { type string; } }
+}
+";
+
+/// The schema of one module.
+pub(crate) fn schema_of(alloc: Global, text: &str) -> Option<Schema> {
+    let mut modules = Vec::new(alloc);
+    modules.push(parse(alloc, text.as_bytes()).ok()?).ok()?;
+    compile(alloc, &modules).ok()
+}

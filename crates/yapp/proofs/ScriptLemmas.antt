@@ -39,19 +39,19 @@ parts_of_answer : (hint said : EditRefusal → Text) (k : ℕ) (answer : Result 
 parts_of_answer hint said k (Ok tree) same = refl
 parts_of_answer hint said k (Err e) same = ap (λ (t : Text). hinted t (refused_line k e) ∷ []) (same e)
 
-refused_asked : (s : Schema) (k : ℕ) (t : Tree) (asked : Result (Option Edit) EditRefusal) (lines : List Text)
+refused_asked : (s : Schema) (k : ℕ) (t : Tree) (line : Text) (asked : Result (Option Edit) EditRefusal) (lines : List Text)
     → ((k : ℕ) (t : Tree) → refused_lines s k t lines ≡ told_from s k (kinds_of lines) (edits_of lines) (decisions s t (edits_of lines)))
-    → line_parts (refused_hint s (edit_in asked)) k (done s t asked) ++ refused_lines s (k + 1) (tree_or (done s t asked) t) lines
-    ≡ told_from s k (line_of asked ∷ kinds_of lines) (edit_of asked ++ edits_of lines) (decisions s t (edit_of asked ++ edits_of lines))
-refused_asked s k t (Ok None) lines rest = rest (k + 1) t
-refused_asked s k t (Ok (Some e)) lines rest =
-    ap₂ (λ (xs ys : List Part). xs ++ ys) (parts_of_answer (refused_hint s (Some e)) (hint_in s an_edit (e ∷ edits_of lines)) k (applied s t e) (λ r. refl)) (rest (k + 1) (tree_or (applied s t e) t))
-refused_asked s k t (Err e) lines rest = ap (λ (xs : List Part). line_parts (refused_hint s None) k (Err e) ++ xs) (rest (k + 1) t)
+    → line_parts (refused_hint s line (edit_in asked)) k (done s t asked) ++ refused_lines s (k + 1) (tree_or (done s t asked) t) lines
+    ≡ told_from s k (line_of line asked ∷ kinds_of lines) (edit_of asked ++ edits_of lines) (decisions s t (edit_of asked ++ edits_of lines))
+refused_asked s k t line (Ok None) lines rest = rest (k + 1) t
+refused_asked s k t line (Ok (Some e)) lines rest =
+    ap₂ (λ (xs ys : List Part). xs ++ ys) (parts_of_answer (refused_hint s line (Some e)) (hint_in s (an_edit line) (e ∷ edits_of lines)) k (applied s t e) (λ r. refl)) (rest (k + 1) (tree_or (applied s t e) t))
+refused_asked s k t line (Err e) lines rest = ap (λ (xs : List Part). line_parts (refused_hint s line None) k (Err e) ++ xs) (rest (k + 1) t)
 
 pub refused_is : (s : Schema) (k : ℕ) (t : Tree) (lines : List Text)
     → refused_lines s k t lines ≡ told_from s k (kinds_of lines) (edits_of lines) (decisions s t (edits_of lines))
 refused_is s k t [] = refl
-refused_is s k t (line ∷ lines) = refused_asked s k t (asked_in line) lines (λ k t. refused_is s k t lines)
+refused_is s k t (line ∷ lines) = refused_asked s k t line (asked_in line) lines (λ k t. refused_is s k t lines)
 
 -- ---- reading lines
 
@@ -99,11 +99,11 @@ none_read kinds edits lines no_kinds no_edits = record {
 
 pub line_read : (kinds more_kinds : List Line) (edits more_edits : List Edit) (lines left later : List Text) (line : Text)
     → left ≡ line ∷ later
-    → more_kinds ≡ kinds ++ line_of (asked_in line) ∷ [] → more_edits ≡ edits ++ edit_of (asked_in line)
+    → more_kinds ≡ kinds ++ line_of line (asked_in line) ∷ [] → more_edits ≡ edits ++ edit_of (asked_in line)
     → ReadSoFar kinds edits lines left → ReadSoFar more_kinds more_edits lines later
 line_read kinds more_kinds edits more_edits lines left later line first kinds_more edits_more so_far = record {
   kinds_are = ap (λ (ks : List Line). ks ++ kinds_of later) kinds_more
-      ∙ append_assoc kinds (line_of (asked_in line) ∷ []) (kinds_of later)
+      ∙ append_assoc kinds (line_of line (asked_in line) ∷ []) (kinds_of later)
       ∙ ap (λ (ls : List Text). kinds ++ kinds_of ls) (sym first) ∙ so_far.kinds_are;
   edits_are = ap (λ (es : List Edit). es ++ edits_of later) edits_more
       ∙ append_assoc edits (edit_of (asked_in line)) (edits_of later)
@@ -117,12 +117,12 @@ edits_behind (line ∷ lines) last = ap (λ (es : List Edit). edit_of (asked_in 
 
 pub last_read : (kinds more_kinds : List Line) (edits more_edits : List Edit) (lines whole : List Text) (last : Text)
     → whole ≡ lines ++ last ∷ []
-    → more_kinds ≡ kinds ++ line_of (asked_in last) ∷ [] → more_edits ≡ edits ++ edit_of (asked_in last)
+    → more_kinds ≡ kinds ++ line_of last (asked_in last) ∷ [] → more_edits ≡ edits ++ edit_of (asked_in last)
     → ReadSoFar kinds edits lines [] → IsScript more_kinds more_edits whole
 last_read kinds more_kinds edits more_edits lines whole last is kinds_more edits_more so_far = record {
   kinds_are = kinds_more
-      ∙ ap (λ (ks : List Line). ks ++ line_of (asked_in last) ∷ []) (sym (append-nil kinds) ∙ so_far.kinds_are)
-      ∙ sym (map-append (λ line. line_of (asked_in line)) lines (last ∷ [])) ∙ ap kinds_of (sym is);
+      ∙ ap (λ (ks : List Line). ks ++ line_of last (asked_in last) ∷ []) (sym (append-nil kinds) ∙ so_far.kinds_are)
+      ∙ sym (map-append (λ line. line_of line (asked_in line)) lines (last ∷ [])) ∙ ap kinds_of (sym is);
   edits_are = edits_more
       ∙ ap (λ (es : List Edit). es ++ edit_of (asked_in last)) (sym (append-nil edits) ∙ so_far.edits_are)
       ∙ sym (edits_behind lines last) ∙ ap edits_of (sym is);
