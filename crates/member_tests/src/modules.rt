@@ -1,7 +1,12 @@
-//! The modules of the documents.
+//! The modules of the documents, and their schema.
+
+use std::alloc::Global;
+use ymodel::Schema;
+use yschema::compile;
+use ytext::{Module, parse};
 
 /// A host with items, entries and a choice, and links.
-pub(crate) const NET: &str = "module net {
+const NET: &str = "module net {
   yang-version 1.1; namespace \"urn:net\"; prefix n;
   container host {
     leaf name { type string; }
@@ -17,9 +22,20 @@ pub(crate) const NET: &str = "module net {
 ";
 
 /// What another module adds to its ports.
-pub(crate) const ADDED: &str = "module added {
+const ADDED: &str = "module added {
   yang-version 1.1; namespace \"urn:added\"; prefix a;
   import net { prefix n; }
   augment /n:host/n:port { leaf label { type string; } container more { leaf depth { type uint8; } } }
 }
 ";
+
+fn modules_of(alloc: Global) -> Option<Vec<Module>> {
+    let mut modules = Vec::new(alloc);
+    modules.push(parse(alloc, NET.as_bytes()).ok()?).ok()?;
+    modules.push(parse(alloc, ADDED.as_bytes()).ok()?).ok()?;
+    Some(modules)
+}
+
+pub(crate) fn schema_of(alloc: Global) -> Option<Schema> {
+    compile(alloc, &modules_of(alloc)?).ok()
+}

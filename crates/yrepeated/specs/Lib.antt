@@ -1,0 +1,3 @@
+pub mod Repeated
+pub mod Found
+pub mod Samples

@@ -1,0 +1,11 @@
+//! Which member a JSON text gives twice in one object (RFC 8259, 4): in a document the first, with its place; of an edit's
+//! value, whether there is any.
+#![tactic(auto)]
+
+mod examples;
+mod place;
+mod value;
+
+pub use examples::{documents, values};
+pub use place::first_repeated;
+pub use value::has_repeated;
