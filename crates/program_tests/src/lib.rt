@@ -20,4 +20,6 @@ mod running;
 #[cfg(test)]
 mod saving;
 #[cfg(test)]
+mod strictness;
+#[cfg(test)]
 mod telling;

@@ -17,6 +17,7 @@ use yhint::{line_sentence, shown_line};
 use yinst::{Edit, EditCode};
 use ymember::{said_of_edit, said_of_refusal};
 use ymodel::Schema;
+use yrepeated::said_of_repeated;
 use ytext::Module;
 use ytree::{DocCode, Step};
 
@@ -108,6 +109,15 @@ pub fn refusal_hint(
         (record { code = document.code_number code; place = place_view place.now })) }
 {
     let said = said_of_refusal(alloc, schema, bytes, code, place)?;
+    as_line(alloc, "  ", said.as_str())
+}
+
+/// What is said of a document that gives a member twice, by the place of its node.
+pub fn repeated_hint(alloc: Global, schema: &Schema, place: &[Step]) -> Result<String, AllocError>
+    ensures { IfOk result (λ hint. string_bytes hint
+        ≡ spec.repeated_hint (schema_view.view schema.now) (place_view place.now)) }
+{
+    let said = said_of_repeated(alloc, schema, place)?;
     as_line(alloc, "  ", said.as_str())
 }
 

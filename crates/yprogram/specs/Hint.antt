@@ -6,12 +6,14 @@ use Rattle.yspec.specs.text.Text.{Text}
 use Rattle.yspec.specs.text.Statement.{Statement}
 use Rattle.yspec.specs.schema.Breaks.{Break}
 use Rattle.yspec.specs.schema.Schema.{Schema}
+use Rattle.yspec.specs.document.Document.{Step}
 use Rattle.yspec.specs.document.Reading.{Refusal}
 use Rattle.yhint.specs.Line.{shown_line}
 use Rattle.yhint.specs.Sentence.{of_line}
 use Rattle.yspec.specs.edit.EditText.{Edit}
 use Rattle.ymember.specs.Part.{said_of_edit}
 use Rattle.ymember.specs.Sentence.{said_of_refusal}
+use Rattle.yrepeated.specs.Said.{said_of_repeated}
 use Rattle.yprogram.specs.Part.{Part}
 
 abbrev pub hinted : Text → Part → Part
@@ -44,6 +46,10 @@ break_hint contents modules b = line_hint b.line (unwrap_or (slice_get contents 
 -- of a document that is refused, by its bytes
 abbrev pub refusal_hint : Schema → List ℕ → Refusal → Text
 refusal_hint schema bytes r = as_line (codes "  ") (said_of_refusal schema bytes r)
+
+-- of a document with a member that is given twice, by the place of its node
+abbrev pub repeated_hint : Schema → List Step → Text
+repeated_hint schema place = as_line (codes "  ") (said_of_repeated schema place)
 
 -- of an edit that is refused with this number
 abbrev pub edit_hint : Schema → Edit → ℕ → Text

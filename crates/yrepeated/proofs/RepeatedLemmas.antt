@@ -1,15 +1,15 @@
 -- What is given twice, member by member; and which names a set holds.
-use Rattle.std.proofs.Common.{◌≡◌, ◌≢◌, ℕ, ◌+◌, ◌<◌, Bool, true, false, not, cond, Bor, ◌||◌, List, [], ◌∷◌, length, drop, get_or, Option, Some, None, Result, Err, IfOk, refl, sym, ap, ◌∙◌, subst}
+use Rattle.std.proofs.Common.{◌≡◌, ◌≢◌, ℕ, ◌+◌, ◌<◌, Bool, true, false, not, cond, Bor, ◌||◌, ◌++◌, List, [], ◌∷◌, length, drop, get_or, Option, Some, None, Result, Err, IfOk, refl, sym, ap, ◌∙◌, subst}
 use Rattle.std.specs.Prelude.{Vec, option_and_then}
 use Rattle.std.specs.Ordering.{is_eq, nat_cmp}
 use Rattle.std.specs.Cmp.Lexicographic.{slice_cmp}
-use Rattle.std.specs.List.{list_any}
+use Rattle.std.specs.List.{last_or, list_any}
 use Rattle.std.specs.Str.{is_utf8, IsUtf8}
 use Rattle.std.specs.BTreeSet.{BTreeSet, Updates, contains_by}
 use Rattle.std.specs.BTreeMap.{is_at}
 use Rattle.std.specs.declared.alloc.Global.{Global}
 use Rattle.std.proofs.lemmas.Bool.Decides.{same_from_decides, Decides-like}
-use Rattle.std.proofs.lemmas.List.{at_drop_more}
+use Rattle.std.proofs.lemmas.List.{at_drop_more, map-append}
 use Rattle.std.proofs.lemmas.Map.Text.{is_eq-slice_cmp}
 use Rattle.std.proofs.lemmas.Slice.Eq.{bytes_eq-Decides}
 use Rattle.std.proofs.lemmas.Str.{IsUtf8-from_is_utf8, is_utf8-from_IsUtf8}
@@ -23,6 +23,7 @@ use Rattle.yspec.specs.text.Text.{Text, is_text}
 use Rattle.yspec.specs.types.Names.{is_among}
 use Rattle.yspec.specs.schema.Schema.{Schema}
 use Rattle.yspec.specs.document.Document.{Step}
+use Rattle.ytree.specs.View.{place_view, step_view}
 use Rattle.ytree.specs.declared.tree.Step as code
 use Rattle.yrepeated.specs.Found.{steps_of}
 use Rattle.yrepeated.specs.Repeated.{at_name, json_in, repeated_at_top, repeated_entry, repeated_in, repeated_members, repeated_value}
@@ -126,3 +127,14 @@ refused_so Invalid bytes memory long twice h = no_json bytes (h refl)
 refused_so OutOfMemory bytes memory long twice h = absurd (memory refl)
 refused_so TooLong bytes memory long twice h = absurd (long refl)
 refused_so DuplicateKey bytes memory long twice h = absurd (twice refl)
+
+-- ---- the last of some steps
+
+last_behind : (first : Option Step) (above : List Step) (step : Step) → last_or first (above ++ step ∷ []) ≡ Some step
+last_behind first [] step = refl
+last_behind first (x ∷ xs) step = last_behind (Some x) xs step
+
+pub last_seen : (steps above : List code.Step) (step : code.Step) → steps ≡ above ++ step ∷ [] → last_or None (place_view steps) ≡ Some (step_view step)
+last_seen steps above step is =
+    ap (λ (ss : List code.Step). last_or None (place_view ss)) is
+    ∙ (ap (last_or None) (map-append step_view above (step ∷ [])) ∙ last_behind None (place_view above) (step_view step))

@@ -2,7 +2,7 @@
 
 ghost use Rattle.std.specs.Prelude.{◌≡◌, codes, false, true};
 ghost use Rattle.yrepeated.specs.Repeated.{has_repeated};
-ghost use Rattle.yrepeated.specs.Samples.{repeated_under};
+ghost use Rattle.yrepeated.specs.Samples.{repeated_under, said_under};
 
 /// The place of the first member that is given twice.
 pub fn documents()
@@ -31,6 +31,14 @@ pub fn documents()
     ensures in_what_is_not_known { repeated_under (codes "{\"p:host\":{\"x\":{\"a\":1,\"a\":1}}}")
         ≡ codes "none" }
     ensures no_json { repeated_under (codes "{") ≡ codes "none" }
+{}
+
+/// What is said of it.
+pub fn sentences()
+    ensures of_a_leaf { said_under (codes "{\"p:host\":{\"name\":\"a\",\"name\":\"a\"}}")
+        ≡ codes "name is given twice." }
+    ensures at_the_top { said_under (codes "{\"p:host\":{},\"p:host\":{}}")
+        ≡ codes "host is given twice." }
 {}
 
 /// Whether any member of a value is given twice.
