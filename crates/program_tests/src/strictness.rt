@@ -31,7 +31,7 @@ yanglive validate --strict d.json p.yang~{"p:c":{"id":300,"id":1}}~~2~d.json: J8
 ~==
 yanglive validate --strict d.json p.yang~{"p:c":{"id":1},"p:c":{"id":1}}~~2~d.json: J8 /p:c
 ~==
-yanglive --explain validate --strict d.json p.yang~{"p:c":{"id":1,"id":1}}~~2~d.json: J8 /p:c/id
+yanglive validate --explain --strict d.json p.yang~{"p:c":{"id":1,"id":1}}~~2~d.json: J8 /p:c/id
   id is given twice.
   A member is given twice in one object, which --strict refuses; without it the last one counts. Take one of them out.
 ~==
@@ -60,7 +60,7 @@ line 5: E1
 line 6: E9
 ~0 faults
 ==
-yanglive --explain edit --strict --dump d.json s.txt p.yang~{"p:c":{"id":1}}~replace /p:c {"id":2,"id":3}~1~line 1: E10 J8
+yanglive edit --explain --strict --dump d.json s.txt p.yang~{"p:c":{"id":1}}~replace /p:c {"id":2,"id":3}~1~line 1: E10 J8
   A member is given twice in one object, which --strict refuses; without it the last one counts. Take one of them out.
 ~{"p:c":{"id":1}}
 "#;
