@@ -1,6 +1,8 @@
-//! Tests of what is said of documents that are refused, and of members that are given twice.
+//! Tests of what is said of documents and edits that are refused, and of members that are given twice.
 #![tactic(auto)]
 
+#[cfg(test)]
+mod editing;
 #[cfg(test)]
 mod modules;
 #[cfg(test)]

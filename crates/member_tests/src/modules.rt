@@ -1,9 +1,9 @@
-//! The modules of the documents, and their schema.
+//! The modules of the documents and edits, and their schemas.
 
 use std::alloc::Global;
 use ymodel::Schema;
 use yschema::compile;
-use ytext::{Module, parse};
+use ytext::parse;
 
 /// A host with items, entries and a choice, and links.
 const NET: &str = "module net {
@@ -29,13 +29,27 @@ const ADDED: &str = "module added {
 }
 ";
 
-fn modules_of(alloc: Global) -> Option<Vec<Module>> {
+/// A list with a key, one with two and one with none; items, and a container.
+pub(crate) const LINES: &str = "module net {
+  yang-version 1.1; namespace \"urn:net\"; prefix n;
+  container host { leaf name { type string; } leaf-list server { type string; } }
+  list link { key id; leaf id { type string; } leaf mtu { type uint16; } container state { leaf up { type boolean; } } }
+  list route { key \"prefix metric\"; leaf prefix { type string; } leaf metric { type uint8; } }
+  list note { config false; leaf text { type string; } }
+}
+";
+
+/// The schema of the host with what is added to its ports.
+pub(crate) fn host_schema(alloc: Global) -> Option<Schema> {
     let mut modules = Vec::new(alloc);
     modules.push(parse(alloc, NET.as_bytes()).ok()?).ok()?;
     modules.push(parse(alloc, ADDED.as_bytes()).ok()?).ok()?;
-    Some(modules)
+    compile(alloc, &modules).ok()
 }
 
-pub(crate) fn schema_of(alloc: Global) -> Option<Schema> {
-    compile(alloc, &modules_of(alloc)?).ok()
+/// The schema of one module.
+pub(crate) fn schema_of(alloc: Global, text: &str) -> Option<Schema> {
+    let mut modules = Vec::new(alloc);
+    modules.push(parse(alloc, text.as_bytes()).ok()?).ok()?;
+    compile(alloc, &modules).ok()
 }

@@ -1,6 +1,6 @@
 //! Members that a document, or the value of an edit, gives twice.
 
-use crate::modules::schema_of;
+use crate::modules::host_schema;
 use std::alloc::Global;
 use ycheck::write_path;
 use youtput::Cut;
@@ -9,7 +9,7 @@ use yrepeated::{first_repeated, has_repeated};
 // `DOCUMENT => PATH` with the path of the first member that the document gives twice, or `-`.
 fn is_told(alloc: Global, row: &str) -> Option<bool> {
     let (document, path) = row.split_once(" => ")?;
-    let schema = schema_of(alloc)?;
+    let schema = host_schema(alloc)?;
     let mut told = Cut::new(alloc, 4096, 4096, None).ok()?;
     match first_repeated(alloc, &schema, document.as_bytes()).ok()? {
         Some(place) => write_path(&schema, &place, &mut told).ok()?,

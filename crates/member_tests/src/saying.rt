@@ -1,6 +1,6 @@
 //! What is said of each refused document.
 
-use crate::modules::schema_of;
+use crate::modules::host_schema;
 use std::alloc::Global;
 use ymember::said_of_refusal;
 use ytree::{DocFault, read};
@@ -8,7 +8,7 @@ use ytree::{DocFault, read};
 // `DOCUMENT => SENTENCE`, with no sentence where nothing is said.
 fn is_said(alloc: Global, row: &str) -> Option<bool> {
     let (document, sentence) = row.split_once(" => ")?;
-    let schema = schema_of(alloc)?;
+    let schema = host_schema(alloc)?;
     let bytes = document.as_bytes();
     match read(alloc, &schema, bytes) {
         Err(DocFault::Refused { code, place }) => {

@@ -228,28 +228,34 @@ yanglive validate - p.yang
 0 faults
 ==
 yanglive edit --explain empty.json script p.yang
-1 8
+1 11
 line 4: E2
+  | replace /p:c/speed 1
   nothing called \"speed\" may stand here.
   A step of the path names no node there, or in the wrong form. Write /module:name at the top and where the module changes, and /name elsewhere.
 line 5: E7
+  | replace /p:c/note 5 6
   What is to be replaced or removed isn't stored. Create it, or leave the line out.
 line 6: E10 J3
+  | replace /p:c {\"speed\":1}
   nothing called \"speed\" may stand here.
   No node of that name may stand there. Correct the name, or give the module that defines it.
 V1 invalid-value - /p:c/id -
   /p:c/id: 300 isn't a value of uint8.
   A value isn't one that its type takes. Look at the type's range, length and names; 64-bit integers and decimal64 are strings.
-1 faults
+1 fault
 ==
 yanglive edit --dump --explain empty.json script p.yang
-1 8
+1 11
 line 4: E2
+  | replace /p:c/speed 1
   nothing called \"speed\" may stand here.
   A step of the path names no node there, or in the wrong form. Write /module:name at the top and where the module changes, and /name elsewhere.
 line 5: E7
+  | replace /p:c/note 5 6
   What is to be replaced or removed isn't stored. Create it, or leave the line out.
 line 6: E10 J3
+  | replace /p:c {\"speed\":1}
   nothing called \"speed\" may stand here.
   No node of that name may stand there. Correct the name, or give the module that defines it.
 {\"p:c\":{\"id\":300}}
@@ -291,14 +297,14 @@ yanglive validate --explain both n.yang
 V5 bad-element - /net:more how
   /net:more: the choice how has nodes of more than one case: slow, fast.
   Nodes of two or more cases of a choice are there. Leave the nodes of one case.
-1 faults
+1 fault
 ==
 yanglive validate --explain four n.yang
 1 0
 V7 operation-failed too-many-elements /net:host -
   /net:host: it has 4, and may have at most 3.
   A list or leaf-list has more entries or items than it may have. Take some out.
-1 faults
+1 fault
 ==
 yanglive validate --explain twins n.yang
 1 0
@@ -339,12 +345,82 @@ yanglive edit --explain good adding n.yang
 V1 invalid-value - /net:host[2]/port -
   /net:host[name='b']/port: \"7\" isn't a value of uint16.
   A value isn't one that its type takes. Look at the type's range, length and names; 64-bit integers and decimal64 are strings.
-1 faults
+1 fault
 ==
 yanglive edit --dump --explain good adding n.yang
 1 0
 {\"net:host\":[{\"name\":\"a\",\"speed\":1},{\"name\":\"b\",\"port\":\"7\",\"speed\":2}]}
 ";
+
+// The refused lines of a script under the same module, each as it reads, with what is to be changed in it.
+const LINES: &str = "yanglive edit --dump --explain good refused n.yang
+1 28
+line 1: E1
+  | add /net:host {}
+  no edit is called \"add\": write create, replace or remove.
+  The line isn't an edit. Write create PATH VALUE, replace PATH VALUE or remove PATH.
+line 2: E1
+  |  remove /net:more
+  a line begins with create, replace or remove.
+  The line isn't an edit. Write create PATH VALUE, replace PATH VALUE or remove PATH.
+line 4: E1
+  | remove /net:host[name=a]
+  \"net:host[name=a]\" is no step of a path: a key's text stands in quotes, as in [name='..'].
+  The line isn't an edit. Write create PATH VALUE, replace PATH VALUE or remove PATH.
+line 5: E1
+  | create /net:more/item \\xff
+  the line isn't UTF-8.
+  The line isn't an edit. Write create PATH VALUE, replace PATH VALUE or remove PATH.
+line 6: E3
+  | replace /net:host/speed 9
+  net:host is a list: write net:host[name='..'] or net:host[1].
+  A predicate is missing, out of place or of another kind than its node wants. Give a list entry [position] or a [key='value'] for each key, an item [position], and nothing to others, nor to the last step of create.
+line 7: E9
+  | create /net:host[1]/uplink a
+  a isn't JSON; a text stands in double quotes.
+  The value isn't JSON. Put texts into double quotes; look at brackets and commas.
+line 8: E10 J5
+  | create /net:host [{\"name\":\"b\"}]
+  an array stands where an entry is due: write the object alone.
+  A value is of another kind than its node: no object for a container or an entry, no array for a list or leaf-list. Write a container as an object, a list as an array of objects, a leaf-list as an array of values, an empty leaf as [null].
+{\"net:host\":[{\"name\":\"a\",\"speed\":1}]}
+==
+yanglive edit --dump good refused n.yang
+1 7
+line 1: E1
+line 2: E1
+line 4: E1
+line 5: E1
+line 6: E3
+line 7: E9
+line 8: E10 J5
+{\"net:host\":[{\"name\":\"a\",\"speed\":1}]}
+";
+
+const REFUSED_LINES: &[u8] = b"add /net:host {}
+ remove /net:more\r
+# all others are refused
+remove /net:host[name=a]
+create /net:more/item \xff
+replace /net:host/speed 9
+create /net:host[1]/uplink a
+create /net:host [{\"name\":\"b\"}]
+";
+
+#[test]
+fn explained_lines(rt: HostRuntime) {
+    let files = [
+        file("n.yang", NET),
+        file("good", "{\"net:host\":[{\"name\":\"a\",\"speed\":1}]}"),
+        NamedFile {
+            name: "refused",
+            bytes: REFUSED_LINES,
+        },
+    ];
+    for row in LINES.split("==\n") {
+        assert!(rt; prints(rt.alloc(), &files, row) == Some(true), "{row}");
+    }
+}
 
 // Refused documents under the same module, of which what stands there is said of J3, J4 and J5.
 const REFUSALS: &str = "yanglive validate --explain near n.yang
@@ -495,35 +571,45 @@ fn explained_faults(rt: HostRuntime) {
 // Refused lines of a script under the same module, of which is said which name of their paths isn't known, and what stands in
 // their values.
 const EDITS: &str = "yanglive edit --explain good refused n.yang
-1 29
+1 39
 line 2: E2
+  | create /net:hots {}
   nothing called \"net:hots\" may stand here; near it: net:host.
   A step of the path names no node there, or in the wrong form. Write /module:name at the top and where the module changes, and /name elsewhere.
 line 3: E2
+  | remove /host[1]
   here \"host\" is written net:host.
   A step of the path names no node there, or in the wrong form. Write /module:name at the top and where the module changes, and /name elsewhere.
 line 4: E2
+  | replace /net:host[1]/sped 1
   nothing called \"sped\" may stand here; near it: speed.
   A step of the path names no node there, or in the wrong form. Write /module:name at the top and where the module changes, and /name elsewhere.
 line 5: E2
+  | remove /net:host[1]/net:speed
   here \"net:speed\" is written speed.
   A step of the path names no node there, or in the wrong form. Write /module:name at the top and where the module changes, and /name elsewhere.
 line 6: E10 J3
+  | create /net:host {\"name\":\"b\",\"sped\":2}
   nothing called \"sped\" may stand here; near it: speed.
   No node of that name may stand there. Correct the name, or give the module that defines it.
 line 7: E10 J4
+  | create /net:more {\"net:item\":[1,2]}
   here \"net:item\" is written item.
   A name has a module where it must have none, or none where it must have one. Write module:name at the top and where the module changes, and the name alone elsewhere.
 line 8: E10 J5
-  an array stands where an object is due.
+  | create /net:host [{\"name\":\"b\"}]
+  an array stands where an entry is due: write the object alone.
   A value is of another kind than its node: no object for a container or an entry, no array for a list or leaf-list. Write a container as an object, a list as an array of objects, a leaf-list as an array of values, an empty leaf as [null].
 line 9: E10 J5
+  | replace /net:host[1]/speed {}
   an object stands where a leaf's value is due.
   A value is of another kind than its node: no object for a container or an entry, no array for a list or leaf-list. Write a container as an object, a list as an array of objects, a leaf-list as an array of values, an empty leaf as [null].
 line 10: E10 J5
+  | create /net:host[1]/tag null
   null stands where an item's value is due.
   A value is of another kind than its node: no object for a container or an entry, no array for a list or leaf-list. Write a container as an object, a list as an array of objects, a leaf-list as an array of values, an empty leaf as [null].
 line 11: E10 J6
+  | replace /net:host[1]/speed 1.5
   A number has a fraction or an exponent. Write an integer without them; write a decimal64 as a string.
 0 faults
 ==

@@ -16,7 +16,7 @@ use Rattle.ycheck.specs.View.{views}
 use Rattle.youtput.specs.Writing.{Side, Writes}
 use Rattle.youtput.proofs.WritingLemmas.{writes_same}
 use Rattle.yprogram.specs.Output.{fault_part, printed, report}
-use Rattle.yprogram.specs.Part.{plain, spelled}
+use Rattle.yprogram.specs.Part.{count_part, plain, spelled, spelled_part}
 use Rattle.yspec.specs.edit.Live.{fault_count, faults_in}
 use Rattle.yapp.specs.Edited.{live_of}
 use Rattle.yapp.specs.Explained.{HasNoDocument, IsExplained, explained_line, explained_lines, explanations_due, explanations_in, fault_lines}
@@ -26,7 +26,7 @@ use Rattle.yapp.specs.declared.failure.Failure.{Failure}
 use Rattle.yapp.specs.declared.report.Report.{Report}
 use Rattle.yapp.specs.declared.report.Report.TheVariants as reports
 use Rattle.yapp.specs.declared.report.DocumentReport.{DocumentReport}
-use Rattle.yapp.proofs.RunningLemmas.{one_plain, parts_behind}
+use Rattle.yapp.proofs.RunningLemmas.{one_part, parts_behind}
 
 plain_lines : (s : Schema) (t : Tree) (faults : List Fault) → flat_map (line_of s) faults ≡ spelled false (map (fault_part s t) faults)
 plain_lines s t [] = refl
@@ -37,18 +37,19 @@ told_lines : (s : Schema) (t : Tree) (faults : List Fault)
 told_lines s t [] = refl
 told_lines s t (f ∷ faults) = ap (λ (xs : Text). explained_line s f (explained_fault s t f) ++ xs) (told_lines s t faults)
 
-abbrev pub count_of : List Fault → Text
-count_of faults = decimal (length faults) ++ codes " faults\n"
+-- how many there are, in words
+abbrev pub count_of : Bool → List Fault → Text
+count_of with_reasons faults = spelled_part with_reasons (count_part (length faults))
 
 counted : (with_reasons : Bool) (s : Schema) (t : Tree) (faults : List Fault) (lines : Text) → lines ≡ spelled with_reasons (map (fault_part s t) faults)
-    → lines ++ count_of faults ≡ spelled with_reasons (report s t faults)
-counted with_reasons s t faults lines is = ap₂ (λ (xs ys : Text). xs ++ ys) is (one_plain with_reasons (count_of faults))
-    ∙ sym (parts_behind with_reasons (map (fault_part s t) faults) (plain (count_of faults) ∷ []))
+    → lines ++ count_of with_reasons faults ≡ spelled with_reasons (report s t faults)
+counted with_reasons s t faults lines is = ap₂ (λ (xs ys : Text). xs ++ ys) is (one_part with_reasons (count_part (length faults)))
+    ∙ sym (parts_behind with_reasons (map (fault_part s t) faults) (count_part (length faults) ∷ []))
 
 -- where a report has what is due, its lines are those of the report
 pub lines_due : (with_reasons : Bool) (s : Schema) (t : Tree) (faults : List Fault) (said : Option (List Text))
     → said ≡ (if with_reasons then Some (map (explained_fault s t) faults) else None)
-    → fault_lines s faults said ++ count_of faults ≡ spelled with_reasons (report s t faults)
+    → fault_lines s faults said ++ count_of with_reasons faults ≡ spelled with_reasons (report s t faults)
 lines_due true s t faults said is = counted true s t faults (fault_lines s faults said) (ap (fault_lines s faults) is ∙ told_lines s t faults)
 lines_due false s t faults said is = counted false s t faults (fault_lines s faults said) (ap (fault_lines s faults) is ∙ plain_lines s t faults)
 
@@ -76,7 +77,8 @@ nothing_due with_reasons (Err failure) other = tt
 -- ---- what is printed of a document
 
 abbrev pub document_lines : DocumentReport → Text
-document_lines r = fault_lines (schema_view.view r.schema) (views r.faults.items) (explanations_in r) ++ count_of (views r.faults.items)
+document_lines r = fault_lines (schema_view.view r.schema) (views r.faults.items) (explanations_in r)
+    ++ count_of (is_some (explanations_in r)) (views r.faults.items)
 
 -- without a text the lines of its faults are what is printed
 pub report_lines : {X E : Type 0} → (with_reasons : Bool) (r : DocumentReport) (a b : Side) (result : Result X E) → r.text ≡ None
@@ -86,13 +88,18 @@ report_lines with_reasons r a b result no_text explained written =
     let s = schema_view.view r.schema in
     let t = tree_view r.tree in
     let faults = views r.faults.items in
+    let due = explained ∙ (ap (λ (o : Option (String Global)). if with_reasons && is_none o then Some (explanations_due r) else None) no_text
+    ∙ ap (λ (b : Bool). if b then Some (explanations_due r) else None) (and_true with_reasons)) in
     writes_same a b _ _ result
-    (lines_due with_reasons s t faults (explanations_in r)
-    (explained ∙ ap (λ (o : Option (String Global)). if with_reasons && is_none o then Some (explanations_due r) else None) no_text
-    ∙ ap (λ (b : Bool). if b then Some (explanations_due r) else None) (and_true with_reasons))
+    (ap (λ (b : Bool). fault_lines s faults (explanations_in r) ++ count_of b faults) (ap (λ (o : Option (List Text)). is_some o) due ∙ is_there with_reasons (explanations_due r))
+    ∙ lines_due with_reasons s t faults (explanations_in r) due
     ∙ sym (ap (λ (o : Option (String Global)). spelled with_reasons (option_map_or (λ text. plain (string_bytes text ++ codes "\n") ∷ []) o (report s t faults))) no_text))
     written
   where
+    is_there : {A : Type 0} → (b : Bool) (x : A) → is_some (if b then Some x else None) ≡ b
+    is_there true x = refl
+    is_there false x = refl
+
     and_true : (b : Bool) → (b && true) ≡ b
     and_true true = refl
     and_true false = refl
@@ -105,7 +112,8 @@ walked_lines with_reasons e s found count unasked schema_is all counted =
     let x = (live_of e).schema in
     let t = (live_of e).tree in
     let faults = faults_in (live_of e) in
-    sym (lines_due with_reasons x t faults None (sym (ap (λ (b : Bool). if b then Some (map (explained_fault x t) faults) else None) unasked)))
+    ap (λ (b : Bool). (printed b (reported (reports.Edited e))).output) unasked
+    ∙ sym (lines_due false x t faults None refl)
     ∙ (ap (λ (n : ℕ). flat_map (line_of x) faults ++ (decimal n ++ codes " faults\n")) (sym counted)
     ∙ (ap (λ (fs : List Fault). flat_map (line_of x) fs ++ (decimal count ++ codes " faults\n")) (sym all)
     ∙ ap (λ (y : Schema). flat_map (line_of y) found ++ (decimal count ++ codes " faults\n")) (sym schema_is)))

@@ -40,19 +40,19 @@ module _ (is_strict : Bool) where
   parts_of_answer hint said k (Ok tree) same = refl
   parts_of_answer hint said k (Err e) same = ap (λ (t : Text). hinted t (refused_line k e) ∷ []) (same e)
 
-  refused_asked : (s : Schema) (k : ℕ) (t : Tree) (asked : Result (Option Edit) EditRefusal) (lines : List Text)
+  refused_asked : (s : Schema) (k : ℕ) (t : Tree) (line : Text) (asked : Result (Option Edit) EditRefusal) (lines : List Text)
       → ((k : ℕ) (t : Tree) → refused_lines is_strict s k t lines ≡ told_from s k (kinds_of is_strict lines) (edits_of is_strict lines) (decisions s t (edits_of is_strict lines)))
-      → line_parts (refused_hint s (edit_in asked)) k (done s t asked) ++ refused_lines is_strict s (k + 1) (tree_or (done s t asked) t) lines
-      ≡ told_from s k (line_of asked ∷ kinds_of is_strict lines) (edit_of asked ++ edits_of is_strict lines) (decisions s t (edit_of asked ++ edits_of is_strict lines))
-  refused_asked s k t (Ok None) lines rest = rest (k + 1) t
-  refused_asked s k t (Ok (Some e)) lines rest =
-      ap₂ (λ (xs ys : List Part). xs ++ ys) (parts_of_answer (refused_hint s (Some e)) (hint_in s an_edit (e ∷ edits_of is_strict lines)) k (applied s t e) (λ r. refl)) (rest (k + 1) (tree_or (applied s t e) t))
-  refused_asked s k t (Err e) lines rest = ap (λ (xs : List Part). line_parts (refused_hint s None) k (Err e) ++ xs) (rest (k + 1) t)
+      → line_parts (refused_hint s line (edit_in asked)) k (done s t asked) ++ refused_lines is_strict s (k + 1) (tree_or (done s t asked) t) lines
+      ≡ told_from s k (line_of line asked ∷ kinds_of is_strict lines) (edit_of asked ++ edits_of is_strict lines) (decisions s t (edit_of asked ++ edits_of is_strict lines))
+  refused_asked s k t line (Ok None) lines rest = rest (k + 1) t
+  refused_asked s k t line (Ok (Some e)) lines rest =
+      ap₂ (λ (xs ys : List Part). xs ++ ys) (parts_of_answer (refused_hint s line (Some e)) (hint_in s (an_edit line) (e ∷ edits_of is_strict lines)) k (applied s t e) (λ r. refl)) (rest (k + 1) (tree_or (applied s t e) t))
+  refused_asked s k t line (Err e) lines rest = ap (λ (xs : List Part). line_parts (refused_hint s line None) k (Err e) ++ xs) (rest (k + 1) t)
 
   pub refused_is : (s : Schema) (k : ℕ) (t : Tree) (lines : List Text)
       → refused_lines is_strict s k t lines ≡ told_from s k (kinds_of is_strict lines) (edits_of is_strict lines) (decisions s t (edits_of is_strict lines))
   refused_is s k t [] = refl
-  refused_is s k t (line ∷ lines) = refused_asked s k t (asked_in is_strict line) lines (λ k t. refused_is s k t lines)
+  refused_is s k t (line ∷ lines) = refused_asked s k t line (asked_in is_strict line) lines (λ k t. refused_is s k t lines)
 
 -- ---- reading lines
 
@@ -101,11 +101,11 @@ module _ (is_strict : Bool) where
 
   pub line_read : (kinds more_kinds : List Line) (edits more_edits : List Edit) (lines left later : List Text) (line : Text)
       → left ≡ line ∷ later
-      → more_kinds ≡ kinds ++ line_of (asked_in is_strict line) ∷ [] → more_edits ≡ edits ++ edit_of (asked_in is_strict line)
+      → more_kinds ≡ kinds ++ line_of line (asked_in is_strict line) ∷ [] → more_edits ≡ edits ++ edit_of (asked_in is_strict line)
       → ReadSoFar kinds edits lines left → ReadSoFar more_kinds more_edits lines later
   line_read kinds more_kinds edits more_edits lines left later line first kinds_more edits_more so_far = record {
     kinds_are = ap (λ (ks : List Line). ks ++ kinds_of is_strict later) kinds_more
-        ∙ append_assoc kinds (line_of (asked_in is_strict line) ∷ []) (kinds_of is_strict later)
+        ∙ append_assoc kinds (line_of line (asked_in is_strict line) ∷ []) (kinds_of is_strict later)
         ∙ ap (λ (ls : List Text). kinds ++ kinds_of is_strict ls) (sym first) ∙ so_far.kinds_are;
     edits_are = ap (λ (es : List Edit). es ++ edits_of is_strict later) edits_more
         ∙ append_assoc edits (edit_of (asked_in is_strict line)) (edits_of is_strict later)
@@ -119,12 +119,12 @@ module _ (is_strict : Bool) where
 
   pub last_read : (kinds more_kinds : List Line) (edits more_edits : List Edit) (lines whole : List Text) (last : Text)
       → whole ≡ lines ++ last ∷ []
-      → more_kinds ≡ kinds ++ line_of (asked_in is_strict last) ∷ [] → more_edits ≡ edits ++ edit_of (asked_in is_strict last)
+      → more_kinds ≡ kinds ++ line_of last (asked_in is_strict last) ∷ [] → more_edits ≡ edits ++ edit_of (asked_in is_strict last)
       → ReadSoFar kinds edits lines [] → IsScript is_strict more_kinds more_edits whole
   last_read kinds more_kinds edits more_edits lines whole last is kinds_more edits_more so_far = record {
     kinds_are = kinds_more
-        ∙ ap (λ (ks : List Line). ks ++ line_of (asked_in is_strict last) ∷ []) (sym (append-nil kinds) ∙ so_far.kinds_are)
-        ∙ sym (map-append (λ line. line_of (asked_in is_strict line)) lines (last ∷ [])) ∙ ap (kinds_of is_strict) (sym is);
+        ∙ ap (λ (ks : List Line). ks ++ line_of last (asked_in is_strict last) ∷ []) (sym (append-nil kinds) ∙ so_far.kinds_are)
+        ∙ sym (map-append (λ line. line_of line (asked_in is_strict line)) lines (last ∷ [])) ∙ ap (kinds_of is_strict) (sym is);
     edits_are = edits_more
         ∙ ap (λ (es : List Edit). es ++ edit_of (asked_in is_strict last)) (sym (append-nil edits) ∙ so_far.edits_are)
         ∙ sym (edits_behind lines last) ∙ ap (edits_of is_strict) (sym is);

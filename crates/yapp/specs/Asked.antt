@@ -5,9 +5,9 @@ use Rattle.yspec.specs.text.Text.{Text}
 use Rattle.yspec.specs.schema.Schema.{Schema}
 use Rattle.yspec.specs.edit.EditText.{Edit}
 use Rattle.yspec.specs.edit.Editing.{Decision, EditRefusal}
-use Rattle.yprogram.specs.Hint.{edit_hint, hinted}
+use Rattle.yprogram.specs.Hint.{hinted}
 use Rattle.yprogram.specs.Part.{Part}
-use Rattle.yprogram.specs.Script.{asked_in, line_parts, refused_line}
+use Rattle.yprogram.specs.Script.{asked_in, line_parts, refused_hint, refused_line}
 use Rattle.ypath.specs.Applying.{edit_number}
 use Rattle.ytree.specs.Told.{code_number}
 use Rattle.ylive.specs.View.{edits_view}
@@ -22,8 +22,8 @@ use Rattle.yapp.specs.declared.script.Script.{Script}
 -- a line is passed over, is an edit's, or is refused
 pub data Line : Type 0 where
   passed_over : Line
-  an_edit : Line
-  no_edit : EditRefusal → Line
+  an_edit : Text → Line
+  no_edit : Text → EditRefusal → Line
 
 -- why the value of an edit doesn't fit
 abbrev pub value_number : ValueCode → ℕ
@@ -35,15 +35,16 @@ refusal_of r = record { code = edit_number r.code; document_code = option_map va
 
 abbrev pub line_view : Asked → Line
 line_view asked.Nothing = passed_over
-line_view asked.Edit = an_edit
-line_view (asked.Refused refusal) = no_edit (refusal_of refusal)
+line_view (asked.Edit text) = an_edit text.now
+line_view (asked.Refused text refusal) = no_edit text.now (refusal_of refusal)
 
 -- ---- lines
 
-abbrev pub line_of : Result (Option Edit) EditRefusal → Line
-line_of (Ok None) = passed_over
-line_of (Ok (Some e)) = an_edit
-line_of (Err e) = no_edit e
+-- a line that asks for this
+abbrev pub line_of : Text → Result (Option Edit) EditRefusal → Line
+line_of line (Ok None) = passed_over
+line_of line (Ok (Some e)) = an_edit line
+line_of line (Err e) = no_edit line e
 
 abbrev pub edit_of : Result (Option Edit) EditRefusal → List Edit
 edit_of (Ok None) = []
@@ -52,7 +53,7 @@ edit_of (Err e) = []
 
 -- what each line asks for
 abbrev pub kinds_of : Bool → List Text → List Line
-kinds_of is_strict = map (λ line. line_of (asked_in is_strict line))
+kinds_of is_strict = map (λ line. line_of line (asked_in is_strict line))
 
 -- the edits among them
 abbrev pub edits_of : Bool → List Text → List Edit
@@ -74,30 +75,30 @@ edits_in s = edits_view s.edits.items
 -- why a line is refused, if it is, with what came of the edits from it on
 abbrev pub refusal_in : Line → List Decision → Decision
 refusal_in passed_over decisions = None
-refusal_in (no_edit e) decisions = Some e
-refusal_in an_edit [] = None
-refusal_in an_edit (d ∷ decisions) = d
+refusal_in (no_edit line e) decisions = Some e
+refusal_in (an_edit line) [] = None
+refusal_in (an_edit line) (d ∷ decisions) = d
 
 -- what came of the edits behind it
 abbrev pub behind : Line → List Decision → List Decision
 behind passed_over decisions = decisions
-behind (no_edit e) decisions = decisions
-behind an_edit [] = []
-behind an_edit (d ∷ decisions) = decisions
+behind (no_edit line e) decisions = decisions
+behind (an_edit line) [] = []
+behind (an_edit line) (d ∷ decisions) = decisions
 
 -- the edits behind it, of those from it on
 abbrev pub edits_behind : Line → List Edit → List Edit
 edits_behind passed_over edits = edits
-edits_behind (no_edit e) edits = edits
-edits_behind an_edit [] = []
-edits_behind an_edit (e ∷ edits) = edits
+edits_behind (no_edit line e) edits = edits
+edits_behind (an_edit line) [] = []
+edits_behind (an_edit line) (e ∷ edits) = edits
 
 -- what is said of a line that is refused so, with the edits from it on
 abbrev pub hint_in : Schema → Line → List Edit → EditRefusal → Text
 hint_in schema passed_over edits refusal = []
-hint_in schema (no_edit e) edits refusal = []
-hint_in schema an_edit [] refusal = []
-hint_in schema an_edit (e ∷ edits) refusal = edit_hint schema e refusal.code
+hint_in schema (no_edit line e) edits refusal = refused_hint schema line None refusal
+hint_in schema (an_edit line) [] refusal = []
+hint_in schema (an_edit line) (e ∷ edits) refusal = refused_hint schema line (Some e) refusal
 
 abbrev pub decision_parts : (EditRefusal → Text) → ℕ → Decision → List Part
 decision_parts hint number None = []

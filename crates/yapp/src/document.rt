@@ -239,7 +239,7 @@ fn edit(
 }
 
 /// A live document after the lines of a script.
-fn run_script(mut live: Live, script: &Script) -> Result<EditedDocument, AllocError>
+fn run_script(mut live: Live, script: &Script<'_>) -> Result<EditedDocument, AllocError>
     ensures { let l = live_view.view live in
         IfOk result (λ e. IsRun l.schema l.tree (kinds_in script.now) (edits_in script.now) e) }
 {

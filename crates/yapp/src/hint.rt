@@ -1,7 +1,9 @@
 //! What is said below a line that tells a code, above the reason of the code: what stands there, and what may have been
 //! meant.
 
-ghost use Rattle.std.specs.Prelude.{◌≡◌, ◌++◌, ◌∷◌, [], IfOk, map, slice_get, string_bytes, unwrap_or};
+ghost use Rattle.std.specs.Prelude.{◌≡◌, ◌++◌, ◌∷◌, [], codes, IfOk, map, option_map, slice_get, string_bytes, unwrap_or};
+ghost use Rattle.std.specs.Option.{option_map_or};
+ghost use Rattle.yhint.specs.Line as line_spec;
 ghost use Rattle.ygrammar.specs.BreakView.{break_view, code_number};
 ghost use Rattle.ytext.specs.View.{modules_view};
 ghost use Rattle.ymodel.specs.View as schema_view;
@@ -13,9 +15,9 @@ ghost use Rattle.yprogram.specs.Hint as spec;
 
 use std::alloc::{AllocError, Global};
 use ygrammar::{BrokenRule, CompileCode};
-use yhint::{line_sentence, shown_line};
+use yhint::{line_sentence, shown, shown_line};
 use yinst::{Edit, EditCode};
-use ymember::{said_of_edit, said_of_refusal};
+use ymember::{said_of_edit, said_of_line, said_of_refusal};
 use ymodel::Schema;
 use yrepeated::said_of_repeated;
 use ytext::Module;
@@ -122,7 +124,7 @@ pub fn repeated_hint(alloc: Global, schema: &Schema, place: &[Step]) -> Result<S
 }
 
 /// What is said of an edit that is refused.
-pub fn edit_hint(
+fn edit_hint(
     alloc: Global,
     schema: &Schema,
     edit: &Edit,
@@ -133,4 +135,63 @@ pub fn edit_hint(
 {
     let said = said_of_edit(alloc, schema, edit, code)?;
     as_line(alloc, "  ", said.as_str())
+}
+
+/// What is said of a line that is refused before it is tried: where it spells no edit.
+fn spelling_hint(alloc: Global, line: &[u8], code: EditCode) -> Result<String, AllocError>
+    ensures { IfOk result (λ hint. string_bytes hint
+        ≡ spec.spelling_hint line.now (edit_number code)) }
+{
+    if code.number() == 1 {
+        let said = said_of_line(alloc, line)?;
+        as_line(alloc, "  ", said.as_str())
+    } else {
+        Ok(String::new(alloc))
+    }
+}
+
+/// What is said of a line by the edit that it asks for, if it asks for one.
+fn asked_hint(
+    alloc: Global,
+    schema: &Schema,
+    line: &[u8],
+    edit: Option<&Edit>,
+    code: EditCode,
+) -> Result<String, AllocError>
+    ensures { IfOk result (λ hint. string_bytes hint ≡ option_map_or
+        (λ e. spec.edit_hint (schema_view.view schema.now) e (edit_number code))
+        (option_map (λ e. edit_view e.now) edit.entry)
+        (spec.spelling_hint line.now (edit_number code))) }
+{
+    match edit {
+        Some(edit) => edit_hint(alloc, schema, edit, code),
+        None => spelling_hint(alloc, line, code),
+    }
+}
+
+/// A line of a script, behind a bar.
+fn bar_hint(alloc: Global, line: &[u8]) -> Result<String, AllocError>
+    ensures { IfOk result (λ hint. string_bytes hint
+        ≡ spec.as_line (codes "  | ") (line_spec.shown line.now)) }
+{
+    let shown = shown(alloc, line)?;
+    as_line(alloc, "  | ", shown.as_str())
+}
+
+/// What is said of a refused line of a script: itself, and what is said by the edit that it asks for, if it asks for one.
+pub fn script_hint(
+    alloc: Global,
+    schema: &Schema,
+    line: &[u8],
+    edit: Option<&Edit>,
+    code: EditCode,
+) -> Result<String, AllocError>
+    ensures { IfOk result (λ hint. string_bytes hint ≡ spec.script_hint
+        (schema_view.view schema.now) line.now (option_map (λ e. edit_view e.now) edit.entry)
+        (edit_number code)) }
+{
+    let mut hint = bar_hint(alloc, line)?;
+    let said = asked_hint(alloc, schema, line, edit, code)?;
+    hint.push_str(said.as_str())?;
+    Ok(hint)
 }

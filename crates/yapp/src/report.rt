@@ -1,11 +1,11 @@
 //! What a command found, and how it is printed.
 
-ghost use Rattle.std.specs.Prelude.{◌≡◌, ◌++◌, codes, decimal, length, map, option_map, string_bytes};
+ghost use Rattle.std.specs.Prelude.{◌≡◌, ◌++◌, codes, decimal, is_some, length, map, option_map, string_bytes, if◌then◌else◌};
 ghost use Rattle.std.specs.List.{flat_map};
 ghost use Rattle.yspec.specs.schema.Diagram.{diagram};
 ghost use Rattle.yspec.specs.document.Faults.{line_of};
 ghost use Rattle.yprogram.specs.Output.{printed};
-ghost use Rattle.yprogram.specs.Part.{spelled, spelled_part};
+ghost use Rattle.yprogram.specs.Part.{count_part, spelled, spelled_part};
 ghost use Rattle.ycodes.specs.Codes.{explained};
 ghost use Rattle.ycodes.specs.View.{explanation_view};
 ghost use Rattle.youtput.specs.Writing.{Writes, side};
@@ -153,10 +153,18 @@ impl DocumentReport {
         ensures { let faults = views self.now.faults.items in
             Writes (side S.taken S.failures sink.old) (side S.taken S.failures sink.new)
             (fault_lines (schema_view.view self.now.schema) faults (explanations_in self.now)
-            ++ (decimal (length faults) ++ codes " faults\n")) result }
+            ++ spelled_part (is_some (explanations_in self.now)) (count_part (length faults))) result }
     {
         self.write_fault_lines(sink)?;
-        write_count(self.faults.as_slice().len(), " faults\n", sink)
+        let count = self.faults.as_slice().len();
+        write_count(count, counted_faults(count, self.has_explanations()), sink)
+    }
+
+    /// Whether something is said of each fault.
+    fn has_explanations(&self) -> bool
+        ensures { result ≡ is_some (explanations_in self.now) }
+    {
+        self.explanations.is_some()
     }
 
     /// Writes a line for each fault, with what is said of it where that is to be printed.
@@ -301,6 +309,17 @@ fn write_seen<S: Sink>(schema: &Schema, seen: &Seen<'_>, sink: &mut S) -> Result
     match write_parts(schema, seen.parts(), sink) {
         Ok(()) => Ok(()),
         Err(_) => Err(SinkFault),
+    }
+}
+
+/// What stands behind a number of faults.
+fn counted_faults(count: usize, with_reasons: bool) -> &'static str
+    ensures { result.now ≡ (if with_reasons then (count_part count).reason else (count_part count).bare) }
+{
+    if with_reasons {
+        if count == 1 { " fault\n" } else { " faults\n" }
+    } else {
+        " faults\n"
     }
 }
 

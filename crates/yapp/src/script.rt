@@ -13,7 +13,7 @@ ghost use Rattle.ymodel.specs.View as schema_view;
 ghost use Rattle.yapp.specs.Asked as asked;
 ghost use Rattle.yapp.specs.Asked.{behind, decision_parts, hint_in, line_view, refusal_in, refusal_of, refused_parts};
 
-use crate::hint::edit_hint;
+use crate::hint::script_hint;
 use std::alloc::{AllocError, Global};
 use yinst::{DocCode, Edit, EditCode, EditFault};
 use ylive::Outcome;
@@ -68,14 +68,14 @@ impl Refusal {
     }
 }
 
-/// What a line of a script asks for.
+/// What a line of a script asks for, and how it reads.
 #[derive(Clone, Copy, Debug)]
-enum Asked {
+enum Asked<'s> {
     /// It is passed over.
     Nothing,
-    Edit,
+    Edit(&'s [u8]),
     /// It is no edit's.
-    Refused(Refusal),
+    Refused(&'s [u8], Refusal),
 }
 
 /// A refused line of a script, by its number from 1, with what is said of it besides.
@@ -88,13 +88,13 @@ pub struct RefusedLine {
 
 /// A script: what each of its lines asks for, and the edits among them.
 #[derive(Debug, Drop)]
-pub struct Script {
+pub struct Script<'s> {
     alloc: Global,
-    lines: Vec<Asked>,
+    lines: Vec<Asked<'s>>,
     edits: Vec<Edit>,
 }
 
-impl Script {
+impl<'s> Script<'s> {
     ghost use Rattle.std.specs.Prelude.{◌≡◌, ◌++◌, [], ◌∷◌, IfOk, OnOk, Some, map};
     ghost use Rattle.yprogram.specs.Script.{asked_in, lines_of, unless_twice, without_return};
     ghost use Rattle.ypath.specs.EditView.{edit_view};
@@ -103,7 +103,7 @@ impl Script {
     ghost use Rattle.yapp.specs.Asked.{IsScript, edit_of, edits_in, kinds_in, line_of, line_view, refused_parts, told_from};
 
     /// A script without lines.
-    fn new(alloc: Global) -> Script
+    fn new(alloc: Global) -> Script<'s>
         ensures kinds { kinds_in result ≡ [] }
         ensures edits { edits_in result ≡ [] }
     {
@@ -115,7 +115,7 @@ impl Script {
     }
 
     /// The script that bytes are; where that is wanted, a line whose value has a member twice asks for no edit.
-    pub fn read(alloc: Global, is_strict: bool, bytes: &[u8]) -> Result<Script, AllocError>
+    pub fn read(alloc: Global, is_strict: bool, bytes: &'s [u8]) -> Result<Script<'s>, AllocError>
         ensures { IfOk result (λ script. IsScript is_strict (kinds_in script) (edits_in script)
             (lines_of bytes.now)) }
     {
@@ -130,9 +130,9 @@ impl Script {
     fn with_lines(
         alloc: Global,
         is_strict: bool,
-        lines: &[&[u8]],
-        last: &[u8],
-    ) -> Result<Script, AllocError>
+        lines: &[&'s [u8]],
+        last: &'s [u8],
+    ) -> Result<Script<'s>, AllocError>
         ensures { IfOk result (λ script. IsScript is_strict (kinds_in script) (edits_in script)
             (map (λ line. without_return line.now) lines.now ++ last.now ∷ [])) }
     {
@@ -145,38 +145,42 @@ impl Script {
     }
 
     /// Adds a line.
-    fn add(&mut self, is_strict: bool, line: &[u8]) -> Result<(), AllocError>
+    fn add(&mut self, is_strict: bool, line: &'s [u8]) -> Result<(), AllocError>
         ensures kinds { OnOk result (kinds_in self.new ≡ kinds_in self.old
-            ++ line_of (asked_in is_strict line.now) ∷ []) }
+            ++ line_of line.now (asked_in is_strict line.now) ∷ []) }
         ensures edits { OnOk result (edits_in self.new ≡ edits_in self.old
             ++ edit_of (asked_in is_strict line.now)) }
     {
         let asked = match spelled_in(self.alloc, line) {
             Ok(None) => Asked::Nothing,
-            Ok(Some(edit)) => self.take(is_strict, edit)?,
-            Err(EditFault::Refused { code, doc }) => Asked::Refused(Refusal::of_edit(code, doc)),
+            Ok(Some(edit)) => self.take(is_strict, line, edit)?,
+            Err(EditFault::Refused { code, doc }) => Asked::Refused(
+                line,
+                Refusal::of_edit(code, doc),
+            ),
             Err(EditFault::Memory) => return Err(AllocError),
         };
         self.lines.push(asked)?;
         Ok(())
     }
 
-    /// Takes an edit up, unless its value has a member twice and that is refused; what its line asks for.
-    fn take(&mut self, is_strict: bool, edit: Edit) -> Result<Asked, AllocError>
+    /// Takes up the edit of a line, unless its value has a member twice and that is refused; what the line asks for.
+    fn take(&mut self, is_strict: bool, line: &'s [u8], edit: Edit) -> Result<Asked<'s>, AllocError>
         ensures asked { IfOk result (λ asked. line_view asked
-            ≡ line_of (unless_twice is_strict (Some (edit_view edit)))) }
+            ≡ line_of line.entry.now (unless_twice is_strict (Some (edit_view edit)))) }
         ensures edits { OnOk result (edits_in self.new ≡ edits_in self.old
             ++ edit_of (unless_twice is_strict (Some (edit_view edit)))) }
         ensures kinds { kinds_in self.new ≡ kinds_in self.old }
     {
         if is_strict && gives_twice(self.alloc, &edit)? {
-            return Ok(Asked::Refused(Refusal {
+            let refusal = Refusal {
                 code: EditCode::E10,
                 value: Some(ValueCode::Repeated),
-            }));
+            };
+            return Ok(Asked::Refused(line, refusal));
         }
         self.edits.push(edit)?;
-        Ok(Asked::Edit)
+        Ok(Asked::Edit(line))
     }
 
     /// The edits among its lines.
@@ -225,7 +229,7 @@ fn add_refused(
     schema: &Schema,
     lines: &mut Vec<RefusedLine>,
     number: usize,
-    line: Asked,
+    line: Asked<'_>,
     edits: &[Edit],
     refusal: Option<Refusal>,
 ) -> Result<(), AllocError>
@@ -248,7 +252,7 @@ fn add_refused(
 fn hint_of(
     alloc: Global,
     schema: &Schema,
-    line: Asked,
+    line: Asked<'_>,
     edits: &[Edit],
     refusal: Refusal,
 ) -> Result<String, AllocError>
@@ -257,31 +261,34 @@ fn hint_of(
         (refusal_of refusal)) }
 {
     match (line, edits.first()) {
-        (Asked::Edit, Some(edit)) => edit_hint(alloc, schema, edit, refusal.code),
+        (Asked::Edit(text), Some(edit)) => {
+            script_hint(alloc, schema, text, Some(edit), refusal.code)
+        }
+        (Asked::Refused(text, _), _) => script_hint(alloc, schema, text, None, refusal.code),
         _ => Ok(String::new(alloc)),
     }
 }
 
 /// The edits behind a line.
-fn edits_behind(line: Asked, edits: &[Edit]) -> &[Edit]
+fn edits_behind<'e>(line: Asked<'_>, edits: &'e [Edit]) -> &'e [Edit]
     ensures { edits_view result.now
         ≡ asked.edits_behind (line_view line) (edits_view edits.entry.now) }
 {
     match (line, edits.split_first()) {
-        (Asked::Edit, Some((_, behind))) => behind,
+        (Asked::Edit(_), Some((_, behind))) => behind,
         _ => edits,
     }
 }
 
 /// Why a line is refused, if it is, by what came of the edits from it on.
-fn refusal_of(line: Asked, outcomes: &[Outcome]) -> Option<Refusal>
+fn refusal_of(line: Asked<'_>, outcomes: &[Outcome]) -> Option<Refusal>
     ensures { option_map refusal_of result
         ≡ refusal_in (line_view line) (outcomes_view outcomes.now) }
 {
     match line {
         Asked::Nothing => None,
-        Asked::Refused(refusal) => Some(refusal),
-        Asked::Edit => match outcomes.first() {
+        Asked::Refused(_, refusal) => Some(refusal),
+        Asked::Edit(_) => match outcomes.first() {
             Some(Outcome::Refused { code, doc }) => Some(Refusal::of_edit(*code, *doc)),
             _ => None,
         },
@@ -289,12 +296,12 @@ fn refusal_of(line: Asked, outcomes: &[Outcome]) -> Option<Refusal>
 }
 
 /// What came of the edits behind a line.
-fn outcomes_behind(line: Asked, outcomes: &[Outcome]) -> &[Outcome]
+fn outcomes_behind<'o>(line: Asked<'_>, outcomes: &'o [Outcome]) -> &'o [Outcome]
     ensures { outcomes_view result.now
         ≡ behind (line_view line) (outcomes_view outcomes.entry.now) }
 {
     match (line, outcomes.split_first()) {
-        (Asked::Edit, Some((_, behind))) => behind,
+        (Asked::Edit(_), Some((_, behind))) => behind,
         _ => outcomes,
     }
 }

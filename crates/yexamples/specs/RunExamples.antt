@@ -38,11 +38,15 @@ with_reasons line said code = line ++ (codes "\n  " ++ (said ++ (codes "\n" ++ r
 
 -- one such fault alone
 abbrev pub one_with_reasons : Text → Text → Text → Printed
-one_with_reasons line said code = found 1 (with_reasons line said code ++ codes "1 faults\n")
+one_with_reasons line said code = found 1 (with_reasons line said code ++ codes "1 fault\n")
 
 -- a document that is refused in a line: what is said of what stands at its place, and why its code is told
 abbrev pub refused_with_reasons : Text → Text → Text → Printed
 refused_with_reasons line said code = record { output = []; errors = with_reasons line said code; status = 2; saved = None }
+
+-- a refused line of a script, as it reads, and what is said of it
+abbrev pub line_with_reasons : Text → Text → Text → Text → Text
+line_with_reasons told line said code = with_reasons (told ++ (codes "\n  | " ++ line)) said code
 
 -- what an edit of a small document under module p by a script dumps, with the reasons of what is told
 abbrev pub edited_with_reasons : Text → Printed

@@ -7,7 +7,7 @@ ghost use Rattle.yprogram.specs.Output.{as_dump, compile, edit, explain, outcome
 ghost use Rattle.yprogram.specs.Script.{lines_of};
 ghost use Rattle.yexamples.specs.SchemaExamples.{hosts, one_host};
 ghost use Rattle.yspec.specs.edit.Examples.{module_p, module_text};
-ghost use Rattle.yexamples.specs.RunExamples.{counted, drawn_as, dumped, edited_with_reasons, faulty, scripted, shown, shown_of_two, without_faults, one_with_reasons, refused_with_reasons, shown_with_reasons, strictly_edited, strictly_shown, with_reasons};
+ghost use Rattle.yexamples.specs.RunExamples.{counted, drawn_as, dumped, edited_with_reasons, faulty, line_with_reasons, scripted, shown, shown_of_two, without_faults, one_with_reasons, refused_with_reasons, shown_with_reasons, strictly_edited, strictly_shown, with_reasons};
 
 /// How many nodes modules define.
 pub fn counts()
@@ -152,13 +152,13 @@ pub fn derived_values()
 pub fn reasons()
     ensures of_a_fault { printed true (outcome (validate plainly (codes "d.json") (codes "m.yang" ∷ []))
         (Some module_p ∷ Some (codes "{\"p:c\":{}}") ∷ []))
-        ≡ found 1 (codes "V3 data-missing - /p:c/id -\n  /p:c: id is missing.\n  A leaf that must be there is missing. Add it, or take the node out around which it must be there.\n1 faults\n") }
+        ≡ found 1 (codes "V3 data-missing - /p:c/id -\n  /p:c: id is missing.\n  A leaf that must be there is missing. Add it, or take the node out around which it must be there.\n1 fault\n") }
     ensures unasked { printed false (outcome (validate plainly (codes "d.json") (codes "m.yang" ∷ []))
         (Some module_p ∷ Some (codes "{\"p:c\":{}}") ∷ []))
         ≡ found 1 (codes "V3 data-missing - /p:c/id -\n1 faults\n") }
     ensures of_a_value { printed true (outcome (edit as_dump (codes "d.json") (codes "s.txt") (codes "m.yang" ∷ []))
         (Some module_p ∷ Some (codes "{\"p:c\":{\"id\":1}}") ∷ Some (codes "replace /p:c []") ∷ []))
-        ≡ faulty (codes "line 1: E10 J5\n  an array stands where an object is due.\n  A value is of another kind than its node: no object for a container or an entry, no array for a list or leaf-list. Write a container as an object, a list as an array of objects, a leaf-list as an array of values, an empty leaf as [null].\n")
+        ≡ faulty (codes "line 1: E10 J5\n  | replace /p:c []\n  an array stands where an object is due.\n  A value is of another kind than its node: no object for a container or an entry, no array for a list or leaf-list. Write a container as an object, a list as an array of objects, a leaf-list as an array of values, an empty leaf as [null].\n")
         (codes "{\"p:c\":{\"id\":1}}\n") }
     ensures of_a_text { printed true (outcome (compile (codes "m.yang" ∷ []))
         (Some (codes "module a;}") ∷ []))
@@ -235,19 +235,27 @@ pub fn explained_refusals()
 /// otherwise, and which value stands there.
 pub fn explained_edits()
     ensures near { edited_with_reasons (codes "create /p:c/noet \"x\"")
-        ≡ faulty (with_reasons (codes "line 1: E2") (codes "nothing called \"noet\" may stand here; near it: note.") (codes "E2")) (codes "{\"p:c\":{\"id\":1}}\n") }
+        ≡ faulty (line_with_reasons (codes "line 1: E2") (codes "create /p:c/noet \"x\"") (codes "nothing called \"noet\" may stand here; near it: note.") (codes "E2")) (codes "{\"p:c\":{\"id\":1}}\n") }
     ensures far { edited_with_reasons (codes "remove /q:box")
-        ≡ faulty (with_reasons (codes "line 1: E2") (codes "nothing called \"q:box\" may stand here.") (codes "E2")) (codes "{\"p:c\":{\"id\":1}}\n") }
+        ≡ faulty (line_with_reasons (codes "line 1: E2") (codes "remove /q:box") (codes "nothing called \"q:box\" may stand here.") (codes "E2")) (codes "{\"p:c\":{\"id\":1}}\n") }
     ensures without_module { edited_with_reasons (codes "# the first line\nremove /c/id")
-        ≡ faulty (with_reasons (codes "line 2: E2") (codes "here \"c\" is written p:c.") (codes "E2")) (codes "{\"p:c\":{\"id\":1}}\n") }
+        ≡ faulty (line_with_reasons (codes "line 2: E2") (codes "remove /c/id") (codes "here \"c\" is written p:c.") (codes "E2")) (codes "{\"p:c\":{\"id\":1}}\n") }
     ensures with_module { edited_with_reasons (codes "remove /p:c/p:id")
-        ≡ faulty (with_reasons (codes "line 1: E2") (codes "here \"p:id\" is written id.") (codes "E2")) (codes "{\"p:c\":{\"id\":1}}\n") }
+        ≡ faulty (line_with_reasons (codes "line 1: E2") (codes "remove /p:c/p:id") (codes "here \"p:id\" is written id.") (codes "E2")) (codes "{\"p:c\":{\"id\":1}}\n") }
     ensures member { edited_with_reasons (codes "replace /p:c {\"noet\":\"x\"}")
-        ≡ faulty (with_reasons (codes "line 1: E10 J3") (codes "nothing called \"noet\" may stand here; near it: note.") (codes "J3")) (codes "{\"p:c\":{\"id\":1}}\n") }
+        ≡ faulty (line_with_reasons (codes "line 1: E10 J3") (codes "replace /p:c {\"noet\":\"x\"}") (codes "nothing called \"noet\" may stand here; near it: note.") (codes "J3")) (codes "{\"p:c\":{\"id\":1}}\n") }
     ensures other_member { edited_with_reasons (codes "replace /p:c {\"p:id\":1}")
-        ≡ faulty (with_reasons (codes "line 1: E10 J4") (codes "here \"p:id\" is written id.") (codes "J4")) (codes "{\"p:c\":{\"id\":1}}\n") }
+        ≡ faulty (line_with_reasons (codes "line 1: E10 J4") (codes "replace /p:c {\"p:id\":1}") (codes "here \"p:id\" is written id.") (codes "J4")) (codes "{\"p:c\":{\"id\":1}}\n") }
     ensures value { edited_with_reasons (codes "replace /p:c/id []")
-        ≡ faulty (with_reasons (codes "line 1: E10 J5") (codes "an array stands where a leaf's value is due.") (codes "J5")) (codes "{\"p:c\":{\"id\":1}}\n") }
+        ≡ faulty (line_with_reasons (codes "line 1: E10 J5") (codes "replace /p:c/id []") (codes "an array stands where a leaf's value is due.") (codes "J5")) (codes "{\"p:c\":{\"id\":1}}\n") }
+    ensures no_edit { edited_with_reasons (codes "add /p:c/note \"x\"")
+        ≡ faulty (line_with_reasons (codes "line 1: E1") (codes "add /p:c/note \"x\"") (codes "no edit is called \"add\": write create, replace or remove.") (codes "E1")) (codes "{\"p:c\":{\"id\":1}}\n") }
+    ensures predicate { edited_with_reasons (codes "remove /p:c/id[1]")
+        ≡ faulty (line_with_reasons (codes "line 1: E3") (codes "remove /p:c/id[1]") (codes "id is a leaf: no predicate stands behind it.") (codes "E3")) (codes "{\"p:c\":{\"id\":1}}\n") }
+    ensures no_json { edited_with_reasons (codes "create /p:c/note eth0")
+        ≡ faulty (line_with_reasons (codes "line 1: E9") (codes "create /p:c/note eth0") (codes "eth0 isn't JSON; a text stands in double quotes.") (codes "E9")) (codes "{\"p:c\":{\"id\":1}}\n") }
+    ensures nothing_more { edited_with_reasons (codes "remove /p:c/note")
+        ≡ faulty (codes "line 1: E7\n  | remove /p:c/note\n" ++ reason_of (codes "E7")) (codes "{\"p:c\":{\"id\":1}}\n") }
 {}
 
 /// With `--strict` a document that gives a member twice is refused where that comes again, and an edit's value doesn't fit;

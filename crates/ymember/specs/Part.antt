@@ -1,13 +1,16 @@
--- What is said of the value of an edit that doesn't fit the node that it is for (E10), as of a document that is refused.
-use Rattle.std.specs.Prelude.{ℕ, ◌==◌, List, [], ◌∷◌, Option, Some, None, option_and_then, if◌then◌else◌}
+-- What is said of the value of an edit that is no JSON (E9), or doesn't fit the node that it is for (E10), as of a document
+-- that is refused.
+use Rattle.std.specs.Prelude.{ℕ, ◌==◌, ◌&&◌, ◌||◌, ◌++◌, Bool, true, false, List, [], ◌∷◌, codes, Option, Some, None, option_and_then, if◌then◌else◌}
 use Rattle.std.specs.Option.{option_map_or}
-use Rattle.serde_json.specs.Data.{Data}
-use Rattle.yspec.specs.text.Text.{Text}
-use Rattle.yspec.specs.schema.Schema.{Schema, child_written, children_of, module_at, node_at}
+use Rattle.serde_json.specs.Data.{Data, array}
+use Rattle.yspec.specs.text.Text.{Text, begins, double_quote}
+use Rattle.yspec.specs.schema.Schema.{Schema, Kind, child_written, children_of, has_value, is_many, module_at, node_at}
 use Rattle.yspec.specs.document.Document.{Step, step_at}
 use Rattle.yspec.specs.document.Reading.{Refusal, first_wrong, instance_visits, json_of}
 use Rattle.yspec.specs.edit.EditText.{Edit, Path, create, replace, remove}
+use Rattle.yhint.specs.Line.{shown}
 use Rattle.ymember.specs.Place.{last_step, value_from}
+use Rattle.ymember.specs.Predicate.{said_of_predicates}
 use Rattle.ymember.specs.Sentence.{said_at}
 use Rattle.ymember.specs.Step.{said_of_path}
 
@@ -17,10 +20,29 @@ use Rattle.ymember.specs.Step.{said_of_path}
 abbrev pub step_below : ℕ → List Step → Step
 step_below number steps = option_map_or (λ s. s) (last_step steps) (step_at number 1)
 
+-- by the place at which what it is to hold is refused
+abbrev pub of_place : Schema → ℕ → Data → Refusal → Text
+of_place schema number d r = option_map_or (said_at schema r.code (Some (step_below number r.place)))
+    (value_from schema (module_at schema (Some number)) r.place d) []
+
+abbrev pub is_array : Data → Bool
+is_array (array ds) = true
+is_array _ = false
+
+-- of an array, which an edit never takes for a list or a leaf-list: it is about one entry or item
+abbrev pub alone_due : Kind → Text
+alone_due kind = if has_value kind then codes "an array stands where an item's value is due: write the value alone."
+    else codes "an array stands where an entry is due: write the object alone."
+
+abbrev pub is_many_at : Schema → ℕ → Bool
+is_many_at schema number = option_map_or (λ n. is_many n.kind) (node_at schema number) false
+
+abbrev pub alone_at : Schema → ℕ → Text
+alone_at schema number = option_map_or (λ n. alone_due n.kind) (node_at schema number) []
+
 -- of one instance of the node of a number, by the refusal of what it is to hold
 abbrev pub of_refusal : Schema → ℕ → Data → Refusal → Text
-of_refusal schema number d r = option_map_or (said_at schema r.code (Some (step_below number r.place)))
-    (value_from schema (module_at schema (Some number)) r.place d) []
+of_refusal schema number d r = if is_array d && is_many_at schema number then alone_at schema number else of_place schema number d r
 
 -- what is refused of it, at a place that leads from there
 abbrev pub refused_in : Schema → ℕ → Data → Option Refusal
@@ -29,6 +51,17 @@ refused_in schema number d =
 
 abbrev pub of_value : Schema → ℕ → Data → Text
 of_value schema number d = option_map_or (of_refusal schema number d) (refused_in schema number d) []
+
+-- whether a text may be meant as an object, an array, or a text of JSON
+abbrev pub begins_json : Text → Bool
+begins_json text = begins 123 text || (begins 91 text || begins double_quote text)
+
+abbrev pub json_due : Text → Text
+json_due text = if begins_json text then codes " isn't JSON." else codes " isn't JSON; a text stands in double quotes."
+
+-- of a text that is no JSON
+abbrev pub of_no_json : Text → Text
+of_no_json text = shown text ++ json_due text
 
 -- by the text of the value
 abbrev pub of_text : Schema → ℕ → Text → Text
@@ -50,6 +83,11 @@ said_of_part schema (create path text) = of_part schema path text
 said_of_part schema (replace path text) = of_part schema path text
 said_of_part schema (remove path) = []
 
+abbrev pub said_of_no_json : Edit → Text
+said_of_no_json (create path text) = of_no_json text
+said_of_no_json (replace path text) = of_no_json text
+said_of_no_json (remove path) = []
+
 abbrev pub path_in : Edit → Path
 path_in (create path text) = path
 path_in (replace path text) = path
@@ -58,4 +96,6 @@ path_in (remove path) = path
 -- of an edit that is refused with this number
 abbrev pub said_of_edit : Schema → Edit → ℕ → Text
 said_of_edit schema e code = if code == 2 then said_of_path schema (path_in e)
-    else (if code == 10 then said_of_part schema e else [])
+    else (if code == 3 then said_of_predicates schema e
+    else (if code == 9 then said_of_no_json e
+    else (if code == 10 then said_of_part schema e else [])))

@@ -1,8 +1,10 @@
-//! What is said of the value of an edit that doesn't fit the node that it is for (E10), as of a document that is refused.
+//! What is said of the value of an edit that is no JSON (E9), or doesn't fit the node that it is for (E10), as of a document
+//! that is refused.
 
-ghost use Rattle.std.specs.Prelude.{◌≡◌, IfOk, None, string_bytes};
+ghost use Rattle.std.specs.Prelude.{◌≡◌, ◌++◌, IfOk, None, string_bytes};
+ghost use Rattle.yhint.specs.Line as line_spec;
 ghost use Rattle.serde_json.specs.View as json;
-ghost use Rattle.ymodel.specs.Layout.{number_of};
+ghost use Rattle.ymodel.specs.Layout.{kind_view, number_of};
 ghost use Rattle.ymodel.specs.View.{view};
 ghost use Rattle.ypath.specs.Applying.{edit_number};
 ghost use Rattle.ypath.specs.EditView.{edit_view, path_view, steps_view};
@@ -12,11 +14,14 @@ ghost use Rattle.ymember.specs.Part as spec;
 
 use crate::nodes::module_of;
 use crate::place::{last_step, value_from};
+use crate::predicate::said_of_predicates;
 use crate::sentence::said_at;
+use crate::spelling::begins;
 use crate::step::said_of_path;
 use serde_json::Value;
 use std::alloc::{AllocError, Global};
-use ymodel::{Schema, SchemaId};
+use yhint::shown;
+use ymodel::{Kind, Schema, SchemaId};
 use ypath::{Edit, EditCode, NamedStep, Path};
 use ytree::{DocCode, DocFault, Step, read_node};
 
@@ -35,6 +40,63 @@ fn step_below(id: SchemaId, place: &[Step]) -> Step
     }
 }
 
+/// Of one instance of a node, by the place at which what it is to hold is refused.
+fn of_place(
+    alloc: Global,
+    schema: &Schema,
+    id: SchemaId,
+    value: &Value,
+    code: DocCode,
+    place: &[Step],
+) -> Result<String, AllocError>
+    ensures { IfOk result (λ text. string_bytes text
+        ≡ spec.of_place (view schema.now) id.0 (json.view value.now)
+        (record { code = code_number code; place = place_view place.now })) }
+{
+    match value_from(alloc, schema, module_of(schema, Some(id)), place, value)? {
+        Some(found) => {
+            let step = step_below(id, place);
+            said_at(alloc, schema, code, Some(&step), found)
+        }
+        None => Ok(String::new(alloc)),
+    }
+}
+
+/// Of an array in place of one entry or item.
+fn alone_due(kind: &Kind) -> &'static str
+    ensures { result.now ≡ spec.alone_due (kind_view kind.now) }
+{
+    if kind.has_value() {
+        "an array stands where an item's value is due: write the value alone."
+    } else {
+        "an array stands where an entry is due: write the object alone."
+    }
+}
+
+fn is_many_at(schema: &Schema, id: SchemaId) -> bool
+    ensures { result ≡ spec.is_many_at (view schema.now) id.0 }
+{
+    match schema.kind(id) {
+        Some(node) => node.kind.is_many(),
+        None => false,
+    }
+}
+
+fn alone_at(schema: &Schema, id: SchemaId) -> &'static str
+    ensures { result.now ≡ spec.alone_at (view schema.now) id.0 }
+{
+    match schema.kind(id) {
+        Some(node) => alone_due(&node.kind),
+        None => "",
+    }
+}
+
+fn is_array(value: &Value) -> bool
+    ensures { result ≡ spec.is_array (json.view value.now) }
+{
+    matches!(value, Value::Array(_))
+}
+
 /// Of one instance of a node, by the refusal of what it is to hold.
 fn of_refusal(
     alloc: Global,
@@ -48,12 +110,10 @@ fn of_refusal(
         ≡ spec.of_refusal (view schema.now) id.0 (json.view value.now)
         (record { code = code_number code; place = place_view place.now })) }
 {
-    match value_from(alloc, schema, module_of(schema, Some(id)), place, value)? {
-        Some(found) => {
-            let step = step_below(id, place);
-            said_at(alloc, schema, code, Some(&step), found)
-        }
-        None => Ok(String::new(alloc)),
+    if is_array(value) && is_many_at(schema, id) {
+        String::from_str(alloc, alone_at(schema, id))
+    } else {
+        of_place(alloc, schema, id, value, code, place)
     }
 }
 
@@ -74,6 +134,38 @@ fn of_value(
         }
         Err(DocFault::Memory) => Err(AllocError),
     }
+}
+
+/// Whether a text may be meant as an object, an array, or a text of JSON.
+fn begins_json(text: &str) -> bool
+    ensures { result ≡ spec.begins_json text.now }
+{
+    begins(b'{', text) || begins(b'[', text) || begins(b'"', text)
+}
+
+/// What is to be changed in a text that is no JSON.
+fn json_due(text: &str) -> &'static str
+    ensures { result.now ≡ spec.json_due text.now }
+{
+    if begins_json(text) {
+        " isn't JSON."
+    } else {
+        " isn't JSON; a text stands in double quotes."
+    }
+}
+
+fn shown_before(alloc: Global, text: &str, due: &str) -> Result<String, AllocError>
+    ensures { IfOk result (λ said. string_bytes said ≡ line_spec.shown text.now ++ due.now) }
+{
+    let shown = shown(alloc, text.as_bytes())?;
+    [shown.as_str(), due].concat(alloc)
+}
+
+/// Of a text that is no JSON.
+fn of_no_json(alloc: Global, text: &str) -> Result<String, AllocError>
+    ensures { IfOk result (λ said. string_bytes said ≡ spec.of_no_json text.now) }
+{
+    shown_before(alloc, text, json_due(text))
 }
 
 /// The same, by the text of the value.
@@ -126,6 +218,16 @@ fn said_of_part(alloc: Global, schema: &Schema, edit: &Edit) -> Result<String, A
     }
 }
 
+fn said_of_no_json(alloc: Global, edit: &Edit) -> Result<String, AllocError>
+    ensures { IfOk result (λ said. string_bytes said ≡ spec.said_of_no_json (edit_view edit.now)) }
+{
+    match edit {
+        Edit::Create { value, .. } => of_no_json(alloc, value.as_str()),
+        Edit::Replace { value, .. } => of_no_json(alloc, value.as_str()),
+        Edit::Remove { .. } => Ok(String::new(alloc)),
+    }
+}
+
 fn path_in(edit: &Edit) -> &Path
     ensures { path_view result.now ≡ spec.path_in (edit_view edit.entry.now) }
 {
@@ -137,7 +239,8 @@ fn path_in(edit: &Edit) -> &Path
 }
 
 /// What is said of an edit that is refused: of the first name of its path that isn't there, or is in the form that isn't due
-/// (E2), and of its value where that doesn't fit (E10), as of a document; an empty text of all else.
+/// (E2), or behind which another predicate is due (E3); and of its value where that is no JSON (E9), or doesn't fit (E10), as
+/// of a document; an empty text of all else.
 pub fn said_of_edit(
     alloc: Global,
     schema: &Schema,
@@ -149,15 +252,15 @@ pub fn said_of_edit(
 {
     match code {
         EditCode::E2 => said_of_path(alloc, schema, path_in(edit)),
+        EditCode::E3 => said_of_predicates(alloc, schema, edit),
+        EditCode::E9 => said_of_no_json(alloc, edit),
         EditCode::E10 => said_of_part(alloc, schema, edit),
         EditCode::E1
-        | EditCode::E3
         | EditCode::E4
         | EditCode::E5
         | EditCode::E6
         | EditCode::E7
         | EditCode::E8
-        | EditCode::E9
         | EditCode::E11 => Ok(String::new(alloc)),
     }
 }

@@ -1,6 +1,7 @@
 -- What is said below a line that tells a code, above the reason of the code: what stands there, and what may have been
 -- meant.
-use Rattle.std.specs.Prelude.{ℕ, zero, suc, ◌==◌, ◌++◌, List, [], ◌∷◌, codes, if◌then◌else◌, slice_get, unwrap_or}
+use Rattle.std.specs.Prelude.{ℕ, zero, suc, ◌==◌, ◌++◌, List, [], ◌∷◌, Option, codes, if◌then◌else◌, slice_get, unwrap_or}
+use Rattle.std.specs.Option.{option_map_or}
 use Rattle.yspec.specs.Forest.{Forest, end, node}
 use Rattle.yspec.specs.text.Text.{Text}
 use Rattle.yspec.specs.text.Statement.{Statement}
@@ -8,16 +9,17 @@ use Rattle.yspec.specs.schema.Breaks.{Break}
 use Rattle.yspec.specs.schema.Schema.{Schema}
 use Rattle.yspec.specs.document.Document.{Step}
 use Rattle.yspec.specs.document.Reading.{Refusal}
-use Rattle.yhint.specs.Line.{shown_line}
+use Rattle.yhint.specs.Line.{shown, shown_line}
 use Rattle.yhint.specs.Sentence.{of_line}
 use Rattle.yspec.specs.edit.EditText.{Edit}
 use Rattle.ymember.specs.Part.{said_of_edit}
 use Rattle.ymember.specs.Sentence.{said_of_refusal}
+use Rattle.ymember.specs.Spelling.{said_of_line}
 use Rattle.yrepeated.specs.Said.{said_of_repeated}
 use Rattle.yprogram.specs.Part.{Part}
 
 abbrev pub hinted : Text → Part → Part
-hinted hint p = record { text = p.text; reason = hint ++ p.reason }
+hinted hint p = record p { reason = hint ++ p.reason }
 
 -- a text as a line, behind its front; nothing of an empty one
 abbrev pub as_line : Text → Text → Text
@@ -54,3 +56,13 @@ repeated_hint schema place = as_line (codes "  ") (said_of_repeated schema place
 -- of an edit that is refused with this number
 abbrev pub edit_hint : Schema → Edit → ℕ → Text
 edit_hint schema e code = as_line (codes "  ") (said_of_edit schema e code)
+
+-- of a line that is refused with this number before it is tried: where it spells no edit
+abbrev pub spelling_hint : Text → ℕ → Text
+spelling_hint line code = if code == 1 then as_line (codes "  ") (said_of_line line) else []
+
+-- of a line of a script that is refused with this number: itself, behind a bar, and what is said of the edit that it asks for,
+-- if it asks for one
+abbrev pub script_hint : Schema → Text → Option Edit → ℕ → Text
+script_hint schema line asked code = as_line (codes "  | ") (shown line)
+    ++ option_map_or (λ e. edit_hint schema e code) asked (spelling_hint line code)

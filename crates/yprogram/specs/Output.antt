@@ -20,7 +20,7 @@ use Rattle.yspec.specs.document.Writing.{written_text}
 use Rattle.yexplain.specs.Sentences.{explained_fault}
 use Rattle.yrepeated.specs.Repeated.{repeated_in}
 use Rattle.yprogram.specs.Hint.{break_hint, hinted, line_hint, refusal_hint, repeated_hint}
-use Rattle.yprogram.specs.Part.{Part, line_about, plain, spelled}
+use Rattle.yprogram.specs.Part.{Part, count_part, line_about, plain, spelled}
 use Rattle.yprogram.specs.Script.{after_lines, lines_of, refused_lines}
 
 -- how a document is taken, and what is made of it
@@ -241,11 +241,12 @@ abbrev pub fault_part : Schema → Tree → Fault → Part
 fault_part schema tree f = record {
   text = line_of schema f;
   reason = explained_fault schema tree f ++ reason_of (codes "V" ++ decimal (fault_number f.code));
+  bare = [];
 }
 
 -- a line for each fault of a document, and then how many there are
 abbrev pub report : Schema → Tree → List Fault → List Part
-report schema tree faults = map (fault_part schema tree) faults ++ plain (decimal (length faults) ++ codes " faults\n") ∷ []
+report schema tree faults = map (fault_part schema tree) faults ++ count_part (length faults) ∷ []
 
 -- the text of a document, in a line
 abbrev pub dump : Schema → Tree → List ℕ

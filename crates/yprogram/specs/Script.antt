@@ -10,7 +10,7 @@ use Rattle.yspec.specs.document.Document.{Tree}
 use Rattle.yspec.specs.edit.EditText.{Edit, create, replace, remove, is_passed_over}
 use Rattle.yspec.specs.edit.Editing.{EditRefusal, applied, edit_asked, refused, tree_or, value_refused}
 use Rattle.yrepeated.specs.Repeated.{has_repeated}
-use Rattle.yprogram.specs.Hint.{edit_hint, hinted}
+use Rattle.yprogram.specs.Hint.{hinted, script_hint}
 use Rattle.yprogram.specs.Part.{Part, line_about}
 
 -- ---- lines
@@ -83,9 +83,9 @@ abbrev pub edit_in : Result (Option Edit) EditRefusal → Option Edit
 edit_in (Ok asked) = asked
 edit_in (Err e) = None
 
--- of a refused line it is said besides what may have been meant, where it asks for an edit
-abbrev pub refused_hint : Schema → Option Edit → EditRefusal → Text
-refused_hint schema asked e = option_map_or (λ edit. edit_hint schema edit e.code) asked []
+-- of a refused line it is said besides how it reads, and what may have been meant
+abbrev pub refused_hint : Schema → Text → Option Edit → EditRefusal → Text
+refused_hint schema line asked e = script_hint schema line asked e.code
 
 -- where a line is refused, with what is said of it besides
 abbrev pub line_parts : (EditRefusal → Text) → ℕ → Result Tree EditRefusal → List Part
@@ -96,5 +96,5 @@ line_parts hint number (Err e) = hinted (hint e) (refused_line number e) ∷ []
 abbrev pub refused_lines : Bool → Schema → ℕ → Tree → List Text → List Part
 refused_lines is_strict schema number tree [] = []
 refused_lines is_strict schema number tree (line ∷ lines) = let answer = line_applied is_strict schema tree line in
-    line_parts (refused_hint schema (edit_in (asked_in is_strict line))) number answer
+    line_parts (refused_hint schema line (edit_in (asked_in is_strict line))) number answer
     ++ refused_lines is_strict schema (number + 1) (tree_or answer tree) lines

@@ -4,6 +4,7 @@ use Rattle.std.specs.Prelude.{Vec, option_and_then}
 use Rattle.std.specs.Ordering.{is_eq, nat_cmp}
 use Rattle.std.specs.Cmp.Lexicographic.{slice_cmp}
 use Rattle.std.specs.List.{last_or, list_any}
+use Rattle.std.specs.Option.{option_map_or}
 use Rattle.std.specs.Str.{is_utf8, IsUtf8}
 use Rattle.std.specs.BTreeSet.{BTreeSet, Updates, contains_by}
 use Rattle.std.specs.BTreeMap.{is_at}
@@ -21,11 +22,12 @@ use Rattle.json.specs.declared.value.Value.{Value}
 use Rattle.yspec.specs.Forest.{first_of}
 use Rattle.yspec.specs.text.Text.{Text, is_text}
 use Rattle.yspec.specs.types.Names.{is_among}
-use Rattle.yspec.specs.schema.Schema.{Schema}
+use Rattle.yspec.specs.schema.Schema.{Schema, SchemaNode, node_at}
 use Rattle.yspec.specs.document.Document.{Step}
 use Rattle.ytree.specs.View.{place_view, step_view}
 use Rattle.ytree.specs.declared.tree.Step as code
 use Rattle.yrepeated.specs.Found.{steps_of}
+use Rattle.yrepeated.specs.Said.{name_at}
 use Rattle.yrepeated.specs.Repeated.{at_name, json_in, repeated_at_top, repeated_entry, repeated_in, repeated_members, repeated_value}
 
 -- ---- sets of names
@@ -138,3 +140,10 @@ pub last_seen : (steps above : List code.Step) (step : code.Step) → steps ≡ 
 last_seen steps above step is =
     ap (λ (ss : List code.Step). last_or None (place_view ss)) is
     ∙ (ap (last_or None) (map-append step_view above (step ∷ [])) ∙ last_behind None (place_view above) (step_view step))
+
+-- the name of the node to which the last of some steps leads
+pub name_of_last : (s : Schema) (steps : List Step) (step : Step) (node : Option SchemaNode) → last_or None steps ≡ Some step → node ≡ node_at s step.schema_number
+    → option_map_or (λ n. n.name) node [] ≡ name_at s steps
+name_of_last s steps step node last at =
+    ap (λ (o : Option SchemaNode). option_map_or (λ n. n.name) o []) at
+    ∙ sym (ap (λ (o : Option Step). option_map_or (λ n. n.name) (option_and_then (λ x. node_at s x.schema_number) o) []) last)

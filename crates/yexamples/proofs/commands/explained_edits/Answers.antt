@@ -13,4 +13,8 @@ returns c = record {
   member = refl;
   other_member = refl;
   value = refl;
+  no_edit = refl;
+  predicate = refl;
+  no_json = refl;
+  nothing_more = refl;
 }

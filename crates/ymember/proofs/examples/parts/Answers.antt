@@ -10,9 +10,12 @@ returns c = record {
   below = refl;
   no_object = refl;
   no_entry = refl;
+  entries = refl;
+  items = refl;
   no_item = refl;
   no_array = refl;
   fraction = refl;
+  no_text = refl;
   no_json = refl;
   is_read = refl;
 }

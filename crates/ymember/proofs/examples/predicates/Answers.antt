@@ -1,0 +1,19 @@
+use Rattle.std.proofs.Common.{refl}
+use Rattle.yspec.proofs.LiteralLemmas.{yspec_on_literals}
+use Rattle.yhint.specs.Near.{is_near, nearest}
+use Rattle.ymember.proofs.examples.predicates.Goals as goal
+
+pub returns : goal.returns
+unfolding yspec_on_literals is_near nearest
+returns c = record {
+  of_list = refl;
+  other_key = refl;
+  of_leaf_list = refl;
+  of_container = refl;
+  of_leaf = refl;
+  of_added_entry = refl;
+  of_added_item = refl;
+  of_added_leaf = refl;
+  below_an_entry = refl;
+  in_place = refl;
+}
