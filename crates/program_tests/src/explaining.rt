@@ -494,9 +494,10 @@ fraction: J6 /net:host[1]/speed
   A number has a fraction or an exponent. Write an integer without them; write a decimal64 as a string.
 ==
 yanglive validate --explain open n.yang
-2 2
+2 3
 open: J1 /
   The document isn't JSON. Look for a comma or a bracket too many or too few, and for text that isn't UTF-8.
+open:1:1: it stops being JSON here
 ==
 yanglive edit --explain array adding n.yang
 2 2

@@ -19,7 +19,7 @@ use Rattle.yspec.specs.document.Path.{path_text}
 use Rattle.yspec.specs.document.Writing.{written_text}
 use Rattle.yexplain.specs.Sentences.{explained_fault}
 use Rattle.yformat.specs.FaultData.{json_text}
-use Rattle.yprogram.specs.Hint.{break_hint, hinted, line_hint, refusal_hint}
+use Rattle.yprogram.specs.Hint.{break_hint, hinted, refusal_hint, slip_hint}
 use Rattle.yprogram.specs.Part.{Part, count_part, line_about, plain, spelled}
 use Rattle.yprogram.specs.Script.{after_lines, lines_of, refused_lines}
 
@@ -154,7 +154,7 @@ refusal_part name line letter number = let code = letter ++ decimal number in
     line_about code (name ++ (codes ":" ++ (decimal line ++ (codes ": " ++ code))))
 
 abbrev pub slipped : Text → List ℕ → Slip → Outcome
-slipped name bytes s = failed_with 2 (hinted (line_hint s.line bytes) (refusal_part name s.line (codes "L") s.code))
+slipped name bytes s = failed_with 2 (hinted (slip_hint s.line bytes) (refusal_part name s.line (codes "L") s.code))
 
 abbrev pub broken : List Text → List (List ℕ) → Forest Statement → Break → Outcome
 broken names contents modules b = failed_with 2 (hinted (break_hint contents modules b)
