@@ -5,10 +5,10 @@ use Rattle.yexplain.proofs.near.+texts.Given as goal
 
 -- the way is shorter below
 abbrev pub decreases-add_texts : goal.decreases-add_texts
-decreases-add_texts l = 2 * length l.way
+decreases-add_texts l = 2 * length l.way.now
 
 abbrev pub decreases-add_texts_behind : goal.decreases-add_texts_behind
-decreases-add_texts_behind l = 2 * length l.rest + 1
+decreases-add_texts_behind l = 2 * length l.rest.now + 1
 
 -- the texts so far, and those behind the nodes that are left
 abbrev pub invariant-add_texts_behind-loop-stored : goal.invariant-add_texts_behind-loop-stored
