@@ -1,4 +1,4 @@
-//! The modules of the documents and edits.
+//! The modules of the documents and edits, and their schemas.
 
 use std::alloc::Global;
 use ymodel::Schema;
@@ -6,7 +6,7 @@ use yschema::compile;
 use ytext::parse;
 
 /// A host with items, entries and a choice, and links.
-pub(crate) const NET: &str = "module net {
+const NET: &str = "module net {
   yang-version 1.1; namespace \"urn:net\"; prefix n;
   container host {
     leaf name { type string; }
@@ -22,7 +22,7 @@ pub(crate) const NET: &str = "module net {
 ";
 
 /// What another module adds to its ports.
-pub(crate) const ADDED: &str = "module added {
+const ADDED: &str = "module added {
   yang-version 1.1; namespace \"urn:added\"; prefix a;
   import net { prefix n; }
   augment /n:host/n:port { leaf label { type string; } container more { leaf depth { type uint8; } } }
@@ -38,6 +38,14 @@ pub(crate) const LINES: &str = "module net {
   list note { config false; leaf text { type string; } }
 }
 ";
+
+/// The schema of the host with what is added to its ports.
+pub(crate) fn host_schema(alloc: Global) -> Option<Schema> {
+    let mut modules = Vec::new(alloc);
+    modules.push(parse(alloc, NET.as_bytes()).ok()?).ok()?;
+    modules.push(parse(alloc, ADDED.as_bytes()).ok()?).ok()?;
+    compile(alloc, &modules).ok()
+}
 
 /// The schema of one module.
 pub(crate) fn schema_of(alloc: Global, text: &str) -> Option<Schema> {

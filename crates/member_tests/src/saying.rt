@@ -1,28 +1,14 @@
 //! What is said of each refused document.
 
-use crate::modules::{ADDED, NET};
+use crate::modules::host_schema;
 use std::alloc::Global;
 use ymember::said_of_refusal;
-use ymodel::Schema;
-use yschema::compile;
-use ytext::{Module, parse};
 use ytree::{DocFault, read};
-
-fn modules_of(alloc: Global) -> Option<Vec<Module>> {
-    let mut modules = Vec::new(alloc);
-    modules.push(parse(alloc, NET.as_bytes()).ok()?).ok()?;
-    modules.push(parse(alloc, ADDED.as_bytes()).ok()?).ok()?;
-    Some(modules)
-}
-
-fn schema_of(alloc: Global) -> Option<Schema> {
-    compile(alloc, &modules_of(alloc)?).ok()
-}
 
 // `DOCUMENT => SENTENCE`, with no sentence where nothing is said.
 fn is_said(alloc: Global, row: &str) -> Option<bool> {
     let (document, sentence) = row.split_once(" => ")?;
-    let schema = schema_of(alloc)?;
+    let schema = host_schema(alloc)?;
     let bytes = document.as_bytes();
     match read(alloc, &schema, bytes) {
         Err(DocFault::Refused { code, place }) => {

@@ -22,4 +22,6 @@ mod running;
 #[cfg(test)]
 mod saving;
 #[cfg(test)]
+mod strictness;
+#[cfg(test)]
 mod telling;

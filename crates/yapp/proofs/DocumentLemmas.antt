@@ -44,15 +44,15 @@ whole_after schema t u edits sound is = let s = schema_view.view schema in recor
 }
 
 -- a run of the edits of a script is the script's
-pub edited_by : (schema : Schema) (t : Tree) (kinds : List Line) (edits : List Edit) (lines : List Text) (e : EditedDocument)
-    → IsSound (schema_view.view schema) t → IsScript kinds edits lines → IsRun (schema_view.view schema) t kinds edits e
-    → IsEdited (schema_view.view schema) t lines e
-edited_by schema t kinds edits lines e sound script run = let s = schema_view.view schema in record {
+pub edited_by : (is_strict : Bool) (schema : Schema) (t : Tree) (kinds : List Line) (edits : List Edit) (lines : List Text) (e : EditedDocument)
+    → IsSound (schema_view.view schema) t → IsScript is_strict kinds edits lines → IsRun (schema_view.view schema) t kinds edits e
+    → IsEdited is_strict (schema_view.view schema) t lines e
+edited_by is_strict schema t kinds edits lines e sound script run = let s = schema_view.view schema in record {
   schema_is = run.schema_is;
-  tree_is = run.tree_is ∙ ap (after s t) script.edits_are ∙ sym (after_is s t lines);
+  tree_is = run.tree_is ∙ ap (after s t) script.edits_are ∙ sym (after_is is_strict s t lines);
   refused_is = run.refused_is
       ∙ ap₂ (λ (ks : List Line) (es : List Edit). told_from s 1 ks es (editing.decisions s t es)) script.kinds_are script.edits_are
-      ∙ sym (refused_is s 1 t lines);
+      ∙ sym (refused_is is_strict s 1 t lines);
   whole = subst (λ (x : spec.Schema). IsWhole x (live_of e).tree) (sym run.schema_is) (whole_after schema t (live_of e).tree edits sound run.tree_is);
 }
 

@@ -8,11 +8,10 @@ use Rattle.youtput.specs.Writing.{Broke, Side, Writes, Wrote}
 use Rattle.ycommand.specs.Running.{Brings, End, Ends, WritesBoth, broken, ended, memory_told, well, with_status, without_memory}
 use Rattle.std.specs.Prelude.{Option, Some, None, decimal, option_map}
 use Rattle.std.specs.Option.{option_map_or}
-use Rattle.ytree.specs.Told.{code_number}
-use Rattle.ytree.specs.declared.fault.DocCode.{DocCode}
 use Rattle.yprogram.specs.Script.{telling_code}
-use Rattle.yapp.specs.Asked.{refusal_of}
+use Rattle.yapp.specs.Asked.{refusal_of, value_number}
 use Rattle.yapp.specs.declared.script.Refusal.{Refusal}
+use Rattle.yapp.specs.declared.script.ValueCode.{ValueCode}
 use Rattle.yapp.specs.Failing.{besides_in, outcome_of, reported}
 use Rattle.yapp.specs.Files.{came_to, said_besides}
 use Rattle.yapp.specs.declared.failure.Failure.{Failure}
@@ -187,14 +186,14 @@ reasons_same besides output output_after errors errors_after given asked o end i
 
 -- ---- the code that says most of a refused line
 
-pub told_of_document : (r : Refusal) (code : DocCode) (n : ℕ) → r.doc ≡ Some code → n ≡ code_number code
+pub told_of_value : (r : Refusal) (value : ValueCode) (n : ℕ) → r.value ≡ Some value → n ≡ value_number value
     → codes "J" ++ decimal n ≡ telling_code (refusal_of r)
-told_of_document r code n is e =
+told_of_value r value n is e =
     ap (λ (m : ℕ). codes "J" ++ decimal m) e
-    ∙ sym (ap (λ (d : Option DocCode). option_map_or (λ m. codes "J" ++ decimal m) (option_map code_number d) (codes "E" ++ decimal (refusal_of r).code)) is)
+    ∙ sym (ap (λ (v : Option ValueCode). option_map_or (λ m. codes "J" ++ decimal m) (option_map value_number v) (codes "E" ++ decimal (refusal_of r).code)) is)
 
-pub told_of_edit : (r : Refusal) (n : ℕ) → r.doc ≡ None → n ≡ (refusal_of r).code
+pub told_of_edit : (r : Refusal) (n : ℕ) → r.value ≡ None → n ≡ (refusal_of r).code
     → codes "E" ++ decimal n ≡ telling_code (refusal_of r)
 told_of_edit r n is e =
     ap (λ (m : ℕ). codes "E" ++ decimal m) e
-    ∙ sym (ap (λ (d : Option DocCode). option_map_or (λ m. codes "J" ++ decimal m) (option_map code_number d) (codes "E" ++ decimal (refusal_of r).code)) is)
+    ∙ sym (ap (λ (v : Option ValueCode). option_map_or (λ m. codes "J" ++ decimal m) (option_map value_number v) (codes "E" ++ decimal (refusal_of r).code)) is)

@@ -1,5 +1,5 @@
 -- What the lines of a script ask for, apart from the edits among them, and what is told of them.
-use Rattle.std.specs.Prelude.{◌≡◌, ℕ, ◌+◌, ◌++◌, List, [], ◌∷◌, map, string_bytes, Option, Some, None, Result, Ok, Err}
+use Rattle.std.specs.Prelude.{◌≡◌, ℕ, ◌+◌, ◌++◌, Bool, List, [], ◌∷◌, map, string_bytes, Option, Some, None, option_map, Result, Ok, Err}
 use Rattle.std.specs.List.{flat_map}
 use Rattle.yspec.specs.text.Text.{Text}
 use Rattle.yspec.specs.schema.Schema.{Schema}
@@ -8,12 +8,15 @@ use Rattle.yspec.specs.edit.Editing.{Decision, EditRefusal}
 use Rattle.yprogram.specs.Hint.{hinted}
 use Rattle.yprogram.specs.Part.{Part}
 use Rattle.yprogram.specs.Script.{asked_in, line_parts, refused_hint, refused_line}
-use Rattle.ypath.specs.Applying.{refusal_view}
+use Rattle.ypath.specs.Applying.{edit_number}
+use Rattle.ytree.specs.Told.{code_number}
 use Rattle.ylive.specs.View.{edits_view}
 use Rattle.yapp.specs.declared.script.Asked.{Asked}
 use Rattle.yapp.specs.declared.script.Asked.TheVariants as asked
 use Rattle.yapp.specs.declared.script.Refusal.{Refusal}
 use Rattle.yapp.specs.declared.script.RefusedLine.{RefusedLine}
+use Rattle.yapp.specs.declared.script.ValueCode.{ValueCode}
+use Rattle.yapp.specs.declared.script.ValueCode.TheVariants as values
 use Rattle.yapp.specs.declared.script.Script.{Script}
 
 -- a line is passed over, is an edit's, or is refused
@@ -22,8 +25,13 @@ pub data Line : Type 0 where
   an_edit : Text → Line
   no_edit : Text → EditRefusal → Line
 
+-- why the value of an edit doesn't fit
+abbrev pub value_number : ValueCode → ℕ
+value_number (values.Document code) = code_number code
+value_number values.Repeated = 8
+
 abbrev pub refusal_of : Refusal → EditRefusal
-refusal_of r = refusal_view r.code r.doc
+refusal_of r = record { code = edit_number r.code; document_code = option_map value_number r.value }
 
 abbrev pub line_view : Asked → Line
 line_view asked.Nothing = passed_over
@@ -44,17 +52,17 @@ edit_of (Ok (Some e)) = e ∷ []
 edit_of (Err e) = []
 
 -- what each line asks for
-abbrev pub kinds_of : List Text → List Line
-kinds_of = map (λ line. line_of line (asked_in line))
+abbrev pub kinds_of : Bool → List Text → List Line
+kinds_of is_strict = map (λ line. line_of line (asked_in is_strict line))
 
 -- the edits among them
-abbrev pub edits_of : List Text → List Edit
-edits_of = flat_map (λ line. edit_of (asked_in line))
+abbrev pub edits_of : Bool → List Text → List Edit
+edits_of is_strict = flat_map (λ line. edit_of (asked_in is_strict line))
 
 -- a script of lines
-pub record IsScript (kinds : List Line) (edits : List Edit) (lines : List Text) : Type 0 where
-  pub kinds_are : kinds ≡ kinds_of lines
-  pub edits_are : edits ≡ edits_of lines
+pub record IsScript (is_strict : Bool) (kinds : List Line) (edits : List Edit) (lines : List Text) : Type 0 where
+  pub kinds_are : kinds ≡ kinds_of is_strict lines
+  pub edits_are : edits ≡ edits_of is_strict lines
 
 abbrev pub kinds_in : Script → List Line
 kinds_in s = map line_view s.lines.items

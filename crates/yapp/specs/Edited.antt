@@ -1,5 +1,5 @@
 -- Documents that were read and edited, as the definitions' trees.
-use Rattle.std.specs.Prelude.{◌≡◌, ◌≤◌, List}
+use Rattle.std.specs.Prelude.{◌≡◌, ◌≤◌, Bool, List}
 use Rattle.yspec.specs.Forest.{size}
 use Rattle.yspec.specs.text.Text.{Text}
 use Rattle.yspec.specs.schema.Schema.{Schema}
@@ -53,10 +53,10 @@ pub record IsRun (schema : Schema) (tree : Tree) (kinds : List Line) (edits : Li
   pub refused_is : refused_in e ≡ told_from schema 1 kinds edits (decisions schema tree edits)
 
 -- one that a tree became by the lines of a script
-pub record IsEdited (schema : Schema) (tree : Tree) (lines : List Text) (e : EditedDocument) : Type 0 where
+pub record IsEdited (is_strict : Bool) (schema : Schema) (tree : Tree) (lines : List Text) (e : EditedDocument) : Type 0 where
   pub schema_is : (live_of e).schema ≡ schema
-  pub tree_is : (live_of e).tree ≡ after_lines schema tree lines
-  pub refused_is : refused_in e ≡ refused_lines schema 1 tree lines
+  pub tree_is : (live_of e).tree ≡ after_lines is_strict schema tree lines
+  pub refused_is : refused_in e ≡ refused_lines is_strict schema 1 tree lines
   pub whole : IsWhole (live_of e).schema (live_of e).tree
 
 -- the document that a live one is

@@ -36,6 +36,8 @@ outcome_of (failures.Compile name code line hint) =
     failed_with 2 (hinted (string_bytes hint) (refusal_part name.now line (codes "C") (code_number code)))
 outcome_of (failures.Document name schema code place hint stop) = refused_document (string_bytes hint) (schema_view.view schema) name.now
     (record { code = document.code_number code; place = place_view place.items })
+outcome_of (failures.Repeated name schema place hint) =
+    refused_document (string_bytes hint) (schema_view.view schema) name.now (record { code = 8; place = place_view place.items })
 outcome_of (failures.NoModule name) = failed 2 (name.now ++ codes ": no such module")
 outcome_of (failures.NoCode word) = failed 2 (word.now ++ codes ": no such code")
 outcome_of failures.Memory = without_memory
@@ -83,6 +85,7 @@ FailsWith (failures.Unread name cause) o = o ≡ outcome_of (failures.Unread nam
 FailsWith (failures.Text name code line hint) o = o ≡ outcome_of (failures.Text name code line hint)
 FailsWith (failures.Compile name code line hint) o = o ≡ outcome_of (failures.Compile name code line hint)
 FailsWith (failures.Document name schema code place hint stop) o = o ≡ outcome_of (failures.Document name schema code place hint stop)
+FailsWith (failures.Repeated name schema place hint) o = o ≡ outcome_of (failures.Repeated name schema place hint)
 FailsWith (failures.NoModule name) o = o ≡ outcome_of (failures.NoModule name)
 FailsWith (failures.NoCode word) o = o ≡ outcome_of (failures.NoCode word)
 FailsWith failures.Memory o = Unit {0}

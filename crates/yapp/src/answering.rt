@@ -95,7 +95,7 @@ fn validate<'a>(
         (map (λ c. c.items) contents.now)) reported result }
     ensures explained { IfOk result (IsExplained with_reasons) }
 {
-    match read_document(alloc, document, modules, contents) {
+    match read_document(alloc, options.is_strict, document, modules, contents) {
         Ok(read) => Ok(report_on(alloc, read.value, with_reasons, options)?),
         Err(failure) => Err(failure),
     }
@@ -114,7 +114,7 @@ fn edit<'a>(
         (map (λ c. c.items) contents.now)) reported result }
     ensures explained { IfOk result (IsExplained with_reasons) }
 {
-    match edit_document(alloc, document, modules, contents) {
+    match edit_document(alloc, options.is_strict, document, modules, contents) {
         Ok(edited) => Ok(report_on_edited(alloc, edited, with_reasons, options)?),
         Err(failure) => Err(failure),
     }

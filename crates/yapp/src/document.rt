@@ -3,7 +3,7 @@
 ghost use Rattle.std.specs.Prelude.{◌≡◌, [], ℕ, List, IfOk, map, option_map, string_bytes, Option, Some, None, false, if◌then◌else◌};
 ghost use Rattle.yspec.specs.document.Document as document_spec;
 ghost use Rattle.yspec.specs.document.Reading.{document_of};
-ghost use Rattle.yprogram.specs.Output.{Outcome, dump, first_file, left, not_read, plainly, saved_by, text_instead, with_document, with_tree};
+ghost use Rattle.yprogram.specs.Output.{Outcome, dump, first_file, left, not_read, plainly, repeated_document, saved_by, text_instead, unless_repeated, with_document, with_tree};
 ghost use Rattle.yprogram.specs.Part.{Part};
 ghost use Rattle.yprogram.specs.Script.{after_lines, lines_of, refused_lines};
 ghost use Rattle.yspec.specs.schema.Schema as schema_spec;
@@ -23,7 +23,7 @@ ghost use Rattle.ycommand.specs.Command.{options_view};
 use crate::contents::{Taken, behind_first, first_of};
 use crate::edited::EditedDocument;
 use crate::failure::{Failure, Stop};
-use crate::hint::refusal_hint;
+use crate::hint::{refusal_hint, repeated_hint};
 use crate::modules::compile_contents;
 use crate::report::{DocumentReport, Report};
 use crate::saving::SavedFile;
@@ -36,6 +36,7 @@ use yexplain::explanation_of;
 use yformat::json_text;
 use ylive::Live;
 use ymodel::Schema;
+use yrepeated::first_repeated;
 use ytree::{DocCode, DocFault, Step, Tree, read, write};
 
 /// A document under its schema, with the lines of a script that were refused on the way to it.
@@ -70,6 +71,75 @@ fn read_under<'a>(
             Err(document_failure(alloc, name, schema, bytes, code, place))
         }
         Err(DocFault::Memory) => Err(Failure::Memory),
+    }
+}
+
+/// The same, where one that gives a member twice may be refused.
+fn read_by<'a>(
+    alloc: Global,
+    is_strict: bool,
+    name: &'a str,
+    schema: Schema,
+    bytes: &[u8],
+) -> Result<Document, Failure<'a>>
+    ensures leads { let s = schema_view.view schema in
+        (next : schema_spec.Schema → document_spec.Tree → Outcome)
+        → LeadsTo (with_tree s name.entry.now bytes.now (document_of s bytes.now)
+        (unless_repeated is_strict s name.entry.now bytes.now (next s)))
+        (λ d. next (schema_of d) (tree_of d)) result }
+    ensures sound { IfOk result (λ d. IsSound (schema_of d) (tree_of d)) }
+    ensures unrefused { IfOk result (λ d. refused_of d ≡ []) }
+{
+    match read_under(alloc, name, schema, bytes) {
+        Ok(document) => {
+            if is_strict {
+                strictly(alloc, name, document, bytes)
+            } else {
+                Ok(document)
+            }
+        }
+        Err(failure) => Err(failure),
+    }
+}
+
+/// A document that was read, where one that gives a member twice in its bytes is refused.
+fn strictly<'a>(
+    alloc: Global,
+    name: &'a str,
+    document: Document,
+    bytes: &[u8],
+) -> Result<Document, Failure<'a>>
+    ensures leads { let s = schema_of document in
+        (next : schema_spec.Schema → document_spec.Tree → Outcome)
+        → LeadsTo (unless_repeated true s name.entry.now bytes.now (next s) (tree_of document))
+        (λ d. next (schema_of d) (tree_of d)) result }
+    ensures same { IfOk result (λ d. d ≡ document) }
+{
+    match first_repeated(alloc, &document.schema, bytes) {
+        Ok(None) => Ok(document),
+        Ok(Some(place)) => Err(repeated_failure(alloc, name, document.schema, place)),
+        Err(_) => Err(Failure::Memory),
+    }
+}
+
+/// The failure of a document that gives a member twice, whose node is at a place.
+fn repeated_failure<'a>(
+    alloc: Global,
+    name: &'a str,
+    schema: Schema,
+    place: Vec<Step>,
+) -> Failure<'a>
+    ensures { FailsWith result (repeated_document (schema_view.view schema) name.entry.now
+        (place_view place.items)) }
+{
+    match repeated_hint(alloc, &schema, &place) {
+        Ok(hint) => Failure::Repeated {
+            name,
+            schema,
+            place,
+            hint,
+        },
+        Err(_) => Failure::Memory,
     }
 }
 
@@ -113,15 +183,17 @@ fn stop_of(alloc: Global, bytes: &[u8], code: DocCode) -> Stop {
     }
 }
 
-/// A document under modules, by the contents of their files and its own.
+/// A document under modules, by the contents of their files and its own; where that is wanted, one that gives a member twice
+/// is refused.
 pub(crate) fn read_document<'a, 'b>(
     alloc: Global,
+    is_strict: bool,
     document: &'a str,
     modules: &[&'a str],
     contents: &'b [Vec<u8>],
 ) -> Result<Taken<'b, Document>, Failure<'a>>
     ensures leads { (next : schema_spec.Schema → document_spec.Tree → List (List ℕ) → Outcome)
-        → LeadsTo (with_document document.entry.now (map (λ n. n.now) modules.now)
+        → LeadsTo (with_document is_strict document.entry.now (map (λ n. n.now) modules.now)
         (map (λ c. c.items) contents.entry.now) next)
         (λ read. next (schema_of read.value) (tree_of read.value)
         (map (λ c. c.items) read.rest.now)) result }
@@ -130,7 +202,13 @@ pub(crate) fn read_document<'a, 'b>(
 {
     match compile_contents(alloc, modules, contents) {
         Ok(compiled) => {
-            match read_under(alloc, document, compiled.value, first_of(compiled.rest)) {
+            match read_by(
+                alloc,
+                is_strict,
+                document,
+                compiled.value,
+                first_of(compiled.rest),
+            ) {
                 Ok(document) => Ok(Taken {
                     value: document,
                     rest: behind_first(compiled.rest),
@@ -142,13 +220,18 @@ pub(crate) fn read_document<'a, 'b>(
     }
 }
 
-/// A document after the lines of a script.
-fn edit(alloc: Global, document: Document, script: &[u8]) -> Result<EditedDocument, AllocError>
+/// A document after the lines of a script; where that is wanted, values that give a member twice don't fit.
+fn edit(
+    alloc: Global,
+    is_strict: bool,
+    document: Document,
+    script: &[u8],
+) -> Result<EditedDocument, AllocError>
     requires { IsSound (schema_of document) (tree_of document) }
-    ensures { IfOk result (λ e. IsEdited (schema_of document) (tree_of document)
+    ensures { IfOk result (λ e. IsEdited is_strict (schema_of document) (tree_of document)
         (lines_of script.now) e) }
 {
-    let script = Script::read(alloc, script)?;
+    let script = Script::read(alloc, is_strict, script)?;
     match Live::open(alloc, document.schema, document.tree) {
         Ok(live) => run_script(live, &script),
         Err(_) => Err(AllocError),
@@ -170,23 +253,24 @@ fn run_script(mut live: Live, script: &Script<'_>) -> Result<EditedDocument, All
 }
 
 /// A document after the lines of a script, by the contents of the files: those of the modules, the document's, and the
-/// script's.
+/// script's. Where that is wanted, a member that is given twice is refused.
 pub fn edit_document<'a>(
     alloc: Global,
+    is_strict: bool,
     document: &'a str,
     modules: &[&'a str],
     contents: &[Vec<u8>],
 ) -> Result<EditedDocument, Failure<'a>>
     ensures leads { (next : schema_spec.Schema → document_spec.Tree → List Part → Outcome)
-        → LeadsTo (with_document document.entry.now (map (λ n. n.now) modules.now)
+        → LeadsTo (with_document is_strict document.entry.now (map (λ n. n.now) modules.now)
         (map (λ c. c.items) contents.now) (λ schema tree files.
-        next schema (after_lines schema tree (lines_of (first_file files)))
-        (refused_lines schema 1 tree (lines_of (first_file files)))))
+        next schema (after_lines is_strict schema tree (lines_of (first_file files)))
+        (refused_lines is_strict schema 1 tree (lines_of (first_file files)))))
         (λ e. next (live_of e).schema (live_of e).tree (refused_in e)) result }
     ensures whole { IfOk result (λ e. IsWhole (live_of e).schema (live_of e).tree) }
 {
-    match read_document(alloc, document, modules, contents) {
-        Ok(read) => Ok(edit(alloc, read.value, first_of(read.rest))?),
+    match read_document(alloc, is_strict, document, modules, contents) {
+        Ok(read) => Ok(edit(alloc, is_strict, read.value, first_of(read.rest))?),
         Err(failure) => Err(failure),
     }
 }

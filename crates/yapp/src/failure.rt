@@ -66,6 +66,14 @@ pub enum Failure<'a> {
         hint: String,
         stop: Stop,
     },
+    /// A document gives a member twice, whose node is at a place, with what is said of it.
+    #[error("{name}: J8")]
+    Repeated {
+        name: &'a str,
+        schema: Schema,
+        place: Vec<Step>,
+        hint: String,
+    },
     /// No module has the name of the one that is to be drawn.
     #[error("{name}: no such module")]
     NoModule {
@@ -122,6 +130,7 @@ impl<'a> Failure<'a> {
             Failure::Text { .. }
             | Failure::Compile { .. }
             | Failure::Document { .. }
+            | Failure::Repeated { .. }
             | Failure::NoModule { .. }
             | Failure::NoCode { .. } => REFUSED,
         }
@@ -155,6 +164,7 @@ impl<'a> Failure<'a> {
             Failure::Unread { cause, .. } => write_texts(sink, &["  ", *cause, ".\n"]),
             Failure::Text { .. }
             | Failure::Compile { .. }
+            | Failure::Repeated { .. }
             | Failure::NoModule { .. }
             | Failure::NoCode { .. }
             | Failure::Memory => Ok(()),
@@ -217,6 +227,14 @@ impl<'a> Failure<'a> {
                     with_reasons,
                     sink,
                 )
+            }
+            Failure::Repeated {
+                name,
+                schema,
+                place,
+                hint,
+            } => {
+                write_document_refusal(*name, schema, 8, place, hint.as_str(), with_reasons, sink)
             }
             Failure::NoModule { name } => write_texts(sink, &[*name, ": no such module", "\n"]),
             Failure::NoCode { word } => write_texts(sink, &[*word, ": no such code", "\n"]),

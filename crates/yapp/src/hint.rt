@@ -19,6 +19,7 @@ use yhint::{line_sentence, shown, shown_line};
 use yinst::{Edit, EditCode};
 use ymember::{said_of_edit, said_of_line, said_of_refusal};
 use ymodel::Schema;
+use yrepeated::said_of_repeated;
 use ytext::Module;
 use ytree::{DocCode, Step};
 
@@ -144,6 +145,15 @@ pub fn refusal_hint(
     as_line(alloc, "  ", said.as_str())
 }
 
+/// What is said of a document that gives a member twice, by the place of its node.
+pub fn repeated_hint(alloc: Global, schema: &Schema, place: &[Step]) -> Result<String, AllocError>
+    ensures { IfOk result (λ hint. string_bytes hint
+        ≡ spec.repeated_hint (schema_view.view schema.now) (place_view place.now)) }
+{
+    let said = said_of_repeated(alloc, schema, place)?;
+    as_line(alloc, "  ", said.as_str())
+}
+
 /// What is said of an edit that is refused.
 fn edit_hint(
     alloc: Global,
@@ -158,15 +168,20 @@ fn edit_hint(
     as_line(alloc, "  ", said.as_str())
 }
 
-/// What is said of a line that spells no edit.
-fn spelling_hint(alloc: Global, line: &[u8]) -> Result<String, AllocError>
-    ensures { IfOk result (λ hint. string_bytes hint ≡ spec.spelling_hint line.now) }
+/// What is said of a line that is refused before it is tried: where it spells no edit.
+fn spelling_hint(alloc: Global, line: &[u8], code: EditCode) -> Result<String, AllocError>
+    ensures { IfOk result (λ hint. string_bytes hint
+        ≡ spec.spelling_hint line.now (edit_number code)) }
 {
-    let said = said_of_line(alloc, line)?;
-    as_line(alloc, "  ", said.as_str())
+    if code.number() == 1 {
+        let said = said_of_line(alloc, line)?;
+        as_line(alloc, "  ", said.as_str())
+    } else {
+        Ok(String::new(alloc))
+    }
 }
 
-/// What is said of a line by the edit that it spells, if it spells one.
+/// What is said of a line by the edit that it asks for, if it asks for one.
 fn asked_hint(
     alloc: Global,
     schema: &Schema,
@@ -176,11 +191,12 @@ fn asked_hint(
 ) -> Result<String, AllocError>
     ensures { IfOk result (λ hint. string_bytes hint ≡ option_map_or
         (λ e. spec.edit_hint (schema_view.view schema.now) e (edit_number code))
-        (option_map (λ e. edit_view e.now) edit.entry) (spec.spelling_hint line.now)) }
+        (option_map (λ e. edit_view e.now) edit.entry)
+        (spec.spelling_hint line.now (edit_number code))) }
 {
     match edit {
         Some(edit) => edit_hint(alloc, schema, edit, code),
-        None => spelling_hint(alloc, line),
+        None => spelling_hint(alloc, line, code),
     }
 }
 
@@ -193,7 +209,7 @@ fn bar_hint(alloc: Global, line: &[u8]) -> Result<String, AllocError>
     as_line(alloc, "  | ", shown.as_str())
 }
 
-/// What is said of a refused line of a script: itself, and what is said by the edit that it spells, if it spells one.
+/// What is said of a refused line of a script: itself, and what is said by the edit that it asks for, if it asks for one.
 pub fn script_hint(
     alloc: Global,
     schema: &Schema,

@@ -24,6 +24,6 @@ pub use files::{FileFault, Files};
 pub use program::{refuse, run, tell_memory};
 pub use report::{DocumentReport, Report};
 pub use saving::{Ended, SavedFile, Shelf, Unsaved, save, tell_unwritten};
-pub use script::{Refusal, RefusedLine};
+pub use script::{Refusal, RefusedLine, ValueCode};
 pub use status::{FAILED, FAULTY, GOOD, MISUSED, REFUSED};
 pub use ycommand::{CommandLine, NoRequest, Options, Request, read_words};

@@ -359,8 +359,8 @@ fn write_refused_line<S: Sink>(
 {
     write_refused_code(line, sink)?;
     let hint = line.hint.as_str();
-    match line.refusal.doc {
-        Some(doc) => write_hinted_where(with_reasons, hint, "J", doc.number(), sink),
+    match line.refusal.value {
+        Some(value) => write_hinted_where(with_reasons, hint, "J", value.number(), sink),
         None => write_hinted_where(with_reasons, hint, "E", line.refusal.code.number(), sink),
     }
 }
@@ -374,11 +374,11 @@ fn write_refused_code<S: Sink>(line: &RefusedLine, sink: &mut S) -> Result<(), S
     let mut code_digits = Buffer::new();
     let number = number_digits.format(line.number);
     let code = code_digits.format(line.refusal.code.number());
-    match line.refusal.doc {
-        Some(doc) => {
-            let mut doc_digits = Buffer::new();
-            let doc = doc_digits.format(doc.number());
-            write_texts(sink, &["line ", number, ": E", code, " J", doc, "\n"])
+    match line.refusal.value {
+        Some(value) => {
+            let mut value_digits = Buffer::new();
+            let value = value_digits.format(value.number());
+            write_texts(sink, &["line ", number, ": E", code, " J", value, "\n"])
         }
         None => write_texts(sink, &["line ", number, ": E", code, "\n"]),
     }

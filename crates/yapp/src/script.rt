@@ -18,12 +18,54 @@ use std::alloc::{AllocError, Global};
 use yinst::{DocCode, Edit, EditCode, EditFault};
 use ylive::Outcome;
 use ymodel::Schema;
+use yrepeated::has_repeated;
+
+/// Why the value of an edit doesn't fit its node.
+#[derive(Clone, Copy, Debug)]
+pub enum ValueCode {
+    /// A document with it would be refused so.
+    Document(DocCode),
+    /// It has a member twice in one object (J8).
+    Repeated,
+}
+
+impl ValueCode {
+    ghost use Rattle.std.specs.Prelude.{◌≡◌};
+    ghost use Rattle.yapp.specs.Asked.{value_number};
+
+    /// The number behind the `J`.
+    pub fn number(self) -> u8
+        ensures { result ≡ value_number self }
+    {
+        match self {
+            ValueCode::Document(code) => code.number(),
+            ValueCode::Repeated => 8,
+        }
+    }
+}
 
 /// Why a line is refused, and with E10 why the value doesn't fit.
 #[derive(Clone, Copy, Debug)]
 pub struct Refusal {
     pub code: EditCode,
-    pub doc: Option<DocCode>,
+    pub value: Option<ValueCode>,
+}
+
+impl Refusal {
+    ghost use Rattle.std.specs.Prelude.{◌≡◌};
+    ghost use Rattle.ypath.specs.Applying.{refusal_view};
+    ghost use Rattle.yapp.specs.Asked.{refusal_of};
+
+    /// That of an edit.
+    fn of_edit(code: EditCode, doc: Option<DocCode>) -> Refusal
+        ensures { refusal_of result ≡ refusal_view code doc }
+    {
+        let value = match doc {
+            Some(code) => Some(ValueCode::Document(code)),
+            None => None,
+        };
+        Refusal { code, value }
+    }
 }
 
 /// What a line of a script asks for, and how it reads.
@@ -53,11 +95,12 @@ pub struct Script<'s> {
 }
 
 impl<'s> Script<'s> {
-    ghost use Rattle.std.specs.Prelude.{◌≡◌, ◌++◌, [], ◌∷◌, IfOk, OnOk, map};
-    ghost use Rattle.yprogram.specs.Script.{asked_in, lines_of, without_return};
+    ghost use Rattle.std.specs.Prelude.{◌≡◌, ◌++◌, [], ◌∷◌, IfOk, OnOk, Some, map};
+    ghost use Rattle.yprogram.specs.Script.{asked_in, lines_of, unless_twice, without_return};
+    ghost use Rattle.ypath.specs.EditView.{edit_view};
     ghost use Rattle.ylive.specs.View.{edits_view, outcomes_view};
     ghost use Rattle.ymodel.specs.View as schema_view;
-    ghost use Rattle.yapp.specs.Asked.{IsScript, edit_of, edits_in, kinds_in, line_of, refused_parts, told_from};
+    ghost use Rattle.yapp.specs.Asked.{IsScript, edit_of, edits_in, kinds_in, line_of, line_view, refused_parts, told_from};
 
     /// A script without lines.
     fn new(alloc: Global) -> Script<'s>
@@ -71,14 +114,14 @@ impl<'s> Script<'s> {
         }
     }
 
-    /// The script that bytes are.
-    pub fn read(alloc: Global, bytes: &'s [u8]) -> Result<Script<'s>, AllocError>
-        ensures { IfOk result (λ script. IsScript (kinds_in script) (edits_in script)
+    /// The script that bytes are; where that is wanted, a line whose value has a member twice asks for no edit.
+    pub fn read(alloc: Global, is_strict: bool, bytes: &'s [u8]) -> Result<Script<'s>, AllocError>
+        ensures { IfOk result (λ script. IsScript is_strict (kinds_in script) (edits_in script)
             (lines_of bytes.now)) }
     {
         let parts = parts_of(alloc, bytes)?;
         match parts.split_last() {
-            Some((last, lines)) => Script::with_lines(alloc, lines, *last),
+            Some((last, lines)) => Script::with_lines(alloc, is_strict, lines, *last),
             None => Ok(Script::new(alloc)),
         }
     }
@@ -86,38 +129,58 @@ impl<'s> Script<'s> {
     /// A script of lines that line feeds end, and a last one.
     fn with_lines(
         alloc: Global,
+        is_strict: bool,
         lines: &[&'s [u8]],
         last: &'s [u8],
     ) -> Result<Script<'s>, AllocError>
-        ensures { IfOk result (λ script. IsScript (kinds_in script) (edits_in script)
+        ensures { IfOk result (λ script. IsScript is_strict (kinds_in script) (edits_in script)
             (map (λ line. without_return line.now) lines.now ++ last.now ∷ [])) }
     {
         let mut script = Script::new(alloc);
         for line in lines {
-            script.add(without_return(*line))?;
+            script.add(is_strict, without_return(*line))?;
         }
-        script.add(last)?;
+        script.add(is_strict, last)?;
         Ok(script)
     }
 
     /// Adds a line.
-    fn add(&mut self, line: &'s [u8]) -> Result<(), AllocError>
+    fn add(&mut self, is_strict: bool, line: &'s [u8]) -> Result<(), AllocError>
         ensures kinds { OnOk result (kinds_in self.new ≡ kinds_in self.old
-            ++ line_of line.now (asked_in line.now) ∷ []) }
+            ++ line_of line.now (asked_in is_strict line.now) ∷ []) }
         ensures edits { OnOk result (edits_in self.new ≡ edits_in self.old
-            ++ edit_of (asked_in line.now)) }
+            ++ edit_of (asked_in is_strict line.now)) }
     {
-        let asked = match asked_in(self.alloc, line) {
+        let asked = match spelled_in(self.alloc, line) {
             Ok(None) => Asked::Nothing,
-            Ok(Some(edit)) => {
-                self.edits.push(edit)?;
-                Asked::Edit(line)
-            }
-            Err(EditFault::Refused { code, doc }) => Asked::Refused(line, Refusal { code, doc }),
+            Ok(Some(edit)) => self.take(is_strict, line, edit)?,
+            Err(EditFault::Refused { code, doc }) => Asked::Refused(
+                line,
+                Refusal::of_edit(code, doc),
+            ),
             Err(EditFault::Memory) => return Err(AllocError),
         };
         self.lines.push(asked)?;
         Ok(())
+    }
+
+    /// Takes up the edit of a line, unless its value has a member twice and that is refused; what the line asks for.
+    fn take(&mut self, is_strict: bool, line: &'s [u8], edit: Edit) -> Result<Asked<'s>, AllocError>
+        ensures asked { IfOk result (λ asked. line_view asked
+            ≡ line_of line.entry.now (unless_twice is_strict (Some (edit_view edit)))) }
+        ensures edits { OnOk result (edits_in self.new ≡ edits_in self.old
+            ++ edit_of (unless_twice is_strict (Some (edit_view edit)))) }
+        ensures kinds { kinds_in self.new ≡ kinds_in self.old }
+    {
+        if is_strict && gives_twice(self.alloc, &edit)? {
+            let refusal = Refusal {
+                code: EditCode::E10,
+                value: Some(ValueCode::Repeated),
+            };
+            return Ok(Asked::Refused(line, refusal));
+        }
+        self.edits.push(edit)?;
+        Ok(Asked::Edit(line))
     }
 
     /// The edits among its lines.
@@ -226,10 +289,7 @@ fn refusal_of(line: Asked<'_>, outcomes: &[Outcome]) -> Option<Refusal>
         Asked::Nothing => None,
         Asked::Refused(_, refusal) => Some(refusal),
         Asked::Edit(_) => match outcomes.first() {
-            Some(Outcome::Refused { code, doc }) => Some(Refusal {
-                code: *code,
-                doc: *doc,
-            }),
+            Some(Outcome::Refused { code, doc }) => Some(Refusal::of_edit(*code, *doc)),
             _ => None,
         },
     }
@@ -274,9 +334,19 @@ fn is_passed_over(line: &[u8]) -> bool
     }
 }
 
+/// Whether the value of an edit has a member twice in one object.
+fn gives_twice(alloc: Global, edit: &Edit) -> Result<bool, AllocError>
+    ensures { IfOk result (λ twice. twice ≡ spec.gives_twice (edit_view edit.now)) }
+{
+    match edit {
+        Edit::Create { value, .. } | Edit::Replace { value, .. } => has_repeated(alloc, value),
+        Edit::Remove { .. } => Ok(false),
+    }
+}
+
 /// The edit that a line spells, if it asks for one.
-fn asked_in(alloc: Global, line: &[u8]) -> Result<Option<Edit>, EditFault>
-    ensures { Gives (option_map edit_view) told_by result (spec.asked_in line.now) }
+fn spelled_in(alloc: Global, line: &[u8]) -> Result<Option<Edit>, EditFault>
+    ensures { Gives (option_map edit_view) told_by result (spec.spelled_in line.now) }
 {
     if is_passed_over(line) {
         return Ok(None);

@@ -93,6 +93,8 @@ of_documents =
     (codes "the node") (codes "Write an integer without them; write a decimal64 as a string.") (codes "RFC 7951, 6.1") ∷
     said (codes "J7") (codes "The document has more than 1,000,000 nodes.")
     (codes "the document") (codes "Part it.") (codes "a limit of this program") ∷
+    said (codes "J8") (codes "A member is given twice in one object, which --strict refuses; without it the last one counts.")
+    (codes "the node of the member") (codes "Take one of them out.") (codes "RFC 8259, 4; RFC 7951, 4") ∷
     []
 
 -- faults of documents

@@ -244,6 +244,13 @@ const OF_DOCUMENTS: &[Explanation] = &[
         remedy: "Part it.",
         source: "a limit of this program",
     },
+    Explanation {
+        code: "J8",
+        cause: "A member is given twice in one object, which --strict refuses; without it the last one counts.",
+        place: "the node of the member",
+        remedy: "Take one of them out.",
+        source: "RFC 8259, 4; RFC 7951, 4",
+    },
 ];
 
 const OF_FAULTS: &[Explanation] = &[

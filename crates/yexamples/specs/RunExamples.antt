@@ -9,7 +9,7 @@ use Rattle.yspec.specs.document.Reading.{document_of}
 use Rattle.yspec.specs.document.Writing.{written_text}
 use Rattle.yspec.specs.edit.Examples.{module_p, module_text}
 use Rattle.ycodes.specs.Codes.{reason_of}
-use Rattle.yprogram.specs.Output.{Printed, as_dump, compile, draw, edit, outcome, plainly, printed, told_as_json, validate}
+use Rattle.yprogram.specs.Output.{Options, Printed, as_dump, compile, draw, edit, outcome, plainly, printed, told_as_json, validate}
 use Rattle.yexamples.specs.Printing.{found, printed_by}
 
 -- a mandatory leaf in a container in a container
@@ -57,6 +57,20 @@ line_with_reasons told line said code = with_reasons (told ++ (codes "\n  | " ++
 abbrev pub edited_with_reasons : Text → Printed
 edited_with_reasons script = printed true (outcome (edit as_dump (codes "d.json") (codes "s.txt") (codes "m.yang" ∷ []))
     (Some module_p ∷ Some (codes "{\"p:c\":{\"id\":1}}") ∷ Some script ∷ []))
+
+-- how a document is taken whose members are to come once
+abbrev strictly : Options
+strictly = record plainly { is_strict = true }
+
+-- what `validate --strict` prints of a document under module p, with the reasons of what is told
+abbrev pub strictly_shown : Text → Printed
+strictly_shown document =
+    printed true (outcome (validate strictly (codes "d.json") (codes "m.yang" ∷ [])) (Some module_p ∷ Some document ∷ []))
+
+-- what `edit --strict` dumps of a small document under module p after a script
+abbrev pub strictly_edited : Text → Printed
+strictly_edited script = printed_by (edit (record as_dump { is_strict = true }) (codes "d.json") (codes "s.txt") (codes "m.yang" ∷ []))
+    (Some module_p ∷ Some (codes "{\"p:c\":{\"id\":1}}") ∷ Some script ∷ [])
 
 -- what one prints under module p
 abbrev pub shown_by_p : Text → Printed

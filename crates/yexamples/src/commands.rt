@@ -8,7 +8,7 @@ ghost use Rattle.ycodes.specs.Codes.{reason_of};
 ghost use Rattle.yprogram.specs.Script.{lines_of};
 ghost use Rattle.yexamples.specs.SchemaExamples.{hosts, one_host};
 ghost use Rattle.yspec.specs.edit.Examples.{module_p, module_text};
-ghost use Rattle.yexamples.specs.RunExamples.{counted, drawn_as, dumped, edited_with_reasons, faulty, line_with_reasons, scripted, shown, shown_as_json, shown_of_two, without_faults, one_with_reasons, refused_with_reasons, shown_with_reasons, with_reasons};
+ghost use Rattle.yexamples.specs.RunExamples.{counted, drawn_as, dumped, edited_with_reasons, faulty, line_with_reasons, scripted, shown, shown_as_json, shown_of_two, without_faults, one_with_reasons, refused_with_reasons, shown_with_reasons, strictly_edited, strictly_shown, with_reasons};
 
 /// How many nodes modules define.
 pub fn counts()
@@ -276,4 +276,18 @@ pub fn explained_edits()
         ≡ faulty (line_with_reasons (codes "line 1: E9") (codes "create /p:c/note eth0") (codes "eth0 isn't JSON; a text stands in double quotes.") (codes "E9")) (codes "{\"p:c\":{\"id\":1}}\n") }
     ensures nothing_more { edited_with_reasons (codes "remove /p:c/note")
         ≡ faulty (codes "line 1: E7\n  | remove /p:c/note\n" ++ reason_of (codes "E7")) (codes "{\"p:c\":{\"id\":1}}\n") }
+{}
+
+/// With `--strict` a document that gives a member twice is refused where that comes again, and an edit's value doesn't fit;
+/// without it the last member counts.
+pub fn members_given_twice()
+    ensures last_counts { shown module_p (codes "{\"p:c\":{\"id\":{},\"id\":1}}") ≡ without_faults }
+    ensures once { strictly_shown (codes "{\"p:c\":{\"id\":1}}") ≡ without_faults }
+    ensures twice { strictly_shown (codes "{\"p:c\":{\"id\":{},\"id\":1}}")
+        ≡ refused_with_reasons (codes "d.json: J8 /p:c/id") (codes "id is given twice.") (codes "J8") }
+    ensures refused_before { strictly_shown (codes "{\"p:c\":{\"id\":1,\"id\":{}}}")
+        ≡ refused_with_reasons (codes "d.json: J5 /p:c/id") (codes "an object stands where a leaf's value is due.") (codes "J5") }
+    ensures values { strictly_edited
+        (codes "replace /p:c {\"id\":2,\"id\":3}\nreplace /p:c/id 4\ncreate /p:x {\"id\":1,\"id\":1}\ncreate /p:c/note {")
+        ≡ faulty (codes "line 1: E10 J8\nline 3: E10 J8\nline 4: E9\n") (codes "{\"p:c\":{\"id\":4}}\n") }
 {}

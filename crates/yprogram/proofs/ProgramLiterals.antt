@@ -5,8 +5,9 @@ use Rattle.yhint.specs.Line.{shown_line}
 use Rattle.yhint.specs.Near.{is_near, nearest}
 use Rattle.yhint.specs.Sentence.{of_line}
 use Rattle.ymember.specs.Sentence.{said_of_refusal}
+use Rattle.yrepeated.specs.Repeated.{has_repeated, repeated_in}
 use Rattle.yprogram.specs.Output.{outcome}
 
 unfoldable pub yprogram_on_literals : ⊤
-unfolding yspec_on_literals outcome shown_line of_line is_near nearest said_of_refusal
+unfolding yspec_on_literals outcome shown_line of_line is_near nearest said_of_refusal repeated_in has_repeated
 yprogram_on_literals = tt

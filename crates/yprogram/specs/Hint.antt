@@ -7,6 +7,7 @@ use Rattle.yspec.specs.text.Text.{Text, open_brace, space}
 use Rattle.yspec.specs.text.Statement.{Statement}
 use Rattle.yspec.specs.schema.Breaks.{Break}
 use Rattle.yspec.specs.schema.Schema.{Schema}
+use Rattle.yspec.specs.document.Document.{Step}
 use Rattle.yspec.specs.document.Reading.{Refusal}
 use Rattle.yhint.specs.Line.{shown, shown_line}
 use Rattle.yhint.specs.Sentence.{of_line}
@@ -14,6 +15,7 @@ use Rattle.yspec.specs.edit.EditText.{Edit}
 use Rattle.ymember.specs.Part.{said_of_edit}
 use Rattle.ymember.specs.Sentence.{said_of_refusal}
 use Rattle.ymember.specs.Spelling.{said_of_line}
+use Rattle.yrepeated.specs.Said.{said_of_repeated}
 use Rattle.yprogram.specs.Part.{Part}
 
 abbrev pub hinted : Text → Part → Part
@@ -59,16 +61,20 @@ break_hint contents modules b = line_hint b.line (unwrap_or (slice_get contents 
 abbrev pub refusal_hint : Schema → List ℕ → Refusal → Text
 refusal_hint schema bytes r = as_line (codes "  ") (said_of_refusal schema bytes r)
 
+-- of a document with a member that is given twice, by the place of its node
+abbrev pub repeated_hint : Schema → List Step → Text
+repeated_hint schema place = as_line (codes "  ") (said_of_repeated schema place)
+
 -- of an edit that is refused with this number
 abbrev pub edit_hint : Schema → Edit → ℕ → Text
 edit_hint schema e code = as_line (codes "  ") (said_of_edit schema e code)
 
--- of a line that spells no edit
-abbrev pub spelling_hint : Text → Text
-spelling_hint line = as_line (codes "  ") (said_of_line line)
+-- of a line that is refused with this number before it is tried: where it spells no edit
+abbrev pub spelling_hint : Text → ℕ → Text
+spelling_hint line code = if code == 1 then as_line (codes "  ") (said_of_line line) else []
 
--- of a line of a script that is refused with this number: itself, behind a bar, and what is said of the edit that it spells, if
--- it spells one
+-- of a line of a script that is refused with this number: itself, behind a bar, and what is said of the edit that it asks for,
+-- if it asks for one
 abbrev pub script_hint : Schema → Text → Option Edit → ℕ → Text
 script_hint schema line asked code = as_line (codes "  | ") (shown line)
-    ++ option_map_or (λ e. edit_hint schema e code) asked (spelling_hint line)
+    ++ option_map_or (λ e. edit_hint schema e code) asked (spelling_hint line code)

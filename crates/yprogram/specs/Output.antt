@@ -10,7 +10,7 @@ use Rattle.yspec.specs.schema.Breaks.{Break}
 use Rattle.yspec.specs.schema.Schema.{Schema}
 use Rattle.yspec.specs.schema.Diagram.{diagram}
 use Rattle.yspec.specs.linking.Compiling.{compiled}
-use Rattle.yspec.specs.document.Document.{Tree}
+use Rattle.yspec.specs.document.Document.{Step, Tree}
 use Rattle.yspec.specs.document.Reading.{Refusal, document_of}
 use Rattle.yspec.specs.document.Fault.{Fault}
 use Rattle.yspec.specs.document.FaultCode.{fault_number}
@@ -19,7 +19,8 @@ use Rattle.yspec.specs.document.Path.{path_text}
 use Rattle.yspec.specs.document.Writing.{written_text}
 use Rattle.yexplain.specs.Sentences.{explained_fault}
 use Rattle.yformat.specs.FaultData.{json_text}
-use Rattle.yprogram.specs.Hint.{break_hint, hinted, refusal_hint, slip_hint}
+use Rattle.yrepeated.specs.Repeated.{repeated_in}
+use Rattle.yprogram.specs.Hint.{break_hint, hinted, refusal_hint, repeated_hint, slip_hint}
 use Rattle.yprogram.specs.Part.{Part, count_part, line_about, plain, spelled}
 use Rattle.yprogram.specs.Script.{after_lines, lines_of, refused_lines}
 
@@ -202,6 +203,16 @@ abbrev pub with_tree : Schema → Text → List ℕ → Result Tree Refusal → 
 with_tree schema name bytes (Err r) next = not_read schema name bytes r
 with_tree schema name bytes (Ok tree) next = next tree
 
+-- a document that gives a member twice in one object, at the place of its node
+abbrev pub repeated_document : Schema → Text → List Step → Outcome
+repeated_document schema name place =
+    refused_document (repeated_hint schema place) schema name (record { code = 8; place = place })
+
+-- where such a document is refused, `next` goes on with the tree of one that isn't such
+abbrev pub unless_repeated : Bool → Schema → Text → List ℕ → (Tree → Outcome) → Tree → Outcome
+unless_repeated is_strict schema name bytes next tree =
+    if is_strict then option_map_or (repeated_document schema name) (repeated_in schema bytes) (next tree) else next tree
+
 abbrev pub first_file : List (List ℕ) → List ℕ
 first_file [] = []
 first_file (bytes ∷ files) = bytes
@@ -211,12 +222,13 @@ other_files [] = []
 other_files (bytes ∷ files) = files
 
 -- `next` goes on with the document of the first of some files, and with those behind it
-abbrev pub with_first : Text → (Schema → Tree → List (List ℕ) → Outcome) → Schema → List (List ℕ) → Outcome
-with_first document next schema files = let bytes = first_file files in
-    with_tree schema document bytes (document_of schema bytes) (λ tree. next schema tree (other_files files))
+abbrev pub with_first : Bool → Text → (Schema → Tree → List (List ℕ) → Outcome) → Schema → List (List ℕ) → Outcome
+with_first is_strict document next schema files = let bytes = first_file files in
+    with_tree schema document bytes (document_of schema bytes)
+    (unless_repeated is_strict schema document bytes (λ tree. next schema tree (other_files files)))
 
-abbrev pub with_document : Text → List Text → List (List ℕ) → (Schema → Tree → List (List ℕ) → Outcome) → Outcome
-with_document document names contents next = with_schema names contents (with_first document next)
+abbrev pub with_document : Bool → Text → List Text → List (List ℕ) → (Schema → Tree → List (List ℕ) → Outcome) → Outcome
+with_document is_strict document names contents next = with_schema names contents (with_first is_strict document next)
 
 -- ---- reports
 
@@ -269,7 +281,8 @@ left options schema tree refused = let faults = faults_of schema tree in record 
 
 -- a document after the lines of a script
 abbrev pub edited : Options → Schema → Tree → List Text → Outcome
-edited options schema tree lines = left options schema (after_lines schema tree lines) (refused_lines schema 1 tree lines)
+edited options schema tree lines =
+    left options schema (after_lines options.is_strict schema tree lines) (refused_lines options.is_strict schema 1 tree lines)
 
 -- ---- what is printed where all files could be read, and have these contents
 
@@ -282,10 +295,11 @@ drawing name names contents = with_schema names contents (λ schema files.
 
 -- as an edit by a script without lines
 abbrev pub validation : Options → Text → List Text → List (List ℕ) → Outcome
-validation options document names contents = with_document document names contents (λ schema tree files. edited options schema tree [])
+validation options document names contents =
+    with_document options.is_strict document names contents (λ schema tree files. edited options schema tree [])
 
 abbrev pub edition : Options → Text → List Text → List (List ℕ) → Outcome
-edition options document names contents = with_document document names contents (λ schema tree files.
+edition options document names contents = with_document options.is_strict document names contents (λ schema tree files.
     edited options schema tree (lines_of (first_file files)))
 
 -- what is said of codes, or the first word that is none

@@ -1,5 +1,5 @@
 -- Scripts of edits, one a line, and what they do to a document.
-use Rattle.std.specs.Prelude.{ℕ, ◌+◌, ◌==◌, ◌++◌, List, [], ◌∷◌, codes, decimal, Option, Some, None, Result, Ok, Err, if◌then◌else◌}
+use Rattle.std.specs.Prelude.{ℕ, ◌+◌, ◌==◌, ◌&&◌, ◌++◌, Bool, false, List, [], ◌∷◌, codes, decimal, Option, Some, None, Result, Ok, Err, if◌then◌else◌}
 use Rattle.std.specs.List.{slice_split}
 use Rattle.std.specs.Option.{option_map_or}
 use Rattle.std.specs.Str.{is_utf8}
@@ -7,8 +7,9 @@ use Rattle.yspec.specs.Results.{◌>>=◌}
 use Rattle.yspec.specs.text.Text.{Text, line_feed, carriage_return}
 use Rattle.yspec.specs.schema.Schema.{Schema}
 use Rattle.yspec.specs.document.Document.{Tree}
-use Rattle.yspec.specs.edit.EditText.{Edit, is_passed_over}
-use Rattle.yspec.specs.edit.Editing.{EditRefusal, applied, edit_asked, refused, tree_or}
+use Rattle.yspec.specs.edit.EditText.{Edit, create, replace, remove, is_passed_over}
+use Rattle.yspec.specs.edit.Editing.{EditRefusal, applied, edit_asked, refused, tree_or, value_refused}
+use Rattle.yrepeated.specs.Repeated.{has_repeated}
 use Rattle.yprogram.specs.Hint.{hinted, script_hint}
 use Rattle.yprogram.specs.Part.{Part, line_about}
 
@@ -32,18 +33,33 @@ lines_of bytes = without_returns (slice_split (λ x. x == line_feed) bytes)
 
 -- ---- what comes of them
 
--- what a line asks for, if it asks for anything; bytes that are no text are no edit's (E1)
-abbrev pub asked_in : Text → Result (Option Edit) EditRefusal
-asked_in line = if is_passed_over line then Ok None else (if is_utf8 line then edit_asked line else refused 1)
+-- what a line spells, if it asks for anything; bytes that are no text are no edit's (E1)
+abbrev pub spelled_in : Text → Result (Option Edit) EditRefusal
+spelled_in line = if is_passed_over line then Ok None else (if is_utf8 line then edit_asked line else refused 1)
+
+-- whether the value of an edit has a member twice in one object
+abbrev pub gives_twice : Edit → Bool
+gives_twice (create path value) = has_repeated value
+gives_twice (replace path value) = has_repeated value
+gives_twice (remove path) = false
+
+-- what is asked for, where such a value doesn't fit (E10 with J8)
+abbrev pub unless_twice : Bool → Option Edit → Result (Option Edit) EditRefusal
+unless_twice is_strict asked = if is_strict && option_map_or gives_twice asked false then value_refused 8 else Ok asked
+
+abbrev pub asked_in : Bool → Text → Result (Option Edit) EditRefusal
+asked_in is_strict line = spelled_in line >>= unless_twice is_strict
 
 -- the document after a line, or why that is refused
-abbrev pub line_applied : Schema → Tree → Text → Result Tree EditRefusal
-line_applied schema tree line = asked_in line >>= (λ asked. option_map_or (applied schema tree) asked (Ok tree))
+abbrev pub line_applied : Bool → Schema → Tree → Text → Result Tree EditRefusal
+line_applied is_strict schema tree line =
+    asked_in is_strict line >>= (λ asked. option_map_or (applied schema tree) asked (Ok tree))
 
 -- the document after the lines of a script; a refused one changes nothing
-abbrev pub after_lines : Schema → Tree → List Text → Tree
-after_lines schema tree [] = tree
-after_lines schema tree (line ∷ lines) = after_lines schema (tree_or (line_applied schema tree line) tree) lines
+abbrev pub after_lines : Bool → Schema → Tree → List Text → Tree
+after_lines is_strict schema tree [] = tree
+after_lines is_strict schema tree (line ∷ lines) =
+    after_lines is_strict schema (tree_or (line_applied is_strict schema tree line) tree) lines
 
 -- ---- what is printed of refused ones
 
@@ -77,7 +93,8 @@ line_parts hint number (Ok tree) = []
 line_parts hint number (Err e) = hinted (hint e) (refused_line number e) ∷ []
 
 -- those of all refused lines, of which the first has a number
-abbrev pub refused_lines : Schema → ℕ → Tree → List Text → List Part
-refused_lines schema number tree [] = []
-refused_lines schema number tree (line ∷ lines) = let answer = line_applied schema tree line in
-    line_parts (refused_hint schema line (edit_in (asked_in line))) number answer ++ refused_lines schema (number + 1) (tree_or answer tree) lines
+abbrev pub refused_lines : Bool → Schema → ℕ → Tree → List Text → List Part
+refused_lines is_strict schema number tree [] = []
+refused_lines is_strict schema number tree (line ∷ lines) = let answer = line_applied is_strict schema tree line in
+    line_parts (refused_hint schema line (edit_in (asked_in is_strict line))) number answer
+    ++ refused_lines is_strict schema (number + 1) (tree_or answer tree) lines

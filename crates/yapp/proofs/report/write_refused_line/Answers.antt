@@ -3,7 +3,7 @@ use Rattle.std.specs.Prelude.{if◌then◌else◌}
 use Rattle.yspec.specs.text.Text.{Text}
 use Rattle.ycodes.specs.Codes.{reason_of}
 use Rattle.youtput.proofs.WritingLemmas.{left_all, left_failed, writes_after, writes_same}
-use Rattle.yapp.proofs.RunningLemmas.{told_of_document, told_of_edit}
+use Rattle.yapp.proofs.RunningLemmas.{told_of_edit, told_of_value}
 use Rattle.yapp.proofs.report.write_refused_line.Goals as goal
 
 pub returns-in_err-write_refused_code : goal.returns-in_err-write_refused_code
@@ -14,7 +14,7 @@ pub returns-in-Some : goal.returns-in-Some
 returns-in-Some g c = writes_after _ _ _ _ _ c.write_hinted_where.result c.in_ok-write_refused_code.ensures
     (writes_same _ _ _ _ c.write_hinted_where.result
     (ap₂ (λ (h t : Text). if c.args.with_reasons then h ++ reason_of t else []) c.as_str-hint.ensures.value
-    (told_of_document c.args.line.now.refusal c.in-Some.doc _ c.in-Some.is c.number.ensures))
+    (told_of_value c.args.line.now.refusal c.in-Some.value _ c.in-Some.is c.number.ensures))
     c.write_hinted_where.ensures)
 
 pub returns-in-None : goal.returns-in-None

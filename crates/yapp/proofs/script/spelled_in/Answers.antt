@@ -4,7 +4,7 @@ use Rattle.yspec.specs.Results.{Gives}
 use Rattle.ypath.specs.Applying.{told_by}
 use Rattle.ypath.specs.EditView.{edit_view}
 use Rattle.yapp.proofs.ScriptLemmas.{asked_of_bytes, asked_of_text}
-use Rattle.yapp.proofs.script.asked_in.Goals as goal
+use Rattle.yapp.proofs.script.spelled_in.Goals as goal
 
 pub returns-in-Ok : goal.returns-in-Ok
 returns-in-Ok c = subst (Gives (option_map edit_view) told_by c.parse.result)

@@ -1,0 +1,13 @@
+use Rattle.std.proofs.Common.{refl}
+use Rattle.yprogram.proofs.ProgramLiterals.{yprogram_on_literals}
+use Rattle.yexamples.proofs.commands.members_given_twice.Goals as goal
+
+pub returns : goal.returns
+unfolding yprogram_on_literals
+returns c = record {
+  last_counts = refl;
+  once = refl;
+  twice = refl;
+  refused_before = refl;
+  values = refl;
+}

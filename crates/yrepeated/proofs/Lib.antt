@@ -1,0 +1,2 @@
+pub mod RepeatedLemmas
+pub mod UniqueLemmas

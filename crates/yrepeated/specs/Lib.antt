@@ -1,0 +1,4 @@
+pub mod Repeated
+pub mod Found
+pub mod Said
+pub mod Samples
