@@ -4,6 +4,10 @@
 #[cfg(test)]
 mod explaining;
 #[cfg(test)]
+mod formatting;
+#[cfg(test)]
 mod module;
+#[cfg(test)]
+mod taking;
 #[cfg(test)]
 mod writing;

@@ -14,6 +14,16 @@ pub(crate) const NET: &str = "module net {
   container pairs {
     list pair { key \"a b\"; leaf a { type string; } leaf b { type boolean; } leaf v { type uint8; } }
   }
+  list site {
+    key name; unique \"at/ip port\";
+    leaf name { type string; }
+    leaf port { type uint16; default 80; }
+    container at { leaf ip { type string; } }
+  }
+  container limits {
+    leaf small { type uint8 { range \"1..5 | 7\" { error-app-tag \"too big\"; } } }
+    leaf word { type string { length 2; } }
+  }
   container more {
     presence more;
     leaf-list item { type uint8; min-elements 2; }

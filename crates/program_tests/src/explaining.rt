@@ -23,7 +23,7 @@ fn push_line(lines: &mut String, line: &str) -> Option<()> {
 
 /// Whether a run over the files of the tests prints so: its row is the words, the status, how many of the lines behind them
 /// go to the error side, and these lines, those of the error side first.
-fn prints(alloc: Global, files: &[NamedFile<'_>], row: &str) -> Option<bool> {
+pub(crate) fn prints(alloc: Global, files: &[NamedFile<'_>], row: &str) -> Option<bool> {
     let (line, rest) = row.split_once('\n')?;
     let (counts, lines) = rest.split_once('\n')?;
     let (status, count) = counts.split_once(' ')?;
@@ -46,7 +46,7 @@ fn prints(alloc: Global, files: &[NamedFile<'_>], row: &str) -> Option<bool> {
     Some(is_output && is_error && shown.status == status)
 }
 
-const NET: &str = "module net {
+pub(crate) const NET: &str = "module net {
   yang-version 1.1; namespace \"urn:net\"; prefix n;
   list host {
     key name; unique port; max-elements 3;
@@ -210,10 +210,10 @@ bare.json: J3 /p:c
 yanglive validate --explain two.json p.yang
 1 0
 V1 invalid-value - /p:c/id -
-  /p:c/id: 256 isn't a value of uint8.
+  /p:c/id: 256 isn't a value of uint8: it takes an integer without quotes in 0..255.
   A value isn't one that its type takes. Look at the type's range, length and names; 64-bit integers and decimal64 are strings.
 V1 invalid-value - /p:c/note -
-  /p:c/note: 5 isn't a value of string.
+  /p:c/note: 5 isn't a value of string: it takes a text in quotes.
   A value isn't one that its type takes. Look at the type's range, length and names; 64-bit integers and decimal64 are strings.
 2 faults
 ==
@@ -241,7 +241,7 @@ line 6: E10 J3
   nothing called \"speed\" may stand here.
   No node of that name may stand there. Correct the name, or give the module that defines it.
 V1 invalid-value - /p:c/id -
-  /p:c/id: 300 isn't a value of uint8.
+  /p:c/id: 300 isn't a value of uint8: it takes an integer without quotes in 0..255.
   A value isn't one that its type takes. Look at the type's range, length and names; 64-bit integers and decimal64 are strings.
 1 fault
 ==
@@ -268,7 +268,7 @@ V2 missing-element - /net:host[1]/name -
   /net:host[1]: its key name is missing.
   An entry of a list lacks a leaf of its key. Add it.
 V1 invalid-value - /net:host[1]/speed -
-  /net:host[1]/speed: \"x\" isn't a value of uint16.
+  /net:host[1]/speed: \"x\" isn't a value of uint16: it takes an integer without quotes in 0..65535.
   A value isn't one that its type takes. Look at the type's range, length and names; 64-bit integers and decimal64 are strings.
 2 faults
 ==
@@ -309,30 +309,30 @@ V7 operation-failed too-many-elements /net:host -
 yanglive validate --explain twins n.yang
 1 0
 V8 operation-failed - /net:host[1] -
-  /net:host[1]: its keys are those of /net:host[3].
+  /net:host[1]: its key name='a' is that of /net:host[3].
   Another entry has the same key. Change the key of one, or take one out.
 V8 operation-failed - /net:host[3] -
-  /net:host[3]: its keys are those of /net:host[1].
+  /net:host[3]: its key name='a' is that of /net:host[1].
   Another entry has the same key. Change the key of one, or take one out.
 2 faults
 ==
 yanglive validate --explain ports n.yang
 1 0
 V9 operation-failed data-not-unique /net:host[1] 1
-  /net:host[name='a']: its values of unique 1 are those of /net:host[2].
+  /net:host[name='a']: its port 5 is that of /net:host[2].
   Another entry has the same values of a unique. Change one of these values.
 V9 operation-failed data-not-unique /net:host[2] 1
-  /net:host[name='b']: its values of unique 1 are those of /net:host[1].
+  /net:host[name='b']: its port 5 is that of /net:host[1].
   Another entry has the same values of a unique. Change one of these values.
 2 faults
 ==
 yanglive validate --explain tags n.yang
 1 0
 V10 operation-failed - /net:host[1]/tag[1] -
-  /net:host[1]/tag[1]: its value is that of /net:host[1]/tag[3].
+  /net:host[1]/tag[1]: its value \"x\" is that of /net:host[1]/tag[3].
   Another item of a configuration leaf-list has the same value. Take one of them out.
 V10 operation-failed - /net:host[1]/tag[3] -
-  /net:host[1]/tag[3]: its value is that of /net:host[1]/tag[1].
+  /net:host[1]/tag[3]: its value \"x\" is that of /net:host[1]/tag[1].
   Another item of a configuration leaf-list has the same value. Take one of them out.
 2 faults
 ==
@@ -343,7 +343,7 @@ yanglive validate --explain good n.yang
 yanglive edit --explain good adding n.yang
 1 0
 V1 invalid-value - /net:host[2]/port -
-  /net:host[name='b']/port: \"7\" isn't a value of uint16.
+  /net:host[name='b']/port: \"7\" isn't a value of uint16: it takes an integer without quotes in 0..65535.
   A value isn't one that its type takes. Look at the type's range, length and names; 64-bit integers and decimal64 are strings.
 1 fault
 ==
@@ -494,9 +494,10 @@ fraction: J6 /net:host[1]/speed
   A number has a fraction or an exponent. Write an integer without them; write a decimal64 as a string.
 ==
 yanglive validate --explain open n.yang
-2 2
+2 3
 open: J1 /
   The document isn't JSON. Look for a comma or a bracket too many or too few, and for text that isn't UTF-8.
+open:1:1: it stops being JSON here
 ==
 yanglive edit --explain array adding n.yang
 2 2

@@ -12,6 +12,8 @@ mod explaining;
 #[cfg(test)]
 mod failing;
 #[cfg(test)]
+mod formatting;
+#[cfg(test)]
 mod groupings;
 #[cfg(test)]
 mod modules;

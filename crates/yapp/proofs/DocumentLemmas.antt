@@ -8,15 +8,15 @@ use Rattle.yspec.specs.text.Text.{Text}
 use Rattle.yspec.specs.schema.Schema as spec
 use Rattle.yspec.specs.document.Document.{Tree, document_limit}
 use Rattle.yspec.specs.document.Fitting.{Fits}
-use Rattle.yspec.specs.document.Writing.{IsDocument, written_text}
+use Rattle.yspec.specs.document.Writing.{IsDocument}
 use Rattle.yspec.specs.edit.EditText.{Edit}
 use Rattle.yspec.specs.edit.Editing as editing
 use Rattle.yspec.specs.edit.Editing.{Decision, after}
 use Rattle.yspec.specs.edit.Live as live
 use Rattle.yspec.specs.document.Fault as spec_fault
 use Rattle.yspec.specs.document.Faults.{faults_of}
-use Rattle.yprogram.specs.Output.{Options, Outcome, SavedFile, dump, left, plainly, report, saved_by}
-use Rattle.yprogram.specs.Part.{Part, plain}
+use Rattle.yprogram.specs.Output.{Options, Outcome, SavedFile, left, text_parts, plainly, report, saved_by, text_instead}
+use Rattle.yprogram.specs.Part.{Part}
 use Rattle.yspec.proofs.EditProofs.FittingEditLemmas.{edits_whole}
 use Rattle.yspec.proofs.EditProofs.LimitLemmas.{edits_within}
 use Rattle.ycheck.specs.View.{view, views}
@@ -89,16 +89,17 @@ pub left_of : (options : Options) (e : EditedDocument) (d : Document) → IsOf e
 left_of options e d of = ap (λ (s : spec.Schema). left options s (tree_of d) (refused_of d)) of.schema_is
     ∙ ap₂ (left options (live_of e).schema) of.tree_is of.refused_is
 
--- one that is neither dumped nor written to a file is told plainly
-pub left_plainly : (options : Options) → (options.is_dump || is_some options.saved_as) ≡ false → (s : spec.Schema) (t : Tree) (refused : List Part)
-    → left options s t refused ≡ left plainly s t refused
-left_plainly options unwritten s t refused = by options.is_dump options.saved_as unwritten
+-- one that is neither dumped nor written to a file, and whose faults aren't told as JSON, is told plainly
+pub left_plainly : (options : Options) → (options.is_dump || (options.as_json || is_some options.saved_as)) ≡ false
+    → (s : spec.Schema) (t : Tree) (refused : List Part) → left options s t refused ≡ left plainly s t refused
+left_plainly options no_more s t refused = by options.is_dump options.as_json options.saved_as no_more
   where
-    by : (is_dump : Bool) (saved_as : Option Text) → (is_dump || is_some saved_as) ≡ false
-        → left (record options { is_dump = is_dump; saved_as = saved_as }) s t refused ≡ left plainly s t refused
-    by true saved_as is = cc
-    by false None is = refl
-    by false (Some name) is = cc
+    by : (is_dump as_json : Bool) (saved_as : Option Text) → (is_dump || (as_json || is_some saved_as)) ≡ false
+        → left (record options { is_dump = is_dump; as_json = as_json; saved_as = saved_as }) s t refused ≡ left plainly s t refused
+    by true as_json saved_as is = cc
+    by false true saved_as is = cc
+    by false false None is = refl
+    by false false (Some name) is = cc
 
 -- want of memory leads anywhere
 pub memory_leads : {X : Type 0} (o : Outcome) (next : X → Outcome) (r : Result X Failure) → IsErrAnd r (λ e. e ≡ failures.Memory) → LeadsTo o next r
@@ -115,29 +116,24 @@ abbrev outcome_with : Option SavedFile → List Part → List Part → Bool → 
 outcome_with saved output errors no_fault none_refused =
     record { output = output; errors = errors; status = if no_fault && none_refused then 0 else 1; saved = saved }
 
-abbrev text_parts : Text → List Part
-text_parts text = plain (text ++ codes "\n") ∷ []
-
-text_shown : (is_dump : Bool) (text : Option (String Global)) (written : Text) (shown : List Part)
-    → option_map string_bytes text ≡ (if is_dump then Some written else None)
-    → option_map_or (λ t. text_parts (string_bytes t)) text shown ≡ (if is_dump then text_parts written else shown)
-text_shown true text written shown is = by_text text ∙ ap (λ (o : Option Text). option_map_or text_parts o shown) is
+text_shown : (text : Option (String Global)) (instead : Option Text) (shown : List Part) → option_map string_bytes text ≡ instead
+    → option_map_or (λ t. text_parts (string_bytes t)) text shown ≡ option_map_or text_parts instead shown
+text_shown text instead shown is = by_text text ∙ ap (λ (o : Option Text). option_map_or text_parts o shown) is
   where
     by_text : (text : Option (String Global)) → option_map_or (λ t. text_parts (string_bytes t)) text shown ≡ option_map_or text_parts (option_map string_bytes text) shown
     by_text None = refl
     by_text (Some t) = refl
-text_shown false None written shown is = refl
-text_shown false (Some t) written shown is = cc
 
 pub report_is : (options : Options) (s : spec.Schema) (t : Tree) (found : List Fault) (refused : List RefusedLine) (text : Option (String Global)) (saved : Option SavedFile)
-    → views found ≡ faults_of s t → option_map string_bytes text ≡ (if options.is_dump then Some (written_text s t) else None) → saved ≡ saved_by options s t
+    → views found ≡ faults_of s t → option_map string_bytes text ≡ text_instead options s t (views found) → saved ≡ saved_by options s t
     → outcome_with saved (option_map_or (λ t. text_parts (string_bytes t)) text (report s t (views found))) (refused_parts refused) (length found == 0) (length refused == 0)
     ≡ left options s t (refused_parts refused)
 report_is options s t found refused text saved same is saved_is =
     let made = outcome_with (saved_by options s t) in
     let parts = refused_parts refused in
+    let shown : List spec_fault.Fault → List Part = λ fs. option_map_or text_parts (text_instead options s t fs) (report s t fs) in
     ap (λ (o : Option SavedFile). outcome_with o (option_map_or (λ t. text_parts (string_bytes t)) text (report s t (views found))) parts (length found == 0) (length refused == 0)) saved_is
     ∙ (ap (λ (b : Bool). made (option_map_or (λ t. text_parts (string_bytes t)) text (report s t (views found))) parts (length found == 0) b) (sym (none_refused refused))
-    ∙ (ap (λ (o : List Part). made o parts (length found == 0) (length parts == 0)) (text_shown options.is_dump text (written_text s t) (report s t (views found)) is)
-    ∙ (ap (λ (n : ℕ). made (if options.is_dump then plain (dump s t) ∷ [] else report s t (views found)) parts (n == 0) (length parts == 0)) (sym (length-map found view))
-    ∙ ap (λ (fs : List spec_fault.Fault). made (if options.is_dump then plain (dump s t) ∷ [] else report s t fs) parts (length fs == 0) (length parts == 0)) same)))
+    ∙ (ap (λ (o : List Part). made o parts (length found == 0) (length parts == 0)) (text_shown text (text_instead options s t (views found)) (report s t (views found)) is)
+    ∙ (ap (λ (n : ℕ). made (shown (views found)) parts (n == 0) (length parts == 0)) (sym (length-map found view))
+    ∙ ap (λ (fs : List spec_fault.Fault). made (shown fs) parts (length fs == 0) (length parts == 0)) same)))

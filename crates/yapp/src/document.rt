@@ -3,8 +3,7 @@
 ghost use Rattle.std.specs.Prelude.{◌≡◌, [], ℕ, List, IfOk, map, option_map, string_bytes, Option, Some, None, false, if◌then◌else◌};
 ghost use Rattle.yspec.specs.document.Document as document_spec;
 ghost use Rattle.yspec.specs.document.Reading.{document_of};
-ghost use Rattle.yspec.specs.document.Writing.{written_text};
-ghost use Rattle.yprogram.specs.Output.{Outcome, dump, first_file, left, not_read, plainly, repeated_document, saved_by, unless_repeated, with_document, with_tree};
+ghost use Rattle.yprogram.specs.Output.{Outcome, dump, first_file, left, not_read, plainly, repeated_document, saved_by, text_instead, unless_repeated, with_document, with_tree};
 ghost use Rattle.yprogram.specs.Part.{Part};
 ghost use Rattle.yprogram.specs.Script.{after_lines, lines_of, refused_lines};
 ghost use Rattle.yspec.specs.schema.Schema as schema_spec;
@@ -34,6 +33,7 @@ use std::alloc::{AllocError, Global};
 use ycheck::{Fault, faults};
 use ycommand::Options;
 use yexplain::explanation_of;
+use yformat::json_text;
 use ylive::Live;
 use ymodel::Schema;
 use yrepeated::first_repeated;
@@ -294,8 +294,8 @@ fn taken_apart(edited: EditedDocument) -> Result<Document, AllocError>
     }
 }
 
-/// What is to be told of a document after the lines of a script. Where nothing is said of its faults, and it is neither to be
-/// dumped nor written to a file, that is told by the live document itself.
+/// What is to be told of a document after the lines of a script. Where the lines of its faults are wanted alone, these are
+/// told by the live document itself.
 pub(crate) fn report_on_edited(
     alloc: Global,
     edited: EditedDocument,
@@ -307,7 +307,7 @@ pub(crate) fn report_on_edited(
         ≡ left (options_view options) (live_of edited).schema (live_of edited).tree (refused_in edited)) }
     ensures explained { IfOk result (IsExplained with_reasons) }
 {
-    if with_reasons || is_written(options) {
+    if with_reasons || wants_more(options) {
         let document = taken_apart(edited)?;
         report_on(alloc, document, with_reasons, options)
     } else {
@@ -315,16 +315,16 @@ pub(crate) fn report_on_edited(
     }
 }
 
-/// Whether a document is to be dumped or written to a file.
-fn is_written(options: Options<'_>) -> bool
+/// Whether a document is to be dumped or written to a file, or its faults are to be told as JSON.
+fn wants_more(options: Options<'_>) -> bool
     ensures { result ≡ false → (s : schema_spec.Schema) (t : document_spec.Tree)
         (refused : List Part) → left (options_view options) s t refused ≡ left plainly s t refused }
 {
-    options.is_dump || options.saved_as.is_some()
+    options.is_dump || options.as_json || options.saved_as.is_some()
 }
 
-/// What is to be told of a document: its faults, where that is wanted with what is said of each, or its text where it is
-/// to be dumped.
+/// What is to be told of a document: its faults, where that is wanted with what is said of each or as JSON, or its text
+/// where it is to be dumped.
 pub(crate) fn report_on(
     alloc: Global,
     document: Document,
@@ -337,7 +337,7 @@ pub(crate) fn report_on(
     ensures explained { IfOk result (IsExplained with_reasons) }
 {
     let faults = faults(alloc, &document.schema, &document.tree)?;
-    let text = text_of(alloc, &document, options.is_dump)?;
+    let text = text_instead(alloc, &document, &faults, options)?;
     let saved = saved_file(alloc, &document, options)?;
     let explanations = explanations_of(alloc, &document, &faults, with_reasons & text.is_none())?;
     Ok(Report::Document(DocumentReport {
@@ -427,16 +427,24 @@ fn dumped(alloc: Global, document: &Document) -> Result<String, AllocError>
     Ok(text)
 }
 
-/// The text of a document that is to be dumped.
-fn text_of(alloc: Global, document: &Document, is_dump: bool) -> Result<Option<String>, AllocError>
+/// What stands in place of the lines of the faults of a document: its text where it is to be dumped, or these as JSON.
+fn text_instead(
+    alloc: Global,
+    document: &Document,
+    faults: &[Fault],
+    options: Options<'_>,
+) -> Result<Option<String>, AllocError>
     requires { IsSound (schema_of document.now) (tree_of document.now) }
     ensures { IfOk result (λ text. option_map string_bytes text
-        ≡ (if is_dump then Some (written_text (schema_of document.now) (tree_of document.now)) else
-        None)) }
+        ≡ text_instead (options_view options) (schema_of document.now) (tree_of document.now)
+        (views faults.now)) }
 {
-    if is_dump {
-        Ok(Some(write(alloc, &document.schema, &document.tree)?))
-    } else {
-        Ok(None)
+    if options.is_dump {
+        return Ok(Some(write(alloc, &document.schema, &document.tree)?));
     }
+    if options.as_json {
+        let text = json_text(alloc, &document.schema, &document.tree, faults)?;
+        return Ok(Some(text));
+    }
+    Ok(None)
 }

@@ -35,11 +35,42 @@ fn as_line(alloc: Global, front: &str, text: &str) -> Result<String, AllocError>
 }
 
 /// The line of a text that is told.
-pub fn line_hint(alloc: Global, line: u32, bytes: &[u8]) -> Result<String, AllocError>
+fn line_hint(alloc: Global, line: u32, bytes: &[u8]) -> Result<String, AllocError>
     ensures { IfOk result (λ hint. string_bytes hint ≡ spec.line_hint line bytes.now) }
 {
     let shown = shown_line(alloc, line, bytes)?;
     as_line(alloc, "  | ", shown.as_str())
+}
+
+/// Whether a text begins as a JSON object does, behind white space.
+fn begins_object(bytes: &[u8]) -> bool
+    ensures { result ≡ spec.begins_object bytes.now }
+{
+    for byte in bytes {
+        if *byte > b' ' {
+            return *byte == b'{';
+        }
+    }
+    false
+}
+
+fn object_hint(bytes: &[u8]) -> &'static str
+    ensures { result.now ≡ spec.object_hint (spec.begins_object bytes.now) }
+{
+    if begins_object(bytes) {
+        "  this is JSON, and no module: the document stands before the modules.\n"
+    } else {
+        ""
+    }
+}
+
+/// What is said of a module's text that is refused in a line: that line, and whether it is a document's.
+pub fn slip_hint(alloc: Global, line: u32, bytes: &[u8]) -> Result<String, AllocError>
+    ensures { IfOk result (λ hint. string_bytes hint ≡ spec.slip_hint line bytes.now) }
+{
+    let mut hint = line_hint(alloc, line, bytes)?;
+    hint.push_str(object_hint(bytes))?;
+    Ok(hint)
 }
 
 /// What is said of the statements of a line of a module, of C1 alone.

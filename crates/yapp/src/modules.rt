@@ -15,7 +15,7 @@ ghost use Rattle.yapp.specs.Failing.{FailsWith, LeadsTo};
 
 use crate::contents::Taken;
 use crate::failure::Failure;
-use crate::hint::{break_hint, line_hint};
+use crate::hint::{break_hint, slip_hint};
 use std::alloc::Global;
 use ygrammar::BrokenRule;
 use ymodel::Schema;
@@ -80,7 +80,7 @@ fn text_failure<'a>(
     ensures { FailsWith result (spec.slipped name.entry.now text.now
         (record { code = number_of code; line = line })) }
 {
-    match line_hint(alloc, line, text) {
+    match slip_hint(alloc, line, text) {
         Ok(hint) => Failure::Text {
             name,
             code,

@@ -9,7 +9,7 @@ use Rattle.yspec.specs.document.Reading.{document_of}
 use Rattle.yspec.specs.document.Writing.{written_text}
 use Rattle.yspec.specs.edit.Examples.{module_p, module_text}
 use Rattle.ycodes.specs.Codes.{reason_of}
-use Rattle.yprogram.specs.Output.{Options, Printed, as_dump, compile, draw, edit, outcome, plainly, printed, validate}
+use Rattle.yprogram.specs.Output.{Options, Printed, as_dump, compile, draw, edit, outcome, plainly, printed, told_as_json, validate}
 use Rattle.yexamples.specs.Printing.{found, printed_by}
 
 -- a mandatory leaf in a container in a container
@@ -31,6 +31,11 @@ shown_of_two first second document =
 abbrev pub shown_with_reasons : Text → Text → Printed
 shown_with_reasons module_bytes document =
     printed true (outcome (validate plainly (codes "d.json") (codes "m.yang" ∷ [])) (Some module_bytes ∷ Some document ∷ []))
+
+-- the same as JSON
+abbrev pub shown_as_json : Text → Text → Printed
+shown_as_json module_bytes document =
+    printed_by (validate told_as_json (codes "d.json") (codes "m.yang" ∷ [])) (Some module_bytes ∷ Some document ∷ [])
 
 -- the line of a fault, what is said of its place, and why its code is told
 abbrev pub with_reasons : Text → Text → Text → Text

@@ -3,11 +3,11 @@
 ghost use Rattle.std.specs.Prelude.{◌≡◌, ◌++◌, [], ◌∷◌, Some, codes, false, true};
 ghost use Rattle.yexamples.specs.CompilingSamples.{net_module, k_module, t_module, restricted_module};
 ghost use Rattle.yexamples.specs.Printing.{failed, found};
-ghost use Rattle.yprogram.specs.Output.{as_dump, compile, edit, explain, outcome, plainly, printed, validate};
+ghost use Rattle.yprogram.specs.Output.{as_dump, compile, edit, explain, outcome, plainly, printed, told_as_json, validate};
 ghost use Rattle.yprogram.specs.Script.{lines_of};
 ghost use Rattle.yexamples.specs.SchemaExamples.{hosts, one_host};
 ghost use Rattle.yspec.specs.edit.Examples.{module_p, module_text};
-ghost use Rattle.yexamples.specs.RunExamples.{counted, drawn_as, dumped, edited_with_reasons, faulty, line_with_reasons, scripted, shown, shown_of_two, without_faults, one_with_reasons, refused_with_reasons, shown_with_reasons, strictly_edited, strictly_shown, with_reasons};
+ghost use Rattle.yexamples.specs.RunExamples.{counted, drawn_as, dumped, edited_with_reasons, faulty, line_with_reasons, scripted, shown, shown_as_json, shown_of_two, without_faults, one_with_reasons, refused_with_reasons, shown_with_reasons, strictly_edited, strictly_shown, with_reasons};
 
 /// How many nodes modules define.
 pub fn counts()
@@ -187,7 +187,7 @@ pub fn reasons()
 /// What is said of faults, where that is asked for: their places by keys, and what stands there.
 pub fn explained_faults()
     ensures value { shown_with_reasons module_p (codes "{\"p:c\":{\"id\":256}}")
-        ≡ one_with_reasons (codes "V1 invalid-value - /p:c/id -") (codes "/p:c/id: 256 isn't a value of uint8.") (codes "V1") }
+        ≡ one_with_reasons (codes "V1 invalid-value - /p:c/id -") (codes "/p:c/id: 256 isn't a value of uint8: it takes an integer without quotes in 0..255.") (codes "V1") }
     ensures missing_key { shown_with_reasons net_module (hosts (codes "{\"auto\":[null]}"))
         ≡ one_with_reasons (codes "V2 missing-element - /ex-net:net/host[1]/name -") (codes "/ex-net:net/host[1]: its key name is missing.") (codes "V2") }
     ensures missing_case { shown_with_reasons net_module (hosts (codes "{\"name\":\"it's\"}"))
@@ -199,8 +199,8 @@ pub fn explained_faults()
         ≡ one_with_reasons (codes "V6 operation-failed too-few-elements /ex-net:net/host -") (codes "/ex-net:net/host: it has 0, and must have at least 1.") (codes "V6") }
     ensures same_key { shown_with_reasons net_module (hosts (codes
         "{\"name\":\"a\",\"auto\":[null]},{\"name\":\"b\",\"auto\":[null]},{\"name\":\"a\",\"auto\":[null]}"))
-        ≡ found 1 (with_reasons (codes "V8 operation-failed - /ex-net:net/host[1] -") (codes "/ex-net:net/host[1]: its keys are those of /ex-net:net/host[3].") (codes "V8")
-        ++ (with_reasons (codes "V8 operation-failed - /ex-net:net/host[3] -") (codes "/ex-net:net/host[3]: its keys are those of /ex-net:net/host[1].") (codes "V8")
+        ≡ found 1 (with_reasons (codes "V8 operation-failed - /ex-net:net/host[1] -") (codes "/ex-net:net/host[1]: its key name='a' is that of /ex-net:net/host[3].") (codes "V8")
+        ++ (with_reasons (codes "V8 operation-failed - /ex-net:net/host[3] -") (codes "/ex-net:net/host[3]: its key name='a' is that of /ex-net:net/host[1].") (codes "V8")
         ++ codes "2 faults\n")) }
     ensures no_target { shown_with_reasons net_module
         (hosts (codes "{\"name\":\"a\",\"auto\":[null],\"uplink\":\"b\"}"))
@@ -208,7 +208,26 @@ pub fn explained_faults()
     ensures after_edits { printed true (outcome (edit plainly (codes "d.json") (codes "s.txt") (codes "m.yang" ∷ []))
         (Some module_p ∷ Some (codes "{\"p:c\":{\"id\":1}}")
         ∷ Some (codes "replace /p:c/id 300") ∷ []))
-        ≡ one_with_reasons (codes "V1 invalid-value - /p:c/id -") (codes "/p:c/id: 300 isn't a value of uint8.") (codes "V1") }
+        ≡ one_with_reasons (codes "V1 invalid-value - /p:c/id -") (codes "/p:c/id: 300 isn't a value of uint8: it takes an integer without quotes in 0..255.") (codes "V1") }
+{}
+
+/// Faults as objects of JSON: their members in order, what is left out, and the last line; a document that is dumped stands
+/// in their place.
+pub fn faults_as_json()
+    ensures value { shown_as_json module_p (codes "{\"p:c\":{\"id\":256}}")
+        ≡ found 1 (codes "{\"error-message\":\"256 isn't a value of uint8: it takes an integer without quotes in 0..255.\",\"error-path\":\"/p:c/id\",\"error-tag\":\"invalid-value\",\"error-type\":\"application\",\"yanglive:code\":\"V1\",\"yanglive:path\":\"/p:c/id\"}\n"
+        ++ codes "{\"yanglive:faults\":1}\n") }
+    ensures missing_case { shown_as_json net_module (hosts (codes "{\"name\":\"a\"}"))
+        ≡ found 1 (codes "{\"error-app-tag\":\"missing-choice\",\"error-message\":\"no case of the choice mode is there.\",\"error-path\":\"/ex-net:net/host[name='a']\",\"error-tag\":\"data-missing\",\"error-type\":\"application\",\"yanglive:code\":\"V4\",\"yanglive:info\":\"mode\",\"yanglive:path\":\"/ex-net:net/host[1]\"}\n"
+        ++ codes "{\"yanglive:faults\":1}\n") }
+    ensures none { shown_as_json module_p (codes "{\"p:c\":{\"id\":1}}")
+        ≡ found 0 (codes "{\"yanglive:faults\":0}\n") }
+    ensures with_reasons { printed true (outcome (validate told_as_json (codes "d.json") (codes "m.yang" ∷ []))
+        (Some module_p ∷ Some (codes "{\"p:c\":{\"id\":1}}") ∷ []))
+        ≡ found 0 (codes "{\"yanglive:faults\":0}\n") }
+    ensures dump { printed false (outcome (edit (record told_as_json { is_dump = true }) (codes "d.json") (codes "s.txt") (codes "m.yang" ∷ []))
+        (Some module_p ∷ Some (codes "{\"p:c\":{\"id\":1}}") ∷ Some [] ∷ []))
+        ≡ found 0 (codes "{\"p:c\":{\"id\":1}}\n") }
 {}
 
 /// What is said of refused documents, where that is asked for: which member isn't known, or is written otherwise, and which

@@ -2,3 +2,4 @@ pub mod CaseLemmas
 pub mod FellowLemmas
 pub mod PlaceLemmas
 pub mod SentenceLemmas
+pub mod TupleLemmas

@@ -16,15 +16,15 @@ use Rattle.yexplain.proofs.PlaceLemmas.{last_seen, above_seen}
 
 module _ (schema : Schema) (tree row : Tree) (info : Info) (steps above : List code.Step) (step : code.Step) (k v : FaultCode)
     (parted : steps ≡ above ++ step ∷ []) (row_is : row ≡ row_at tree (place_view above)) (code_is : k ≡ v) where
-  said_at : sentence_at schema row (place_view above) info (code_view v) (step_view step)
+  said_at : sentence_at schema tree row (place_view above) info (code_view v) (step_view step)
       ≡ sentence_to schema tree (place_view steps) info (code_view k)
-  said_at = ap (λ r. sentence_at schema r (place_view above) info (code_view v) (step_view step)) row_is
-      ∙ (ap (λ c. sentence_at schema (row_at tree (place_view above)) (place_view above) info (code_view c) (step_view step)) (sym code_is)
-      ∙ (ap (λ (xs : List Step). sentence_at schema (row_at tree xs) xs info (code_view k) (step_view step)) (sym (above_seen steps above step parted))
-      ∙ ap (λ o. option_map_or (sentence_at schema (row_at tree (steps_above (place_view steps))) (steps_above (place_view steps)) info (code_view k)) o [])
+  said_at = ap (λ r. sentence_at schema tree r (place_view above) info (code_view v) (step_view step)) row_is
+      ∙ (ap (λ c. sentence_at schema tree (row_at tree (place_view above)) (place_view above) info (code_view c) (step_view step)) (sym code_is)
+      ∙ (ap (λ (xs : List Step). sentence_at schema tree (row_at tree xs) xs info (code_view k) (step_view step)) (sym (above_seen steps above step parted))
+      ∙ ap (λ o. option_map_or (sentence_at schema tree (row_at tree (steps_above (place_view steps))) (steps_above (place_view steps)) info (code_view k)) o [])
       (sym (last_seen steps above step parted))))
 
   pub said_of_last : {E : Type 0} → (r : Result (String Global) E)
-      → IfOk r (λ text. string_bytes text ≡ sentence_at schema row (place_view above) info (code_view v) (step_view step))
+      → IfOk r (λ text. string_bytes text ≡ sentence_at schema tree row (place_view above) info (code_view v) (step_view step))
       → IfOk r (λ text. string_bytes text ≡ sentence_to schema tree (place_view steps) info (code_view k))
   said_of_last r said = subst (λ (t : Text). IfOk r (λ text. string_bytes text ≡ t)) said_at said

@@ -25,10 +25,13 @@ abbrev pub has_keys : Tree → List ℕ → Bool
 has_keys row [] = false
 has_keys row (key ∷ keys) = list_all (λ k. is_some (leaf_in row k)) (key ∷ keys)
 
+-- `name='value'`
+abbrev pub key_words : Schema → Tree → ℕ → Text
+key_words schema row key = name_of schema key ++ (codes "=" ++ quoted (bare_text (leaf_in row key)))
+
 -- `[name='value']`
 abbrev pub key_predicate : Schema → Tree → ℕ → Text
-key_predicate schema row key =
-    codes "[" ++ (name_of schema key ++ (codes "=" ++ (quoted (bare_text (leaf_in row key)) ++ codes "]")))
+key_predicate schema row key = codes "[" ++ (key_words schema row key ++ codes "]")
 
 -- `[.='value']`
 abbrev pub item_predicate : Raw → Text

@@ -1,6 +1,9 @@
 pub mod Places
 pub mod Values
 pub mod KeyedPath
+pub mod Joining
+pub mod TakenWords
+pub mod TupleWords
 pub mod Fellows
 pub mod Cases
 pub mod Sentences

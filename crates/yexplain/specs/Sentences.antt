@@ -1,18 +1,24 @@
 -- What is said of a fault of a document: a path, and what is there or is missing.
-use Rattle.std.specs.Prelude.{ℕ, ◌++◌, List, [], codes, decimal, map, Option, Some, None, option_and_then, unwrap_or}
+use Rattle.std.specs.Prelude.{ℕ, ◌++◌, ◌==◌, List, [], ◌∷◌, codes, decimal, map, Option, Some, None, option_and_then, unwrap_or, if◌then◌else◌}
 use Rattle.std.specs.Option.{option_map_or}
-use Rattle.yspec.specs.Forest.{Forest}
+use Rattle.serde_json.specs.Data.{string}
+use Rattle.serde_json.specs.Written.{compact_text}
+use Rattle.yspec.specs.Forest.{Forest, end, node}
 use Rattle.yspec.specs.text.Text.{Text}
+use Rattle.yspec.specs.types.Types.{Raw, text}
 use Rattle.yspec.specs.schema.Schema.{Schema, SchemaNode, Kind, list, leaf_list, Amount, LeafType, type_in, node_at, children_of, written_name, data_way_to}
 use Rattle.yspec.specs.document.Document.{Tree, Step, step_to, instances_in}
 use Rattle.yspec.specs.document.FaultCode.{FaultCode, V1, V2, V3, V4, V5, V6, V7, V8, V9, V10, V11}
 use Rattle.yspec.specs.document.Fault.{Fault, Info, choice_name, unique_number}
 use Rattle.yspec.specs.document.Path.{path_text, module_after}
-use Rattle.yexplain.specs.Places.{instance_to, row_at, last_step, steps_above}
+use Rattle.yhint.specs.Near.{nearest}
+use Rattle.yexplain.specs.Places.{instance_to, row_to, row_at, last_step, steps_above}
 use Rattle.yexplain.specs.Values.{value_text}
 use Rattle.yexplain.specs.KeyedPath.{keyed_path}
 use Rattle.yexplain.specs.Fellows.{fellow_entry, fellow_item, fellow_text}
 use Rattle.yexplain.specs.Cases.{stored_case_names}
+use Rattle.yexplain.specs.TakenWords.{taken_words}
+use Rattle.yexplain.specs.TupleWords.{keys_at, keys_said, unique_at, leafs_said}
 
 -- ---- what the schema says
 
@@ -22,6 +28,10 @@ type_at schema number = option_and_then (λ n. type_in n.kind) (node_at schema n
 -- the name of the type of a leaf or leaf-list as its module writes it
 abbrev pub type_name : Schema → ℕ → Text
 type_name schema number = option_map_or (λ t. t.name) (type_at schema number) []
+
+-- what that type takes
+abbrev pub taken_at : Schema → ℕ → Text
+taken_at schema number = option_map_or (λ t. taken_words t.type) (type_at schema number) []
 
 abbrev pub amount_in : Kind → Option Amount
 amount_in (list tuples amount) = Some amount
@@ -42,6 +52,32 @@ target_path schema target =
 abbrev pub target_at : Schema → ℕ → Option ℕ
 target_at schema number = option_and_then (λ t. t.target) (type_at schema number)
 
+-- ---- what is near to a value that no instance of a target has
+
+abbrev pub texts_in : Option Raw → List Text
+texts_in (Some (text t)) = t ∷ []
+texts_in _ = []
+
+-- the texts that the instances at the end of a way have, in order
+abbrev pub texts_on : List Step → Tree → List Text
+texts_on [] row = []
+texts_on (step ∷ way) end = []
+texts_on (step ∷ way) (node s below after) =
+    (if s.schema_number == step.schema_number then texts_in s.value ++ texts_on way below else [])
+    ++ texts_on (step ∷ way) after
+
+-- the one of them that is nearest to a text
+abbrev pub nearest_target : Schema → Tree → Option ℕ → Option Raw → Option Text
+nearest_target schema tree (Some target) (Some (text t)) =
+    nearest t (texts_on (steps_of (data_way_to schema target)) tree)
+nearest_target schema tree _ _ = None
+
+abbrev pub near_words : Option Text → Text
+near_words None = codes "."
+near_words (Some t) = codes "; near it: " ++ (compact_text (string t) ++ codes ".")
+
+-- ---- where nodes may stand
+
 -- the nodes that may stand at the place to which steps lead
 abbrev pub children_at : Schema → List Step → Forest SchemaNode
 children_at schema steps =
@@ -52,7 +88,8 @@ children_at schema steps =
 -- V1
 abbrev pub wrong_value : Schema → Tree → Step → Text
 wrong_value schema row step = value_text (option_and_then (λ found. found.0.value) (instance_to row step))
-    ++ (codes " isn't a value of " ++ (type_name schema step.schema_number ++ codes "."))
+    ++ (codes " isn't a value of " ++ (type_name schema step.schema_number
+    ++ (codes ": it takes " ++ (taken_at schema step.schema_number ++ codes "."))))
 
 -- the name of the node as it is written below a place
 abbrev pub name_below : Schema → List Step → ℕ → Text
@@ -79,23 +116,26 @@ too_many schema row number = codes "it has " ++ (decimal (instances_in row numbe
 
 -- V8
 abbrev pub same_key : Schema → Tree → List Step → Step → Text
-same_key schema row above step =
-    codes "its keys are those of " ++ (fellow_text schema above step.schema_number (fellow_entry schema 0 row step) ++ codes ".")
+same_key schema row above step = keys_said schema (row_to row step) (keys_at schema step.schema_number)
+    ++ (fellow_text schema above step.schema_number (fellow_entry schema 0 row step) ++ codes ".")
 
 -- V9
 abbrev pub same_unique : Schema → Tree → List Step → Step → ℕ → Text
-same_unique schema row above step u = codes "its values of unique " ++ (decimal u ++ (codes " are those of "
-    ++ (fellow_text schema above step.schema_number (fellow_entry schema u row step) ++ codes ".")))
+same_unique schema row above step u = leafs_said schema (row_to row step) (unique_at schema step.schema_number u)
+    ++ (fellow_text schema above step.schema_number (fellow_entry schema u row step) ++ codes ".")
 
 -- V10
 abbrev pub same_item : Schema → Tree → List Step → Step → Text
-same_item schema row above step =
-    codes "its value is that of " ++ (fellow_text schema above step.schema_number (fellow_item schema row step) ++ codes ".")
+same_item schema row above step = codes "its value " ++ (value_text (option_and_then (λ found. found.0.value) (instance_to row step))
+    ++ (codes " is that of " ++ (fellow_text schema above step.schema_number (fellow_item schema row step) ++ codes ".")))
 
 -- V11
-abbrev pub no_target : Schema → Tree → Step → Text
-no_target schema row step = codes "no instance of " ++ (target_path schema (target_at schema step.schema_number)
-    ++ (codes " is " ++ (value_text (option_and_then (λ found. found.0.value) (instance_to row step)) ++ codes ".")))
+abbrev pub no_target : Schema → Tree → Tree → Step → Text
+no_target schema tree row step =
+    let target = target_at schema step.schema_number in
+    let value = option_and_then (λ found. found.0.value) (instance_to row step) in
+    codes "no instance of " ++ (target_path schema target ++ (codes " is " ++ (value_text value
+    ++ near_words (nearest_target schema tree target value))))
 
 -- ---- what is said of a choice below a place
 
@@ -118,24 +158,24 @@ abbrev pub choice_in : Info → Text
 choice_in (choice_name name) = name
 choice_in _ = []
 
--- what is said of a step below some others, from the row in which it leads to a node
-abbrev pub sentence_at : Schema → Tree → List Step → Info → FaultCode → Step → Text
-sentence_at schema row above info V1 step = wrong_value schema row step
-sentence_at schema row above info V2 step = missing_key schema above step.schema_number
-sentence_at schema row above info V3 step = missing_leaf schema above step.schema_number
-sentence_at schema row above info V4 step = []
-sentence_at schema row above info V5 step = []
-sentence_at schema row above info V6 step = too_few schema row step.schema_number
-sentence_at schema row above info V7 step = too_many schema row step.schema_number
-sentence_at schema row above info V8 step = same_key schema row above step
-sentence_at schema row above info V9 step = same_unique schema row above step (unique_in info)
-sentence_at schema row above info V10 step = same_item schema row above step
-sentence_at schema row above info V11 step = no_target schema row step
+-- what is said of a step below some others, from the row of a document in which it leads to a node
+abbrev pub sentence_at : Schema → Tree → Tree → List Step → Info → FaultCode → Step → Text
+sentence_at schema tree row above info V1 step = wrong_value schema row step
+sentence_at schema tree row above info V2 step = missing_key schema above step.schema_number
+sentence_at schema tree row above info V3 step = missing_leaf schema above step.schema_number
+sentence_at schema tree row above info V4 step = []
+sentence_at schema tree row above info V5 step = []
+sentence_at schema tree row above info V6 step = too_few schema row step.schema_number
+sentence_at schema tree row above info V7 step = too_many schema row step.schema_number
+sentence_at schema tree row above info V8 step = same_key schema row above step
+sentence_at schema tree row above info V9 step = same_unique schema row above step (unique_in info)
+sentence_at schema tree row above info V10 step = same_item schema row above step
+sentence_at schema tree row above info V11 step = no_target schema tree row step
 
 -- of the last step to a place
 abbrev pub sentence_to : Schema → Tree → List Step → Info → FaultCode → Text
 sentence_to schema tree steps info code = option_map_or
-    (sentence_at schema (row_at tree (steps_above steps)) (steps_above steps) info code) (last_step steps) []
+    (sentence_at schema tree (row_at tree (steps_above steps)) (steps_above steps) info code) (last_step steps) []
 
 abbrev pub sentence : Schema → Tree → List Step → Info → FaultCode → Text
 sentence schema tree steps info V4 = no_case (choice_in info)

@@ -98,13 +98,13 @@ fn sentence_at(
         FaultCode::V8 => same_key(alloc, schema, row, above, step),
         FaultCode::V9 => same_unique(alloc, schema, row, above, step, unique_in(info)),
         FaultCode::V10 => same_item(alloc, schema, row, above, step),
-        FaultCode::V11 => no_target(alloc, schema, row, step),
+        FaultCode::V11 => no_target(alloc, schema, tree, row, step),
         FaultCode::V4 | FaultCode::V5 => Ok(String::new(alloc)),
     }
 }
 
-/// What stands behind the colon.
-fn sentence(
+/// What is said of a fault of a document whose rows stand in the order of its schema: what stands there or is missing.
+pub fn sentence(
     alloc: Global,
     schema: &Schema,
     tree: &Tree,

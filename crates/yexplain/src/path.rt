@@ -19,7 +19,7 @@ use ytree::{Step, Stored, Tree};
 use ytype::Raw;
 
 /// The name of a node, or no text of a number that no node has.
-fn name_of(schema: &Schema, id: SchemaId) -> &str
+pub(crate) fn name_of(schema: &Schema, id: SchemaId) -> &str
     ensures { result.now ≡ spec.name_of (schema_view.view schema.now) id.0 }
 {
     match schema.kind(id) {
@@ -29,7 +29,7 @@ fn name_of(schema: &Schema, id: SchemaId) -> &str
 }
 
 /// The value of a leaf in the row below an entry.
-fn leaf_in(row: &[Stored], id: SchemaId) -> Option<&Raw>
+pub(crate) fn leaf_in(row: &[Stored], id: SchemaId) -> Option<&Raw>
     ensures { option_map (λ raw. held.raw_of raw.now) result
         ≡ spec.leaf_in (document_view.row_view row.entry.now) id.0 }
 {
@@ -49,6 +49,21 @@ fn has_keys(row: &[Stored], keys: &[SchemaId]) -> bool
     !keys.is_empty()
 }
 
+/// The name of a key and its value, as predicates have them.
+pub(crate) fn key_words(
+    alloc: Global,
+    schema: &Schema,
+    row: &[Stored],
+    key: SchemaId,
+) -> Result<String, AllocError>
+    ensures { IfOk result (λ text. string_bytes text
+        ≡ spec.key_words (schema_view.view schema.now) (document_view.row_view row.now) key.0) }
+{
+    let bare = bare_text(alloc, leaf_in(row, key))?;
+    let value = quoted(alloc, bare.as_str())?;
+    [name_of(schema, key), "=", value.as_str()].concat(alloc)
+}
+
 fn key_predicate(
     alloc: Global,
     schema: &Schema,
@@ -58,9 +73,8 @@ fn key_predicate(
     ensures { IfOk result (λ text. string_bytes text
         ≡ spec.key_predicate (schema_view.view schema.now) (document_view.row_view row.now) key.0) }
 {
-    let bare = bare_text(alloc, leaf_in(row, key))?;
-    let value = quoted(alloc, bare.as_str())?;
-    ["[", name_of(schema, key), "=", value.as_str(), "]"].concat(alloc)
+    let words = key_words(alloc, schema, row, key)?;
+    ["[", words.as_str(), "]"].concat(alloc)
 }
 
 fn key_predicates(
@@ -258,12 +272,8 @@ fn add_step(
     Ok(())
 }
 
-/// The path of some steps with positions.
-pub(crate) fn position_path(
-    alloc: Global,
-    schema: &Schema,
-    steps: &[Step],
-) -> Result<String, AllocError>
+/// The path of some steps with positions, as the line of a fault has it.
+pub fn position_path(alloc: Global, schema: &Schema, steps: &[Step]) -> Result<String, AllocError>
     ensures { let s = schema_view.view schema.now in
         IfOk result (λ text. string_bytes text
         ≡ path.path_text s (document_view.place_view steps.now)) }

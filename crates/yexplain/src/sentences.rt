@@ -14,14 +14,18 @@ ghost use Rattle.yexplain.specs.Sentences as spec;
 
 use crate::cases::stored_case_names;
 use crate::fellows::{fellow_entry, fellow_item, fellow_text};
+use crate::near::near_words;
 use crate::path::module_at;
-use crate::place::{count_of, instance_to, row_at};
+use crate::place::{count_of, instance_to, row_at, row_to};
+use crate::taken::taken_words;
 use crate::target::target_path;
+use crate::tuples::{keys_at, keys_said, leafs_said, unique_at};
 use crate::values::value_text;
 use itoa::Buffer;
 use std::alloc::{AllocError, Global};
 use ymodel::{Amount, Children, Kind, LeafType, Schema, SchemaId};
 use ytree::{Step, Stored, Tree};
+use ytype::Raw;
 
 // ---- what the schema says
 
@@ -39,6 +43,17 @@ fn type_name(schema: &Schema, id: SchemaId) -> &str
     match type_at(schema, id) {
         Some(leaf_type) => leaf_type.name.text(),
         None => "",
+    }
+}
+
+/// What that type takes.
+fn taken_at(alloc: Global, schema: &Schema, id: SchemaId) -> Result<String, AllocError>
+    ensures { IfOk result (λ text. string_bytes text
+        ≡ spec.taken_at (schema_view.view schema.now) id.0) }
+{
+    match type_at(schema, id) {
+        Some(leaf_type) => taken_words(alloc, &leaf_type.value_type),
+        None => Ok(String::new(alloc)),
     }
 }
 
@@ -87,16 +102,25 @@ fn max_elements_of(schema: &Schema, id: SchemaId) -> u32
 
 // ---- what is said of the last step to a place, from the row in which it leads to a node
 
-/// The value of the leaf or item to which a step leads.
+/// The value of the leaf or item to which a step leads, as its document has it.
+fn raw_to<'a>(row: &'a [Stored], step: &Step) -> Option<&'a Raw>
+    ensures { option_map (λ r. held.raw_of r.now) result
+        ≡ option_and_then (λ found. found.0.value)
+        (instance_to (document_view.row_view row.entry.now) (document_view.step_view step.now)) }
+{
+    match instance_to(row, step) {
+        Some(stored) => stored.value(),
+        None => None,
+    }
+}
+
+/// Its text.
 fn value_to(alloc: Global, row: &[Stored], step: &Step) -> Result<String, AllocError>
     ensures { IfOk result (λ text. string_bytes text
         ≡ values.value_text (option_and_then (λ found. found.0.value)
         (instance_to (document_view.row_view row.now) (document_view.step_view step.now)))) }
 {
-    match instance_to(row, step) {
-        Some(stored) => value_text(alloc, stored.value()),
-        None => value_text(alloc, None),
-    }
+    value_text(alloc, raw_to(row, step))
 }
 
 pub(crate) fn wrong_value(
@@ -110,10 +134,13 @@ pub(crate) fn wrong_value(
         (document_view.step_view step.now)) }
 {
     let value = value_to(alloc, row, step)?;
+    let taken = taken_at(alloc, schema, step.id)?;
     [
         value.as_str(),
         " isn't a value of ",
         type_name(schema, step.id),
+        ": it takes ",
+        taken.as_str(),
         ".",
     ]
     .concat(alloc)
@@ -216,9 +243,10 @@ pub(crate) fn same_key(
         ≡ spec.same_key (schema_view.view schema.now) (document_view.row_view row.now)
         (document_view.place_view above.now) (document_view.step_view step.now)) }
 {
+    let said = keys_said(alloc, schema, row_to(row, step), keys_at(schema, step.id))?;
     let fellow = fellow_entry(alloc, schema, 0, row, step)?;
     let path = fellow_text(alloc, schema, above, step.id, fellow)?;
-    ["its keys are those of ", path.as_str(), "."].concat(alloc)
+    [said.as_str(), path.as_str(), "."].concat(alloc)
 }
 
 pub(crate) fn same_unique(
@@ -233,17 +261,11 @@ pub(crate) fn same_unique(
         ≡ spec.same_unique (schema_view.view schema.now) (document_view.row_view row.now)
         (document_view.place_view above.now) (document_view.step_view step.now) number) }
 {
+    let paths = unique_at(schema, step.id, number);
+    let said = leafs_said(alloc, schema, row_to(row, step), paths)?;
     let fellow = fellow_entry(alloc, schema, number, row, step)?;
     let path = fellow_text(alloc, schema, above, step.id, fellow)?;
-    let mut digits = Buffer::new();
-    [
-        "its values of unique ",
-        digits.format(number),
-        " are those of ",
-        path.as_str(),
-        ".",
-    ]
-    .concat(alloc)
+    [said.as_str(), path.as_str(), "."].concat(alloc)
 }
 
 pub(crate) fn same_item(
@@ -257,29 +279,40 @@ pub(crate) fn same_item(
         ≡ spec.same_item (schema_view.view schema.now) (document_view.row_view row.now)
         (document_view.place_view above.now) (document_view.step_view step.now)) }
 {
+    let value = value_to(alloc, row, step)?;
     let fellow = fellow_item(alloc, schema, row, step)?;
     let path = fellow_text(alloc, schema, above, step.id, fellow)?;
-    ["its value is that of ", path.as_str(), "."].concat(alloc)
+    [
+        "its value ",
+        value.as_str(),
+        " is that of ",
+        path.as_str(),
+        ".",
+    ]
+    .concat(alloc)
 }
 
 pub(crate) fn no_target(
     alloc: Global,
     schema: &Schema,
+    tree: &Tree,
     row: &[Stored],
     step: &Step,
 ) -> Result<String, AllocError>
     ensures { IfOk result (λ text. string_bytes text
-        ≡ spec.no_target (schema_view.view schema.now) (document_view.row_view row.now)
-        (document_view.step_view step.now)) }
+        ≡ spec.no_target (schema_view.view schema.now) (document_view.tree_view tree.now)
+        (document_view.row_view row.now) (document_view.step_view step.now)) }
 {
-    let target = target_path(alloc, schema, target_at(schema, step.id))?;
+    let target = target_at(schema, step.id);
+    let path = target_path(alloc, schema, target)?;
     let value = value_to(alloc, row, step)?;
+    let near = near_words(alloc, schema, tree, target, raw_to(row, step))?;
     [
         "no instance of ",
-        target.as_str(),
+        path.as_str(),
         " is ",
         value.as_str(),
-        ".",
+        near.as_str(),
     ]
     .concat(alloc)
 }

@@ -32,7 +32,11 @@ fn add_data_step(schema: &Schema, id: SchemaId, steps: &mut Vec<Step>) -> Result
 }
 
 /// Adds the steps to a node, through data nodes alone.
-fn add_steps_to(schema: &Schema, id: SchemaId, steps: &mut Vec<Step>) -> Result<(), AllocError>
+pub(crate) fn add_steps_to(
+    schema: &Schema,
+    id: SchemaId,
+    steps: &mut Vec<Step>,
+) -> Result<(), AllocError>
     ensures { OnOk result (document_view.place_view steps.new.items
         ≡ document_view.place_view steps.old.items
         ++ spec.steps_of (data_way_to (schema_view.view schema.now) id.0)) }

@@ -43,7 +43,8 @@ fn breaks_quotes(text: &str) -> bool
     false
 }
 
-fn json_text(alloc: Global, text: &str) -> Result<String, AllocError>
+/// A text as JSON has it.
+pub(crate) fn json_text(alloc: Global, text: &str) -> Result<String, AllocError>
     ensures { IfOk result (λ quoted. string_bytes quoted ≡ compact_text (string text.now)) }
 {
     Value::String(String::from_str(alloc, text)?).to_string(alloc)

@@ -4,7 +4,6 @@ ghost use Rattle.std.specs.Prelude.{◌≡◌, codes, IfOk, None, Some, option_m
 ghost use Rattle.std.specs.List.{list_any};
 ghost use Rattle.yspec.specs.text.Text as text_spec;
 ghost use Rattle.yspec.specs.text.Text.{is_text};
-ghost use Rattle.yspec.specs.edit.EditText as edit_text;
 ghost use Rattle.yhint.specs.Near as near;
 ghost use Rattle.ymember.specs.Spelling as spec;
 

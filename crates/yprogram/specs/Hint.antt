@@ -1,9 +1,9 @@
 -- What is said below a line that tells a code, above the reason of the code: what stands there, and what may have been
 -- meant.
-use Rattle.std.specs.Prelude.{ℕ, zero, suc, ◌==◌, ◌++◌, List, [], ◌∷◌, Option, codes, if◌then◌else◌, slice_get, unwrap_or}
+use Rattle.std.specs.Prelude.{ℕ, zero, suc, ◌==◌, ◌++◌, Bool, false, List, [], ◌∷◌, Option, codes, if◌then◌else◌, nat_le, slice_get, unwrap_or}
 use Rattle.std.specs.Option.{option_map_or}
 use Rattle.yspec.specs.Forest.{Forest, end, node}
-use Rattle.yspec.specs.text.Text.{Text}
+use Rattle.yspec.specs.text.Text.{Text, open_brace, space}
 use Rattle.yspec.specs.text.Statement.{Statement}
 use Rattle.yspec.specs.schema.Breaks.{Break}
 use Rattle.yspec.specs.schema.Schema.{Schema}
@@ -29,6 +29,18 @@ as_line front (x ∷ text) = front ++ ((x ∷ text) ++ codes "\n")
 -- the line of a text that is told, behind a bar
 abbrev pub line_hint : ℕ → List ℕ → Text
 line_hint line bytes = as_line (codes "  | ") (shown_line line bytes)
+
+-- a text that begins as a JSON object does, behind white space
+abbrev pub begins_object : List ℕ → Bool
+begins_object [] = false
+begins_object (x ∷ bytes) = if nat_le x space then begins_object bytes else x == open_brace
+
+abbrev pub object_hint : Bool → Text
+object_hint is_object = if is_object then codes "  this is JSON, and no module: the document stands before the modules.\n" else []
+
+-- of a text that is refused in a line: that line, and whether it is a document's
+abbrev pub slip_hint : ℕ → List ℕ → Text
+slip_hint line bytes = line_hint line bytes ++ object_hint (begins_object bytes)
 
 -- what is said of the statements of a line, of C1 alone
 abbrev pub statement_hint : ℕ → ℕ → Forest Statement → Text

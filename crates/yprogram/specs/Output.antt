@@ -1,5 +1,5 @@
 -- What a run of the program prints, as a function of the files that it asks for and of what they contain.
-use Rattle.std.specs.Prelude.{ℕ, ◌++◌, ◌&&◌, Bool, false, List, [], ◌∷◌, length, map, codes, decimal, Option, Some, None, Result, Ok, Err, if◌then◌else◌, ◌==◌, option_map, position, slice_get, unwrap_or}
+use Rattle.std.specs.Prelude.{ℕ, ◌++◌, ◌&&◌, Bool, true, false, List, [], ◌∷◌, length, map, codes, decimal, Option, Some, None, Result, Ok, Err, if◌then◌else◌, ◌==◌, option_map, position, slice_get, unwrap_or}
 use Rattle.std.specs.List.{flat_map}
 use Rattle.std.specs.Option.{option_map_or}
 use Rattle.ycodes.specs.Codes.{all_explanations, explained, explanations_of, reason_of, unknown_among}
@@ -18,8 +18,9 @@ use Rattle.yspec.specs.document.Faults.{faults_of, line_of}
 use Rattle.yspec.specs.document.Path.{path_text}
 use Rattle.yspec.specs.document.Writing.{written_text}
 use Rattle.yexplain.specs.Sentences.{explained_fault}
+use Rattle.yformat.specs.FaultData.{json_text}
 use Rattle.yrepeated.specs.Repeated.{repeated_in}
-use Rattle.yprogram.specs.Hint.{break_hint, hinted, line_hint, refusal_hint, repeated_hint}
+use Rattle.yprogram.specs.Hint.{break_hint, hinted, refusal_hint, repeated_hint, slip_hint}
 use Rattle.yprogram.specs.Part.{Part, count_part, line_about, plain, spelled}
 use Rattle.yprogram.specs.Script.{after_lines, lines_of, refused_lines}
 
@@ -39,6 +40,9 @@ plainly = record { is_strict = false; as_json = false; is_dump = false; saved_as
 
 abbrev pub as_dump : Options
 as_dump = record plainly { is_dump = true }
+
+abbrev pub told_as_json : Options
+told_as_json = record plainly { as_json = true }
 
 -- what the words of a command line ask for
 pub data Request : Type 0 where
@@ -151,7 +155,7 @@ refusal_part name line letter number = let code = letter ++ decimal number in
     line_about code (name ++ (codes ":" ++ (decimal line ++ (codes ": " ++ code))))
 
 abbrev pub slipped : Text → List ℕ → Slip → Outcome
-slipped name bytes s = failed_with 2 (hinted (line_hint s.line bytes) (refusal_part name s.line (codes "L") s.code))
+slipped name bytes s = failed_with 2 (hinted (slip_hint s.line bytes) (refusal_part name s.line (codes "L") s.code))
 
 abbrev pub broken : List Text → List (List ℕ) → Forest Statement → Break → Outcome
 broken names contents modules b = failed_with 2 (hinted (break_hint contents modules b)
@@ -252,6 +256,15 @@ report schema tree faults = map (fault_part schema tree) faults ++ count_part (l
 abbrev pub dump : Schema → Tree → List ℕ
 dump schema tree = written_text schema tree ++ codes "\n"
 
+-- what stands in place of the lines of its faults: the document, or its faults as JSON
+abbrev pub text_instead : Options → Schema → Tree → List Fault → Option Text
+text_instead options schema tree faults = if options.is_dump then Some (written_text schema tree)
+    else (if options.as_json then Some (json_text schema tree faults) else None)
+
+-- a text that ends with a line feed
+abbrev pub text_parts : Text → List Part
+text_parts text = plain (text ++ codes "\n") ∷ []
+
 -- the file to which a document is written, if to any
 abbrev pub saved_by : Options → Schema → Tree → Option SavedFile
 saved_by options schema tree = option_map (λ name. record { name = name; text = dump schema tree }) options.saved_as
@@ -259,7 +272,7 @@ saved_by options schema tree = option_map (λ name. record { name = name; text =
 -- a document after edits, of which the refused ones are told in these lines
 abbrev pub left : Options → Schema → Tree → List Part → Outcome
 left options schema tree refused = let faults = faults_of schema tree in record {
-  output = if options.is_dump then plain (dump schema tree) ∷ [] else report schema tree faults;
+  output = option_map_or text_parts (text_instead options schema tree faults) (report schema tree faults);
   errors = refused;
   status = if length faults == 0 && length refused == 0 then 0 else 1;
   saved = saved_by options schema tree;

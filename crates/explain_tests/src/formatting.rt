@@ -1,0 +1,76 @@
+//! The faults of a document as lines of JSON.
+
+use crate::explaining::schema_of;
+use std::alloc::{AllocError, Global};
+use ycheck::{Fault, faults};
+use yformat::{json_count, json_line};
+use ymodel::Schema;
+use ytree::{Tree, read};
+
+fn all_lines(
+    alloc: Global,
+    schema: &Schema,
+    tree: &Tree,
+    found: &[Fault],
+) -> Result<String, AllocError> {
+    let mut text = String::new(alloc);
+    for fault in found {
+        text.push_str(json_line(alloc, schema, tree, fault)?.as_str())?;
+        text.push_str("\n")?;
+    }
+    text.push_str(json_count(alloc, found.len())?.as_str())?;
+    text.push_str("\n")?;
+    Ok(text)
+}
+
+// A line with a document, and the lines of its faults.
+fn is_formatted(alloc: Global, row: &str) -> Option<bool> {
+    let (document, lines) = row.split_once("\n")?;
+    let schema = schema_of(alloc)?;
+    match read(alloc, &schema, document.as_bytes()) {
+        Ok(tree) => {
+            let found = faults(alloc, &schema, &tree).ok()?;
+            let text = all_lines(alloc, &schema, &tree, &found).ok()?;
+            Some(text.as_str() == lines)
+        }
+        Err(_) => None,
+    }
+}
+
+const ROWS: &str = r#"{"net:host":[{"name":"a","speed":1}]}
+{"yanglive:faults":0}
+==
+{"net:host":[{"name":"a","speed":1},{"name":"b","speed":70000}]}
+{"error-message":"70000 isn't a value of uint16: it takes an integer without quotes in 0..65535.","error-path":"/net:host[name='b']/speed","error-tag":"invalid-value","error-type":"application","yanglive:code":"V1","yanglive:path":"/net:host[2]/speed"}
+{"yanglive:faults":1}
+==
+{"net:host":[{"name":"it's"}]}
+{"error-message":"speed is missing.","error-path":"/net:host[name=\"it's\"]/speed","error-tag":"data-missing","error-type":"application","yanglive:code":"V3","yanglive:path":"/net:host[1]/speed"}
+{"yanglive:faults":1}
+==
+{"net:more":{"item":[1,2]}}
+{"error-app-tag":"missing-choice","error-message":"no case of the choice how is there.","error-path":"/net:more","error-tag":"data-missing","error-type":"application","yanglive:code":"V4","yanglive:info":"how","yanglive:path":"/net:more"}
+{"yanglive:faults":1}
+==
+{"net:host":[{"name":"a","speed":1,"port":5},{"name":"b","speed":1,"port":5}]}
+{"error-app-tag":"data-not-unique","error-message":"its port 5 is that of /net:host[2].","error-path":"/net:host[name='a']","error-tag":"operation-failed","error-type":"application","yanglive:code":"V9","yanglive:info":1,"yanglive:path":"/net:host[1]"}
+{"error-app-tag":"data-not-unique","error-message":"its port 5 is that of /net:host[1].","error-path":"/net:host[name='b']","error-tag":"operation-failed","error-type":"application","yanglive:code":"V9","yanglive:info":1,"yanglive:path":"/net:host[2]"}
+{"yanglive:faults":2}
+==
+{"net:host":[{"name":"a","speed":1,"tag":["x","x"]}]}
+{"error-message":"its value \"x\" is that of /net:host[1]/tag[2].","error-path":"/net:host[name='a']/tag[.='x']","error-tag":"operation-failed","error-type":"application","yanglive:code":"V10","yanglive:path":"/net:host[1]/tag[1]"}
+{"error-message":"its value \"x\" is that of /net:host[1]/tag[1].","error-path":"/net:host[name='a']/tag[.='x']","error-tag":"operation-failed","error-type":"application","yanglive:code":"V10","yanglive:path":"/net:host[1]/tag[2]"}
+{"yanglive:faults":2}
+==
+{"net:limits":{"small":9,"word":"abc"}}
+{"error-app-tag":"too big","error-message":"9 isn't a value of uint8: it takes an integer without quotes in 1..5 | 7.","error-path":"/net:limits/small","error-tag":"invalid-value","error-type":"application","yanglive:code":"V1","yanglive:path":"/net:limits/small"}
+{"error-message":"\"abc\" isn't a value of string: it takes a text in quotes of 2 characters.","error-path":"/net:limits/word","error-tag":"invalid-value","error-type":"application","yanglive:code":"V1","yanglive:path":"/net:limits/word"}
+{"yanglive:faults":2}
+"#;
+
+#[test]
+fn lines_of_json(rt: HostRuntime) {
+    for row in ROWS.split("==\n") {
+        assert!(rt; is_formatted(rt.alloc(), row) == Some(true), "{row}");
+    }
+}

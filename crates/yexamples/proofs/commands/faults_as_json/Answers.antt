@@ -1,0 +1,13 @@
+use Rattle.std.proofs.Common.{refl}
+use Rattle.yprogram.proofs.ProgramLiterals.{yprogram_on_literals}
+use Rattle.yexamples.proofs.commands.faults_as_json.Goals as goal
+
+pub returns : goal.returns
+unfolding yprogram_on_literals
+returns c = record {
+  value = refl;
+  missing_case = refl;
+  none = refl;
+  with_reasons = refl;
+  dump = refl;
+}

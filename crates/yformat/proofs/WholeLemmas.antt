@@ -1,0 +1,78 @@
+-- What is written of a fault has no fractions.
+use Rattle.std.proofs.Common.{◌≡◌, Bool, true, false, Option, Some, None, Ordering, Less, Equal, Greater, nat_cmp, codes, refl, ap, ap₂, ◌∙◌}
+use Rattle.std.specs.Prelude.{◌||◌}
+use Rattle.std.specs.Cmp.Lexicographic.{slice_cmp}
+use Rattle.std.specs.Ordering.{match_ordering}
+use Rattle.serde_json.specs.Data.{Data, string, number, unsigned, object, Members, no_members, member, put}
+use Rattle.serde_json.specs.Written.{has_float, members_have_float, compact_text}
+use Rattle.yspec.specs.text.Text.{Text}
+use Rattle.yspec.specs.schema.Schema.{Schema}
+use Rattle.yspec.specs.document.Document.{Tree}
+use Rattle.yspec.specs.document.Fault.{Fault, Info, no_info, choice_name, unique_number}
+use Rattle.yspec.specs.document.Path.{path_text}
+use Rattle.yexplain.specs.KeyedPath.{keyed_path}
+use Rattle.yexplain.specs.Sentences.{sentence}
+use Rattle.yformat.specs.FaultData.{code_text, with_text, with_app_tag, with_info, with_tags, with_message, with_line, fault_data}
+
+first_whole : (a b : Bool) → (a || b) ≡ false → a ≡ false
+first_whole true b h = absurd cc
+first_whole false b h = refl
+
+later_whole : (a b : Bool) → (a || b) ≡ false → b ≡ false
+later_whole true b h = absurd cc
+later_whole false b h = h
+
+-- ---- one member more
+
+put_whole_at : (o : Ordering) (name other : Text) (d e : Data) (ms : Members) → has_float d ≡ false → members_have_float (member other e ms) ≡ false → members_have_float (put name d ms) ≡ false
+    → members_have_float (match_ordering o (member name d (member other e ms)) (member other d ms) (member other e (put name d ms))) ≡ false
+put_whole_at Less name other d e ms this these later = ap₂ ◌||◌ this these
+put_whole_at Equal name other d e ms this these later = ap₂ ◌||◌ this (later_whole (has_float e) (members_have_float ms) these)
+put_whole_at Greater name other d e ms this these later = ap₂ ◌||◌ (first_whole (has_float e) (members_have_float ms) these) later
+
+put_whole : (name : Text) (d : Data) (ms : Members) → has_float d ≡ false → members_have_float ms ≡ false → members_have_float (put name d ms) ≡ false
+put_whole name d no_members this these = ap₂ ◌||◌ this these
+put_whole name d (member other e ms) this these =
+    put_whole_at (slice_cmp nat_cmp name other) name other d e ms this these (put_whole name d ms this (later_whole (has_float e) (members_have_float ms) these))
+
+text_whole : (name t : Text) (ms : Members) → members_have_float ms ≡ false → members_have_float (with_text name t ms) ≡ false
+text_whole name t ms these = put_whole name (string t) ms refl these
+
+-- ---- those of a fault
+
+app_tag_whole : (tag : Option Text) (ms : Members) → members_have_float ms ≡ false → members_have_float (with_app_tag tag ms) ≡ false
+app_tag_whole None ms these = these
+app_tag_whole (Some t) ms these = put_whole (codes "error-app-tag") (string t) ms refl these
+
+info_whole : (info : Info) (ms : Members) → members_have_float ms ≡ false → members_have_float (with_info info ms) ≡ false
+info_whole no_info ms these = these
+info_whole (choice_name name) ms these = put_whole (codes "yanglive:info") (string name) ms refl these
+info_whole (unique_number n) ms these = put_whole (codes "yanglive:info") (number (unsigned n)) ms refl these
+
+tags_whole : (f : Fault) (ms : Members) → members_have_float ms ≡ false → members_have_float (with_tags f ms) ≡ false
+tags_whole f ms these =
+    let first = with_text (codes "error-type") (codes "application") ms in
+    app_tag_whole f.app_tag (with_text (codes "error-tag") f.tag first)
+    (text_whole (codes "error-tag") f.tag first (text_whole (codes "error-type") (codes "application") ms these))
+
+message_whole : (schema : Schema) (tree : Tree) (f : Fault) (ms : Members) → members_have_float ms ≡ false → members_have_float (with_message schema tree f ms) ≡ false
+message_whole schema tree f ms these =
+    let path = keyed_path schema tree f.steps in
+    text_whole (codes "error-message") (sentence schema tree f.steps f.info f.code) (with_text (codes "error-path") path ms)
+    (text_whole (codes "error-path") path ms these)
+
+line_whole : (schema : Schema) (f : Fault) (ms : Members) → members_have_float ms ≡ false → members_have_float (with_line schema f ms) ≡ false
+line_whole schema f ms these =
+    let first = with_text (codes "yanglive:code") (code_text f.code) ms in
+    let path = path_text schema f.steps in
+    info_whole f.info (with_text (codes "yanglive:path") path first)
+    (text_whole (codes "yanglive:path") path first (text_whole (codes "yanglive:code") (code_text f.code) ms these))
+
+pub fault_whole : (schema : Schema) (tree : Tree) (f : Fault) → has_float (fault_data schema tree f) ≡ false
+fault_whole schema tree f =
+    let tagged = with_tags f no_members in
+    line_whole schema f (with_message schema tree f tagged) (message_whole schema tree f tagged (tags_whole f no_members refl))
+
+-- a text that is written of an object without fractions
+pub written : (d e : Data) (text : Text) → d ≡ e → has_float e ≡ false → (has_float d ≡ false → text ≡ compact_text d) → text ≡ compact_text e
+written d e text is whole so = so (ap has_float is ∙ whole) ∙ ap compact_text is
