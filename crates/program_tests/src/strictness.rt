@@ -61,6 +61,7 @@ line 6: E9
 ~0 faults
 ==
 yanglive edit --explain --strict --dump d.json s.txt p.yang~{"p:c":{"id":1}}~replace /p:c {"id":2,"id":3}~1~line 1: E10 J8
+  | replace /p:c {"id":2,"id":3}
   A member is given twice in one object, which --strict refuses; without it the last one counts. Take one of them out.
 ~{"p:c":{"id":1}}
 "#;
