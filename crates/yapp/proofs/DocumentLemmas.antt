@@ -15,7 +15,7 @@ use Rattle.yspec.specs.edit.Editing.{Decision, after}
 use Rattle.yspec.specs.edit.Live as live
 use Rattle.yspec.specs.document.Fault as spec_fault
 use Rattle.yspec.specs.document.Faults.{faults_of}
-use Rattle.yprogram.specs.Output.{Options, Outcome, SavedFile, left, text_parts, plainly, report, saved_by, text_instead}
+use Rattle.yprogram.specs.Output.{Options, Outcome, SavedFile, left, nothing, plainly, report, saved_by, text_instead, text_parts}
 use Rattle.yprogram.specs.Part.{Part}
 use Rattle.yspec.proofs.EditProofs.FittingEditLemmas.{edits_whole}
 use Rattle.yspec.proofs.EditProofs.LimitLemmas.{edits_within}
@@ -114,7 +114,7 @@ none_refused lines = ap (λ (n : ℕ). n == 0) (length-map lines refused_part)
 
 abbrev outcome_with : Option SavedFile → List Part → List Part → Bool → Bool → Outcome
 outcome_with saved output errors no_fault none_refused =
-    record { output = output; errors = errors; status = if no_fault && none_refused then 0 else 1; saved = saved }
+    record { output = output; errors = errors; status = if no_fault && none_refused then 0 else 1; saved = saved; aside = nothing }
 
 text_shown : (text : Option (String Global)) (instead : Option Text) (shown : List Part) → option_map string_bytes text ≡ instead
     → option_map_or (λ t. text_parts (string_bytes t)) text shown ≡ option_map_or text_parts instead shown
