@@ -354,7 +354,7 @@ yanglive edit --dump --explain good adding n.yang
 
 // The refused lines of a script under the same module, each as it reads, with what is to be changed in it.
 const LINES: &str = "yanglive edit --dump --explain good refused n.yang
-1 28
+1 32
 line 1: E1
   | add /net:host {}
   no edit is called \"add\": write create, replace or remove.
@@ -383,10 +383,14 @@ line 8: E10 J5
   | create /net:host [{\"name\":\"b\"}]
   an array stands where an entry is due: write the object alone.
   A value is of another kind than its node: no object for a container or an entry, no array for a list or leaf-list. Write a container as an object, a list as an array of objects, a leaf-list as an array of values, an empty leaf as [null].
+line 9: E1
+  | remove /net:host\\x1b[2J
+  \"net:host\\x1b[2J\" is no step of a path: a step is a name, and perhaps [1] or [name='..'] behind it.
+  The line isn't an edit. Write create PATH VALUE, replace PATH VALUE or remove PATH.
 {\"net:host\":[{\"name\":\"a\",\"speed\":1}]}
 ==
 yanglive edit --dump good refused n.yang
-1 7
+1 8
 line 1: E1
 line 2: E1
 line 4: E1
@@ -394,6 +398,7 @@ line 5: E1
 line 6: E3
 line 7: E9
 line 8: E10 J5
+line 9: E1
 {\"net:host\":[{\"name\":\"a\",\"speed\":1}]}
 ";
 
@@ -405,6 +410,7 @@ create /net:more/item \xff
 replace /net:host/speed 9
 create /net:host[1]/uplink a
 create /net:host [{\"name\":\"b\"}]
+remove /net:host\x1b[2J
 ";
 
 #[test]

@@ -54,7 +54,7 @@ create /p:c {"id":1}
 # {"a":1,"a":1}
 create /q {"a":1,"a":1}
 make /q {"a":1,"a":1}
-create /p:c/id {"a":1,"a":1~1~line 1: E10 J8
+replace /p:c/id {"a":1,"a":1~1~line 1: E10 J8
 line 4: E10 J8
 line 5: E1
 line 6: E9

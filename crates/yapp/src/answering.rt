@@ -91,7 +91,7 @@ fn validate<'a>(
     contents: &[Vec<u8>],
     with_reasons: bool,
 ) -> Result<Report, Failure<'a>>
-    ensures leads { LeadsTo (validation (options_view options) document.entry.now (map (λ n. n.now) modules.now)
+    ensures leads { LeadsTo (validation (options_view options.entry) document.entry.now (map (λ n. n.now) modules.now)
         (map (λ c. c.items) contents.now)) reported result }
     ensures explained { IfOk result (IsExplained with_reasons) }
 {
@@ -110,7 +110,7 @@ fn edit<'a>(
     contents: &[Vec<u8>],
     with_reasons: bool,
 ) -> Result<Report, Failure<'a>>
-    ensures leads { LeadsTo (edition (options_view options) document.entry.now (map (λ n. n.now) modules.now)
+    ensures leads { LeadsTo (edition (options_view options.entry) document.entry.now (map (λ n. n.now) modules.now)
         (map (λ c. c.items) contents.now)) reported result }
     ensures explained { IfOk result (IsExplained with_reasons) }
 {

@@ -304,7 +304,7 @@ pub(crate) fn report_on_edited(
 ) -> Result<Report, AllocError>
     requires { IsWhole (live_of edited).schema (live_of edited).tree }
     ensures reported { IfOk result (λ r. reported r
-        ≡ left (options_view options) (live_of edited).schema (live_of edited).tree (refused_in edited)) }
+        ≡ left (options_view options.entry) (live_of edited).schema (live_of edited).tree (refused_in edited)) }
     ensures explained { IfOk result (IsExplained with_reasons) }
 {
     if with_reasons || wants_more(options) {
@@ -318,7 +318,7 @@ pub(crate) fn report_on_edited(
 /// Whether a document is to be dumped or written to a file, or its faults are to be told as JSON.
 fn wants_more(options: Options<'_>) -> bool
     ensures { result ≡ false → (s : schema_spec.Schema) (t : document_spec.Tree)
-        (refused : List Part) → left (options_view options) s t refused ≡ left plainly s t refused }
+        (refused : List Part) → left (options_view options.entry) s t refused ≡ left plainly s t refused }
 {
     options.is_dump || options.as_json || options.saved_as.is_some()
 }
@@ -333,7 +333,7 @@ pub(crate) fn report_on(
 ) -> Result<Report, AllocError>
     requires { IsSound (schema_of document) (tree_of document) }
     ensures reported { IfOk result (λ r. reported r
-        ≡ left (options_view options) (schema_of document) (tree_of document) (refused_of document)) }
+        ≡ left (options_view options.entry) (schema_of document) (tree_of document) (refused_of document)) }
     ensures explained { IfOk result (IsExplained with_reasons) }
 {
     let faults = faults(alloc, &document.schema, &document.tree)?;
@@ -405,7 +405,7 @@ fn saved_file(
 ) -> Result<Option<SavedFile>, AllocError>
     requires { IsSound (schema_of document.now) (tree_of document.now) }
     ensures { IfOk result (λ file. option_map saved_view file
-        ≡ saved_by (options_view options) (schema_of document.now) (tree_of document.now)) }
+        ≡ saved_by (options_view options.entry) (schema_of document.now) (tree_of document.now)) }
 {
     match options.saved_as {
         Some(name) => Ok(Some(SavedFile {
@@ -436,7 +436,7 @@ fn text_instead(
 ) -> Result<Option<String>, AllocError>
     requires { IsSound (schema_of document.now) (tree_of document.now) }
     ensures { IfOk result (λ text. option_map string_bytes text
-        ≡ text_instead (options_view options) (schema_of document.now) (tree_of document.now)
+        ≡ text_instead (options_view options.entry) (schema_of document.now) (tree_of document.now)
         (views faults.now)) }
 {
     if options.is_dump {

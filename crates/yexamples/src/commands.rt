@@ -4,6 +4,7 @@ ghost use Rattle.std.specs.Prelude.{◌≡◌, ◌++◌, [], ◌∷◌, Some, co
 ghost use Rattle.yexamples.specs.CompilingSamples.{net_module, k_module, t_module, restricted_module};
 ghost use Rattle.yexamples.specs.Printing.{failed, found};
 ghost use Rattle.yprogram.specs.Output.{as_dump, compile, edit, explain, outcome, plainly, printed, told_as_json, validate};
+ghost use Rattle.ycodes.specs.Codes.{reason_of};
 ghost use Rattle.yprogram.specs.Script.{lines_of};
 ghost use Rattle.yexamples.specs.SchemaExamples.{hosts, one_host};
 ghost use Rattle.yspec.specs.edit.Examples.{module_p, module_text};
