@@ -6,7 +6,7 @@ use Rattle.std.proofs.lemmas.List.{length-map}
 use Rattle.yspec.specs.Forest.{size}
 use Rattle.yspec.specs.text.Text.{Text}
 use Rattle.yspec.specs.schema.Schema as spec
-use Rattle.yspec.specs.document.Document.{Tree, document_limit}
+use Rattle.yspec.specs.document.Document.{Step, Tree, document_limit}
 use Rattle.yspec.specs.document.Fitting.{Fits}
 use Rattle.yspec.specs.document.Writing.{IsDocument}
 use Rattle.yspec.specs.edit.EditText.{Edit}
@@ -137,3 +137,25 @@ report_is options s t found refused text saved same is saved_is =
     ∙ (ap (λ (o : List Part). made o parts (length found == 0) (length parts == 0)) (text_shown text (text_instead options s t (views found)) (report s t (views found)) is)
     ∙ (ap (λ (n : ℕ). made (shown (views found)) parts (n == 0) (length parts == 0)) (sym (length-map found view))
     ∙ ap (λ (fs : List spec_fault.Fault). made (shown fs) parts (length fs == 0) (length parts == 0)) same)))
+
+-- ---- members that are given twice
+
+-- nothing is refused for them where that isn't wanted, nor where none is
+pub unless_unasked : (is_strict : Bool) (s : spec.Schema) (name : Text) (bytes : List ℕ) (next : Tree → Outcome) (t : Tree) → is_strict ≡ false
+    → unless_repeated is_strict s name bytes next t ≡ next t
+unless_unasked is_strict s name bytes next t is =
+    ap (λ (b : Bool). if b then option_map_or (repeated_document s name) (repeated_in s bytes) (next t) else next t) is
+
+pub unless_none : (s : spec.Schema) (name : Text) (bytes : List ℕ) (next : Tree → Outcome) (t : Tree) → None ≡ repeated_in s bytes
+    → unless_repeated true s name bytes next t ≡ next t
+unless_none s name bytes next t is = sym (ap (λ (o : Option (List Step)). option_map_or (repeated_document s name) o (next t)) is)
+
+pub unless_found : (s : spec.Schema) (name : Text) (bytes : List ℕ) (next : Tree → Outcome) (t : Tree) (place : List Step) → Some place ≡ repeated_in s bytes
+    → unless_repeated true s name bytes next t ≡ repeated_document s name place
+unless_found s name bytes next t place is = sym (ap (λ (o : Option (List Step)). option_map_or (repeated_document s name) o (next t)) is)
+
+-- a document that was read is refused for them, or goes on
+pub strictly_leads : {X : Type 0} (is_strict : Bool) (d : spec.Schema) (name : Text) (bytes : List ℕ) (told : Outcome) (next : Tree → Outcome) (t : Tree) (go : X → Outcome)
+    (r : Result X Failure) → is_strict ≡ true → told ≡ unless_repeated is_strict d name bytes next t → LeadsTo (unless_repeated true d name bytes next t) go r → LeadsTo told go r
+strictly_leads is_strict d name bytes told next t go r strict is leads =
+    subst (λ (o : Outcome). LeadsTo o go r) (sym (is ∙ ap (λ (b : Bool). unless_repeated b d name bytes next t) strict)) leads

@@ -339,7 +339,8 @@ fn gives_twice(alloc: Global, edit: &Edit) -> Result<bool, AllocError>
     ensures { IfOk result (λ twice. twice ≡ spec.gives_twice (edit_view edit.now)) }
 {
     match edit {
-        Edit::Create { value, .. } | Edit::Replace { value, .. } => has_repeated(alloc, value),
+        Edit::Create { value, .. } => has_repeated(alloc, value),
+        Edit::Replace { value, .. } => has_repeated(alloc, value),
         Edit::Remove { .. } => Ok(false),
     }
 }
