@@ -1,6 +1,6 @@
 -- The lines of a script: by what they ask for, and by what came of the edits among them.
 use Rattle.std.proofs.Common.{◌≡◌, ◌≢◌, ℕ, Bool, true, false, ◌+◌, List, [], ◌∷◌, ◌++◌, Option, Some, None, map, refl, sym, ap, ap₂, ◌∙◌, append_assoc, eqb-true}
-use Rattle.std.specs.Prelude.{Result, Ok, Err, ◌==◌, ◌&&◌, if◌then◌else◌}
+use Rattle.std.specs.Prelude.{Result, Ok, Err, ◌==◌, if◌then◌else◌}
 use Rattle.std.specs.Option.{option_map_or}
 use Rattle.std.specs.Borrow.{Bor}
 use Rattle.std.specs.Str.{IsUtf8, is_utf8}
@@ -11,10 +11,10 @@ use Rattle.yspec.specs.text.Text.{Text}
 use Rattle.yspec.specs.schema.Schema.{Schema}
 use Rattle.yspec.specs.document.Document.{Tree}
 use Rattle.yspec.specs.edit.EditText.{Edit, is_passed_over}
-use Rattle.yspec.specs.edit.Editing.{EditRefusal, after, applied, decision, decisions, edit_asked, refused, tree_or, value_refused}
+use Rattle.yspec.specs.edit.Editing.{EditRefusal, after, applied, decision, decisions, edit_asked, refused, tree_or}
 use Rattle.yprogram.specs.Hint.{hinted}
 use Rattle.yprogram.specs.Part.{Part}
-use Rattle.yprogram.specs.Script.{after_lines, asked_in, edit_in, gives_twice, line_parts, refused_hint, refused_line, refused_lines, spelled_in, unless_twice, without_return, without_returns}
+use Rattle.yprogram.specs.Script.{after_lines, asked_in, edit_in, line_parts, refused_hint, refused_line, refused_lines, spelled_in, without_return, without_returns}
 use Rattle.yapp.specs.Asked.{IsScript, Line, an_edit, decision_parts, edit_of, edits_of, hint_in, kinds_of, line_of, told_from}
 
 -- ---- edits in place of lines
@@ -148,33 +148,3 @@ pub asked_of_bytes : (line : Text) → is_passed_over line ≡ false → (IsUtf8
 asked_of_bytes line passed not_text =
     ap (λ (b : Bool). if b then Ok None else (if is_utf8 line then edit_asked line else refused 1)) passed
     ∙ ap (λ (b : Bool). if b then edit_asked line else refused 1) (no_text_so line (is_utf8 line) refl not_text)
-
--- ---- what a line asks for
-
-nothing_given : (is_strict : Bool) → unless_twice is_strict None ≡ Ok None
-nothing_given true = refl
-nothing_given false = refl
-
-pub asked_nothing : (is_strict : Bool) (line : Text) → spelled_in line ≡ Ok None → asked_in is_strict line ≡ Ok None
-asked_nothing is_strict line is = ap (λ (r : Result (Option Edit) EditRefusal). r >>= unless_twice is_strict) is ∙ nothing_given is_strict
-
-pub asked_edit : (is_strict : Bool) (line : Text) (e : Edit) → spelled_in line ≡ Ok (Some e) → asked_in is_strict line ≡ unless_twice is_strict (Some e)
-asked_edit is_strict line e is = ap (λ (r : Result (Option Edit) EditRefusal). r >>= unless_twice is_strict) is
-
-pub asked_refused : (is_strict : Bool) (line : Text) (e : EditRefusal) → spelled_in line ≡ Err e → asked_in is_strict line ≡ Err e
-asked_refused is_strict line e is = ap (λ (r : Result (Option Edit) EditRefusal). r >>= unless_twice is_strict) is
-
--- an edit is refused where that is wanted and its value has a member twice
-pub refused_twice : (is_strict : Bool) (e : Edit) → is_strict ≡ true → gives_twice e ≡ true → unless_twice is_strict (Some e) ≡ value_refused 8
-refused_twice is_strict e strict twice =
-    ap₂ (λ (a b : Bool). if a && b then value_refused 8 else Ok (Some e)) strict twice
-
-pub taken_unasked : (is_strict : Bool) (e : Edit) → is_strict ≡ false → unless_twice is_strict (Some e) ≡ Ok (Some e)
-taken_unasked is_strict e is = ap (λ (b : Bool). if b && gives_twice e then value_refused 8 else Ok (Some e)) is
-
-pub taken_once : (is_strict : Bool) (e : Edit) → gives_twice e ≡ false → unless_twice is_strict (Some e) ≡ Ok (Some e)
-taken_once is_strict e once = ap (λ (b : Bool). if is_strict && b then value_refused 8 else Ok (Some e)) once ∙ by is_strict
-  where
-    by : (b : Bool) → (if b && false then value_refused 8 else Ok (Some e)) ≡ Ok (Some e)
-    by true = refl
-    by false = refl

@@ -145,7 +145,6 @@ impl<'s> Script<'s> {
     }
 
     /// Adds a line.
-    #[tactic(auto, using(crate::proofs::ScriptLemmas::asked_nothing, crate::proofs::ScriptLemmas::asked_edit, crate::proofs::ScriptLemmas::asked_refused))]
     fn add(&mut self, is_strict: bool, line: &'s [u8]) -> Result<(), AllocError>
         ensures kinds { OnOk result (kinds_in self.new ≡ kinds_in self.old
             ++ line_of line.now (asked_in is_strict line.now) ∷ []) }
@@ -166,7 +165,6 @@ impl<'s> Script<'s> {
     }
 
     /// Takes up the edit of a line, unless its value has a member twice and that is refused; what the line asks for.
-    #[tactic(auto, using(crate::proofs::ScriptLemmas::refused_twice, crate::proofs::ScriptLemmas::taken_unasked, crate::proofs::ScriptLemmas::taken_once))]
     fn take(&mut self, is_strict: bool, line: &'s [u8], edit: Edit) -> Result<Asked<'s>, AllocError>
         ensures asked { IfOk result (λ asked. line_view asked
             ≡ line_of line.entry.now (unless_twice is_strict (Some (edit_view edit)))) }
