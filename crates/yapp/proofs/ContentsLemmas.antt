@@ -210,6 +210,7 @@ came_of_answer before after request answers (Err (failures.Unread name cause)) r
 came_of_answer before after request answers (Err (failures.Text name code line hint)) read same is = inl (answers, read, sym is)
 came_of_answer before after request answers (Err (failures.Compile name code line hint)) read same is = inl (answers, read, sym is)
 came_of_answer before after request answers (Err (failures.Document name schema code place hint stop)) read same is = inl (answers, read, sym is)
+came_of_answer before after request answers (Err (failures.Repeated name schema place hint)) read same is = inl (answers, read, sym is)
 came_of_answer before after request answers (Err (failures.NoModule name)) read same is = inl (answers, read, sym is)
 came_of_answer before after request answers (Err (failures.NoCode word)) read same is = inl (answers, read, sym is)
 came_of_answer before after request answers (Err failures.Memory) read same is =

@@ -15,7 +15,8 @@ use Rattle.yspec.specs.edit.Editing.{Decision, after}
 use Rattle.yspec.specs.edit.Live as live
 use Rattle.yspec.specs.document.Fault as spec_fault
 use Rattle.yspec.specs.document.Faults.{faults_of}
-use Rattle.yprogram.specs.Output.{Options, Outcome, SavedFile, left, nothing, plainly, report, saved_by, text_instead, text_parts}
+use Rattle.yrepeated.specs.Repeated.{repeated_in}
+use Rattle.yprogram.specs.Output.{Options, Outcome, SavedFile, left, nothing, plainly, repeated_document, report, saved_by, text_instead, text_parts, unless_repeated}
 use Rattle.yprogram.specs.Part.{Part}
 use Rattle.yspec.proofs.EditProofs.FittingEditLemmas.{edits_whole}
 use Rattle.yspec.proofs.EditProofs.LimitLemmas.{edits_within}

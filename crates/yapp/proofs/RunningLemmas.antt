@@ -1,5 +1,5 @@
 -- A run that writes to one side alone.
-use Rattle.std.proofs.Common.{◌≡◌, inl, inr, codes, ℕ, Bool, true, false, List, [], ◌∷◌, ◌++◌, ap, sym, ◌∙◌, refl, subst, append_assoc, length, take}
+use Rattle.std.proofs.Common.{◌≡◌, inl, inr, codes, ℕ, Bool, true, false, List, [], ◌∷◌, ◌++◌, ap, ap₂, sym, ◌∙◌, refl, subst, append_assoc, length, take}
 use Rattle.yprogram.specs.Output.{Aside, Besides, Outcome, Printed, SavedFile, aside_where, nothing, printed, printed_with}
 use Rattle.std.proofs.lemmas.List.{append-nil}
 use Rattle.yprogram.specs.Part.{Part, plain, spelled, spelled_part}
@@ -86,6 +86,7 @@ no_output with_reasons (failures.Unread name cause) = refl
 no_output with_reasons (failures.Text name code line hint) = refl
 no_output with_reasons (failures.Compile name code line hint) = refl
 no_output with_reasons (failures.Document name schema code place hint stop) = refl
+no_output with_reasons (failures.Repeated name schema place hint) = refl
 no_output with_reasons (failures.NoModule name) = refl
 no_output with_reasons (failures.NoCode word) = refl
 no_output with_reasons failures.Memory = refl
@@ -95,6 +96,7 @@ no_file (failures.Unread name cause) = refl
 no_file (failures.Text name code line hint) = refl
 no_file (failures.Compile name code line hint) = refl
 no_file (failures.Document name schema code place hint stop) = refl
+no_file (failures.Repeated name schema place hint) = refl
 no_file (failures.NoModule name) = refl
 no_file (failures.NoCode word) = refl
 no_file failures.Memory = refl

@@ -234,7 +234,7 @@ fn add_refused(
     refusal: Option<Refusal>,
 ) -> Result<(), AllocError>
     ensures { OnOk result (refused_parts lines.new.items ≡ refused_parts lines.old.items
-        ++ decision_parts (hint_in (schema_view.view schema.now) (line_view line) (edits_view edits.now))
+        ++ decision_parts (hint_in (schema_view.view schema.now) (line_view line.entry) (edits_view edits.now))
         number (option_map refusal_of refusal)) }
 {
     if let Some(refusal) = refusal {
@@ -257,7 +257,7 @@ fn hint_of(
     refusal: Refusal,
 ) -> Result<String, AllocError>
     ensures { IfOk result (λ hint. string_bytes hint
-        ≡ hint_in (schema_view.view schema.now) (line_view line) (edits_view edits.now)
+        ≡ hint_in (schema_view.view schema.now) (line_view line.entry) (edits_view edits.now)
         (refusal_of refusal)) }
 {
     match (line, edits.first()) {
@@ -272,7 +272,7 @@ fn hint_of(
 /// The edits behind a line.
 fn edits_behind<'e>(line: Asked<'_>, edits: &'e [Edit]) -> &'e [Edit]
     ensures { edits_view result.now
-        ≡ asked.edits_behind (line_view line) (edits_view edits.entry.now) }
+        ≡ asked.edits_behind (line_view line.entry) (edits_view edits.entry.now) }
 {
     match (line, edits.split_first()) {
         (Asked::Edit(_), Some((_, behind))) => behind,
@@ -283,7 +283,7 @@ fn edits_behind<'e>(line: Asked<'_>, edits: &'e [Edit]) -> &'e [Edit]
 /// Why a line is refused, if it is, by what came of the edits from it on.
 fn refusal_of(line: Asked<'_>, outcomes: &[Outcome]) -> Option<Refusal>
     ensures { option_map refusal_of result
-        ≡ refusal_in (line_view line) (outcomes_view outcomes.now) }
+        ≡ refusal_in (line_view line.entry) (outcomes_view outcomes.now) }
 {
     match line {
         Asked::Nothing => None,
@@ -298,7 +298,7 @@ fn refusal_of(line: Asked<'_>, outcomes: &[Outcome]) -> Option<Refusal>
 /// What came of the edits behind a line.
 fn outcomes_behind<'o>(line: Asked<'_>, outcomes: &'o [Outcome]) -> &'o [Outcome]
     ensures { outcomes_view result.now
-        ≡ behind (line_view line) (outcomes_view outcomes.entry.now) }
+        ≡ behind (line_view line.entry) (outcomes_view outcomes.entry.now) }
 {
     match (line, outcomes.split_first()) {
         (Asked::Edit(_), Some((_, behind))) => behind,
