@@ -15,6 +15,7 @@ use Rattle.yspec.specs.edit.Editing.{Decision, after}
 use Rattle.yspec.specs.edit.Live as live
 use Rattle.yspec.specs.document.Fault as spec_fault
 use Rattle.yspec.specs.document.Faults.{faults_of}
+use Rattle.yrepeated.specs.Repeated.{repeated_in}
 use Rattle.yprogram.specs.Output.{Options, Outcome, SavedFile, left, nothing, plainly, repeated_document, report, saved_by, text_instead, text_parts, unless_repeated}
 use Rattle.yprogram.specs.Part.{Part}
 use Rattle.yspec.proofs.EditProofs.FittingEditLemmas.{edits_whole}
@@ -28,7 +29,6 @@ use Rattle.yapp.specs.Asked.{IsScript, Line, refused_part, refused_parts, told_f
 use Rattle.ylive.specs.Answers.{after_edits}
 use Rattle.yapp.specs.Edited.{IsEdited, IsOf, IsRun, IsSound, IsWhole, live_of, refused_in, refused_of, schema_of, tree_of}
 use Rattle.yapp.specs.Failing.{LeadsTo}
-use Rattle.yrepeated.specs.Repeated.{repeated_in}
 use Rattle.yapp.specs.declared.document.Document.{Document}
 use Rattle.yapp.specs.declared.edited.EditedDocument.{EditedDocument}
 use Rattle.yapp.specs.declared.failure.Failure.{Failure}

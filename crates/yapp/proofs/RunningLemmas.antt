@@ -1,5 +1,5 @@
 -- A run that writes to one side alone.
-use Rattle.std.proofs.Common.{◌≡◌, inl, inr, codes, ℕ, Bool, true, false, List, [], ◌∷◌, ◌++◌, ap, sym, ◌∙◌, refl, subst, append_assoc, length, take}
+use Rattle.std.proofs.Common.{◌≡◌, inl, inr, codes, ℕ, Bool, true, false, List, [], ◌∷◌, ◌++◌, ap, ap₂, sym, ◌∙◌, refl, subst, append_assoc, length, take}
 use Rattle.yprogram.specs.Output.{Aside, Besides, Outcome, Printed, SavedFile, aside_where, nothing, printed, printed_with}
 use Rattle.std.proofs.lemmas.List.{append-nil}
 use Rattle.yprogram.specs.Part.{Part, plain, spelled, spelled_part}

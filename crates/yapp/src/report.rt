@@ -76,7 +76,7 @@ impl Report {
 
     /// The file that is to be written at the end.
     pub fn into_saved(self) -> Option<SavedFile>
-        ensures { option_map saved_view result ≡ (reported self.entry).saved }
+        ensures { option_map saved_view result ≡ (reported self).saved }
     {
         match self {
             Report::Document(report) => report.into_saved(),
@@ -119,7 +119,7 @@ impl Report {
 impl DocumentReport {
     /// The file that is to be written at the end.
     fn into_saved(self) -> Option<SavedFile>
-        ensures { result ≡ self.entry.saved }
+        ensures { result ≡ self.saved }
     {
         let DocumentReport { saved, .. } = self;
         saved

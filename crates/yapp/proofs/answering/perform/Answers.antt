@@ -1,3 +1,9 @@
+use Rattle.std.proofs.Common.{List, ℕ, Bor, map, subst, ap, sym, ◌∙◌}
+use Rattle.yspec.specs.text.Text.{Text}
+use Rattle.yprogram.specs.Output.{Outcome, edition, performed}
+use Rattle.ycommand.specs.Command.{options_view, view}
+use Rattle.ycommand.specs.declared.command.Request.{Request}
+use Rattle.yapp.specs.Failing.{LeadsTo, reported}
 use Rattle.yapp.proofs.ExplainedLemmas.{nothing_due}
 use Rattle.yapp.proofs.answering.perform.Goals as goal
 
@@ -9,3 +15,11 @@ returns-in-Compile-clause-explained c = nothing_due c.args.with_reasons c.count_
 
 pub returns-in-Tree-clause-explained : goal.returns-in-Tree-clause-explained
 returns-in-Tree-clause-explained c = nothing_due c.args.with_reasons c.draw.result c.draw.ensures.faultless
+
+pub returns-in-Edit-clause-leads : goal.returns-in-Edit-clause-leads
+returns-in-Edit-clause-leads c =
+    let contents = map (λ t. t.items) c.args.contents.now in
+    subst (λ (o : Outcome). LeadsTo o reported c.edit.result)
+    (ap (λ (names : List (Bor Text)). edition (options_view c.in-Edit.options) c.in-Edit.document.now (map (λ n. n.now) names) contents) c.deref-in-Edit.ensures.value
+    ∙ ap (λ (r : Request). performed (view r) contents) (sym c.in-Edit.is))
+    c.edit.ensures.leads

@@ -13,10 +13,10 @@ returns-in_err-write_fault_lines g c =
 
 pub returns : goal.returns
 returns g c =
-    let count = length c.as_slice.result.now in
+    let count = length c.as_slice-count.result.now in
     let said = explanations_in c.args.self.now in
     left_last _ _ _ _ _ c.write_count.result
-    (left_same _ _ _ _ _ (ap (λ (n : ℕ). spelled_part (is_some said) (count_part n)) (length-map c.args.self.now.faults.items view ∙ sym (ap length c.as_slice.ensures.value))
+    (left_same _ _ _ _ _ (ap (λ (n : ℕ). spelled_part (is_some said) (count_part n)) (length-map c.args.self.now.faults.items view ∙ sym (ap length c.as_slice-count.ensures.value))
     ∙ (ap (λ (b : Bool). spelled_part b (count_part count)) (sym c.has_explanations.ensures)
     ∙ ap (λ (t : List ℕ). decimal count ++ t) (sym c.counted_faults.ensures)))
     (left_after _ _ _ _ _ _ (left_all _ _) c.in_ok-write_fault_lines.ensures))
