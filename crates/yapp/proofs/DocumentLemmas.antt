@@ -147,14 +147,6 @@ pub unless_unasked : (is_strict : Bool) (s : spec.Schema) (name : Text) (bytes :
 unless_unasked is_strict s name bytes next t is =
     ap (λ (b : Bool). if b then option_map_or (repeated_document s name) (repeated_in s bytes) (next t) else next t) is
 
-pub unless_none : (s : spec.Schema) (name : Text) (bytes : List ℕ) (next : Tree → Outcome) (t : Tree) → None ≡ repeated_in s bytes
-    → unless_repeated true s name bytes next t ≡ next t
-unless_none s name bytes next t is = sym (ap (λ (o : Option (List Step)). option_map_or (repeated_document s name) o (next t)) is)
-
-pub unless_found : (s : spec.Schema) (name : Text) (bytes : List ℕ) (next : Tree → Outcome) (t : Tree) (place : List Step) → Some place ≡ repeated_in s bytes
-    → unless_repeated true s name bytes next t ≡ repeated_document s name place
-unless_found s name bytes next t place is = sym (ap (λ (o : Option (List Step)). option_map_or (repeated_document s name) o (next t)) is)
-
 -- a document that was read is refused for them, or goes on
 pub strictly_leads : {X : Type 0} (is_strict : Bool) (d : spec.Schema) (name : Text) (bytes : List ℕ) (told : Outcome) (next : Tree → Outcome) (t : Tree) (go : X → Outcome)
     (r : Result X Failure) → is_strict ≡ true → told ≡ unless_repeated is_strict d name bytes next t → LeadsTo (unless_repeated true d name bytes next t) go r → LeadsTo told go r

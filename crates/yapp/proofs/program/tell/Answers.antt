@@ -13,5 +13,5 @@ returns-in-Ok-clause-brings g c =
     (end_is o _ _ _ c.write-written.result c.ended_after.ensures.end c.status-status.ensures c.into_saved.ensures)))
 
 pub returns-in-Err-clause-brings : goal.returns-in-Err-clause-brings
-returns-in-Err-clause-brings g c = told_of c.args.with_reasons _ _ _ _ _ _ _ c.in-Err.is (on_failure c.args.with_reasons _ _ _ c.in-Err.failure _ c.write-written-2.result c.write-written-2.ensures
-    (unsaved_end _ _ (outcome_of c.in-Err.failure).status c.write-written-2.result c.ended_after-in-Err.ensures.end c.status-in-Err.ensures))
+returns-in-Err-clause-brings g c = told_of c.args.with_reasons _ _ _ _ _ _ _ c.in-Err.is (on_failure c.args.with_reasons _ _ _ c.in-Err.failure _ c.write-written-in-Err.result c.write-written-in-Err.ensures
+    (unsaved_end _ _ (outcome_of c.in-Err.failure).status c.write-written-in-Err.result c.ended_after-in-Err.ensures.end c.status.ensures))
