@@ -2,8 +2,9 @@
 
 ghost use Rattle.std.specs.Prelude.{None};
 
-use std::fs::{File, OpenFile};
+use std::fs::{File, OpenFile, Permissions};
 use std::io::{BufWriter, ErrorKind, Write};
+use std::path::AsPath;
 use std::{fs, io, rt};
 use yapp::{FileFault, Files, SavedFile, Shelf, Unsaved};
 use ytext::{CallCount, Sink, SinkFault};
@@ -46,28 +47,55 @@ impl<'a, R> FileSystem<'a, R> {
 }
 
 impl<R: rt::Files + AllocGlobal> FileSystem<'_, R> {
-    /// Writes a file beside its place, and then puts it there.
+    /// Writes a file into its place: where that is a link, into the place of its target, and with the permissions of the
+    /// file that is there. What is there and is no regular file stays as it is.
     fn put(&self, file: &SavedFile) -> io::Result<()> {
-        let beside = [file.name.as_str(), BESIDE].concat(self.runtime.alloc())?;
-        let written = self.write(beside.as_str(), file.text.as_bytes());
-        let put = written.and_then(|()| fs::rename(
-            self.runtime,
-            beside.as_str(),
-            file.name.as_str(),
-        ));
+        let name = file.name.as_str();
+        let bytes = file.text.as_bytes();
+        match fs::metadata(self.runtime, name) {
+            Ok(found) if found.is_file() => {
+                let place = fs::canonicalize(self.runtime, name)?;
+                self.put_at(place.path_text(), bytes, Some(found.permissions()))
+            }
+            Ok(_) => Err(io::Error::from(ErrorKind::InvalidInput)),
+            Err(error) if error.kind() == ErrorKind::NotFound => self.put_new(name, bytes),
+            Err(error) => Err(error),
+        }
+    }
+
+    /// The same where no file is there. A link that leads nowhere stays as it is.
+    fn put_new(&self, name: &str, bytes: &[u8]) -> io::Result<()> {
+        match fs::symlink_metadata(self.runtime, name) {
+            Ok(_) => Err(io::Error::from(ErrorKind::InvalidInput)),
+            Err(_) => self.put_at(name, bytes, None),
+        }
+    }
+
+    /// Writes a file beside its place, under a name that nothing has, and then puts it there.
+    fn put_at(&self, place: &str, bytes: &[u8], like: Option<Permissions>) -> io::Result<()> {
+        let beside = [place, BESIDE].concat(self.runtime.alloc())?;
+        let part = File::create_new(self.runtime, beside.as_str())?;
+        let written = fill(part, bytes, like);
+        let put = written.and_then(|()| fs::rename(self.runtime, beside.as_str(), place));
         if put.is_err() {
             // What was written of it isn't needed; whether it goes away changes nothing.
             let _ = fs::remove_file(self.runtime, beside.as_str());
         }
         put
     }
+}
 
-    /// Writes a file of a name, down to the device.
-    fn write(&self, name: &str, bytes: &[u8]) -> io::Result<()> {
-        let mut file = File::create(self.runtime, name)?;
-        file.write_all(bytes)?;
-        file.sync_all()
+/// Fills a new file, with the permissions of another one where there is one, down to the device.
+fn fill<F: OpenFile + Write + Drop>(
+    mut file: F,
+    bytes: &[u8],
+    like: Option<Permissions>,
+) -> io::Result<()> {
+    if let Some(permissions) = like {
+        file.set_permissions(permissions)?;
     }
+    file.write_all(bytes)?;
+    file.sync_all()
 }
 
 impl<R: rt::Files + AllocGlobal> Shelf for FileSystem<'_, R> {
