@@ -64,7 +64,7 @@ const ROWS: &str = r#"{"net:host":[{"name":"a","speed":1}]}
 ==
 {"net:limits":{"small":9,"word":"abc"}}
 {"error-app-tag":"too big","error-message":"9 isn't a value of uint8: it takes an integer without quotes in 1..5 | 7.","error-path":"/net:limits/small","error-tag":"invalid-value","error-type":"application","yanglive:code":"V1","yanglive:path":"/net:limits/small"}
-{"error-message":"\"abc\" isn't a value of string: it takes a text in quotes of 2 characters.","error-path":"/net:limits/word","error-tag":"invalid-value","error-type":"application","yanglive:code":"V1","yanglive:path":"/net:limits/word"}
+{"error-message":"\"abc\" isn't a value of string: it takes a text in quotes of length 2.","error-path":"/net:limits/word","error-tag":"invalid-value","error-type":"application","yanglive:code":"V1","yanglive:path":"/net:limits/word"}
 {"yanglive:faults":2}
 "#;
 

@@ -53,14 +53,14 @@ uint64 { range "7"; } => "8" => "8" isn't a value of uint64: it takes an integer
 decimal64 { fraction-digits 2; range "0.0..9.99"; } => "12.5" => "12.5" isn't a value of decimal64: it takes a number in quotes, with at most 2 digits after the point, in 0.0..9.99.
 decimal64 { fraction-digits 1; range "-1.5 | 2..3"; } => "0.25" => "0.25" isn't a value of decimal64: it takes a number in quotes, with at most 1 digit after the point, in -1.5 | 2.0..3.0.
 string; => 20 => 20 isn't a value of string: it takes a text in quotes.
-string { length "1..8"; } => "" => "" isn't a value of string: it takes a text in quotes of 1..8 characters.
-string { length "2 | 4..max"; } => "abc" => "abc" isn't a value of string: it takes a text in quotes of 2 | 4 or more characters.
+string { length "1..8"; } => "" => "" isn't a value of string: it takes a text in quotes of length 1..8.
+string { length "2 | 4..max"; } => "abc" => "abc" isn't a value of string: it takes a text in quotes of length 2 | 4 or more.
 string { length "0..max"; } => true => true isn't a value of string: it takes a text in quotes.
 boolean; => "true" => "true" isn't a value of boolean: it takes true or false without quotes.
 empty; => "" => "" isn't a value of empty: it takes [null].
 enumeration { enum error; enum warning { value 7; } enum "a b" { value 3; } } => "warn" => "warn" isn't a value of enumeration: it takes one of "error", "a b", "warning".
-bits { bit b { position 4; } bit a { position 2; } } => "a c" => "a c" isn't a value of bits: it takes names in quotes, parted by spaces, of: a, b.
-host; => 0 => 0 isn't a value of host: it takes an integer without quotes in 1..100 or a text in quotes of 1..8 characters.
+bits { bit b { position 4; } bit a { position 2; } } => "a c" => "a c" isn't a value of bits: it takes names in quotes, parted by spaces and each once, of: a, b.
+host; => 0 => 0 isn't a value of host: it takes an integer without quotes in 1..100 or a text in quotes of length 1..8.
 leafref { path /t:target; } => 9 => 9 isn't a value of leafref: it takes an integer without quotes in -5..5.
 "#;
 

@@ -114,9 +114,10 @@ remove /net:host//name => a name stands behind each / of a path.
 remove /net:link[id=eth0]/mtu => "net:link[id=eth0]" is no step of a path: a key's text stands in quotes, as in [id='..'].
 remove /net:link[id=eth 0]/mtu => "net:link[id=eth" is no step of a path: a key's text stands in quotes, as in [id='..'].
 remove /net:link[0] => "net:link[0]" is no step of a path: positions count from 1.
-remove /net:link[] => "net:link[]" is no step of a path: a step is a name, and perhaps [1] or [name='..'] behind it.
-remove /net:link[id='1'/mtu => "net:link[id='1'" is no step of a path: a step is a name, and perhaps [1] or [name='..'] behind it.
-remove /1 => "1" is no step of a path: a step is a name, and perhaps [1] or [name='..'] behind it.
+remove /net:link[] => "net:link[]" is no step of a path: a step is a name, and behind it perhaps [1], or [name='..'] for each key.
+remove /net:link[id='1'/mtu => "net:link[id='1'" is no step of a path: a step is a name, and behind it perhaps [1], or [name='..'] for each key.
+remove /net:link[.=5] => "net:link[.=5]" is no step of a path: a step is a name, and behind it perhaps [1], or [name='..'] for each key.
+remove /1 => "1" is no step of a path: a step is a name, and behind it perhaps [1], or [name='..'] for each key.
 create /net:host => create has a value behind its path.
 replace /net:link[id='a b'] => replace has a value behind its path.
 remove /net:host {} => remove has no value behind its path.

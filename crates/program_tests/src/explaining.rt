@@ -385,7 +385,7 @@ line 8: E10 J5
   A value is of another kind than its node: no object for a container or an entry, no array for a list or leaf-list. Write a container as an object, a list as an array of objects, a leaf-list as an array of values, an empty leaf as [null].
 line 9: E1
   | remove /net:host\\x1b[2J
-  \"net:host\\x1b[2J\" is no step of a path: a step is a name, and perhaps [1] or [name='..'] behind it.
+  \"net:host\\x1b[2J\" is no step of a path: a step is a name, and behind it perhaps [1], or [name='..'] for each key.
   The line isn't an edit. Write create PATH VALUE, replace PATH VALUE or remove PATH.
 {\"net:host\":[{\"name\":\"a\",\"speed\":1}]}
 ==
@@ -503,7 +503,7 @@ yanglive validate --explain open n.yang
 2 3
 open: J1 /
   The document isn't JSON. Look for a comma or a bracket too many or too few, and for text that isn't UTF-8.
-open:1:1: it stops being JSON here
+open:1:1: reading stops here
 ==
 yanglive edit --explain array adding n.yang
 2 2

@@ -325,7 +325,7 @@ fn write_stop_line<S: Sink>(name: &str, stop: Stop, sink: &mut S) -> Result<(), 
     let column = column_digits.format(stop.column);
     write_texts(
         sink,
-        &[name, ":", line, ":", column, ": it stops being JSON here\n"],
+        &[name, ":", line, ":", column, ": reading stops here\n"],
     )
 }
 

@@ -58,7 +58,7 @@ fn object_hint(bytes: &[u8]) -> &'static str
     ensures { result.now ≡ spec.object_hint (spec.begins_object bytes.now) }
 {
     if begins_object(bytes) {
-        "  this is JSON, and no module: the document stands before the modules.\n"
+        "  this begins as JSON, not as a module; a document stands before the modules.\n"
     } else {
         ""
     }

@@ -39,7 +39,7 @@ all_lengths_words parts = joined (codes " | ") (map length_words parts)
 
 abbrev pub lengths_words : List Part → Text
 lengths_words parts =
-    if list_all is_any_length parts then [] else codes " of " ++ (all_lengths_words parts ++ codes " characters")
+    if list_all is_any_length parts then [] else codes " of length " ++ all_lengths_words parts
 
 -- ---- built-in types
 
@@ -61,7 +61,7 @@ abbrev pub enum_words : List Assigned → Text
 enum_words names = codes "one of " ++ joined (codes ", ") (map (λ a. compact_text (string a.name)) names)
 
 abbrev pub bits_words : List Assigned → Text
-bits_words names = codes "names in quotes, parted by spaces, of: " ++ joined (codes ", ") (map (λ a. a.name) names)
+bits_words names = codes "names in quotes, parted by spaces and each once, of: " ++ joined (codes ", ") (map (λ a. a.name) names)
 
 -- ---- types
 

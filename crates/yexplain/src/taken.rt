@@ -99,7 +99,7 @@ fn lengths_words(alloc: Global, parts: &[Part]) -> Result<String, AllocError>
         return Ok(String::new(alloc));
     }
     let text = all_lengths_words(alloc, parts)?;
-    [" of ", text.as_str(), " characters"].concat(alloc)
+    [" of length ", text.as_str()].concat(alloc)
 }
 
 // ---- built-in types
@@ -187,7 +187,11 @@ fn bits_words(alloc: Global, names: &Names) -> Result<String, AllocError>
         texts.push(name.clone()?)?;
     }
     let text = joined(alloc, ", ", &texts)?;
-    ["names in quotes, parted by spaces, of: ", text.as_str()].concat(alloc)
+    [
+        "names in quotes, parted by spaces and each once, of: ",
+        text.as_str(),
+    ]
+    .concat(alloc)
 }
 
 // ---- types

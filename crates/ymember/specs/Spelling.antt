@@ -3,7 +3,7 @@ use Rattle.std.specs.Prelude.{◌||◌, ◌++◌, not, List, [], ◌∷◌, code
 use Rattle.std.specs.List.{list_any}
 use Rattle.std.specs.Option.{option_map_or}
 use Rattle.std.specs.Str.{is_utf8}
-use Rattle.yspec.specs.text.Text.{Text, begins, double_quote, is_text, single_quote, slash, space}
+use Rattle.yspec.specs.text.Text.{Text, begins, double_quote, is_identifier, is_text, single_quote, slash, space}
 use Rattle.yspec.specs.edit.EditText.{behind, cut_at, equals_sign, name_and_predicate, open_bracket, operands, parts_at, step_of}
 use Rattle.yhint.specs.Line.{shown}
 use Rattle.yhint.specs.Near.{nearest}
@@ -29,7 +29,8 @@ of_verb (x ∷ verb) = other_verb (x ∷ verb) (nearest (x ∷ verb) verbs)
 
 -- the name of a key, from both sides of its `=`, where no quote stands behind that
 abbrev pub bare_key : Text × Text → Option Text
-bare_key (name, text) = if begins single_quote text || begins double_quote text then None else Some name
+bare_key (name, text) =
+    if not (is_identifier name) || (begins single_quote text || begins double_quote text) then None else Some name
 
 -- that of the first key behind the name of a step
 abbrev pub bare_key_in : Text → Option Text
@@ -41,7 +42,7 @@ quotes_due name = codes "a key's text stands in quotes, as in [" ++ (shown name 
 -- what is to be changed in what stands behind the name of a step
 abbrev pub predicate_due : Text → Text
 predicate_due predicate = if is_text predicate (codes "[0]") then codes "positions count from 1."
-    else option_map_or quotes_due (bare_key_in predicate) (codes "a step is a name, and perhaps [1] or [name='..'] behind it.")
+    else option_map_or quotes_due (bare_key_in predicate) (codes "a step is a name, and behind it perhaps [1], or [name='..'] for each key.")
 
 abbrev pub other_step : Text → Text
 other_step part = codes "\"" ++ (shown part ++ (codes "\" is no step of a path: " ++ predicate_due (name_and_predicate part).1))

@@ -106,7 +106,7 @@ pub fn spellings()
     ensures zero { said_of_line (codes "remove /p:host/port[0]")
         ≡ codes "\"port[0]\" is no step of a path: positions count from 1." }
     ensures no_step { said_of_line (codes "remove /p:host/port[]")
-        ≡ codes "\"port[]\" is no step of a path: a step is a name, and perhaps [1] or [name='..'] behind it." }
+        ≡ codes "\"port[]\" is no step of a path: a step is a name, and behind it perhaps [1], or [name='..'] for each key." }
     ensures no_value { said_of_line (codes "create /p:host")
         ≡ codes "create has a value behind its path." }
     ensures value { said_of_line (codes "remove /p:host {}")

@@ -10,6 +10,7 @@ ghost use Rattle.ymember.specs.Spelling as spec;
 use std::alloc::{AllocError, Global};
 use yhint::{nearest, shown};
 use ypath::{behind, cut, is_step, name_and_predicate, operands};
+use ytext::is_identifier;
 
 pub(crate) fn begins(byte: u8, text: &str) -> bool
     ensures { result ≡ text_spec.begins byte text.now }
@@ -87,7 +88,7 @@ fn bare_key_in(predicate: &str) -> Option<&str>
     ensures { option_map (λ n. n.now) result ≡ spec.bare_key_in predicate.now }
 {
     let (name, text) = cut(behind(predicate, '[')?, b'=')?;
-    if begins(b'\'', text) || begins(b'"', text) {
+    if !is_identifier(name) || begins(b'\'', text) || begins(b'"', text) {
         None
     } else {
         Some(name)
@@ -118,7 +119,7 @@ fn predicate_due(alloc: Global, predicate: &str) -> Result<String, AllocError>
         None => {
             String::from_str(
                 alloc,
-                "a step is a name, and perhaps [1] or [name='..'] behind it.",
+                "a step is a name, and behind it perhaps [1], or [name='..'] for each key.",
             )
         }
     }

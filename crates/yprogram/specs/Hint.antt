@@ -36,7 +36,7 @@ begins_object [] = false
 begins_object (x ∷ bytes) = if nat_le x space then begins_object bytes else x == open_brace
 
 abbrev pub object_hint : Bool → Text
-object_hint is_object = if is_object then codes "  this is JSON, and no module: the document stands before the modules.\n" else []
+object_hint is_object = if is_object then codes "  this begins as JSON, not as a module; a document stands before the modules.\n" else []
 
 -- of a text that is refused in a line: that line, and whether it is a document's
 abbrev pub slip_hint : ℕ → List ℕ → Text

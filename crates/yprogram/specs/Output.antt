@@ -99,7 +99,7 @@ pub record Besides : Type 0 where
 -- `FILE:LINE:COLUMN: ..`, where the document of a name stops being JSON
 abbrev pub stop_line : Besides → Text → List ℕ
 stop_line besides name =
-    name ++ (codes ":" ++ (decimal besides.line ++ (codes ":" ++ (decimal besides.column ++ codes ": it stops being JSON here\n"))))
+    name ++ (codes ":" ++ (decimal besides.line ++ (codes ":" ++ (decimal besides.column ++ codes ": reading stops here\n"))))
 
 abbrev pub aside_text : Besides → Aside → List ℕ
 aside_text besides nothing = []
