@@ -37,6 +37,11 @@ on_errors output errors errors_after o result end none unsaved (inl all) is =
     inl (wrote_same output output [] o.output (sym none) (wrote_none output), all.0, is ∙ well_by o result unsaved all.1)
 on_errors output errors errors_after o result end none unsaved (inr broke) is = inr (inr (0, wrote_none output, broke.0, is ∙ ap with_status broke.1))
 
+-- what ends with the status of a failure whether its text is written or not
+pub four : (a b : Side) (bytes : List ℕ) (result : ℕ) → Ends a b bytes 4 result → result ≡ 4
+four a b bytes result (inl all) = all.1
+four a b bytes result (inr broke) = broke.1
+
 -- a text that is written alone ends a run
 pub ends : {X E : Type 0} → (a b : Side) (bytes : List ℕ) (status result : ℕ) (r : Result X E) → Writes a b bytes r
     → result ≡ (if is_ok r then status else 4) → Ends a b bytes status result

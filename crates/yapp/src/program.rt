@@ -1,6 +1,6 @@
 //! A run of the program.
 
-ghost use Rattle.std.specs.Prelude.{◌≡◌, [], IfOk, true, is_ok, if◌then◌else◌, map, string_bytes};
+ghost use Rattle.std.specs.Prelude.{◌≡◌, ◌⊎◌, [], IfOk, is_ok, if◌then◌else◌, map, string_bytes};
 ghost use Rattle.yapp.specs.Saving.{end_of};
 ghost use Rattle.yprogram.specs.Output.{Besides, Outcome, Printed, printed_with};
 ghost use Rattle.ycommand.specs.Command.{asks_reasons, refusals, request_of};
@@ -100,8 +100,8 @@ pub fn run<F: Files, O: Sink, E: Sink>(
         × AnswersWords (refusals (map string_bytes words.now)) o
         × Brings (side O.taken O.failures output.old) (side O.taken O.failures output.new)
         (side E.taken E.failures errors.old) (side E.taken E.failures errors.new) o (end_of result) }
-    ensures reasons { result.with_reasons ≡ true → asks_reasons (map string_bytes words.now)
-        ≡ true }
+    ensures reasons { (refusals (map string_bytes words.now) ≡ [])
+        → (result.with_reasons ≡ asks_reasons (map string_bytes words.now)) ⊎ (result.status ≡ 4) }
     ensures untouched { ¬ (refusals (map string_bytes words.now) ≡ []) → files.new ≡ files.old }
 {
     match read_words(alloc, words) {

@@ -112,7 +112,7 @@ Example: yanglive tree net net.yang";
 
 /// What `validate` says at the end of its help.
 const VALIDATE_HELP: &str =
-    "Prints a line for each fault, and then how many there are, as `0 faults`. The line has the code (V1 to V11), error-tag, error-app-tag, path, and the choice (V4, V5) or the number of the unique (V9), or - for none; [N] in a path is the position of an entry or item, from 1. With --format json a fault is an object on a line of its own, in the words of RESTCONF (RFC 8040, 7.1), and so is their number.
+    "Prints a line for each fault, and then how many there are, as `0 faults`. The line has the code (V1 to V11), error-tag, error-app-tag, path, and the choice (V4, V5) or the number of the unique (V9), or - for none; [N] in a path is the position of an entry or item, from 1. With --format json a fault is an object on a line of its own, in the words of RESTCONF (RFC 8040, 7.1), and so is their number; what is refused stays a line on the error side.
 A refused module is told as FILE:LINE: CODE (L1 to L8, C1 to C18), a refused document as FILE: CODE PATH (J1 to J7, with --strict J8); `yanglive explain CODE` says what it means.
 
 Exit status:
@@ -206,7 +206,7 @@ fn strict_argument<'a>(alloc: Global) -> Arg<'a>
     Arg::new(alloc, "strict")
         .long("strict")
         .action(ArgAction::SetTrue)
-        .help("Refuses a document with a member that comes twice in one object")
+        .help("Refuses a member that comes twice in one object")
 }
 
 /// `--format FORMAT`

@@ -1,12 +1,12 @@
-use Rattle.std.proofs.Common.{◌≡◌, arith, inl, inr, refl, sym, ◌∙◌, map, string_bytes, false, true}
+use Rattle.std.proofs.Common.{arith, inl, inr, refl, ap, ◌∙◌, map, string_bytes, false, true}
 use Rattle.yapp.specs.Failing.{unsaid}
 use Rattle.yapp.specs.Files.{came_to, said_besides}
 use Rattle.yapp.proofs.ContentsLemmas.{outcome_same}
 use Rattle.ycommand.specs.Command.{Declines, asks_reasons, refusals}
 use Rattle.ycommand.specs.declared.command.NoRequest.TheVariants as none
-use Rattle.ycommand.specs.Running.{memory_told, refused, shown, without_memory}
+use Rattle.ycommand.specs.Running.{End, memory_told, refused, shown, without_memory}
 use Rattle.ycommand.proofs.CommandLemmas.{asked_help, text_is}
-use Rattle.yapp.proofs.RunningLemmas.{memory_either, on_output, on_errors, reasons_same}
+use Rattle.yapp.proofs.RunningLemmas.{four, memory_either, on_output, on_errors, reasons_same}
 use Rattle.yapp.proofs.program.run.Goals as goal
 
 pub returns-in-Ok-clause-taken : goal.returns-in-Ok-clause-taken
@@ -16,6 +16,9 @@ returns-in-Ok-clause-taken g c = λ taken. (
   outcome_same _ _ _ _ _ c.in-Ok.ensures.1 c.answer.ensures.outcome,
   reasons_same (said_besides c.answer.result) _ _ _ _ _ _ _ _ c.in-Ok.ensures.2 c.tell.ensures.brings,
 )
+
+pub returns-in-Ok-clause-reasons : goal.returns-in-Ok-clause-reasons
+returns-in-Ok-clause-reasons g c = λ taken. inl (c.tell.ensures.reasons ∙ c.in-Ok.ensures.2)
 
 pub returns-in-Err-Help : goal.returns-in-Err-Help
 returns-in-Err-Help g c =
@@ -28,7 +31,7 @@ returns-in-Err-Help g c =
         inr (c.as_str.result.now, text_is kinds true c.as_str.result.now because),
         on_output _ _ _ (shown c.as_str.result.now) _ _ refl refl c.show.ensures c.with_status.ensures.end,
       );
-      reasons = λ asked. let none : false ≡ true = sym c.with_status.ensures.reasons ∙ asked in cc;
+      reasons = λ taken. absurd (asked_help kinds because taken);
       untouched = λ not_taken. refl;
     }
 
@@ -44,7 +47,7 @@ returns-in-Err-Refused g c =
         inr (text, text_is kinds false text because.1),
         on_errors _ _ _ (refused text) _ _ refl refl c.refuse.ensures c.with_status-in-Err-Refused.ensures.end,
       );
-      reasons = λ asked. let none : false ≡ true = sym c.with_status-in-Err-Refused.ensures.reasons ∙ asked in cc;
+      reasons = λ taken. absurd (because.0 taken);
       untouched = λ not_taken. refl;
     }
 
@@ -57,6 +60,6 @@ returns-in-Err-Memory g c = record {
     memory_either unsaid (asks_reasons (map string_bytes c.args.words.now)) _ _ _ _ _ (on_errors _ _ _ memory_told _ _ refl refl c.tell_memory.ensures c.with_status-in-Err-Memory.ensures.end),
   );
   words = λ not_taken. (memory_told, inl refl, on_errors _ _ _ memory_told _ _ refl refl c.tell_memory.ensures c.with_status-in-Err-Memory.ensures.end);
-  reasons = λ asked. let none : false ≡ true = sym c.with_status-in-Err-Memory.ensures.reasons ∙ asked in cc;
+  reasons = λ taken. inr (ap (λ (e : End). e.status) c.with_status-in-Err-Memory.ensures.end ∙ four _ _ _ _ c.tell_memory.ensures);
   untouched = λ not_taken. refl;
 }
