@@ -3,7 +3,7 @@
 //! `uint8 > string > union`. Each function answers none where a row is malformed or memory ran out.
 
 use std::alloc::Global;
-use ytype::{Bound, FractionDigits, Naming, NarrowFault, Restriction, Span, YType};
+use ytype::{Bound, ErrorText, FractionDigits, Naming, NarrowFault, Restriction, Span, YType};
 
 /// A type, or why there is none.
 pub(crate) type Narrowed = Result<YType, NarrowFault>;
@@ -68,32 +68,30 @@ fn spans(alloc: Global, text: &str) -> Option<Vec<Span>> {
     Some(spans)
 }
 
-fn tag(alloc: Global, text: &str) -> Option<Option<String>> {
-    Some(Some(String::from_str(alloc, text).ok()?))
+// A text with what stands behind a sign, where it has that.
+fn cut_at<'a>(text: &'a str, sign: char) -> (&'a str, Option<&'a str>) {
+    match text.split_once(sign) {
+        None => (text, None),
+        Some((before, behind)) => (before, Some(behind)),
+    }
 }
 
-// A range with its app-tag, as `1..5:tag`, or without one.
-fn range(alloc: Global, text: &str) -> Option<Restriction> {
-    let (parts, app_tag) = match text.split_once(':') {
-        None => (text, None),
-        Some((parts, app_tag)) => (parts, tag(alloc, app_tag)?),
-    };
-    Some(Restriction::Range {
-        spans: spans(alloc, parts)?,
-        app_tag,
-    })
+fn owned(alloc: Global, text: Option<&str>) -> Option<Option<String>> {
+    match text {
+        None => Some(None),
+        Some(text) => Some(Some(String::from_str(alloc, text).ok()?)),
+    }
 }
 
-// A length in the same form.
-fn length(alloc: Global, text: &str) -> Option<Restriction> {
-    let (parts, app_tag) = match text.split_once(':') {
-        None => (text, None),
-        Some((parts, app_tag)) => (parts, tag(alloc, app_tag)?),
+// Parts with an app-tag and a message, as `1..5:tag~message`, or without.
+fn limit(alloc: Global, text: &str) -> Option<(Vec<Span>, ErrorText)> {
+    let (text, message) = cut_at(text, '~');
+    let (parts, app_tag) = cut_at(text, ':');
+    let error = ErrorText {
+        message: owned(alloc, message)?,
+        app_tag: owned(alloc, app_tag)?,
     };
-    Some(Restriction::Length {
-        spans: spans(alloc, parts)?,
-        app_tag,
-    })
+    Some((spans(alloc, parts)?, error))
 }
 
 fn decimal(alloc: Global, digits: &str) -> Option<Narrowed> {
@@ -132,8 +130,14 @@ fn built_in(alloc: Global, kind: &str, rest: &str) -> Option<Narrowed> {
 
 fn restriction(alloc: Global, kind: &str, rest: &str) -> Option<Restriction> {
     match kind {
-        "range" => range(alloc, rest),
-        "length" => length(alloc, rest),
+        "range" => {
+            let (spans, error) = limit(alloc, rest)?;
+            Some(Restriction::Range { spans, error })
+        }
+        "length" => {
+            let (spans, error) = limit(alloc, rest)?;
+            Some(Restriction::Length { spans, error })
+        }
         _ => Some(Restriction::RequireInstance(rest.parse::<bool>().ok()?)),
     }
 }

@@ -81,6 +81,31 @@ fn holds(alloc: Global, way: Way, row: &str) -> Option<bool> {
     holds_of(alloc, way, steps, rest)
 }
 
+// Whether a row holds: a type, what a document has, and the message of what excludes it, `-` for none.
+fn gives_message(alloc: Global, row: &str) -> Option<bool> {
+    let (steps, rest) = row.split_once('/')?;
+    let (text, wanted) = rest.split_once('/')?;
+    let of = described(alloc, steps)?;
+    let message = of.message(alloc, &raw(alloc, text)?).ok()?;
+    Some(message.as_deref().unwrap_or("-") == wanted)
+}
+
+#[test]
+fn messages(rt: HostRuntime) {
+    let rows = "uint8 > range:1..10~wide > range:2..5~narrow/7/narrow
+uint8 > range:1..10~wide > range:2..5~narrow/20/wide
+uint8 > range:1..10 > range:2..5~narrow/20/-
+uint8 > range:1..10~wide > range:2..5/7/-
+uint8 > range:2..5:tag~narrow/7/narrow
+uint8 > range:2..5~narrow/3/-
+uint8 > range:2..5~narrow/300/-
+string > length:2..5~too short/'a/too short
+string > length:2..5~too short > uint8 > union/'a/-";
+    for row in rows.lines() {
+        assert!(rt; gives_message(rt.alloc(), row) == Some(true));
+    }
+}
+
 #[test]
 fn documents(rt: HostRuntime) {
     let rows = "int8/-128/-128

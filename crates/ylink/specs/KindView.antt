@@ -2,7 +2,7 @@
 use Rattle.std.specs.Prelude.{ℤ, List, Option}
 use Rattle.yspec.specs.Forest.{Forest}
 use Rattle.yspec.specs.text.Text.{Text}
-use Rattle.yspec.specs.types.Ranges.{Span}
+use Rattle.yspec.specs.types.Ranges.{ErrorText, Span}
 use Rattle.yspec.specs.types.Restriction.{Restriction, range, length}
 use Rattle.yspec.specs.linking.Keyword.{Keyword, range_word, length_word, enum_word, bit_word}
 use Rattle.yspec.specs.linking.Source.{Source}
@@ -16,7 +16,7 @@ abbrev pub word_of : SpanRestriction → Keyword
 word_of Range = range_word
 word_of Length = length_word
 
-abbrev pub restriction_by : SpanRestriction → List Span → Option Text → Restriction
+abbrev pub restriction_by : SpanRestriction → List Span → ErrorText → Restriction
 restriction_by Range = range
 restriction_by Length = length
 

@@ -6,6 +6,7 @@ ghost use Rattle.yspec.specs.types.Restriction as restrictions;
 ghost use Rattle.yspec.specs.types.Types.{YangType};
 ghost use Rattle.yspec.specs.linking.Arguments.{spans_of};
 ghost use Rattle.yspec.specs.linking.Keyword as word;
+ghost use Rattle.yword.specs.KeywordView.{keyword_view};
 ghost use Rattle.yspec.specs.linking.Source as sources;
 ghost use Rattle.yspec.specs.linking.TypeStatements as spec;
 ghost use Rattle.ynumber.specs.View.{restriction_of, text_of};
@@ -17,7 +18,7 @@ ghost use Rattle.ylink.specs.KindView.{word_of, restriction_by};
 use std::alloc::{AllocError, Global};
 use ygrammar::{Source, argument_of, argument_with, found_with, spans};
 use ypreorder::{Node, Siblings};
-use ytype::{NarrowFault, Restriction, Span, YType};
+use ytype::{ErrorText, NarrowFault, Restriction, Span, YType};
 use yword::Keyword;
 
 /// The restrictions that types have by spans of numbers.
@@ -31,7 +32,7 @@ enum SpanRestriction {
 
 impl SpanRestriction {
     ghost use Rattle.std.specs.Prelude.{◌≡◌};
-    ghost use Rattle.ynumber.specs.View.{restriction_of, text_of};
+    ghost use Rattle.ynumber.specs.View.{restriction_of};
     ghost use Rattle.yword.specs.KeywordView.{keyword_view};
     ghost use Rattle.ylink.specs.KindView.{word_of, restriction_by};
 
@@ -45,25 +46,40 @@ impl SpanRestriction {
         }
     }
 
-    /// The restriction by these spans, with its error-app-tag.
-    fn restriction(self, spans: Vec<Span>, app_tag: Option<String>) -> Restriction
-        ensures { restriction_of result ≡ restriction_by self spans.items (text_of app_tag) }
+    /// The restriction by these spans, with what it says of other values.
+    fn restriction(self, spans: Vec<Span>, error: ErrorText) -> Restriction
+        ensures { restriction_of result ≡ restriction_by self spans.items error }
     {
         match self {
-            SpanRestriction::Range => Restriction::Range { spans, app_tag },
-            SpanRestriction::Length => Restriction::Length { spans, app_tag },
+            SpanRestriction::Range => Restriction::Range { spans, error },
+            SpanRestriction::Length => Restriction::Length { spans, error },
         }
     }
 }
 
-fn app_tag(alloc: Global, below: Siblings<'_, Source<'_>>) -> Result<Option<String>, AllocError>
-    ensures { IfOk result (λ tag. text_of tag
-        ≡ sources.argument_with word.error_app_tag_word (row_by source_view below.entry)) }
+/// A copy of the argument of the statement of this keyword, where a row has one.
+fn text_with(
+    alloc: Global,
+    keyword: Keyword,
+    below: Siblings<'_, Source<'_>>,
+) -> Result<Option<String>, AllocError>
+    ensures { IfOk result (λ text. text_of text
+        ≡ sources.argument_with (keyword_view keyword) (row_by source_view below.entry)) }
 {
-    match argument_with(Keyword::ErrorAppTag, below) {
+    match argument_with(keyword, below) {
         Some(text) => Ok(Some(String::from_str(alloc, text)?)),
         None => Ok(None),
     }
+}
+
+/// What a row says of values that aren't taken.
+fn error_text(alloc: Global, below: Siblings<'_, Source<'_>>) -> Result<ErrorText, AllocError>
+    ensures { IfOk result (λ error. error ≡ spec.error_text_in (row_by source_view below.entry)) }
+{
+    Ok(ErrorText {
+        message: text_with(alloc, Keyword::ErrorMessage, below)?,
+        app_tag: text_with(alloc, Keyword::ErrorAppTag, below)?,
+    })
 }
 
 fn spans_stated(alloc: Global, statement: Node<'_, Source<'_>>) -> Result<Vec<Span>, AllocError>
@@ -86,8 +102,8 @@ fn restriction_by(
         ≡ spec.stated_by (restriction_by kind) (node_view statement.entry)) }
 {
     let spans = spans_stated(alloc, statement)?;
-    let app_tag = app_tag(alloc, statement.children())?;
-    Ok(kind.restriction(spans, app_tag))
+    let error = error_text(alloc, statement.children())?;
+    Ok(kind.restriction(spans, error))
 }
 
 /// The restriction of a kind that a row states, where it states one.

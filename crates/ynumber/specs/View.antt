@@ -19,6 +19,6 @@ abbrev pub text_of : {Z : Type 0} → Option (String Z) → Option Text
 text_of text = option_map string_bytes text
 
 abbrev pub restriction_of : Restriction → restrictions.Restriction
-restriction_of (restriction.Range spans app_tag) = restrictions.range spans.items (text_of app_tag)
-restriction_of (restriction.Length spans app_tag) = restrictions.length spans.items (text_of app_tag)
+restriction_of (restriction.Range spans error) = restrictions.range spans.items error
+restriction_of (restriction.Length spans error) = restrictions.length spans.items error
 restriction_of (restriction.RequireInstance b) = restrictions.require_instance b

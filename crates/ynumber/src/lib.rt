@@ -4,6 +4,7 @@
 mod bits;
 mod decimal;
 mod digits;
+mod error_text;
 mod fault;
 mod name;
 mod named;
@@ -15,6 +16,7 @@ mod restriction;
 pub use bits::positions_in;
 pub use decimal::{decimal_text, integer_text};
 pub use digits::FractionDigits;
+pub use error_text::ErrorText;
 pub use fault::NarrowFault;
 pub use name::{Naming, bit_names, enum_names};
 pub use named::{bits_text, name_of_number};

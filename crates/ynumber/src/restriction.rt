@@ -6,6 +6,7 @@ ghost use Rattle.ynumber.specs.View.{bound_of};
 ghost use Rattle.yspec.specs.Results.{Gives};
 ghost use Rattle.ynumber.specs.Words.{narrow_refusal, same};
 
+use crate::error_text::ErrorText;
 use crate::fault::NarrowFault;
 use crate::range::{Part, Range};
 use std::alloc::Global;
@@ -51,16 +52,10 @@ impl Span {
 /// What a derived type says of its values.
 #[derive(Debug, Drop)]
 pub enum Restriction {
-    /// The numbers that it takes (RFC 7950, 9.2.4), with an error-app-tag.
-    Range {
-        spans: Vec<Span>,
-        app_tag: Option<String>,
-    },
-    /// How many characters its texts have (9.4.4), with an error-app-tag.
-    Length {
-        spans: Vec<Span>,
-        app_tag: Option<String>,
-    },
+    /// The numbers that it takes (RFC 7950, 9.2.4).
+    Range { spans: Vec<Span>, error: ErrorText },
+    /// How many characters its texts have (9.4.4).
+    Length { spans: Vec<Span>, error: ErrorText },
     /// Whether a leafref requires an instance (9.9.3).
     RequireInstance(bool),
 }

@@ -1,6 +1,7 @@
 pub mod ApartLemmas
 pub mod BreakLemmas
 pub mod BuiltInLemmas
+pub mod ConfigurationLemmas
 pub mod KeywordLemmas
 pub mod LegalLemmas
 pub mod RightPartLemmas

@@ -13,6 +13,7 @@ use Rattle.yspec.specs.document.Play.{items_in_play}
 use Rattle.yspec.specs.edit.EditText.{cut_at, parts_at, path_of, edit_of}
 use Rattle.yspec.specs.edit.Editing.{applied}
 use Rattle.yspec.specs.document.Faults.{told_in, faults_of}
+use Rattle.yspec.specs.document.StateData.{state_faults_in}
 use Rattle.yspec.specs.linking.Arguments.{cut_at_dots}
 use Rattle.yspec.specs.linking.StatementBreaks.{row_breaks, breaks_from}
 use Rattle.yspec.specs.linking.Source.{kept, numbered, sources_from}
@@ -27,5 +28,5 @@ use Rattle.yspec.specs.linking.Augments.{in_turn}
 use Rattle.yspec.specs.linking.NodeCounts.{counted, counts_within}
 
 unfoldable pub yspec_on_literals : ⊤
-unfolding digits chars is_utf8 utf8_valid_len serde_json_on_literals tokens_from joined_breaks trimmed_ends stripped_starts unescaped bad_escape_line pieces_from wrong_escape given_of pieces statements module_of member_visits node_visits item_visits instance_visits stored_rows document_of items_in_play told_in faults_of row_members cut_at parts_at path_of edit_of applied cut_at_dots row_breaks breaks_from kept numbered sources_from built_in_named verdicts planned type_within leads_to compiled placed reached restricted_in known_within laid refined replaced stands_for unfit_in unfit_for in_turn counted counts_within
+unfolding digits chars is_utf8 utf8_valid_len serde_json_on_literals tokens_from joined_breaks trimmed_ends stripped_starts unescaped bad_escape_line pieces_from wrong_escape given_of pieces statements module_of member_visits node_visits item_visits instance_visits stored_rows document_of items_in_play told_in faults_of state_faults_in row_members cut_at parts_at path_of edit_of applied cut_at_dots row_breaks breaks_from kept numbered sources_from built_in_named verdicts planned type_within leads_to compiled placed reached restricted_in known_within laid refined replaced stands_for unfit_in unfit_for in_turn counted counts_within
 yspec_on_literals = tt

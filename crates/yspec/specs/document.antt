@@ -9,6 +9,7 @@ pub mod Fault
 pub mod Play
 pub mod Instances
 pub mod Faults
+pub mod StateData
 pub mod RowFaults
 pub mod Sorting
 pub mod FrontFaults

@@ -3,3 +3,4 @@ pub mod References
 pub mod Schema
 pub mod Breaks
 pub mod Diagram
+pub mod Configuration

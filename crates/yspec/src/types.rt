@@ -3,11 +3,11 @@
 ghost use Rattle.std.specs.Prelude.{◌≡◌, ◌^◌, ◌-◌, [], ◌∷◌, pos, negsuc, true, false, codes, option_and_then, is_some};
 ghost use Rattle.yspec.specs.types.Names.{enum_names, bit_names};
 ghost use Rattle.yspec.specs.types.Ranges.{number};
-ghost use Rattle.yspec.specs.types.Types.{text, int, bool, int8, int32, int64, uint8, uint16, uint64, text_value, number_value, integer_type, uint8_type, string_type, value, taken, app_tag_of};
+ghost use Rattle.yspec.specs.types.Types.{text, int, bool, int8, int32, int64, uint8, uint16, uint64, text_value, number_value, integer_type, uint8_type, string_type, value, taken, app_tag_of, message_of};
 ghost use Rattle.yspec.specs.types.Order.{same_value, TellsValues};
-ghost use Rattle.yspec.specs.types.Restriction.{length, require_instance, narrowed, union_type, leafref_type};
+ghost use Rattle.yspec.specs.types.Restriction.{require_instance, narrowed, union_type, leafref_type};
 ghost use Rattle.yspec.specs.types.Values.{canonical};
-ghost use Rattle.yspec.specs.types.TypeExamples.{decimal, shown, number_is, default_of, from_to, one, at, tagged, untagged, gaps, twice_narrowed, is_taken, named, numbered, five_enums, enumeration, bits, three_bits, taken_by, shown_by};
+ghost use Rattle.yspec.specs.types.TypeExamples.{decimal, shown, number_is, default_of, from_to, one, at, tagged, explained, untagged, measured, gaps, twice_narrowed, is_taken, named, numbered, five_enums, enumeration, bits, three_bits, taken_by, shown_by};
 
 /// Numbers with a point, of two digits after it and of eighteen.
 pub fn decimals()
@@ -102,6 +102,25 @@ pub fn tags()
         ≡ None }
 {}
 
+/// It gives its message as well, and no other's.
+pub fn messages()
+    ensures outer { option_and_then (λ t. message_of t (int (pos 7)))
+        (twice_narrowed uint8_type (explained (from_to (pos 1) (pos 10) ∷ []) (codes "m1"))
+        (explained (from_to (pos 2) (pos 5) ∷ []) (codes "m2")))
+        ≡ Some (codes "m2") }
+    ensures inner { option_and_then (λ t. message_of t (int (pos 20)))
+        (twice_narrowed uint8_type (explained (from_to (pos 1) (pos 10) ∷ []) (codes "m1"))
+        (explained (from_to (pos 2) (pos 5) ∷ []) (codes "m2")))
+        ≡ Some (codes "m1") }
+    ensures inner_without { option_and_then (λ t. message_of t (int (pos 20)))
+        (twice_narrowed uint8_type (untagged (from_to (pos 1) (pos 10) ∷ []))
+        (explained (from_to (pos 2) (pos 5) ∷ []) (codes "m2")))
+        ≡ None }
+    ensures taken { option_and_then (λ t. message_of t (int (pos 3)))
+        (narrowed uint8_type (explained (from_to (pos 2) (pos 5) ∷ []) (codes "m2")))
+        ≡ None }
+{}
+
 /// A restriction lies within what it restricts, and only there where the type may bear it.
 pub fn restrictions()
     ensures same { is_some (twice_narrowed uint8_type (untagged (from_to (pos 1) (pos 10) ∷ []))
@@ -130,7 +149,7 @@ pub fn restrictions()
     ensures point { narrowed uint8_type
         (untagged (record { first = number (pos 10) 1; last = at (pos 5) } ∷ [])) ≡ None }
     ensures of_a_string { narrowed string_type (untagged (from_to (pos 1) (pos 5) ∷ [])) ≡ None }
-    ensures of_a_number { narrowed uint8_type (length (from_to (pos 1) (pos 5) ∷ []) None) ≡ None }
+    ensures of_a_number { narrowed uint8_type (measured (from_to (pos 1) (pos 5) ∷ [])) ≡ None }
     ensures instance { narrowed uint8_type (require_instance false) ≡ None }
     ensures instance_of_leafref { option_and_then (λ t. t.requires_instance)
         (narrowed (leafref_type uint8_type) (require_instance false))
@@ -179,14 +198,14 @@ pub fn unions()
 
 /// A length counts characters.
 pub fn lengths()
-    ensures three { is_taken (narrowed string_type (length (from_to (pos 1) (pos 3) ∷ []) None))
+    ensures three { is_taken (narrowed string_type (measured (from_to (pos 1) (pos 3) ∷ [])))
         (text (240 ∷ 159 ∷ 152 ∷ 128 ∷ 240 ∷ 159 ∷ 152 ∷ 128 ∷ 240 ∷ 159 ∷ 152 ∷ 128 ∷ [])) ≡ true }
-    ensures four { is_taken (narrowed string_type (length (from_to (pos 1) (pos 3) ∷ []) None))
+    ensures four { is_taken (narrowed string_type (measured (from_to (pos 1) (pos 3) ∷ [])))
         (text (codes "abcd")) ≡ false }
     ensures greatest { is_some
-        (narrowed string_type (length (from_to (pos 0) (pos (2 ^ 64 - 1)) ∷ []) None)) ≡ true }
+        (narrowed string_type (measured (from_to (pos 0) (pos (2 ^ 64 - 1)) ∷ []))) ≡ true }
     ensures past_the_greatest { narrowed string_type
-        (length (from_to (pos 0) (pos (2 ^ 64)) ∷ []) None) ≡ None }
+        (measured (from_to (pos 0) (pos (2 ^ 64)) ∷ [])) ≡ None }
 {}
 
 /// Two values are the same where the same member took them and their contents are the same.

@@ -15,6 +15,6 @@ pub use raw::Raw;
 pub use simple::SimpleType;
 pub use val::Val;
 pub use ynumber::{
-    Bound, FractionDigits, Names, Naming, NarrowFault, Part, Range, Restriction, Span,
+    Bound, ErrorText, FractionDigits, Names, Naming, NarrowFault, Part, Range, Restriction, Span,
 };
 pub use ytype::YType;

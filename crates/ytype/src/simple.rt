@@ -4,7 +4,7 @@ ghost use Rattle.std.specs.Prelude.{◌≡◌, ◌++◌, ◌∷◌, [], option_a
 ghost use Rattle.std.specs.Option.{ForSome};
 ghost use Rattle.std.specs.String.{string_bytes};
 ghost use Rattle.yspec.specs.types.Ranges.{holds};
-ghost use Rattle.yspec.specs.types.Types.{excluding, limited, simple_taken, simple_app_tag};
+ghost use Rattle.yspec.specs.types.Types.{excluding, limited, simple_taken, simple_excluding, simple_error};
 ghost use Rattle.yspec.specs.types.Values.{simple_read, content_text};
 ghost use Rattle.yspec.specs.types.Restriction.{left_by, limited_by, with_limit, range_base, length_base, narrowed_simple};
 ghost use Rattle.ynumber.specs.View.{text_of, restriction_of};
@@ -21,22 +21,13 @@ use std::alloc::{AllocError, Global};
 use std::marker::Model;
 use std::rc::Rc;
 use std::slice;
-use ynumber::{NarrowFault, Part, Range, Restriction, Span, restricted};
+use ynumber::{ErrorText, NarrowFault, Part, Range, Restriction, Span, restricted};
 
-fn copy_of(text: &Option<String>) -> Result<Option<String>, AllocError>
-    ensures { IfOk result (λ copy. text_of copy ≡ text_of text.now) }
-{
-    match text {
-        None => Ok(None),
-        Some(text) => Ok(Some(text.clone()?)),
-    }
-}
-
-/// A range or length with its error-app-tag.
+/// A range or length, with what it says of other values.
 #[derive(Debug, Drop)]
 pub(crate) struct Limit {
     range: Range,
-    app_tag: Option<String>,
+    error: ErrorText,
 }
 
 impl Model for Limit {
@@ -44,9 +35,7 @@ impl Model for Limit {
 
     ghost Value = { ranges.Limit };
 
-    ghost use Rattle.ynumber.specs.View.{text_of};
-
-    ghost view = { λ l. record { parts = l.range; app_tag = text_of l.app_tag } };
+    ghost view = { λ l. record { parts = l.range; error = l.error } };
 }
 
 impl Clone for Limit {
@@ -59,16 +48,16 @@ impl Clone for Limit {
     {
         Ok(Limit {
             range: self.range.clone()?,
-            app_tag: copy_of(&self.app_tag)?,
+            error: self.error.clone()?,
         })
     }
 }
 
 impl Limit {
-    fn app_tag(&self) -> Result<Option<String>, AllocError>
-        ensures { IfOk result (λ tag. text_of tag ≡ self.now.app_tag) }
+    fn error(&self) -> &ErrorText
+        ensures { result.now ≡ self.now.error }
     {
-        copy_of(&self.app_tag)
+        &self.error
     }
 
     fn parts(&self) -> &[Part]
@@ -247,16 +236,24 @@ impl SimpleType {
         content_text(alloc, self.base(), content)
     }
 
-    /// The error-app-tag of the first restriction that excludes what a document has.
-    pub(crate) fn app_tag(&self, alloc: Global, raw: &Raw) -> Result<Option<String>, AllocError>
-        ensures { IfOk result (λ tag. text_of tag ≡ simple_app_tag self.now (raw_of raw.now)) }
+    /// The first restriction that excludes what a document has.
+    fn excluding_value(&self, alloc: Global, raw: &Raw) -> Result<Option<&Limit>, AllocError>
+        ensures { IfOk result (λ limit. now_of limit ≡ simple_excluding self.now (raw_of raw.now)) }
     {
         match self.base().taken(alloc, raw)? {
             None => Ok(None),
-            Some(found) => match self.excluding(found.measure()) {
-                None => Ok(None),
-                Some(limit) => limit.app_tag(),
-            },
+            Some(found) => Ok(self.excluding(found.measure())),
+        }
+    }
+
+    /// What the first restriction that excludes what a document has says of it.
+    pub(crate) fn error(&self, alloc: Global, raw: &Raw) -> Result<Option<&ErrorText>, AllocError>
+        ensures { IfOk result (λ error. now_of error
+            ≡ simple_error self.now (raw_of raw.now)) }
+    {
+        match self.excluding_value(alloc, raw)? {
+            None => Ok(None),
+            Some(limit) => Ok(Some(limit.error())),
         }
     }
 }
@@ -308,16 +305,16 @@ impl SimpleType {
         &self,
         alloc: Global,
         spans: &[Span],
-        app_tag: &Option<String>,
+        error: &ErrorText,
         bounds: (Part, u32),
     ) -> Result<SimpleType, NarrowFault>
         requires { bounds.1 ≤ 18 }
         ensures { Gives same narrow_refusal result
-            (ok_or (limited_by self.now spans.now (text_of app_tag.now) bounds) tt) }
+            (ok_or (limited_by self.now spans.now error.now bounds) tt) }
     {
         match restricted(alloc, self.left(&bounds.0), bounds.1, spans) {
             Err(fault) => Err(fault),
-            Ok(range) => Ok(self.with_limit(alloc, range, app_tag)?),
+            Ok(range) => Ok(self.with_limit(alloc, range, error)?),
         }
     }
 
@@ -325,15 +322,15 @@ impl SimpleType {
         &self,
         alloc: Global,
         range: Range,
-        app_tag: &Option<String>,
+        error: &ErrorText,
     ) -> Result<SimpleType, AllocError>
-        ensures { IfOk result (λ type. type ≡ with_limit self.now (text_of app_tag.now) range) }
+        ensures { IfOk result (λ type. type ≡ with_limit self.now error.now range) }
     {
-        let app_tag = copy_of(app_tag)?;
+        let error = error.clone()?;
         let limited = LimitedType {
             base: self.base().clone()?,
             inner: self.limits(alloc)?,
-            outermost: Limit { range, app_tag },
+            outermost: Limit { range, error },
         };
         Ok(SimpleType {
             form: Form::Limited(Rc::new(alloc, limited)?),
@@ -344,17 +341,17 @@ impl SimpleType {
         &self,
         alloc: Global,
         spans: &[Span],
-        app_tag: &Option<String>,
+        error: &ErrorText,
         bounds: Option<(Part, u32)>,
     ) -> Result<SimpleType, NarrowFault>
         requires { ForSome bounds (λ b. b.1 ≤ 18) }
         ensures { Gives same narrow_refusal result
-            (ok_or (option_and_then (limited_by self.now spans.now (text_of app_tag.now)) bounds)
+            (ok_or (option_and_then (limited_by self.now spans.now error.now) bounds)
             tt) }
     {
         match bounds {
             None => Err(NarrowFault::Refused),
-            Some(bounds) => self.limited_by(alloc, spans, app_tag, bounds),
+            Some(bounds) => self.limited_by(alloc, spans, error, bounds),
         }
     }
 
@@ -368,11 +365,11 @@ impl SimpleType {
             (ok_or (narrowed_simple self.now (restriction_of restriction.now)) tt) }
     {
         match restriction {
-            Restriction::Range { spans, app_tag } => {
-                self.limited_where(alloc, spans, app_tag, self.range_bounds())
+            Restriction::Range { spans, error } => {
+                self.limited_where(alloc, spans, error, self.range_bounds())
             }
-            Restriction::Length { spans, app_tag } => {
-                self.limited_where(alloc, spans, app_tag, self.length_bounds())
+            Restriction::Length { spans, error } => {
+                self.limited_where(alloc, spans, error, self.length_bounds())
             }
             Restriction::RequireInstance(_) => Err(NarrowFault::Refused),
         }

@@ -1,11 +1,11 @@
 //! Types.
 
 ghost use Rattle.std.specs.Prelude.{◌≡◌, ◌++◌, Ok, IfOk, OnOk, Some, None, option_map, ok_or};
-ghost use Rattle.yspec.specs.types.Types.{taken, app_tag_of, simple_taken, first_value, plain, integer_type, string_type, uint8_type, int8, int16, int32, int64, uint8, uint16, uint32, uint64, boolean_base, empty_base, decimal_base, enumeration_base, bits_base};
+ghost use Rattle.yspec.specs.types.Types.{taken, error_text_of, app_tag_of, message_of, simple_taken, first_value, plain, integer_type, string_type, uint8_type, int8, int16, int32, int64, uint8, uint16, uint32, uint64, boolean_base, empty_base, decimal_base, enumeration_base, bits_base};
 ghost use Rattle.yspec.specs.types.Values.{value_of_text, simple_read, taker};
 ghost use Rattle.yspec.specs.types.Names as names;
 ghost use Rattle.yspec.specs.types.Restriction.{members_of, union_type, leafref_type, narrowed};
-ghost use Rattle.ynumber.specs.View.{restriction_of};
+ghost use Rattle.ynumber.specs.View.{restriction_of, text_of};
 ghost use Rattle.yspec.specs.Results.{Gives};
 ghost use Rattle.ynumber.specs.Words.{narrow_refusal, same};
 ghost use Rattle.ytype.specs.View.{raw_of, base_of, integer_of};
@@ -22,7 +22,7 @@ use std::alloc::{AllocError, Global};
 use std::marker::Model;
 use std::rc::Rc;
 use std::slice;
-use ynumber::{FractionDigits, Naming, NarrowFault, Restriction, bit_names, enum_names};
+use ynumber::{ErrorText, FractionDigits, Naming, NarrowFault, Restriction, bit_names, enum_names};
 
 #[derive(Debug, Drop)]
 enum Shape {
@@ -335,7 +335,7 @@ impl YType {
             Shape::Single(simple) => match simple.taken(alloc, raw)? {
                 Some(content) => Ok(Val::new(None, content)),
                 None => {
-                    let app_tag = simple.app_tag(alloc, raw)?;
+                    let app_tag = self.app_tag(alloc, raw)?;
                     Err(BadValue::Refused { app_tag })
                 }
             },
@@ -343,6 +343,36 @@ impl YType {
                 Some(val) => Ok(val),
                 None => Err(BadValue::Refused { app_tag: None }),
             },
+        }
+    }
+
+    /// What the first restriction that excludes what a document has says of it; a union says nothing.
+    fn error(&self, alloc: Global, raw: &Raw) -> Result<Option<&ErrorText>, AllocError>
+        ensures { IfOk result (λ error. now_of error ≡ error_text_of self.now (raw_of raw.now)) }
+    {
+        match &self.shape {
+            Shape::Single(simple) => simple.error(alloc, raw),
+            Shape::Union(_) => Ok(None),
+        }
+    }
+
+    fn app_tag(&self, alloc: Global, raw: &Raw) -> Result<Option<String>, AllocError>
+        ensures { IfOk result (λ tag. text_of tag ≡ app_tag_of self.now (raw_of raw.now)) }
+    {
+        match self.error(alloc, raw)? {
+            None => Ok(None),
+            Some(error) => error.app_tag(),
+        }
+    }
+
+    /// The error-message of the first restriction, from the built-in type outwards, that excludes what a document has (RFC
+    /// 7950, 7.5.4.1); a union gives none.
+    pub fn message(&self, alloc: Global, raw: &Raw) -> Result<Option<String>, AllocError>
+        ensures { IfOk result (λ message. text_of message ≡ message_of self.now (raw_of raw.now)) }
+    {
+        match self.error(alloc, raw)? {
+            None => Ok(None),
+            Some(error) => error.message(),
         }
     }
 

@@ -10,6 +10,7 @@ use Rattle.yspec.specs.document.Document.{Tree}
 use Rattle.yspec.specs.document.Reading.{Refusal, tree_or_refusal, members_of, items_of, raw_in, stored_node, item_row, instance_row, stored_rows, denoted, json_of, verdict, document_of}
 use Rattle.yspec.specs.document.Fitting.{IsNumbered, next_after, FitsBy, Fits}
 use Rattle.yspec.proofs.ForestLemmas.{join_end, join_assoc}
+use Rattle.yspec.proofs.DocumentProofs.SortingLemmas.{fits_sooner}
 use Rattle.yspec.proofs.DocumentProofs.DataRowLemmas.{AreFound, data_found, found_parts}
 
 -- ---- what is asked of members, so that their row fits
@@ -39,10 +40,6 @@ module _ (s : Schema) (Held : SchemaNode → Option Raw → Type 0) (IsRight : O
 
   -- ---- rows
 
-  fits_sooner : (children : Forest SchemaNode) (t : Tree) (j k : ℕ) → j ≤ k → FitsBy Held children k t → FitsBy Held children j t
-  fits_sooner children end j k lower fits = tt
-  fits_sooner children (node l below after) j k lower fits = (fits.0, fits.1, omega (arith, lower, fits.2), fits.3, fits.4, fits.5)
-
   next_of_many : (n : SchemaNode) → is_many n.kind ≡ true → next_after n ≡ n.number
   next_of_many n many = ap (λ b. cond b n.number (suc n.number)) many
 
@@ -53,7 +50,7 @@ module _ (s : Schema) (Held : SchemaNode → Option Raw → Type 0) (IsRight : O
       → child_in (data_row children) n.number ≡ Some (n, below) → least ≤ n.number → is_many n.kind ≡ true
       → ((d : Data) → IsRight (Some n.module_number) below (members_of d) → FitsBy Held below 0 (inner d))
       → EachItem (IsHeld n below) ds → FitsBy Held children n.number rest → FitsBy Held children least (join (item_row n inner ds) rest)
-  items_fit children below n least inner no_items rest found lower many deeper held fits = fits_sooner children rest least n.number lower fits
+  items_fit children below n least inner no_items rest found lower many deeper held fits = fits_sooner Held children rest least n.number lower fits
   items_fit children below n least inner (item d ds) rest found lower many deeper held fits = (
     (n, below),
     found,
@@ -69,13 +66,13 @@ module _ (s : Schema) (Held : SchemaNode → Option Raw → Type 0) (IsRight : O
       → ((d : Data) → IsRight (Some n.module_number) below (members_of d) → FitsBy Held below 0 (inner d))
       → ((d : Data) → o ≡ Some d → IsHeldBy (is_many n.kind) n below d)
       → FitsBy Held children (suc n.number) rest → FitsBy Held children least (join (instance_row n inner o) rest)
-  member_fits children below n least inner None rest found lower deeper held fits = fits_sooner children rest least (suc n.number) (omega (arith, lower)) fits
+  member_fits children below n least inner None rest found lower deeper held fits = fits_sooner Held children rest least (suc n.number) (omega (arith, lower)) fits
   member_fits children below n least inner (Some d) rest found lower deeper held fits = by (is_many n.kind) refl (held d refl)
     where
       by : (b : Bool) → is_many n.kind ≡ b → IsHeldBy b n below d
           → FitsBy Held children least (join (cond b (item_row n inner (items_of d)) (node (stored_node n d) (inner d) end)) rest)
       by true many these = items_fit children below n least inner (items_of d) rest found lower many deeper these
-          (fits_sooner children rest n.number (suc n.number) (omega arith) fits)
+          (fits_sooner Held children rest n.number (suc n.number) (omega arith) fits)
       by false one this = (
         (n, below),
         found,
@@ -97,7 +94,7 @@ module _ (s : Schema) (Held : SchemaNode → Option Raw → Type 0) (IsRight : O
         (λ there these. fits_joined parent children after (k + 1 + size below) ms rest numbered.2 there these
         (subst (λ j. FitsBy Held children j rest) (omega arith) fits))
         (λ there these more fits. fits_joined parent children below (k + 1) ms more numbered.1 there these fits)
-        (λ d this. fits_sooner below (stored_rows s (Some n.module_number) below (members_of d)) 0 (k + 1) (omega arith)
+        (λ d this. fits_sooner Held below (stored_rows s (Some n.module_number) below (members_of d)) 0 (k + 1) (omega arith)
         (subst (FitsBy Held below (k + 1)) (join_end (stored_rows s (Some n.module_number) below (members_of d)))
         (fits_joined (Some n.module_number) below below (k + 1) (members_of d) end numbered.1 (data_found below (k + 1) numbered.1)
         (step (Some n.module_number) below (members_of d) this) tt)))
@@ -116,18 +113,18 @@ module _ (s : Schema) (Held : SchemaNode → Option Raw → Type 0) (IsRight : O
             subst (FitsBy Held children k) (sym (join_assoc (instance_row n _ (get_member (written_name s parent n) ms)) (stored_rows s parent after ms) rest))
             (member_fits children below n k (λ d. stored_rows s (Some n.module_number) below (members_of d)) (get_member (written_name s parent n) ms)
             (join (stored_rows s parent after ms) rest) found.0 (omega (arith, numbered.0)) deeper held.0
-            (fits_sooner children (join (stored_rows s parent after ms) rest) (suc n.number) (k + 1 + size below) (omega (arith, numbered.0)) (later found.1 held.1)))
+            (fits_sooner Held children (join (stored_rows s parent after ms) rest) (suc n.number) (k + 1 + size below) (omega (arith, numbered.0)) (later found.1 held.1)))
         by false found held later through deeper =
             let there = found_parts (data_row children) (data_row below) (data_row after) found in
             let these = held_parts parent (data_row below) (data_row after) ms held in
             subst (FitsBy Held children k) (sym (join_assoc (stored_rows s parent below ms) (stored_rows s parent after ms) rest))
-            (fits_sooner children _ k (k + 1) (omega arith) (through there.0 these.0 (join (stored_rows s parent after ms) rest) (later there.1 these.1)))
+            (fits_sooner Held children _ k (k + 1) (omega arith) (through there.0 these.0 (join (stored_rows s parent after ms) rest) (later there.1 these.1)))
 
     -- the row of right members fits the children that they are of
     pub row_fits : (parent : Option ℕ) (children : Forest SchemaNode) (k : ℕ) (ms : Members) → IsNumbered k children → IsRight parent children ms
         → FitsBy Held children 0 (stored_rows s parent children ms)
     row_fits parent children k ms numbered right =
-        fits_sooner children (stored_rows s parent children ms) 0 k (omega arith)
+        fits_sooner Held children (stored_rows s parent children ms) 0 k (omega arith)
         (subst (FitsBy Held children k) (join_end (stored_rows s parent children ms))
         (fits_joined parent children children k ms end numbered (data_found children k numbered) (step parent children ms right) tt))
 

@@ -29,6 +29,11 @@ not_before n = go (is_many n.kind)
     go false = omega arith
 
 module _ (Held : SchemaNode → Option Raw → Type 0) where
+  -- a row that fits from a number on fits from each lower one on
+  pub fits_sooner : (children : Forest SchemaNode) (t : Tree) (j k : ℕ) → j ≤ k → FitsBy Held children k t → FitsBy Held children j t
+  fits_sooner children end j k lower fits = tt
+  fits_sooner children (node s b a) j k lower fits = (fits.0, fits.1, omega (arith, lower, fits.2), fits.3, fits.4, fits.5)
+
   pub fits_sorted : (children : Forest SchemaNode) (least : ℕ) (t : Tree) → FitsBy Held children least t → IsSorted t
   fits_sorted children least end fits = tt
   fits_sorted children least (node s b a) fits = (

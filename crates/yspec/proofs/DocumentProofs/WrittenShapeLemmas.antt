@@ -150,11 +150,11 @@ levels_fit Held f least (node s b a) fits =
 
 -- ---- fractions
 
-first_whole : (a b : Bool) → (a || b) ≡ false → a ≡ false
+pub first_whole : (a b : Bool) → (a || b) ≡ false → a ≡ false
 first_whole true b h = absurd cc
 first_whole false b h = refl
 
-later_whole : (a b : Bool) → (a || b) ≡ false → b ≡ false
+pub later_whole : (a b : Bool) → (a || b) ≡ false → b ≡ false
 later_whole true b h = absurd cc
 later_whole false b h = h
 
@@ -164,7 +164,7 @@ put_whole_at Less name other d e ms this these later = ap₂ ◌||◌ this these
 put_whole_at Equal name other d e ms this these later = ap₂ ◌||◌ this (later_whole (has_float e) (members_have_float ms) these)
 put_whole_at Greater name other d e ms this these later = ap₂ ◌||◌ (first_whole (has_float e) (members_have_float ms) these) later
 
-put_whole : (name : Text) (d : Data) (ms : Members) → has_float d ≡ false → members_have_float ms ≡ false → members_have_float (put name d ms) ≡ false
+pub put_whole : (name : Text) (d : Data) (ms : Members) → has_float d ≡ false → members_have_float ms ≡ false → members_have_float (put name d ms) ≡ false
 put_whole name d no_members this these = ap₂ ◌||◌ this these
 put_whole name d (member other e ms) this these =
     put_whole_at (slice_cmp nat_cmp name other) name other d e ms this these (put_whole name d ms this (later_whole (has_float e) (members_have_float ms) these))

@@ -1,7 +1,6 @@
--- What a schema has of which it is known that it is that of some linked modules, though not of which.
+-- What every schema has that is made of linked modules, or that is what such a one asks of configuration alone.
 use Rattle.std.proofs.Common.{◌≡◌, ℕ, ◌≤◌, Option, Some, None, refl, sym, ◌∙◌}
 use mathlib.Core.Path.{path_j}
-use mathlib.Core.Logic.{∥∥₁_elim}
 use mathlib.Core.HLevel.{⊥_prop, ×₃_prop}
 use Rattle.std.specs.Coded.{Coded-set, coded_ℕ, coded_bool, ×_prop, Π_prop, →_prop, Unit-prop, le_prop}
 use Rattle.yspec.specs.Forest.{Forest, end, node, levels, size}
@@ -10,7 +9,8 @@ use Rattle.yspec.specs.schema.Schema.{Schema, SchemaNode, Kind, data_row, writte
 use Rattle.yspec.specs.schema.Breaks.{level_limit, node_limit}
 use Rattle.yspec.specs.document.Fitting.{IsBare, LeafsAreBare}
 use Rattle.yspec.specs.document.Writing.{NodesAreNamed, ModulesDiffer, IsNew, RowDiffers, AllDiffer, NamesDiffer}
-use Rattle.yspec.specs.linking.Compiling.{IsCompiled}
+use Rattle.yspec.specs.linking.Compiling.{IsMade}
+use Rattle.yspec.proofs.LinkingProofs.ConfigurationLemmas.{made_has, bare_kept, names_kept, named_kept, size_kept, levels_kept}
 use Rattle.yspec.proofs.LinkingProofs.LinkedLemmas.{linked_bare, linked_few, linked_within}
 use Rattle.yspec.proofs.LinkingProofs.LinkedNameLemmas.{linked_names, linked_modules, linked_nodes}
 
@@ -62,22 +62,22 @@ nodes_named-prop s (node n below after) =
 modules_differ-prop : (s : Schema) → IsProp (ModulesDiffer s)
 modules_differ-prop s = Π_prop (λ i. Π_prop (λ j. →_prop (→_prop (×_prop (Coded-set coded_bool _ _) (→_prop (Coded-set coded_ℕ _ _))))))
 
--- ---- what every compiled schema has
+-- ---- what every schema that is made has
 
-pub leafs_bare_of : (s : Schema) → ∥ IsCompiled s ∥₁ → LeafsAreBare s.nodes
-leafs_bare_of s compiled = ∥∥₁_elim compiled (leafs_bare-prop s.nodes) (λ c. linked_bare c.0 s c.1)
+pub leafs_bare_of : (s : Schema) → ∥ IsMade s ∥₁ → LeafsAreBare s.nodes
+leafs_bare_of s made = made_has (λ s. LeafsAreBare s.nodes) (λ s. leafs_bare-prop s.nodes) (λ s c. linked_bare c.0 s c.1) bare_kept s made
 
-pub names_differ_of : (s : Schema) → ∥ IsCompiled s ∥₁ → NamesDiffer s
-names_differ_of s compiled = ∥∥₁_elim compiled (names_differ-prop s) (λ c. linked_names c.0 s c.1)
+pub names_differ_of : (s : Schema) → ∥ IsMade s ∥₁ → NamesDiffer s
+names_differ_of s made = made_has NamesDiffer names_differ-prop (λ s c. linked_names c.0 s c.1) names_kept s made
 
-pub modules_differ_of : (s : Schema) → ∥ IsCompiled s ∥₁ → ModulesDiffer s
-modules_differ_of s compiled = ∥∥₁_elim compiled (modules_differ-prop s) (λ c. linked_modules c.0 s c.1)
+pub modules_differ_of : (s : Schema) → ∥ IsMade s ∥₁ → ModulesDiffer s
+modules_differ_of s made = made_has ModulesDiffer modules_differ-prop (λ s c. linked_modules c.0 s c.1) (λ s differ. differ) s made
 
-pub nodes_named_of : (s : Schema) → ∥ IsCompiled s ∥₁ → NodesAreNamed s s.nodes
-nodes_named_of s compiled = ∥∥₁_elim compiled (nodes_named-prop s s.nodes) (λ c. linked_nodes c.0 s c.1)
+pub nodes_named_of : (s : Schema) → ∥ IsMade s ∥₁ → NodesAreNamed s s.nodes
+nodes_named_of s made = made_has (λ s. NodesAreNamed s s.nodes) (λ s. nodes_named-prop s s.nodes) (λ s c. linked_nodes c.0 s c.1) named_kept s made
 
-pub size_of : (s : Schema) → ∥ IsCompiled s ∥₁ → size s.nodes ≤ node_limit
-size_of s compiled = ∥∥₁_elim compiled le_prop (λ c. linked_few c.0 s c.1)
+pub size_of : (s : Schema) → ∥ IsMade s ∥₁ → size s.nodes ≤ node_limit
+size_of s made = made_has (λ s. size s.nodes ≤ node_limit) (λ s. le_prop) (λ s c. linked_few c.0 s c.1) (size_kept node_limit) s made
 
-pub levels_of : (s : Schema) → ∥ IsCompiled s ∥₁ → levels s.nodes ≤ level_limit
-levels_of s compiled = ∥∥₁_elim compiled le_prop (λ c. linked_within c.0 s c.1)
+pub levels_of : (s : Schema) → ∥ IsMade s ∥₁ → levels s.nodes ≤ level_limit
+levels_of s made = made_has (λ s. levels s.nodes ≤ level_limit) (λ s. le_prop) (λ s c. linked_within c.0 s c.1) (levels_kept level_limit) s made

@@ -15,6 +15,7 @@ pub data FaultCode : Type 0 where
   V9 : FaultCode
   V10 : FaultCode
   V11 : FaultCode
+  V12 : FaultCode
 
 -- the number behind the `V`
 abbrev pub fault_number : FaultCode → ℕ
@@ -29,6 +30,7 @@ fault_number V8 = 8
 fault_number V9 = 9
 fault_number V10 = 10
 fault_number V11 = 11
+fault_number V12 = 12
 
 -- the error-tag
 abbrev pub tag_of : FaultCode → Text
@@ -43,6 +45,7 @@ tag_of V8 = codes "operation-failed"
 tag_of V9 = codes "operation-failed"
 tag_of V10 = codes "operation-failed"
 tag_of V11 = codes "data-missing"
+tag_of V12 = codes "unknown-element"
 
 -- the error-app-tag; that of a restriction or of a statement is given with the fault
 abbrev pub own_app_tag : FaultCode → Option Text
@@ -57,3 +60,4 @@ own_app_tag V8 = None
 own_app_tag V9 = Some (codes "data-not-unique")
 own_app_tag V10 = None
 own_app_tag V11 = Some (codes "instance-required")
+own_app_tag V12 = None

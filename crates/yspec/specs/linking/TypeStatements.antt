@@ -4,7 +4,7 @@ use Rattle.std.specs.List.{list_all}
 use Rattle.std.specs.Option.{option_map_or}
 use Rattle.yspec.specs.Forest.{Forest, end, node, row}
 use Rattle.yspec.specs.text.Text.{Text, is_text}
-use Rattle.yspec.specs.types.Ranges.{Span}
+use Rattle.yspec.specs.types.Ranges.{ErrorText, Span}
 use Rattle.yspec.specs.types.Names.{Naming, Assigned, enum_names, bit_names}
 use Rattle.yspec.specs.types.Restriction.{Restriction, range, length, narrowed, union_type}
 use Rattle.yspec.specs.types.Types.{Integer, int8, int16, int32, int64, uint8, uint16, uint32, uint64, Base, decimal_base, boolean_base, empty_base, enumeration_base, bits_base, YangType, plain, integer_type, string_type}
@@ -102,12 +102,15 @@ may_bear _ _ = false
 abbrev pub are_in_place : BuiltIn → Forest Source → Bool
 are_in_place type below = list_all (λ s. may_bear type s.keyword) (row below)
 
--- the restriction that a `range` or a `length` of a row states, with its error-app-tag
-abbrev pub stated_by : (List Span → Option Text → Restriction) → Source × Forest Source → Restriction
-stated_by restriction s =
-    restriction (unwrap_or (spans_of (argument_in s.0)) []) (argument_with word.error_app_tag_word s.1)
+-- what the statements of a row say of a value that isn't taken (RFC 7950, 7.5.4.1 and 7.5.4.2)
+abbrev pub error_text_in : Forest Source → ErrorText
+error_text_in below = record { message = argument_with word.error_message_word below; app_tag = argument_with word.error_app_tag_word below }
 
-abbrev pub stated : Keyword → (List Span → Option Text → Restriction) → Forest Source → Option Restriction
+-- the restriction that a `range` or a `length` of a row states, with what it says of other values
+abbrev pub stated_by : (List Span → ErrorText → Restriction) → Source × Forest Source → Restriction
+stated_by restriction s = restriction (unwrap_or (spans_of (argument_in s.0)) []) (error_text_in s.1)
+
+abbrev pub stated : Keyword → (List Span → ErrorText → Restriction) → Forest Source → Option Restriction
 stated k restriction below = option_map (stated_by restriction) (found_with k below)
 
 abbrev pub limited : Option Restriction → YangType → Option YangType

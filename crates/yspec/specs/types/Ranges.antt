@@ -8,10 +8,15 @@ pub record Part : Type 0 where
   pub low : ℤ
   pub high : ℤ
 
--- a range or length, with its error-app-tag
+-- what a restriction says of a value that it excludes (RFC 7950, 7.5.4.1 and 7.5.4.2)
+pub record ErrorText : Type 0 where
+  pub message : Option Text
+  pub app_tag : Option Text
+
+-- a range or length
 pub record Limit : Type 0 where
   pub parts : List Part
-  pub app_tag : Option Text
+  pub error : ErrorText
 
 abbrev pub lies_in : ℤ → Part → Bool
 lies_in z p = int_le p.low z && int_le z p.high

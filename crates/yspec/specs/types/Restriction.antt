@@ -1,12 +1,11 @@
 -- Derived types: what a restriction makes of a type (RFC 7950, 9.2.4, 9.3.4, 9.4.4 and 9.9.3).
 use Rattle.std.specs.Prelude.{ℕ, ◌-◌, ◌^◌, pos, Bool, true, List, [], ◌∷◌, ◌++◌, Option, Some, None, option_map, option_and_then}
-use Rattle.yspec.specs.text.Text.{Text}
-use Rattle.yspec.specs.types.Ranges.{Part, Limit, Span, restricted}
+use Rattle.yspec.specs.types.Ranges.{Part, ErrorText, Limit, Span, restricted}
 use Rattle.yspec.specs.types.Types.{Base, integer_base, decimal_base, string_base, SimpleType, Shape, single, union, YangType, numbers_of, int64}
 
 pub data Restriction : Type 0 where
-  range : List Span → Option Text → Restriction
-  length : List Span → Option Text → Restriction
+  range : List Span → ErrorText → Restriction
+  length : List Span → ErrorText → Restriction
   require_instance : Bool → Restriction
 
 -- a length runs from 0 to the greatest number of 64 bits
@@ -31,20 +30,20 @@ left_after parts (l ∷ ls) = left_after l.parts ls
 abbrev pub left_by : Part → List Limit → List Part
 left_by numbers limits = left_after (numbers ∷ []) limits
 
-abbrev pub with_limit : SimpleType → Option Text → List Part → SimpleType
-with_limit type app_tag parts =
-    record type { limits = type.limits ++ record { parts = parts; app_tag = app_tag } ∷ [] }
+abbrev pub with_limit : SimpleType → ErrorText → List Part → SimpleType
+with_limit type error parts =
+    record type { limits = type.limits ++ record { parts = parts; error = error } ∷ [] }
 
-abbrev pub limited_by : SimpleType → List Span → Option Text → Part × ℕ → Option SimpleType
-limited_by type spans app_tag bounds =
-    option_map (with_limit type app_tag) (restricted (left_by bounds.0 type.limits) bounds.1 spans)
+abbrev pub limited_by : SimpleType → List Span → ErrorText → Part × ℕ → Option SimpleType
+limited_by type spans error bounds =
+    option_map (with_limit type error) (restricted (left_by bounds.0 type.limits) bounds.1 spans)
 
 abbrev with_shape : SimpleType → YangType
 with_shape s = record { shape = single s; requires_instance = None }
 
 abbrev pub narrowed_simple : SimpleType → Restriction → Option SimpleType
-narrowed_simple s (range spans app_tag) = option_and_then (limited_by s spans app_tag) (range_base s.base)
-narrowed_simple s (length spans app_tag) = option_and_then (limited_by s spans app_tag) (length_base s.base)
+narrowed_simple s (range spans error) = option_and_then (limited_by s spans error) (range_base s.base)
+narrowed_simple s (length spans error) = option_and_then (limited_by s spans error) (length_base s.base)
 narrowed_simple s (require_instance b) = None
 
 abbrev narrowed_shape : Shape → Restriction → Option YangType

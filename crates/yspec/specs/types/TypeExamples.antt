@@ -2,10 +2,10 @@
 use Rattle.std.specs.Prelude.{ℕ, ℤ, pos, Bool, false, List, [], ◌∷◌, codes, Option, Some, None, is_some, option_map, option_and_then}
 use Rattle.std.specs.Option.{option_map_or}
 use Rattle.yspec.specs.text.Text.{Text}
-use Rattle.yspec.specs.types.Ranges.{Bound, least, greatest, number, Span}
+use Rattle.yspec.specs.types.Ranges.{Bound, least, greatest, number, Span, ErrorText}
 use Rattle.yspec.specs.types.Names.{Naming, enum_names, bit_names}
 use Rattle.yspec.specs.types.Types.{Raw, text, Val, number_value, Integer, YangType, plain, integer_type, decimal_base, enumeration_base, bits_base, taken, value}
-use Rattle.yspec.specs.types.Restriction.{Restriction, range, narrowed}
+use Rattle.yspec.specs.types.Restriction.{Restriction, range, length, narrowed}
 use Rattle.yspec.specs.types.Values.{value_of_text, canonical}
 
 abbrev pub decimal : ℕ → YangType
@@ -31,11 +31,20 @@ from_to low high = record { first = at low; last = at high }
 abbrev pub one : ℤ → Span
 one z = from_to z z
 
+abbrev silent : ErrorText
+silent = record { message = None; app_tag = None }
+
 abbrev pub tagged : List Span → Text → Restriction
-tagged spans tag = range spans (Some tag)
+tagged spans tag = range spans (record { message = None; app_tag = Some tag })
+
+abbrev pub explained : List Span → Text → Restriction
+explained spans message = range spans (record { message = Some message; app_tag = None })
 
 abbrev pub untagged : List Span → Restriction
-untagged spans = range spans None
+untagged spans = range spans silent
+
+abbrev pub measured : List Span → Restriction
+measured spans = length spans silent
 
 -- `min..5 | 7 | 9..max`
 abbrev pub gaps : Restriction

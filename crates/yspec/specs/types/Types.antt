@@ -3,7 +3,7 @@ use Rattle.std.specs.Prelude.{ℕ, ◌+◌, ◌-◌, ◌^◌, ℤ, pos, negsuc, 
 use Rattle.std.specs.List.{list_all}
 use Rattle.std.specs.Str.{chars}
 use Rattle.yspec.specs.text.Text.{Text, is_text, is_yang_char, carriage_return}
-use Rattle.yspec.specs.types.Ranges.{Part, Limit, holds, lies_in}
+use Rattle.yspec.specs.types.Ranges.{Part, ErrorText, Limit, holds, lies_in}
 use Rattle.yspec.specs.types.Numerals.{integer_of, decimal_of}
 use Rattle.yspec.specs.types.Names.{Assigned, words_of, are_bit_names, named_by, positions_of}
 
@@ -183,14 +183,14 @@ limited limits c = if is_some (excluding limits (measure c)) then None else Some
 abbrev pub simple_taken : SimpleType → Raw → Option Content
 simple_taken type raw = option_and_then (limited type.limits) (base_taken type.base raw)
 
-abbrev tag_of_limit : Limit → Option Text
-tag_of_limit l = l.app_tag
+abbrev pub simple_excluding : SimpleType → Raw → Option Limit
+simple_excluding type raw = option_and_then (λ c. excluding type.limits (measure c)) (base_taken type.base raw)
 
-abbrev excluding_tag : List Limit → Content → Option Text
-excluding_tag limits c = option_and_then tag_of_limit (excluding limits (measure c))
+abbrev error_of_limit : Limit → ErrorText
+error_of_limit l = l.error
 
-abbrev pub simple_app_tag : SimpleType → Raw → Option Text
-simple_app_tag type raw = option_and_then (excluding_tag type.limits) (base_taken type.base raw)
+abbrev pub simple_error : SimpleType → Raw → Option ErrorText
+simple_error type raw = option_map error_of_limit (simple_excluding type raw)
 
 -- ---- unions
 
@@ -215,10 +215,24 @@ shape_value given (union members) = first_value given 0 members
 abbrev pub taken : YangType → Raw → Option Val
 taken type raw = shape_value (λ s. simple_taken s raw) type.shape
 
-abbrev shape_app_tag : Shape → Raw → Option Text
-shape_app_tag (single s) raw = simple_app_tag s raw
-shape_app_tag (union members) raw = None
+abbrev shape_error : Shape → Raw → Option ErrorText
+shape_error (single s) raw = simple_error s raw
+shape_error (union members) raw = None
 
--- the error-app-tag of the innermost restriction that excludes it (RFC 7950, 7.5.4.2); built-in types and unions have none
+-- what the innermost restriction that excludes it says of what a document has; built-in types and unions say nothing
+abbrev pub error_text_of : YangType → Raw → Option ErrorText
+error_text_of type raw = shape_error type.shape raw
+
+abbrev tag_in : ErrorText → Option Text
+tag_in e = e.app_tag
+
+abbrev message_in : ErrorText → Option Text
+message_in e = e.message
+
+-- its error-app-tag (RFC 7950, 7.5.4.2)
 abbrev pub app_tag_of : YangType → Raw → Option Text
-app_tag_of type raw = shape_app_tag type.shape raw
+app_tag_of type raw = option_and_then tag_in (error_text_of type raw)
+
+-- its error-message (RFC 7950, 7.5.4.1)
+abbrev pub message_of : YangType → Raw → Option Text
+message_of type raw = option_and_then message_in (error_text_of type raw)
