@@ -6,6 +6,20 @@ use std::alloc::{AllocError, Global};
 use test_modules::{DEFAULT_CASE, ENTRIES, NETWORK, STATE};
 use ymodel::{Absence, Amount, Kind, LeafType, Schema, SchemaId, SchemaNode, Tuples};
 
+// Nodes of state that ask for something, beside a mandatory leaf of configuration.
+const ASKING: &str = "module s {
+  yang-version 1.1; namespace 'urn:s'; prefix s;
+  container c {
+    leaf id { type uint8; mandatory true; }
+    leaf up { config false; type boolean; mandatory true; }
+    leaf load { config false; type uint8; default 7; }
+    list log { config false; min-elements 1; max-elements 3; leaf at { type string; } }
+    leaf-list tag { config false; type string; min-elements 2; }
+    leaf-list mark { config false; type string; default a; default b; }
+    choice how { config false; mandatory true; case a { leaf fast { type empty; } } }
+  }
+}";
+
 fn number_text(alloc: Global, word: &str, id: Option<SchemaId>) -> Result<String, AllocError> {
     match id {
         Some(id) => format!(in alloc; " {word} {}", id.0),
@@ -112,6 +126,39 @@ pub(crate) fn has_nodes(alloc: Global, module: &str, lines: &str) -> Option<bool
     are_nodes(alloc, &schema, lines)
 }
 
+/// Whether a module has these nodes, as far as configuration alone is asked for.
+fn has_asked(alloc: Global, module: &str, lines: &str) -> Option<bool> {
+    let schema = schema_of(alloc, &[module])?.configuration(alloc).ok()?;
+    are_nodes(alloc, &schema, lines)
+}
+
+/// Whether nothing is asked of state, and of configuration what its statements say.
+pub(crate) fn are_asked(alloc: Global) -> Option<bool> {
+    let whole = "container c
+mandatory leaf id
+state mandatory leaf up
+state leaf else 7 load
+state list  1 to 3 log
+state leaf at
+state items 0 2 on tag
+state items 2 0 on mark
+state mandatory choice how
+state case a
+state leaf fast";
+    let configuration = "container c
+mandatory leaf id
+state leaf up
+state leaf load
+state list  0 on log
+state leaf at
+state items 0 0 on tag
+state items 0 0 on mark
+state choice how
+state case a
+state leaf fast";
+    Some(has_nodes(alloc, ASKING, whole)? && has_asked(alloc, ASKING, configuration)?)
+}
+
 /// Whether each kind of node is made as its statements say.
 pub(crate) fn are_made(alloc: Global) -> Option<bool> {
     let network = "container net
@@ -150,4 +197,9 @@ state mandatory leaf at";
 #[test]
 fn nodes(rt: HostRuntime) {
     assert!(rt; are_made(rt.alloc()) == Some(true));
+}
+
+#[test]
+fn configuration(rt: HostRuntime) {
+    assert!(rt; are_asked(rt.alloc()) == Some(true));
 }

@@ -3,6 +3,7 @@
 use crate::compiling::are_compiled;
 use crate::documents::{is_network_rewritten, is_rewritten};
 use crate::groupings::are_replaced;
+use crate::kinds::are_asked;
 use crate::schemas::is_outlined;
 
 #[test]
@@ -18,4 +19,9 @@ fn answer_or_memory(rt: HostRuntime) {
 #[test]
 fn groupings_or_memory(rt: HostRuntime) {
     assert!(rt; are_replaced(rt.alloc()) != Some(false));
+}
+
+#[test]
+fn configuration_or_memory(rt: HostRuntime) {
+    assert!(rt; are_asked(rt.alloc()) != Some(false));
 }

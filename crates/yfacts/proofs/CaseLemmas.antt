@@ -1,18 +1,20 @@
 -- Below a choice stand cases alone, and what is near below them is near below it.
 use Rattle.std.proofs.Common.{◌≡◌, ℕ, suc, ◌+◌, ◌*◌, ◌≤◌, Bool, true, false, cond, Option, Some, None, Ok, refl, sym, ap, ◌∙◌, subst, arith}
-use mathlib.Core.Logic.{∥∥₁_elim}
-use Rattle.std.specs.Coded.{le_prop}
+use Rattle.std.specs.Coded.{Coded-set, coded_bool, ×_prop, Unit-prop}
+use mathlib.Core.HLevel.{×₃_prop}
 use Rattle.std.proofs.lemmas.Nat.{mul-le}
 use Rattle.yspec.specs.Forest.{Forest, end, node, size, levels, weigh, relabelled, find_below, joined_below}
 use Rattle.yspec.specs.text.Statement.{Statement}
 use Rattle.std.specs.Prelude.{◌==◌, ◌||◌, is_some, unwrap_or}
 use Rattle.std.specs.Option.{option_map_or}
 use Rattle.yspec.specs.schema.Schema.{Schema, SchemaNode, Kind, container, leaf, leaf_list, list, choice, case, is_data, node_in, row_at}
+use Rattle.yspec.specs.schema.Configuration.{unasked, asked_node}
 use Rattle.yspec.specs.linking.Keyword.{Keyword, same_keyword, case_word, choice_word}
 use Rattle.yspec.specs.linking.Parts.{Part}
 use Rattle.yspec.specs.linking.Planned.{Planned, Plan, Around, planned_node, around_below, planned}
 use Rattle.yspec.specs.linking.SchemaNodes.{kind_by, schema_node}
-use Rattle.yspec.specs.linking.Compiling.{compiled, IsCompiled}
+use Rattle.yspec.specs.linking.Compiling.{compiled, IsMade}
+use Rattle.yspec.proofs.LinkingProofs.ConfigurationLemmas.{made_has, kept_by}
 use Rattle.yspec.proofs.LinkingProofs.KeywordLemmas.{by_definition, same_is}
 use Rattle.yspec.proofs.LinkingProofs.RightPartLemmas.{AllCases, AreRight}
 use Rattle.yspec.proofs.LinkingProofs.LinkedLemmas.{plan_in, compiles, right_plan}
@@ -59,6 +61,61 @@ linked_cases : (modules : Forest Statement) (schema : Schema) → compiled modul
 linked_cases modules schema e =
     let i = compiles modules schema e in
     subst (λ (s : Schema). HoldCases s.nodes) i.is (cases_of (plan_in modules) _ 0 _ _ (right_plan modules i.none))
+
+-- ---- a schema that is made
+
+open-prop : (f : Forest SchemaNode) → IsProp (AreOpen f)
+open-prop end = Unit-prop
+open-prop (node n below after) = ×_prop (Coded-set coded_bool _ _) (open-prop after)
+
+is_open-prop : (k : Kind) (below : Forest SchemaNode) → IsProp (IsOpen k below)
+is_open-prop (container presence) below = Unit-prop
+is_open-prop (leaf type absence) below = Unit-prop
+is_open-prop (leaf_list type defaults amount) below = Unit-prop
+is_open-prop (list tuples amount) below = Unit-prop
+is_open-prop (choice default_case is_mandatory) below = open-prop below
+is_open-prop case below = Unit-prop
+
+hold-prop : (f : Forest SchemaNode) → IsProp (HoldCases f)
+hold-prop end = Unit-prop
+hold-prop (node n below after) = ×₃_prop (is_open-prop n.kind below) (hold-prop below) (hold-prop after)
+
+anew_kept : (n : SchemaNode) → starts_anew (asked_node n).kind ≡ starts_anew n.kind
+anew_kept n = kept_by starts_anew by n
+  where
+    by : (k : Kind) → starts_anew (unasked k) ≡ starts_anew k
+    by (container presence) = refl
+    by (leaf type absence) = refl
+    by (leaf_list type defaults amount) = refl
+    by (list tuples amount) = refl
+    by (choice default_case is_mandatory) = refl
+    by case = refl
+
+open_kept : (f : Forest SchemaNode) → AreOpen f → AreOpen (relabelled asked_node f)
+open_kept end open_row = tt
+open_kept (node n below after) open_row = (anew_kept n ∙ open_row.0, open_kept after open_row.1)
+
+is_open_kept : (n : SchemaNode) (below : Forest SchemaNode) → IsOpen n.kind below → IsOpen (asked_node n).kind (relabelled asked_node below)
+is_open_kept n below is = by n.config
+  where
+    at : (k : Kind) → IsOpen k below → IsOpen k (relabelled asked_node below) × IsOpen (unasked k) (relabelled asked_node below)
+    at (container presence) is = (tt, tt)
+    at (leaf type absence) is = (tt, tt)
+    at (leaf_list type defaults amount) is = (tt, tt)
+    at (list tuples amount) is = (tt, tt)
+    at (choice default_case is_mandatory) is = (open_kept below is, open_kept below is)
+    at case is = (tt, tt)
+
+    by : (b : Bool) → IsOpen (cond b n.kind (unasked n.kind)) (relabelled asked_node below)
+    by true = (at n.kind is).0
+    by false = (at n.kind is).1
+
+hold_kept : (f : Forest SchemaNode) → HoldCases f → HoldCases (relabelled asked_node f)
+hold_kept end hold = tt
+hold_kept (node n below after) hold = (is_open_kept n below hold.0, hold_kept below hold.1, hold_kept after hold.2)
+
+hold_of : (s : Schema) → ∥ IsMade s ∥₁ → HoldCases s.nodes
+hold_of s made = made_has (λ s. HoldCases s.nodes) (λ s. hold-prop s.nodes) (λ s c. linked_cases c.0 s c.1) (λ s. hold_kept s.nodes) s made
 
 -- ---- what is read there
 
@@ -146,19 +203,18 @@ found_row s None hold = (hold, omega arith)
 found_row s (Some number) hold = found_below (λ n. n.number == number) s.nodes hold
 
 -- what is in play in a row: so many calls at most as there are levels for each node that is near
-row_reads : (s : Schema) (above : Option ℕ) → ∥ IsCompiled s ∥₁ → play_reads (row_at s above) ≤ sizes.levels s * near_count (row_at s above)
-row_reads s above compiled =
-    ∥∥₁_elim compiled le_prop (λ c.
-    let row = found_row s above (linked_cases c.0 s c.1) in
+row_reads : (s : Schema) (above : Option ℕ) → ∥ IsMade s ∥₁ → play_reads (row_at s above) ≤ sizes.levels s * near_count (row_at s above)
+row_reads s above made =
+    let row = found_row s above (hold_of s made) in
     let here = play_near (row_at s above) row.0 in
     let up : levels (row_at s above) * near_count (row_at s above) ≤ sizes.levels s * near_count (row_at s above) =
-    mul-le _ _ _ _ (let x = row.1 in omega (arith, x)) (omega arith) in omega (arith, here, up))
+    mul-le _ _ _ _ (let x = row.1 in omega (arith, x)) (omega arith) in omega (arith, here, up)
 
-pub row_read : (s : Schema) (above : Option ℕ) (f : Forest SchemaNode) (was now : ℕ) → ∥ IsCompiled s ∥₁ → f ≡ row_at s above → now ≤ was + play_reads f
+pub row_read : (s : Schema) (above : Option ℕ) (f : Forest SchemaNode) (was now : ℕ) → ∥ IsMade s ∥₁ → f ≡ row_at s above → now ≤ was + play_reads f
     → now ≤ was + sizes.levels s * near_count (row_at s above)
-row_read s above f was now compiled is so =
+row_read s above f was now made is so =
     let same = ap play_reads is in
-    let few = row_reads s above compiled in
+    let few = row_reads s above made in
     omega (arith, so, same, few)
 
 -- no more are near in a row than the schema has nodes
@@ -202,9 +258,9 @@ child_within (node n below after) number = by (n.number == number || is_some (no
     by true rest = let parts = play_parts n below after in omega (arith, parts)
     by false rest = let parts = play_parts n below after in omega (arith, rest, parts)
 
-pub child_read : (s : Schema) (above : Option ℕ) (number : ℕ) (child : Option (SchemaNode × Forest SchemaNode)) (was now : ℕ) → ∥ IsCompiled s ∥₁
+pub child_read : (s : Schema) (above : Option ℕ) (number : ℕ) (child : Option (SchemaNode × Forest SchemaNode)) (was now : ℕ) → ∥ IsMade s ∥₁
     → child ≡ child_over (row_at s above) number → now ≤ was + child_reads child → now ≤ was + sizes.levels s * near_count (row_at s above)
-child_read s above number child was now compiled is so =
+child_read s above number child was now made is so =
     let same = ap child_reads is in
     let few = child_within (row_at s above) number in
-    row_read s above (row_at s above) was now compiled refl (omega (arith, so, same, few))
+    row_read s above (row_at s above) was now made refl (omega (arith, so, same, few))

@@ -2,19 +2,22 @@
 use Rattle.std.proofs.Common.{◌≡◌, ℕ, zero, suc, ◌+◌, ◌≤◌, ◌<◌, Bool, true, false, cond, eqb, ltb, max, List, [], ◌∷◌, ◌++◌, map, length, Option, Some, None, Ok, refl, sym, ap, ◌∙◌, subst, arith}
 use Rattle.std.specs.Prelude.{◌==◌, ◌&&◌, find, unwrap_or, option_map, option_and_then}
 use Rattle.std.specs.List.{AllByRecursion}
+use Rattle.std.specs.Coded.{×_prop, Unit-prop, le_prop}
 use Rattle.std.specs.Option.{option_map_or}
 use Rattle.std.proofs.lemmas.Bool.{and_parts, eqb-true, eqb-false, ltb-true, ltb-false}
 use Rattle.std.proofs.lemmas.List.{length-map}
 use Rattle.std.proofs.lemmas.Option.{same_Some, none-some}
 use Rattle.yspec.specs.Forest.{Forest, end, node, size, levels, preorder, relabelled, find_label, first_of}
 use Rattle.yspec.specs.text.Statement.{Statement}
-use Rattle.yspec.specs.schema.Schema.{Schema, SchemaNode, Kind, list, node_at, LeafPath}
+use Rattle.yspec.specs.schema.Schema.{Schema, SchemaNode, Kind, container, leaf, leaf_list, list, choice, case, node_at, LeafPath}
+use Rattle.yspec.specs.schema.Configuration.{unasked, asked_node, configuration_schema}
 use Rattle.yspec.specs.linking.Keyword.{Keyword, list_word}
 use Rattle.yspec.specs.linking.Parts.{Part}
 use Rattle.yspec.specs.linking.Prefixes.{NodeName}
 use Rattle.yspec.specs.linking.Planned.{Planned, Plan, Around, at_top, planned_node, around_below, planned, same_number, is_called, nodes_of, child_called, way}
 use Rattle.yspec.specs.linking.SchemaNodes.{kind_by, schema_node, leaf_path, number_in}
-use Rattle.yspec.specs.linking.Compiling.{compiled}
+use Rattle.yspec.specs.linking.Compiling.{compiled, IsMade}
+use Rattle.yspec.proofs.LinkingProofs.ConfigurationLemmas.{made_has, node_kept}
 use Rattle.yspec.proofs.LinkingProofs.LinkedLemmas.{plan_in, parts_in, compiles, relabelled-levels}
 
 -- ---- how deep each number stands
@@ -195,5 +198,53 @@ found_label most test (node n below after) each = by (test n) (find_label test b
     by false None inner rest = rest
     by false (Some m) inner rest = inner
 
-pub paths_at : (modules : Forest Statement) (schema : Schema) → compiled modules ≡ Ok schema → (number : ℕ) → PathsWithinAt (levels schema.nodes) (node_at schema number)
-paths_at modules schema e number = found_label (levels schema.nodes) _ schema.nodes (linked_paths modules schema e)
+-- ---- a schema that is made
+
+paths-prop : (most : ℕ) (paths : List LeafPath) → IsProp (AllByRecursion (λ (path : LeafPath). length path ≤ most) paths)
+paths-prop most [] = Unit-prop
+paths-prop most (path ∷ paths) = ×_prop le_prop (paths-prop most paths)
+
+uniques-prop : (most : ℕ) (uniques : List (List LeafPath)) → IsProp (AllByRecursion (AllByRecursion (λ (path : LeafPath). length path ≤ most)) uniques)
+uniques-prop most [] = Unit-prop
+uniques-prop most (paths ∷ others) = ×_prop (paths-prop most paths) (uniques-prop most others)
+
+within-prop : (most : ℕ) (k : Kind) → IsProp (PathsWithin most k)
+within-prop most (container presence) = Unit-prop
+within-prop most (leaf type absence) = Unit-prop
+within-prop most (leaf_list type defaults amount) = Unit-prop
+within-prop most (list tuples amount) = uniques-prop most tuples.uniques
+within-prop most (choice default_case is_mandatory) = Unit-prop
+within-prop most case = Unit-prop
+
+within_at-prop : (most : ℕ) (o : Option SchemaNode) → IsProp (PathsWithinAt most o)
+within_at-prop most None = Unit-prop
+within_at-prop most (Some n) = within-prop most n.kind
+
+unasked_within : (most : ℕ) (k : Kind) → PathsWithin most k → PathsWithin most (unasked k)
+unasked_within most (container presence) within = tt
+unasked_within most (leaf type absence) within = tt
+unasked_within most (leaf_list type defaults amount) within = tt
+unasked_within most (list tuples amount) within = within
+unasked_within most (choice default_case is_mandatory) within = tt
+unasked_within most case within = tt
+
+asked_within : (most : ℕ) (o : Option SchemaNode) → PathsWithinAt most o → PathsWithinAt most (option_map asked_node o)
+asked_within most None within = tt
+asked_within most (Some n) within = by n.config
+  where
+    by : (b : Bool) → PathsWithin most (cond b n.kind (unasked n.kind))
+    by true = within
+    by false = unasked_within most n.kind within
+
+abbrev HasPaths : ℕ → Schema → Type 0
+HasPaths number schema = PathsWithinAt (levels schema.nodes) (node_at schema number)
+
+paths_kept : (number : ℕ) (s : Schema) → HasPaths number s → HasPaths number (configuration_schema s)
+paths_kept number s within =
+    subst (λ (most : ℕ). PathsWithinAt most (node_at (configuration_schema s) number)) (sym (relabelled-levels asked_node s.nodes))
+    (subst (PathsWithinAt (levels s.nodes)) (sym (node_kept s number)) (asked_within (levels s.nodes) (node_at s number) within))
+
+pub paths_at : (schema : Schema) → ∥ IsMade schema ∥₁ → (number : ℕ) → PathsWithinAt (levels schema.nodes) (node_at schema number)
+paths_at schema made number =
+    made_has (HasPaths number) (λ s. within_at-prop (levels s.nodes) (node_at s number)) (λ s c. found_label (levels s.nodes) _ s.nodes (linked_paths c.0 s c.1))
+    (paths_kept number) schema made

@@ -1,7 +1,5 @@
 -- How many reading calls find the keys of a node: for each name in keys and uniques as many as the schema has levels, and four, at most.
 use Rattle.std.proofs.Common.{◌≡◌, ℕ, zero, suc, ◌+◌, ◌*◌, ◌-◌, ◌<◌, ◌≤◌, Bool, true, false, List, [], ◌∷◌, map, length, Option, Some, None, refl, sym, ap, ◌∙◌, subst, arith}
-use mathlib.Core.Logic.{∥∥₁_elim}
-use Rattle.std.specs.Coded.{le_prop}
 use Rattle.std.specs.Prelude.{slice_get, sum_by, unwrap_or}
 use Rattle.std.specs.List.{AllByRecursion, range_with_len}
 use Rattle.std.specs.Option.{option_map_or}
@@ -11,7 +9,7 @@ use Rattle.std.proofs.lemmas.Nat.{mul-le}
 use Rattle.yspec.specs.Forest as forest
 use Rattle.yspec.specs.schema.Schema.{Schema, SchemaNode, Kind, container, leaf, leaf_list, list, choice, case, LeafPath, Tuples, node_at}
 use Rattle.yspec.specs.document.Instances.{own_path, paths_of}
-use Rattle.yspec.specs.linking.Compiling.{IsCompiled}
+use Rattle.yspec.specs.linking.Compiling.{IsMade}
 use Rattle.yreach.specs.Sizes.{levels, name_count}
 use Rattle.yfacts.specs.Keys.{kind_flags, slots_of}
 use Rattle.yfacts.specs.Reads.{path_reads, slot_reads, key_reads, keys_reads, names_of}
@@ -84,9 +82,8 @@ node_slots : (deep most : ℕ) (o : Option SchemaNode) → 4 ≤ deep → most +
 node_slots deep most None some up within = omega arith
 node_slots deep most (Some n) some up within = kind_slots deep most n.config n.kind some up within
 
-pub few_keys : (s : Schema) (number : ℕ) → ∥ IsCompiled s ∥₁ → keys_reads s number (slots_of s number) ≤ 2 + (levels s + 4) * names_of s number
-few_keys s number compiled =
-    ∥∥₁_elim compiled le_prop (λ c. node_slots (levels s + 4) (forest.levels s.nodes) (node_at s number) (omega arith) (omega arith) (paths_at c.0 s c.1 number))
+pub few_keys : (s : Schema) (number : ℕ) → ∥ IsMade s ∥₁ → keys_reads s number (slots_of s number) ≤ 2 + (levels s + 4) * names_of s number
+few_keys s number made = node_slots (levels s + 4) (forest.levels s.nodes) (node_at s number) (omega arith) (omega arith) (paths_at s made number)
 
 -- the first of the slots that are left
 pub next_slot : (reads : ℕ → ℕ) (slot slots : ℕ) → slot < slots

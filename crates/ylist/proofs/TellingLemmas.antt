@@ -152,7 +152,7 @@ pub found_are_faults : {X E : Type 0} (s : rust.Schema) (r : Result X E) (see : 
     → Tells (schema_view.view s) nodes f → Fits (schema_view.view s) (tree_of f) → IfOk r (λ x. see x ≡ list_told (schema_view.view s) nodes)
     → IfOk r (λ x. see x ≡ faults_of (schema_view.view s) (tree_of f))
 found_are_faults s (Ok x) see nodes f hangs within tells fits is =
-    is ∙ faults_are (schema_view.view s) nodes f hangs within tells (numbered s) (cases_of (schema_view.view s) s.compiled) fits
+    is ∙ faults_are (schema_view.view s) nodes f hangs within tells (numbered s) (cases_of (schema_view.view s) s.made) fits
 found_are_faults s (Err e) see nodes f hangs within tells fits is = tt
 
 -- ---- what is told at a node

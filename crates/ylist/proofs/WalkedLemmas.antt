@@ -37,4 +37,4 @@ walked_are_faults s nodes left is f hangs tells fits =
     let fit = levels_fit (λ n value. Unit {0}) (schema_view.view s).nodes 0 (tree_of f) fits in
     let same = relabelled-levels stored_of f in
     is ∙ (limited (schema_view.view s) nodes f hangs (omega (arith, deep, fit, same)) tells
-    ∙ sym (documents_listed (schema_view.view s) (tree_of f) (numbered s) (cases_of (schema_view.view s) s.compiled) fits))
+    ∙ sym (documents_listed (schema_view.view s) (tree_of f) (numbered s) (cases_of (schema_view.view s) s.made) fits))

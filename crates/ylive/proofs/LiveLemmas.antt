@@ -161,12 +161,12 @@ module _ (schema : rust.Schema) (nodes : Nodes) (t : Tree) (holds : HoldsTold (s
   -- the total of the top is how many faults there are
   pub total_is : total_at nodes Top ≡ length (faults_of s t)
   total_is =
-      count_is s nodes holds.branches (tree_kept nodes holds.branches holds.keeps) holds.told (numbered schema) (cases_of s schema.compiled) branches_fit
+      count_is s nodes holds.branches (tree_kept nodes holds.branches holds.keeps) holds.told (numbered schema) (cases_of s schema.made) branches_fit
       ∙ ap (λ (t : Tree). length (faults_of s t)) holds.is_tree
 
   all_are : list_told s nodes ≡ faults_of s t
   all_are =
-      faults_is s nodes holds.branches (tree_kept nodes holds.branches holds.keeps) holds.told (numbered schema) (cases_of s schema.compiled) branches_fit
+      faults_is s nodes holds.branches (tree_kept nodes holds.branches holds.keeps) holds.told (numbered schema) (cases_of s schema.made) branches_fit
       ∙ ap (faults_of s) holds.is_tree
 
 -- the faults of a document that isn't stale

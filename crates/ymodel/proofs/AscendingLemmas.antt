@@ -1,6 +1,5 @@
 -- The nodes that an augment adds ascend by their numbers.
 use Rattle.std.proofs.Common.{◌≡◌, ℕ, zero, suc, ◌+◌, ◌≤◌, Bool, true, false, cond, List, [], ◌∷◌, ◌++◌, map, filter, Option, Some, None, refl, sym, ap, ◌∙◌, subst, arith}
-use mathlib.Core.Logic.{∥∥₁_elim}
 use Rattle.std.specs.Prelude.{nat_le, option_map, slice_get}
 use Rattle.std.specs.List.{filter_map, cons_option}
 use Rattle.std.specs.Coded.{Coded-set, coded_bool}
@@ -10,12 +9,13 @@ use Rattle.std.proofs.lemmas.List.{map-append}
 use Rattle.std.proofs.lemmas.List.Elements.{filter-append}
 use Rattle.yspec.specs.Forest.{Forest, end, node, size, preorder}
 use Rattle.yspec.specs.linking.Augments as augments
-use Rattle.yspec.specs.linking.Compiling.{IsCompiled, schema_augment, schema_modules, target_found}
+use Rattle.yspec.specs.linking.Compiling.{IsCompiled, IsMade, schema_augment, schema_modules, target_found}
 use Rattle.yspec.specs.linking.Parts.{Part}
 use Rattle.yspec.specs.linking.Planned.{Plan, Planned, Around, around_below, planned, planned_node, same_number}
 use Rattle.yspec.specs.linking.SchemaNodes.{number_in}
 use Rattle.yspec.specs.linking.Source.{Source}
 use Rattle.yspec.specs.schema.Schema.{Schema, SchemaModule, augments_in}
+use Rattle.yspec.proofs.LinkingProofs.ConfigurationLemmas.{made_has}
 use Rattle.yspec.proofs.LinkingProofs.LinkedLemmas.{compiles, plan_in}
 use Rattle.ymodel.specs.Ascending.{ascends_from, all_ascend}
 
@@ -86,10 +86,11 @@ modules_ascend plan ascends (node s below after) zero = augments_ascend_in plan 
 modules_ascend plan ascends (node s below after) (suc m) = modules_ascend plan ascends after m
 
 compiled_ascend : (schema : Schema) (m : ℕ) → IsCompiled schema → all_ascend (augments_in schema m) ≡ true
-compiled_ascend schema m made =
-    let plan = plan_in made.0 in
-    subst (λ (s : Schema). all_ascend (augments_in s m) ≡ true) (compiles made.0 schema made.1).is
+compiled_ascend schema m compiled =
+    let plan = plan_in compiled.0 in
+    subst (λ (s : Schema). all_ascend (augments_in s m) ≡ true) (compiles compiled.0 schema compiled.1).is
     (modules_ascend plan (λ test. between_ascends 0 (0 + size _) _ (planned_between test 0 _ _)) plan.modules m)
 
-pub ascend_of : (schema : Schema) (m : ℕ) → ∥ IsCompiled schema ∥₁ → all_ascend (augments_in schema m) ≡ true
-ascend_of schema m made = ∥∥₁_elim made (Coded-set coded_bool (all_ascend (augments_in schema m)) true) (compiled_ascend schema m)
+pub ascend_of : (schema : Schema) (m : ℕ) → ∥ IsMade schema ∥₁ → all_ascend (augments_in schema m) ≡ true
+ascend_of schema m made = made_has (λ s. all_ascend (augments_in s m) ≡ true) (λ s. Coded-set coded_bool (all_ascend (augments_in s m)) true)
+    (λ s. compiled_ascend s m) (λ s ascend. ascend) schema made

@@ -18,17 +18,17 @@ numbered s = numbered_laid (forest_of 0 s.slots.items) None 0 s.slots.items s.la
 
 -- no two siblings are written with one name
 pub names_differ : (s : Schema) → NamesDiffer (view s)
-names_differ s = names_differ_of (view s) s.compiled
+names_differ s = names_differ_of (view s) s.made
 
 pub leafs_are_bare : (s : Schema) → LeafsAreBare (view s).nodes
-leafs_are_bare s = leafs_bare_of (view s) s.compiled
+leafs_are_bare s = leafs_bare_of (view s) s.made
 
 pub not_deep : (s : Schema) → levels (view s).nodes ≤ level_limit
-not_deep s = levels_of (view s) s.compiled
+not_deep s = levels_of (view s) s.made
 
 pub not_large : (s : Schema) → size (view s).nodes ≤ node_limit
-not_large s = size_of (view s) s.compiled
+not_large s = size_of (view s) s.made
 
 -- the nodes that an augment adds ascend by their numbers
 pub augments_ascend : (s : Schema) (m : ℕ) → all_ascend (augments_in (view s) m) ≡ true
-augments_ascend s m = ascend_of (view s) m s.compiled
+augments_ascend s m = ascend_of (view s) m s.made

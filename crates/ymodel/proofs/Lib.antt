@@ -4,6 +4,7 @@ pub mod ReferenceLemmas
 pub mod RowLemmas
 pub mod WayLemmas
 pub mod ChildLemmas
+pub mod ConfigurationLemmas
 pub mod FindLemmas
 pub mod MeantLemmas
 pub mod CallerLemmas

@@ -1,4 +1,5 @@
 pub mod Ascending
+pub mod Configuration
 pub mod Layout
 pub mod Lookup
 pub mod References

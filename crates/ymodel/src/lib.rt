@@ -2,6 +2,7 @@
 #![tactic(auto)]
 
 mod children;
+mod configuration;
 mod index;
 mod node;
 mod references;

@@ -2,13 +2,14 @@
 
 ghost use Rattle.std.specs.Prelude.{◌≡◌, ◌+◌, ◌<◌, ◌^◌, None, length, vec_len, position, string_bytes};
 ghost use Rattle.yspec.specs.text.Text.{is_text};
-ghost use Rattle.yspec.specs.linking.Compiling.{IsCompiled};
+ghost use Rattle.yspec.specs.linking.Compiling.{IsCompiled, IsMade};
 ghost use Rattle.yspec.specs.linking.Planned.{same_number};
 ghost use Rattle.ymodel.specs.Layout.{data_places, laid, forest_of, number_of, schema_view, IsLaidOut};
 ghost use Rattle.ymodel.specs.Lookup.{FindsNamed, FindsWritten};
 ghost use Rattle.ymodel.specs.References.{FindsReferences};
 
 use crate::children::{Child, Children, Slot};
+use crate::configuration::asked_slots;
 use crate::index::{Index, id_of, index_of, parent_number};
 use crate::node::{SchemaId, SchemaNode};
 use crate::references::References;
@@ -43,7 +44,7 @@ pub struct Schema {
     ghost named: { FindsNamed index slots.items },
     ghost written: { FindsWritten index slots.items (data_places None (forest_of 0 slots.items)) },
     ghost referred: { FindsReferences references (laid 0 slots.items) },
-    ghost compiled: { ∥ IsCompiled (schema_view modules.items slots.items) ∥₁ },
+    ghost made: { ∥ IsMade (schema_view modules.items slots.items) ∥₁ },
 }
 
 impl Schema {
@@ -51,6 +52,7 @@ impl Schema {
     ghost use Rattle.yspec.specs.Forest.{size};
     ghost use Rattle.yspec.specs.schema.Schema as spec;
     ghost use Rattle.yspec.specs.schema.Schema.{node_at, children_of, row_at, child_in, child_named, child_written, way_to};
+    ghost use Rattle.yspec.specs.schema.Configuration.{configuration_schema};
     ghost use Rattle.yspec.specs.schema.References.{references_to};
     ghost use Rattle.ymodel.specs.Layout.{augment_view, node_view, number_of, numbers_of};
     ghost use Rattle.ymodel.specs.Lookup.{alone, module_passed, names_in, way_above};
@@ -72,6 +74,26 @@ impl Schema {
     {
         let index = index_of(alloc, &slots, names)?;
         let references = References::of(alloc, &slots)?;
+        Ok(Schema {
+            modules,
+            slots,
+            index,
+            references,
+        })
+    }
+
+    /// What it asks of configuration alone: of nodes of state nothing is wanted, and none of their defaults is in use
+    /// (RFC 7950, 7.21.1).
+    pub fn configuration(self, alloc: Global) -> Result<Schema, AllocError>
+        ensures { IfOk result (λ schema. view schema ≡ configuration_schema (view self)) }
+    {
+        let Schema {
+            modules,
+            slots,
+            index,
+            references,
+        } = self;
+        let slots = asked_slots(alloc, slots)?;
         Ok(Schema {
             modules,
             slots,

@@ -1,4 +1,4 @@
-use Rattle.std.proofs.Common.{◌≡◌, ◌<◌, ◌≤◌, ◌^◌, List, None, length, ap, subst, sym, arith}
+use Rattle.std.proofs.Common.{◌≡◌, ◌<◌, ◌≤◌, ◌^◌, List, None, false, length, refl, ap, subst, sym, arith}
 use Rattle.yspec.specs.Forest.{size}
 use Rattle.yspec.specs.schema.Breaks.{node_limit}
 use Rattle.yspec.specs.linking.Compiling.{IsCompiled}
@@ -43,6 +43,9 @@ invariant_of-result-clause-named c =
 pub invariant_of-result-clause-written : goal.invariant_of-result-clause-written
 invariant_of-result-clause-written c =
     subst (λ slots. FindsWritten c.in_ok-index.index slots (data_places None (forest_of 0 slots))) c.deref.ensures.value c.in_ok-index.ensures.written
+
+pub invariant_of-result-clause-made : goal.invariant_of-result-clause-made
+invariant_of-result-clause-made c = ∣ (false, schema_view c.args.modules.items c.args.slots.items, c.requires.compiled, refl) ∣₁
 
 pub invariant_of-result-clause-referred : goal.invariant_of-result-clause-referred
 invariant_of-result-clause-referred c =
