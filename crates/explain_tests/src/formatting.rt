@@ -66,6 +66,18 @@ const ROWS: &str = r#"{"net:host":[{"name":"a","speed":1}]}
 {"error-app-tag":"too big","error-message":"9 isn't a value of uint8: it takes an integer without quotes in 1..5 | 7.","error-path":"/net:limits/small","error-tag":"invalid-value","error-type":"application","yanglive:code":"V1","yanglive:path":"/net:limits/small"}
 {"error-message":"\"abc\" isn't a value of string: it takes a text in quotes of length 2.","error-path":"/net:limits/word","error-tag":"invalid-value","error-type":"application","yanglive:code":"V1","yanglive:path":"/net:limits/word"}
 {"yanglive:faults":2}
+==
+{"net:limits":{"much":20}}
+{"error-message":"At least \"half\".","error-path":"/net:limits/much","error-tag":"invalid-value","error-type":"application","yanglive:code":"V1","yanglive:path":"/net:limits/much"}
+{"yanglive:faults":1}
+==
+{"net:limits":{"much":101}}
+{"error-app-tag":"part","error-message":"A part\n  of 100.","error-path":"/net:limits/much","error-tag":"invalid-value","error-type":"application","yanglive:code":"V1","yanglive:path":"/net:limits/much"}
+{"yanglive:faults":1}
+==
+{"net:limits":{"much":"x"}}
+{"error-message":"\"x\" isn't a value of percent: it takes an integer without quotes in 50..100.","error-path":"/net:limits/much","error-tag":"invalid-value","error-type":"application","yanglive:code":"V1","yanglive:path":"/net:limits/much"}
+{"yanglive:faults":1}
 "#;
 
 #[test]

@@ -8,6 +8,8 @@ mod formatting;
 #[cfg(test)]
 mod module;
 #[cfg(test)]
+mod state;
+#[cfg(test)]
 mod taking;
 #[cfg(test)]
 mod writing;

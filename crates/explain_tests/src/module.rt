@@ -20,9 +20,11 @@ pub(crate) const NET: &str = "module net {
     leaf port { type uint16; default 80; }
     container at { leaf ip { type string; } }
   }
+  typedef percent { type uint8 { range \"0..100\" { error-message \"A part\\n  of 100.\"; error-app-tag part; } } }
   container limits {
     leaf small { type uint8 { range \"1..5 | 7\" { error-app-tag \"too big\"; } } }
     leaf word { type string { length 2; } }
+    leaf much { type percent { range \"50..100\" { error-message 'At least \"half\".'; } } }
   }
   container more {
     presence more;

@@ -12,6 +12,7 @@ const FRONT: &str = "module t {
   yang-version 1.1; namespace \"urn:t\"; prefix t;
   typedef port { type uint16 { range \"1..100\"; } }
   typedef host { type union { type port; type string { length \"1..8\"; } } }
+  typedef percent { type uint8 { range \"0..100\" { error-message 'A part of \"100\".'; } } }
   leaf target { type int8 { range \"-5..5\"; } }
   leaf v { type ";
 
@@ -62,6 +63,15 @@ enumeration { enum error; enum warning { value 7; } enum "a b" { value 3; } } =>
 bits { bit b { position 4; } bit a { position 2; } } => "a c" => "a c" isn't a value of bits: it takes names in quotes, parted by spaces and each once, of: a, b.
 host; => 0 => 0 isn't a value of host: it takes an integer without quotes in 1..100 or a text in quotes of length 1..8.
 leafref { path /t:target; } => 9 => 9 isn't a value of leafref: it takes an integer without quotes in -5..5.
+uint8 { range "1..5" { error-message "Up to five."; } } => 9 => 9 isn't a value of uint8: it takes an integer without quotes in 1..5. Its module says: Up to five.
+uint8 { range "1..5" { error-app-tag big; error-message "größer\n\tals 5"; } } => 9 => 9 isn't a value of uint8: it takes an integer without quotes in 1..5. Its module says: größer  als 5
+uint8 { range "1..5" { error-message "Up to five."; } } => "9" => "9" isn't a value of uint8: it takes an integer without quotes in 1..5.
+string { length "2" { error-message "Two letters."; } } => "abc" => "abc" isn't a value of string: it takes a text in quotes of length 2. Its module says: Two letters.
+port { range "20..30" { error-message "The outer one."; } } => 200 => 200 isn't a value of port: it takes an integer without quotes in 20..30.
+port { range "20..30" { error-message "The outer one."; } } => 40 => 40 isn't a value of port: it takes an integer without quotes in 20..30. Its module says: The outer one.
+percent { range "20..30" { error-message "The outer one."; } } => 200 => 200 isn't a value of percent: it takes an integer without quotes in 20..30. Its module says: A part of "100".
+percent { range "20..30"; } => 40 => 40 isn't a value of percent: it takes an integer without quotes in 20..30.
+union { type percent; type empty; } => 200 => 200 isn't a value of union: it takes an integer without quotes in 0..100 or [null].
 "#;
 
 #[test]

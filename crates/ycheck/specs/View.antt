@@ -6,9 +6,9 @@ use Rattle.yspec.specs.document.Fault as faults
 use Rattle.yspec.specs.document.Fault.{no_info, choice_name, unique_number}
 use Rattle.ytree.specs.View.{place_view}
 use Rattle.ycheck.specs.declared.fault.FaultCode.{FaultCode}
-use Rattle.ycheck.specs.declared.fault.FaultCode.TheVariants.{V1, V2, V3, V4, V5, V6, V7, V8, V9, V10, V11}
+use Rattle.ycheck.specs.declared.fault.FaultCode.TheVariants.{V1, V2, V3, V4, V5, V6, V7, V8, V9, V10, V11, V12}
 use Rattle.ycheck.specs.declared.fault.ErrorTag.{ErrorTag}
-use Rattle.ycheck.specs.declared.fault.ErrorTag.TheVariants.{InvalidValue, MissingElement, DataMissing, BadElement, OperationFailed}
+use Rattle.ycheck.specs.declared.fault.ErrorTag.TheVariants.{InvalidValue, MissingElement, DataMissing, BadElement, OperationFailed, UnknownElement}
 use Rattle.ycheck.specs.declared.fault.Info.{Info}
 use Rattle.ycheck.specs.declared.fault.Info.TheVariants as infos
 use Rattle.ycheck.specs.declared.fault.Fault.{Fault}
@@ -28,6 +28,7 @@ code_view V8 = spec.V8
 code_view V9 = spec.V9
 code_view V10 = spec.V10
 code_view V11 = spec.V11
+code_view V12 = spec.V12
 
 abbrev pub tag_name : ErrorTag → Text
 tag_name InvalidValue = codes "invalid-value"
@@ -35,6 +36,7 @@ tag_name MissingElement = codes "missing-element"
 tag_name DataMissing = codes "data-missing"
 tag_name BadElement = codes "bad-element"
 tag_name OperationFailed = codes "operation-failed"
+tag_name UnknownElement = codes "unknown-element"
 
 abbrev pub info_view : Info → faults.Info
 info_view infos.None = no_info

@@ -30,6 +30,8 @@ pub enum FaultCode {
     V10 = 10,
     /// What a leafref refers to isn't there (RFC 7950, 9.9).
     V11 = 11,
+    /// State data where configuration alone is looked at (RFC 7950, 7.21.1).
+    V12 = 12,
 }
 
 impl FaultCode {
@@ -56,6 +58,7 @@ impl FaultCode {
             FaultCode::V6 | FaultCode::V7 | FaultCode::V8 | FaultCode::V9 | FaultCode::V10 => {
                 ErrorTag::OperationFailed
             }
+            FaultCode::V12 => ErrorTag::UnknownElement,
         }
     }
 
@@ -74,7 +77,8 @@ impl FaultCode {
             | FaultCode::V3
             | FaultCode::V5
             | FaultCode::V8
-            | FaultCode::V10 => None,
+            | FaultCode::V10
+            | FaultCode::V12 => None,
         }
     }
 }
@@ -93,6 +97,7 @@ pub enum ErrorTag {
     DataMissing,
     BadElement,
     OperationFailed,
+    UnknownElement,
 }
 
 /// What a fault says besides its place.

@@ -139,6 +139,7 @@ fn code_text(code: FaultCode) -> &'static str
         FaultCode::V9 => "V9 ",
         FaultCode::V10 => "V10 ",
         FaultCode::V11 => "V11 ",
+        FaultCode::V12 => "V12 ",
     }
 }
 
@@ -151,6 +152,7 @@ fn tag_text(tag: ErrorTag) -> &'static str
         ErrorTag::DataMissing => "data-missing ",
         ErrorTag::BadElement => "bad-element ",
         ErrorTag::OperationFailed => "operation-failed ",
+        ErrorTag::UnknownElement => "unknown-element ",
     }
 }
 

@@ -122,6 +122,8 @@ of_faults =
     (codes "the item") (codes "Take one of them out.") (codes "RFC 7950, 7.7") ∷
     said (codes "V11") (codes "A leafref has no instance of its target with its value.")
     (codes "the leaf or item") (codes "Add the instance, or correct the value.") (codes "RFC 7950, 9.9.3") ∷
+    said (codes "V12") (codes "A node of state is stored, where configuration alone is looked at.")
+    (codes "the topmost node of state, without position: all instances that stand beside each other are told once") (codes "Take it out of the document, or leave out --config.") (codes "RFC 7950, 7.21.1") ∷
     []
 
 -- edits

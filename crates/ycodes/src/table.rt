@@ -331,6 +331,13 @@ const OF_FAULTS: &[Explanation] = &[
         remedy: "Add the instance, or correct the value.",
         source: "RFC 7950, 9.9.3",
     },
+    Explanation {
+        code: "V12",
+        cause: "A node of state is stored, where configuration alone is looked at.",
+        place: "the topmost node of state, without position: all instances that stand beside each other are told once",
+        remedy: "Take it out of the document, or leave out --config.",
+        source: "RFC 7950, 7.21.1",
+    },
 ];
 
 const OF_EDITS: &[Explanation] = &[

@@ -6,5 +6,6 @@ pub mod TakenWords
 pub mod TupleWords
 pub mod Fellows
 pub mod Cases
+pub mod Messages
 pub mod Sentences
 pub mod Writing

@@ -6,9 +6,9 @@ use Rattle.serde_json.specs.Written.{compact_text}
 use Rattle.yspec.specs.Forest.{Forest, end, node}
 use Rattle.yspec.specs.text.Text.{Text}
 use Rattle.yspec.specs.types.Types.{Raw, text}
-use Rattle.yspec.specs.schema.Schema.{Schema, SchemaNode, Kind, list, leaf_list, Amount, LeafType, type_in, node_at, children_of, written_name, data_way_to}
+use Rattle.yspec.specs.schema.Schema.{Schema, SchemaNode, Kind, list, leaf_list, Amount, node_at, children_of, written_name, data_way_to}
 use Rattle.yspec.specs.document.Document.{Tree, Step, step_to, instances_in}
-use Rattle.yspec.specs.document.FaultCode.{FaultCode, V1, V2, V3, V4, V5, V6, V7, V8, V9, V10, V11}
+use Rattle.yspec.specs.document.FaultCode.{FaultCode, V1, V2, V3, V4, V5, V6, V7, V8, V9, V10, V11, V12}
 use Rattle.yspec.specs.document.Fault.{Fault, Info, choice_name, unique_number}
 use Rattle.yspec.specs.document.Path.{path_text, module_after}
 use Rattle.yhint.specs.Near.{nearest}
@@ -18,12 +18,10 @@ use Rattle.yexplain.specs.KeyedPath.{keyed_path}
 use Rattle.yexplain.specs.Fellows.{fellow_entry, fellow_item, fellow_text}
 use Rattle.yexplain.specs.Cases.{stored_case_names}
 use Rattle.yexplain.specs.TakenWords.{taken_words}
+use Rattle.yexplain.specs.Messages.{type_at, message_at, message_words}
 use Rattle.yexplain.specs.TupleWords.{keys_at, keys_said, unique_at, leafs_said}
 
 -- ---- what the schema says
-
-abbrev pub type_at : Schema → ℕ → Option LeafType
-type_at schema number = option_and_then (λ n. type_in n.kind) (node_at schema number)
 
 -- the name of the type of a leaf or leaf-list as its module writes it
 abbrev pub type_name : Schema → ℕ → Text
@@ -85,11 +83,23 @@ children_at schema steps =
 
 -- ---- what is said of the last step to a place, from the row in which it leads to a node
 
--- V1
-abbrev pub wrong_value : Schema → Tree → Step → Text
-wrong_value schema row step = value_text (option_and_then (λ found. found.0.value) (instance_to row step))
+-- the value of the leaf or item to which it leads
+abbrev pub value_to : Tree → Step → Option Raw
+value_to row step = option_and_then (λ found. found.0.value) (instance_to row step)
+
+-- the message of the module for that value
+abbrev pub message_to : Schema → Tree → Step → Option Text
+message_to schema row step = message_at schema step.schema_number (value_to row step)
+
+-- what its type takes
+abbrev pub not_taken : Schema → Tree → Step → Text
+not_taken schema row step = value_text (value_to row step)
     ++ (codes " isn't a value of " ++ (type_name schema step.schema_number
     ++ (codes ": it takes " ++ (taken_at schema step.schema_number ++ codes "."))))
+
+-- V1
+abbrev pub wrong_value : Schema → Tree → Step → Text
+wrong_value schema row step = not_taken schema row step ++ message_words (message_to schema row step)
 
 -- the name of the node as it is written below a place
 abbrev pub name_below : Schema → List Step → ℕ → Text
@@ -126,16 +136,20 @@ same_unique schema row above step u = leafs_said schema (row_to row step) (uniqu
 
 -- V10
 abbrev pub same_item : Schema → Tree → List Step → Step → Text
-same_item schema row above step = codes "its value " ++ (value_text (option_and_then (λ found. found.0.value) (instance_to row step))
+same_item schema row above step = codes "its value " ++ (value_text (value_to row step)
     ++ (codes " is that of " ++ (fellow_text schema above step.schema_number (fellow_item schema row step) ++ codes ".")))
 
 -- V11
 abbrev pub no_target : Schema → Tree → Tree → Step → Text
 no_target schema tree row step =
     let target = target_at schema step.schema_number in
-    let value = option_and_then (λ found. found.0.value) (instance_to row step) in
+    let value = value_to row step in
     codes "no instance of " ++ (target_path schema target ++ (codes " is " ++ (value_text value
     ++ near_words (nearest_target schema tree target value))))
+
+-- V12
+abbrev pub state_stored : Schema → List Step → ℕ → Text
+state_stored schema above number = name_below schema above number ++ codes " is config false, so no configuration holds it."
 
 -- ---- what is said of a choice below a place
 
@@ -171,6 +185,7 @@ sentence_at schema tree row above info V8 step = same_key schema row above step
 sentence_at schema tree row above info V9 step = same_unique schema row above step (unique_in info)
 sentence_at schema tree row above info V10 step = same_item schema row above step
 sentence_at schema tree row above info V11 step = no_target schema tree row step
+sentence_at schema tree row above info V12 step = state_stored schema above step.schema_number
 
 -- of the last step to a place
 abbrev pub sentence_to : Schema → Tree → List Step → Info → FaultCode → Text
@@ -181,6 +196,15 @@ abbrev pub sentence : Schema → Tree → List Step → Info → FaultCode → T
 sentence schema tree steps info V4 = no_case (choice_in info)
 sentence schema tree steps info V5 = several_cases schema tree steps (choice_in info)
 sentence schema tree steps info code = sentence_to schema tree steps info code
+
+-- ---- the message that a fault carries of its module (RFC 7950, 7.5.4.1)
+
+abbrev pub own_message : Schema → Tree → List Step → FaultCode → Option Text
+own_message schema tree steps V1 =
+    option_and_then (message_to schema (row_at tree (steps_above steps))) (last_step steps)
+own_message schema tree steps _ = None
+
+-- ---- lines
 
 -- What is missing is told at the node around it; an entry or item that isn't the only one of its keys or of its value, by
 -- its position.

@@ -1,6 +1,7 @@
 //! What is said of a fault.
 
-ghost use Rattle.std.specs.Prelude.{◌≡◌, IfOk, string_bytes};
+ghost use Rattle.std.specs.Prelude.{◌≡◌, IfOk, option_map, string_bytes};
+ghost use Rattle.yspec.specs.document.FaultCode.{V1};
 ghost use Rattle.yspec.specs.document.Sorting.{IsSorted};
 ghost use Rattle.youtput.specs.Writing.{side};
 ghost use Rattle.ymodel.specs.View as schema_view;
@@ -14,8 +15,8 @@ use crate::fault::ExplanationFault;
 use crate::path::{keyed_path, position_path};
 use crate::place::row_at;
 use crate::sentences::{
-    missing_key, missing_leaf, no_case, no_target, same_item, same_key, same_unique, several_cases,
-    too_few, too_many, wrong_value,
+    message_to, missing_key, missing_leaf, no_case, no_target, same_item, same_key, same_unique,
+    several_cases, state_stored, too_few, too_many, wrong_value,
 };
 use std::alloc::{AllocError, Global};
 use ycheck::{Fault, FaultCode, Info};
@@ -99,6 +100,7 @@ fn sentence_at(
         FaultCode::V9 => same_unique(alloc, schema, row, above, step, unique_in(info)),
         FaultCode::V10 => same_item(alloc, schema, row, above, step),
         FaultCode::V11 => no_target(alloc, schema, tree, row, step),
+        FaultCode::V12 => state_stored(alloc, schema, above, step.id),
         FaultCode::V4 | FaultCode::V5 => Ok(String::new(alloc)),
     }
 }
@@ -120,6 +122,44 @@ pub fn sentence(
             several_cases(alloc, schema, tree, &fault.steps, choice_in(&fault.info))
         }
         code => sentence_at(alloc, schema, tree, &fault.steps, &fault.info, code),
+    }
+}
+
+/// The message of the module for the value to which steps lead.
+fn message_for(
+    alloc: Global,
+    schema: &Schema,
+    tree: &Tree,
+    steps: &[Step],
+) -> Result<Option<String>, AllocError>
+    ensures { IfOk result (λ message. option_map string_bytes message
+        ≡ spec.own_message (schema_view.view schema.now) (document_view.tree_view tree.now)
+        (document_view.place_view steps.now) V1) }
+{
+    match steps.split_last() {
+        Some((step, above)) => {
+            let row = row_at(tree, above);
+            message_to(alloc, schema, row, step)
+        }
+        None => Ok(None),
+    }
+}
+
+/// The message that a fault carries of its module: that of the restriction which excludes a value (RFC 7950, 7.5.4.1).
+pub fn own_message(
+    alloc: Global,
+    schema: &Schema,
+    tree: &Tree,
+    fault: &Fault,
+) -> Result<Option<String>, AllocError>
+    ensures { let f = fault_view.view fault.now in
+        IfOk result (λ message. option_map string_bytes message
+        ≡ spec.own_message (schema_view.view schema.now) (document_view.tree_view tree.now)
+        f.steps f.code) }
+{
+    match fault.code {
+        FaultCode::V1 => message_for(alloc, schema, tree, &fault.steps),
+        _ => Ok(None),
     }
 }
 

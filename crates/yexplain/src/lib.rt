@@ -7,6 +7,7 @@ mod fault;
 mod fellows;
 mod joining;
 mod laws;
+mod messages;
 mod near;
 mod path;
 mod place;
@@ -16,7 +17,7 @@ mod target;
 mod tuples;
 mod values;
 
-pub use explanation::{explanation_of, sentence, write_fault_explanation};
+pub use explanation::{explanation_of, own_message, sentence, write_fault_explanation};
 pub use fault::ExplanationFault;
 pub use laws::{fellow_is_another, repeated_has_fellow};
 pub use path::{keyed_path, position_path};

@@ -5,15 +5,16 @@ ghost use Rattle.std.specs.Option.{option_map_or};
 ghost use Rattle.yspec.specs.document.Document.{instances_in};
 ghost use Rattle.yspec.specs.document.Sorting.{IsSorted};
 ghost use Rattle.ytype.specs.View as held;
-ghost use Rattle.ymodel.specs.Layout.{amount_view, leaf_type_view, number_of};
+ghost use Rattle.ymodel.specs.Layout.{amount_view, number_of};
 ghost use Rattle.ymodel.specs.View as schema_view;
 ghost use Rattle.ytree.specs.View as document_view;
-ghost use Rattle.yexplain.specs.Places.{instance_to};
+ghost use Rattle.yexplain.specs.Messages.{message_words};
 ghost use Rattle.yexplain.specs.Values as values;
 ghost use Rattle.yexplain.specs.Sentences as spec;
 
 use crate::cases::stored_case_names;
 use crate::fellows::{fellow_entry, fellow_item, fellow_text};
+use crate::messages::{message_at, message_words, type_at};
 use crate::near::near_words;
 use crate::path::module_at;
 use crate::place::{count_of, instance_to, row_at, row_to};
@@ -23,18 +24,11 @@ use crate::tuples::{keys_at, keys_said, leafs_said, unique_at};
 use crate::values::value_text;
 use itoa::Buffer;
 use std::alloc::{AllocError, Global};
-use ymodel::{Amount, Children, Kind, LeafType, Schema, SchemaId};
+use ymodel::{Amount, Children, Kind, Schema, SchemaId};
 use ytree::{Step, Stored, Tree};
 use ytype::Raw;
 
 // ---- what the schema says
-
-fn type_at(schema: &Schema, id: SchemaId) -> Option<&LeafType>
-    ensures { option_map (λ t. leaf_type_view t.now) result
-        ≡ spec.type_at (schema_view.view schema.now) id.0 }
-{
-    schema.kind(id)?.kind.leaf_type()
-}
 
 /// The name of the type of a leaf or leaf-list as its module writes it.
 fn type_name(schema: &Schema, id: SchemaId) -> &str
@@ -103,10 +97,9 @@ fn max_elements_of(schema: &Schema, id: SchemaId) -> u32
 // ---- what is said of the last step to a place, from the row in which it leads to a node
 
 /// The value of the leaf or item to which a step leads, as its document has it.
-fn raw_to<'a>(row: &'a [Stored], step: &Step) -> Option<&'a Raw>
+pub(crate) fn raw_to<'a>(row: &'a [Stored], step: &Step) -> Option<&'a Raw>
     ensures { option_map (λ r. held.raw_of r.now) result
-        ≡ option_and_then (λ found. found.0.value)
-        (instance_to (document_view.row_view row.entry.now) (document_view.step_view step.now)) }
+        ≡ spec.value_to (document_view.row_view row.entry.now) (document_view.step_view step.now) }
 {
     match instance_to(row, step) {
         Some(stored) => stored.value(),
@@ -117,20 +110,52 @@ fn raw_to<'a>(row: &'a [Stored], step: &Step) -> Option<&'a Raw>
 /// Its text.
 fn value_to(alloc: Global, row: &[Stored], step: &Step) -> Result<String, AllocError>
     ensures { IfOk result (λ text. string_bytes text
-        ≡ values.value_text (option_and_then (λ found. found.0.value)
-        (instance_to (document_view.row_view row.now) (document_view.step_view step.now)))) }
+        ≡ values.value_text (spec.value_to (document_view.row_view row.now)
+        (document_view.step_view step.now))) }
 {
     value_text(alloc, raw_to(row, step))
 }
 
-pub(crate) fn wrong_value(
+/// The message of the module for that value.
+pub(crate) fn message_to(
+    alloc: Global,
+    schema: &Schema,
+    row: &[Stored],
+    step: &Step,
+) -> Result<Option<String>, AllocError>
+    ensures { IfOk result (λ message. option_map string_bytes message
+        ≡ spec.message_to (schema_view.view schema.now) (document_view.row_view row.now)
+        (document_view.step_view step.now)) }
+{
+    message_at(alloc, schema, step.id, raw_to(row, step))
+}
+
+/// What is said of that message, behind what is said of the value.
+fn said_by_module(
     alloc: Global,
     schema: &Schema,
     row: &[Stored],
     step: &Step,
 ) -> Result<String, AllocError>
     ensures { IfOk result (λ text. string_bytes text
-        ≡ spec.wrong_value (schema_view.view schema.now) (document_view.row_view row.now)
+        ≡ message_words (spec.message_to (schema_view.view schema.now)
+        (document_view.row_view row.now) (document_view.step_view step.now))) }
+{
+    match message_to(alloc, schema, row, step)? {
+        Some(message) => message_words(alloc, Some(message.as_str())),
+        None => message_words(alloc, None),
+    }
+}
+
+/// What the type of a value takes, which isn't that.
+fn not_taken(
+    alloc: Global,
+    schema: &Schema,
+    row: &[Stored],
+    step: &Step,
+) -> Result<String, AllocError>
+    ensures { IfOk result (λ text. string_bytes text
+        ≡ spec.not_taken (schema_view.view schema.now) (document_view.row_view row.now)
         (document_view.step_view step.now)) }
 {
     let value = value_to(alloc, row, step)?;
@@ -144,6 +169,21 @@ pub(crate) fn wrong_value(
         ".",
     ]
     .concat(alloc)
+}
+
+pub(crate) fn wrong_value(
+    alloc: Global,
+    schema: &Schema,
+    row: &[Stored],
+    step: &Step,
+) -> Result<String, AllocError>
+    ensures { IfOk result (λ text. string_bytes text
+        ≡ spec.wrong_value (schema_view.view schema.now) (document_view.row_view row.now)
+        (document_view.step_view step.now)) }
+{
+    let said = not_taken(alloc, schema, row, step)?;
+    let message = said_by_module(alloc, schema, row, step)?;
+    [said.as_str(), message.as_str()].concat(alloc)
 }
 
 fn name_below(
@@ -313,6 +353,24 @@ pub(crate) fn no_target(
         " is ",
         value.as_str(),
         near.as_str(),
+    ]
+    .concat(alloc)
+}
+
+pub(crate) fn state_stored(
+    alloc: Global,
+    schema: &Schema,
+    above: &[Step],
+    id: SchemaId,
+) -> Result<String, AllocError>
+    ensures { IfOk result (λ text. string_bytes text
+        ≡ spec.state_stored (schema_view.view schema.now) (document_view.place_view above.now)
+        id.0) }
+{
+    let name = name_below(alloc, schema, above, id)?;
+    [
+        name.as_str(),
+        " is config false, so no configuration holds it.",
     ]
     .concat(alloc)
 }

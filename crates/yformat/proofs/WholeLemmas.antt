@@ -10,30 +10,9 @@ use Rattle.yspec.specs.schema.Schema.{Schema}
 use Rattle.yspec.specs.document.Document.{Tree}
 use Rattle.yspec.specs.document.Fault.{Fault, Info, no_info, choice_name, unique_number}
 use Rattle.yspec.specs.document.Path.{path_text}
+use Rattle.yspec.proofs.DocumentProofs.WrittenShapeLemmas.{put_whole}
 use Rattle.yexplain.specs.KeyedPath.{keyed_path}
-use Rattle.yexplain.specs.Sentences.{sentence}
-use Rattle.yformat.specs.FaultData.{code_text, with_text, with_app_tag, with_info, with_tags, with_message, with_line, fault_data}
-
-first_whole : (a b : Bool) → (a || b) ≡ false → a ≡ false
-first_whole true b h = absurd cc
-first_whole false b h = refl
-
-later_whole : (a b : Bool) → (a || b) ≡ false → b ≡ false
-later_whole true b h = absurd cc
-later_whole false b h = h
-
--- ---- one member more
-
-put_whole_at : (o : Ordering) (name other : Text) (d e : Data) (ms : Members) → has_float d ≡ false → members_have_float (member other e ms) ≡ false → members_have_float (put name d ms) ≡ false
-    → members_have_float (match_ordering o (member name d (member other e ms)) (member other d ms) (member other e (put name d ms))) ≡ false
-put_whole_at Less name other d e ms this these later = ap₂ ◌||◌ this these
-put_whole_at Equal name other d e ms this these later = ap₂ ◌||◌ this (later_whole (has_float e) (members_have_float ms) these)
-put_whole_at Greater name other d e ms this these later = ap₂ ◌||◌ (first_whole (has_float e) (members_have_float ms) these) later
-
-put_whole : (name : Text) (d : Data) (ms : Members) → has_float d ≡ false → members_have_float ms ≡ false → members_have_float (put name d ms) ≡ false
-put_whole name d no_members this these = ap₂ ◌||◌ this these
-put_whole name d (member other e ms) this these =
-    put_whole_at (slice_cmp nat_cmp name other) name other d e ms this these (put_whole name d ms this (later_whole (has_float e) (members_have_float ms) these))
+use Rattle.yformat.specs.FaultData.{code_text, message, with_text, with_app_tag, with_info, with_tags, with_message, with_line, fault_data}
 
 text_whole : (name t : Text) (ms : Members) → members_have_float ms ≡ false → members_have_float (with_text name t ms) ≡ false
 text_whole name t ms these = put_whole name (string t) ms refl these
@@ -58,7 +37,7 @@ tags_whole f ms these =
 message_whole : (schema : Schema) (tree : Tree) (f : Fault) (ms : Members) → members_have_float ms ≡ false → members_have_float (with_message schema tree f ms) ≡ false
 message_whole schema tree f ms these =
     let path = keyed_path schema tree f.steps in
-    text_whole (codes "error-message") (sentence schema tree f.steps f.info f.code) (with_text (codes "error-path") path ms)
+    text_whole (codes "error-message") (message schema tree f) (with_text (codes "error-path") path ms)
     (text_whole (codes "error-path") path ms these)
 
 line_whole : (schema : Schema) (f : Fault) (ms : Members) → members_have_float ms ≡ false → members_have_float (with_line schema f ms) ≡ false

@@ -1,5 +1,5 @@
 -- Faults as objects of JSON, with the names of errors in RESTCONF (RFC 8040, 7.1) and those of this program.
-use Rattle.std.specs.Prelude.{ℕ, ◌++◌, List, length, codes, decimal, Option, Some, None}
+use Rattle.std.specs.Prelude.{ℕ, ◌++◌, List, length, codes, decimal, Option, Some, None, unwrap_or}
 use Rattle.std.specs.List.{flat_map}
 use Rattle.serde_json.specs.Data.{Data, string, number, unsigned, object, Members, no_members, put}
 use Rattle.serde_json.specs.Written.{compact_text}
@@ -10,7 +10,7 @@ use Rattle.yspec.specs.document.Fault.{Fault, Info, no_info, choice_name, unique
 use Rattle.yspec.specs.document.FaultCode.{FaultCode, fault_number}
 use Rattle.yspec.specs.document.Path.{path_text}
 use Rattle.yexplain.specs.KeyedPath.{keyed_path}
-use Rattle.yexplain.specs.Sentences.{sentence}
+use Rattle.yexplain.specs.Sentences.{own_message, sentence}
 
 abbrev pub code_text : FaultCode → Text
 code_text code = codes "V" ++ decimal (fault_number code)
@@ -35,10 +35,15 @@ abbrev pub with_tags : Fault → Members → Members
 with_tags f members = with_app_tag f.app_tag
     (with_text (codes "error-tag") f.tag (with_text (codes "error-type") (codes "application") members))
 
--- its path by keys, and what is said of it
+-- its module's own message where it has one (RFC 7950, 7.5.4.1), else what is said of it
+abbrev pub message : Schema → Tree → Fault → Text
+message schema tree f =
+    unwrap_or (own_message schema tree f.steps f.code) (sentence schema tree f.steps f.info f.code)
+
+-- its path by keys, and its message
 abbrev pub with_message : Schema → Tree → Fault → Members → Members
 with_message schema tree f members =
-    with_text (codes "error-message") (sentence schema tree f.steps f.info f.code)
+    with_text (codes "error-message") (message schema tree f)
     (with_text (codes "error-path") (keyed_path schema tree f.steps) members)
 
 -- what its line of text has

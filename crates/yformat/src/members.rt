@@ -13,7 +13,7 @@ use itoa::Buffer;
 use serde_json::{Map, Value};
 use std::alloc::{AllocError, Global};
 use ycheck::{ErrorTag, Fault, FaultCode, Info};
-use yexplain::{keyed_path, position_path, sentence};
+use yexplain::{keyed_path, own_message, position_path, sentence};
 use ymodel::Schema;
 use ytree::Tree;
 
@@ -36,6 +36,7 @@ fn tag_text(tag: ErrorTag) -> &'static str
         ErrorTag::DataMissing => "data-missing",
         ErrorTag::BadElement => "bad-element",
         ErrorTag::OperationFailed => "operation-failed",
+        ErrorTag::UnknownElement => "unknown-element",
     }
 }
 
@@ -109,7 +110,24 @@ pub(crate) fn put_tags(
     }
 }
 
-/// Puts in the path of a fault by keys, and what is said of it.
+/// The module's own message for a fault where it has one, else what is said of it.
+fn message_of(
+    alloc: Global,
+    schema: &Schema,
+    tree: &Tree,
+    fault: &Fault,
+) -> Result<String, AllocError>
+    ensures { let t = document_view.tree_view tree.now in
+        IsSorted t → IfOk result (λ text. string_bytes text
+        ≡ spec.message (schema_view.view schema.now) t (fault_view.view fault.now)) }
+{
+    match own_message(alloc, schema, tree, fault)? {
+        Some(message) => Ok(message),
+        None => sentence(alloc, schema, tree, fault),
+    }
+}
+
+/// Puts in the path of a fault by keys, and its message.
 pub(crate) fn put_message(
     alloc: Global,
     schema: &Schema,
@@ -123,7 +141,7 @@ pub(crate) fn put_message(
         (json.members_view members.old.entries)) }
 {
     let path = keyed_path(alloc, schema, tree, &fault.steps)?;
-    let message = sentence(alloc, schema, tree, fault)?;
+    let message = message_of(alloc, schema, tree, fault)?;
     put_text(alloc, "error-path", path.as_str(), members)?;
     put_text(alloc, "error-message", message.as_str(), members)
 }

@@ -45,3 +45,7 @@ returns-in-V10 c = rw c.in-V10.is refl
 pub returns-in-V11 : goal.returns-in-V11
 unfolding digits
 returns-in-V11 c = rw c.in-V11.is refl
+
+pub returns-in-V12 : goal.returns-in-V12
+unfolding digits
+returns-in-V12 c = rw c.in-V12.is refl

@@ -2,7 +2,7 @@ use Rattle.std.proofs.Common.{◌≡◌, ℕ, IfOk, string_bytes, subst}
 use Rattle.ymodel.specs.View.{view}
 use Rattle.ytree.specs.View.{row_view, tree_view, place_view, step_view}
 use Rattle.ycheck.specs.View.{info_view}
-use Rattle.ycheck.specs.declared.fault.FaultCode.TheVariants.{V1, V2, V3, V6, V7, V8, V9, V10, V11}
+use Rattle.ycheck.specs.declared.fault.FaultCode.TheVariants.{V1, V2, V3, V6, V7, V8, V9, V10, V11, V12}
 use Rattle.yexplain.specs.Sentences.{same_unique}
 use Rattle.yexplain.proofs.SentenceLemmas.{said_of_last}
 use Rattle.yexplain.proofs.explanation.sentence_at.Goals as goal
@@ -52,3 +52,8 @@ pub returns-in-V11 : goal.returns-in-V11
 returns-in-V11 c = said_of_last (view c.args.schema.now) (tree_view c.args.tree.now) (row_view c.row_at-row.result.now) (info_view c.args.info.now)
     c.args.steps.now c.in-Some.above.now c.in-Some.step.now c.args.code V11 c.in-Some.ensures.cases.0 c.row_at-row.ensures c.in-V11.is
     c.no_target.result c.no_target.ensures
+
+pub returns-in-V12 : goal.returns-in-V12
+returns-in-V12 c = said_of_last (view c.args.schema.now) (tree_view c.args.tree.now) (row_view c.row_at-row.result.now) (info_view c.args.info.now)
+    c.args.steps.now c.in-Some.above.now c.in-Some.step.now c.args.code V12 c.in-Some.ensures.cases.0 c.row_at-row.ensures c.in-V12.is
+    c.state_stored.result c.state_stored.ensures
