@@ -8,6 +8,8 @@ mod codes;
 #[cfg(test)]
 mod commands;
 #[cfg(test)]
+mod configuring;
+#[cfg(test)]
 mod explaining;
 #[cfg(test)]
 mod failing;

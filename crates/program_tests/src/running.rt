@@ -8,7 +8,7 @@ ghost use Rattle.yapp.specs.Saving.{end_of};
 ghost use Rattle.program_tests.specs.Known.{IsKnown, contents_in, told_in, validate_words};
 
 use std::alloc::{AllocError, Global};
-use yapp::{Ended, FileFault, Files, SavedFile, run};
+use yapp::{Ended, FileFault, Files, SavedFile, Unreadable, run};
 use ytext::{CallCount, Cut, Sink};
 
 pub const MODULE: &str = "module p {
@@ -129,7 +129,7 @@ impl Files for InMemory<'_> {
         let read = self.known.read(name);
         if self.failing_read == Some(self.known.reads) {
             self.count.rise();
-            return Err(FileFault::Unread("the tests say so"));
+            return Err(FileFault::Unread(Unreadable::NoPermission));
         }
         read
     }

@@ -6,19 +6,19 @@ use std::fs::{File, OpenFile, Permissions};
 use std::io::{BufWriter, ErrorKind, Write};
 use std::path::AsPath;
 use std::{fs, io, rt};
-use yapp::{FileFault, Files, SavedFile, Shelf, Unsaved};
+use yapp::{FileFault, Files, SavedFile, Shelf, Unreadable, Unsaved};
 use ytext::{CallCount, Sink, SinkFault};
 
 /// Where the system has what it is given on its standard input.
 const STANDARD_INPUT: &str = "/dev/stdin";
 
-/// Why a file can't be read, in words.
-fn cause_of(kind: ErrorKind) -> &'static str {
+/// Why a file can't be read.
+fn cause_of(kind: ErrorKind) -> Unreadable {
     match kind {
-        ErrorKind::NotFound => "no such file",
-        ErrorKind::PermissionDenied => "permission is denied",
-        ErrorKind::IsADirectory => "it is a directory",
-        _ => "the system can't read it",
+        ErrorKind::NotFound => Unreadable::NoFile,
+        ErrorKind::PermissionDenied => Unreadable::NoPermission,
+        ErrorKind::IsADirectory => Unreadable::Directory,
+        _ => Unreadable::Other,
     }
 }
 

@@ -13,8 +13,7 @@ use Rattle.yspec.specs.edit.EditText.{Edit}
 use Rattle.yspec.specs.edit.Editing as editing
 use Rattle.yspec.specs.edit.Editing.{Decision, after}
 use Rattle.yspec.specs.edit.Live as live
-use Rattle.yspec.specs.document.Fault as spec_fault
-use Rattle.yspec.specs.document.Faults.{faults_of}
+use Rattle.yspec.specs.document.StateData.{Inspected, inspected}
 use Rattle.yrepeated.specs.Repeated.{repeated_in}
 use Rattle.yprogram.specs.Output.{Options, Outcome, SavedFile, left, nothing, plainly, repeated_document, report, saved_by, text_instead, text_parts, unless_repeated}
 use Rattle.yprogram.specs.Part.{Part}
@@ -90,17 +89,18 @@ pub left_of : (options : Options) (e : EditedDocument) (d : Document) → IsOf e
 left_of options e d of = ap (λ (s : spec.Schema). left options s (tree_of d) (refused_of d)) of.schema_is
     ∙ ap₂ (left options (live_of e).schema) of.tree_is of.refused_is
 
--- one that is neither dumped nor written to a file, and whose faults aren't told as JSON, is told plainly
-pub left_plainly : (options : Options) → (options.is_dump || (options.as_json || is_some options.saved_as)) ≡ false
+-- one that is looked at as a whole, neither dumped nor written to a file, and whose faults aren't told as JSON, is told plainly
+pub left_plainly : (options : Options) → (options.of_configuration || (options.is_dump || (options.as_json || is_some options.saved_as))) ≡ false
     → (s : spec.Schema) (t : Tree) (refused : List Part) → left options s t refused ≡ left plainly s t refused
-left_plainly options no_more s t refused = by options.is_dump options.as_json options.saved_as no_more
+left_plainly options no_more s t refused = by options.of_configuration options.is_dump options.as_json options.saved_as no_more
   where
-    by : (is_dump as_json : Bool) (saved_as : Option Text) → (is_dump || (as_json || is_some saved_as)) ≡ false
-        → left (record options { is_dump = is_dump; as_json = as_json; saved_as = saved_as }) s t refused ≡ left plainly s t refused
-    by true as_json saved_as is = cc
-    by false true saved_as is = cc
-    by false false None is = refl
-    by false false (Some name) is = cc
+    by : (of_configuration is_dump as_json : Bool) (saved_as : Option Text) → (of_configuration || (is_dump || (as_json || is_some saved_as))) ≡ false
+        → left (record options { of_configuration = of_configuration; is_dump = is_dump; as_json = as_json; saved_as = saved_as }) s t refused ≡ left plainly s t refused
+    by true is_dump as_json saved_as is = cc
+    by false true as_json saved_as is = cc
+    by false false true saved_as is = cc
+    by false false false None is = refl
+    by false false false (Some name) is = cc
 
 -- want of memory leads anywhere
 pub memory_leads : {X : Type 0} (o : Outcome) (next : X → Outcome) (r : Result X Failure) → IsErrAnd r (λ e. e ≡ failures.Memory) → LeadsTo o next r
@@ -125,19 +125,21 @@ text_shown text instead shown is = by_text text ∙ ap (λ (o : Option Text). op
     by_text None = refl
     by_text (Some t) = refl
 
-pub report_is : (options : Options) (s : spec.Schema) (t : Tree) (found : List Fault) (refused : List RefusedLine) (text : Option (String Global)) (saved : Option SavedFile)
-    → views found ≡ faults_of s t → option_map string_bytes text ≡ text_instead options s t (views found) → saved ≡ saved_by options s t
-    → outcome_with saved (option_map_or (λ t. text_parts (string_bytes t)) text (report s t (views found))) (refused_parts refused) (length found == 0) (length refused == 0)
+pub report_is : (options : Options) (s s' : spec.Schema) (t t' : Tree) (found : List Fault) (refused : List RefusedLine) (text : Option (String Global)) (saved : Option SavedFile)
+    → record { schema = s'; tree = t'; faults = views found } ≡ inspected options.of_configuration s t
+    → option_map string_bytes text ≡ text_instead options s t (record { schema = s'; tree = t'; faults = views found }) → saved ≡ saved_by options s t
+    → outcome_with saved (option_map_or (λ t. text_parts (string_bytes t)) text (report s' t' (views found))) (refused_parts refused) (length found == 0) (length refused == 0)
     ≡ left options s t (refused_parts refused)
-report_is options s t found refused text saved same is saved_is =
+report_is options s s' t t' found refused text saved same is saved_is =
     let made = outcome_with (saved_by options s t) in
     let parts = refused_parts refused in
-    let shown : List spec_fault.Fault → List Part = λ fs. option_map_or text_parts (text_instead options s t fs) (report s t fs) in
-    ap (λ (o : Option SavedFile). outcome_with o (option_map_or (λ t. text_parts (string_bytes t)) text (report s t (views found))) parts (length found == 0) (length refused == 0)) saved_is
-    ∙ (ap (λ (b : Bool). made (option_map_or (λ t. text_parts (string_bytes t)) text (report s t (views found))) parts (length found == 0) b) (sym (none_refused refused))
-    ∙ (ap (λ (o : List Part). made o parts (length found == 0) (length parts == 0)) (text_shown text (text_instead options s t (views found)) (report s t (views found)) is)
-    ∙ (ap (λ (n : ℕ). made (shown (views found)) parts (n == 0) (length parts == 0)) (sym (length-map found view))
-    ∙ ap (λ (fs : List spec_fault.Fault). made (shown fs) parts (length fs == 0) (length parts == 0)) same)))
+    let i : Inspected = record { schema = s'; tree = t'; faults = views found } in
+    let shown : Inspected → List Part = λ i. option_map_or text_parts (text_instead options s t i) (report i.schema i.tree i.faults) in
+    ap (λ (o : Option SavedFile). outcome_with o (option_map_or (λ t. text_parts (string_bytes t)) text (report s' t' (views found))) parts (length found == 0) (length refused == 0)) saved_is
+    ∙ (ap (λ (b : Bool). made (option_map_or (λ t. text_parts (string_bytes t)) text (report s' t' (views found))) parts (length found == 0) b) (sym (none_refused refused))
+    ∙ (ap (λ (o : List Part). made o parts (length found == 0) (length parts == 0)) (text_shown text (text_instead options s t i) (report s' t' (views found)) is)
+    ∙ (ap (λ (n : ℕ). made (shown i) parts (n == 0) (length parts == 0)) (sym (length-map found view))
+    ∙ ap (λ (j : Inspected). made (shown j) parts (length j.faults == 0) (length parts == 0)) same)))
 
 -- ---- members that are given twice
 

@@ -9,7 +9,7 @@ use Rattle.ytree.specs.Told as document
 use Rattle.ytree.specs.View.{place_view, tree_view}
 use Rattle.ycheck.specs.View.{views}
 use Rattle.yspec.specs.schema.Diagram.{diagram}
-use Rattle.yprogram.specs.Output.{Besides, Outcome, failed, failed_with, found, left, nothing, plainly, refusal_part, refused_document, report, unread}
+use Rattle.yprogram.specs.Output.{Besides, Outcome, another_cause, failed, failed_with, found, left, nothing, plainly, refusal_part, refused_document, report, unread}
 use Rattle.yprogram.specs.Hint.{hinted}
 use Rattle.yprogram.specs.Part.{Part, plain}
 use Rattle.ycodes.specs.Codes.{explained}
@@ -18,6 +18,7 @@ use Rattle.yspec.specs.text.Text.{Text}
 use Rattle.yapp.specs.Asked.{refused_parts}
 use Rattle.yapp.specs.Edited.{live_of, refused_in}
 use Rattle.yapp.specs.Saving.{saved_view}
+use Rattle.yapp.specs.Unread.{unreadable_view}
 use Rattle.ycommand.specs.Running.{without_memory}
 use Rattle.yapp.specs.declared.failure.Failure.{Failure}
 use Rattle.yapp.specs.declared.failure.Stop as declared
@@ -63,14 +64,14 @@ reported (reports.Edited e) = left plainly (live_of e).schema (live_of e).tree (
 
 -- where the reader of a document that isn't JSON stops
 abbrev pub stop_view : declared.Stop → Besides
-stop_view s = record { line = s.line; column = s.column; cause = [] }
+stop_view s = record { line = s.line; column = s.column; cause = another_cause }
 
 abbrev pub unsaid : Besides
-unsaid = record { line = 0; column = 0; cause = [] }
+unsaid = record { line = 0; column = 0; cause = another_cause }
 
 -- what the kit or the system says of a failure
 abbrev pub besides_in : Failure → Besides
-besides_in (failures.Unread name cause) = record unsaid { cause = cause.now }
+besides_in (failures.Unread name cause) = record unsaid { cause = unreadable_view cause }
 besides_in (failures.Document name schema code place hint stop) = stop_view stop
 besides_in _ = unsaid
 

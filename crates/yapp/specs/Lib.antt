@@ -4,3 +4,4 @@ pub mod Explained
 pub mod Failing
 pub mod Files
 pub mod Saving
+pub mod Unread

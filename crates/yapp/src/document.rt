@@ -3,6 +3,7 @@
 ghost use Rattle.std.specs.Prelude.{◌≡◌, [], ℕ, List, IfOk, map, option_map, string_bytes, Option, Some, None, false, true, if◌then◌else◌};
 ghost use Rattle.yspec.specs.document.Document as document_spec;
 ghost use Rattle.yspec.specs.document.Reading.{document_of};
+ghost use Rattle.yspec.specs.document.Writing.{written_text};
 ghost use Rattle.yprogram.specs.Output.{Outcome, dump, first_file, left, not_read, plainly, repeated_document, saved_by, text_instead, unless_repeated, with_document, with_tree};
 ghost use Rattle.yprogram.specs.Part.{Part};
 ghost use Rattle.yprogram.specs.Script.{after_lines, lines_of, refused_lines};
@@ -14,6 +15,7 @@ ghost use Rattle.ytree.specs.Told.{code_number};
 ghost use Rattle.ytree.specs.View.{place_view};
 ghost use Rattle.ylive.specs.View as live_view;
 ghost use Rattle.yapp.specs.Asked.{edits_in, kinds_in};
+ghost use Rattle.yconfig.specs.Inspecting.{inspection_view};
 ghost use Rattle.yapp.specs.Edited.{IsEdited, IsOf, IsRun, IsSound, IsWhole, live_of, refused_in, refused_of, schema_of, tree_of};
 ghost use Rattle.yapp.specs.Explained.{IsExplained};
 ghost use Rattle.yapp.specs.Failing.{FailsWith, LeadsTo, reported};
@@ -30,8 +32,9 @@ use crate::saving::SavedFile;
 use crate::script::{RefusedLine, Script};
 use serde_json::Value;
 use std::alloc::{AllocError, Global};
-use ycheck::{Fault, faults};
+use ycheck::Fault;
 use ycommand::Options;
+use yconfig::{Inspection, inspect};
 use yexplain::explanation_of;
 use yformat::json_text;
 use ylive::Live;
@@ -315,12 +318,13 @@ pub(crate) fn report_on_edited(
     }
 }
 
-/// Whether a document is to be dumped or written to a file, or its faults are to be told as JSON.
+/// Whether a document is to be dumped or written to a file, its configuration alone is looked at, or its faults are to be told
+/// as JSON.
 fn wants_more(options: Options<'_>) -> bool
     ensures { result ≡ false → (s : schema_spec.Schema) (t : document_spec.Tree)
         (refused : List Part) → left (options_view options.entry) s t refused ≡ left plainly s t refused }
 {
-    options.is_dump || options.as_json || options.saved_as.is_some()
+    options.of_configuration || options.is_dump || options.as_json || options.saved_as.is_some()
 }
 
 /// What is to be told of a document: its faults, where that is wanted with what is said of each or as JSON, or its text
@@ -336,65 +340,66 @@ pub(crate) fn report_on(
         ≡ left (options_view options.entry) (schema_of document) (tree_of document) (refused_of document)) }
     ensures explained { IfOk result (IsExplained with_reasons) }
 {
-    let faults = faults(alloc, &document.schema, &document.tree)?;
-    let text = text_instead(alloc, &document, &faults, options)?;
+    let whole = whole_text(alloc, &document, options.is_dump)?;
     let saved = saved_file(alloc, &document, options)?;
-    let explanations = explanations_of(alloc, &document, &faults, with_reasons & text.is_none())?;
+    let Document {
+        schema,
+        tree,
+        refused,
+    } = document;
+    let inspection = inspect(alloc, schema, tree, options.of_configuration)?;
+    let text = text_instead(alloc, whole, &inspection, options)?;
+    let explanations = explanations_of(alloc, &inspection, with_reasons & text.is_none())?;
     Ok(Report::Document(DocumentReport {
-        schema: document.schema,
-        tree: document.tree,
-        faults,
+        schema: inspection.schema,
+        tree: inspection.tree,
+        faults: inspection.faults,
         explanations,
-        refused: document.refused,
+        refused,
         text,
         saved,
     }))
 }
 
-/// What is said of each of some faults of a document, where that is wanted.
+/// What is said of each fault of what is looked at, where that is wanted.
 fn explanations_of(
     alloc: Global,
-    document: &Document,
-    faults: &[Fault],
+    inspection: &Inspection,
     are_wanted: bool,
 ) -> Result<Option<Vec<String>>, AllocError>
-    requires { IsSound (schema_of document.now) (tree_of document.now) }
-    ensures { IfOk result (λ texts. option_map (λ ts. map string_bytes ts.items) texts
-        ≡ (if are_wanted then Some (map (explained_fault (schema_of document.now)
-        (tree_of document.now)) (views faults.now)) else None)) }
+    requires { let i = inspection_view inspection.now in IsSound i.schema i.tree }
+    ensures { let i = inspection_view inspection.now in
+        IfOk result (λ texts. option_map (λ ts. map string_bytes ts.items) texts
+        ≡ (if are_wanted then Some (map (explained_fault i.schema i.tree) i.faults) else None)) }
 {
     if are_wanted {
-        Ok(Some(all_explained(alloc, document, faults)?))
+        Ok(Some(all_explained(alloc, inspection)?))
     } else {
         Ok(None)
     }
 }
 
-/// What is said of each of some faults of a document.
-fn all_explained(
-    alloc: Global,
-    document: &Document,
-    faults: &[Fault],
-) -> Result<Vec<String>, AllocError>
-    requires { IsSound (schema_of document.now) (tree_of document.now) }
-    ensures { IfOk result (λ texts. map string_bytes texts.items
-        ≡ map (explained_fault (schema_of document.now) (tree_of document.now))
-        (views faults.now)) }
+/// What is said of each fault of what is looked at.
+fn all_explained(alloc: Global, inspection: &Inspection) -> Result<Vec<String>, AllocError>
+    requires { let i = inspection_view inspection.now in IsSound i.schema i.tree }
+    ensures { let i = inspection_view inspection.now in IfOk result (λ texts. map string_bytes texts.items
+        ≡ map (explained_fault i.schema i.tree) i.faults) }
 {
+    let faults = inspection.faults.as_slice();
     let mut texts = Vec::new(alloc);
     for fault in faults {
-        texts.push(explained(alloc, document, fault)?)?;
+        texts.push(explained(alloc, inspection, fault)?)?;
     }
     Ok(texts)
 }
 
-/// What is said of a fault of a document.
-fn explained(alloc: Global, document: &Document, fault: &Fault) -> Result<String, AllocError>
-    requires { IsSound (schema_of document.now) (tree_of document.now) }
-    ensures { IfOk result (λ text. string_bytes text
-        ≡ explained_fault (schema_of document.now) (tree_of document.now) (view fault.now)) }
+/// What is said of a fault of what is looked at.
+fn explained(alloc: Global, inspection: &Inspection, fault: &Fault) -> Result<String, AllocError>
+    requires { let i = inspection_view inspection.now in IsSound i.schema i.tree }
+    ensures { let i = inspection_view inspection.now in IfOk result (λ text. string_bytes text
+        ≡ explained_fault i.schema i.tree (view fault.now)) }
 {
-    explanation_of(alloc, &document.schema, &document.tree, fault)
+    explanation_of(alloc, &inspection.schema, &inspection.tree, fault)
 }
 
 /// The file to which a document is to be written.
@@ -427,24 +432,48 @@ fn dumped(alloc: Global, document: &Document) -> Result<String, AllocError>
     Ok(text)
 }
 
-/// What stands in place of the lines of the faults of a document: its text where it is to be dumped, or these as JSON.
-fn text_instead(
+/// The text of a document, where it is wanted.
+fn whole_text(
     alloc: Global,
     document: &Document,
-    faults: &[Fault],
-    options: Options<'_>,
+    is_wanted: bool,
 ) -> Result<Option<String>, AllocError>
     requires { IsSound (schema_of document.now) (tree_of document.now) }
     ensures { IfOk result (λ text. option_map string_bytes text
-        ≡ text_instead (options_view options.entry) (schema_of document.now) (tree_of document.now)
-        (views faults.now)) }
+        ≡ (if is_wanted then Some (written_text (schema_of document.now) (tree_of document.now))
+        else None)) }
+{
+    if is_wanted {
+        Ok(Some(write(alloc, &document.schema, &document.tree)?))
+    } else {
+        Ok(None)
+    }
+}
+
+/// What stands in place of the lines of the faults of what is looked at: the text of the whole document where it is to be
+/// dumped, or these as JSON.
+fn text_instead(
+    alloc: Global,
+    whole: Option<String>,
+    inspection: &Inspection,
+    options: Options<'_>,
+) -> Result<Option<String>, AllocError>
+    requires { let i = inspection_view inspection.now in IsSound i.schema i.tree }
+    ensures { (s : schema_spec.Schema) (t : document_spec.Tree) → option_map string_bytes whole
+        ≡ (if options.entry.is_dump then Some (written_text s t) else None)
+        → IfOk result (λ text. option_map string_bytes text
+        ≡ text_instead (options_view options.entry) s t (inspection_view inspection.now)) }
 {
     if options.is_dump {
-        return Ok(Some(write(alloc, &document.schema, &document.tree)?));
+        return Ok(whole);
     }
     if options.as_json {
-        let text = json_text(alloc, &document.schema, &document.tree, faults)?;
-        return Ok(Some(text));
+        let Inspection {
+            schema,
+            tree,
+            faults,
+        } = inspection;
+        return Ok(Some(json_text(alloc, schema, tree, faults)?));
     }
     Ok(None)
 }

@@ -10,7 +10,7 @@ ghost use Rattle.ytree.specs.View.{place_view};
 ghost use Rattle.yapp.specs.Failing.{FromFile, besides_in, outcome_of, stop_view};
 ghost use Rattle.yapp.specs.declared.failure.Failure.TheVariants.{Memory};
 
-use crate::files::FileFault;
+use crate::files::{FileFault, Unreadable};
 use crate::reason::write_hinted_where;
 use crate::status::{FAILED, REFUSED};
 use itoa::Buffer;
@@ -34,11 +34,11 @@ pub struct Stop {
 /// Why a command gives no report. Files are named by the words that were given.
 #[derive(Drop, Error)]
 pub enum Failure<'a> {
-    /// A file couldn't be read, for a cause that is put in words.
+    /// A file couldn't be read.
     #[error("cannot read {name}")]
     Unread {
         name: &'a str,
-        cause: &'static str,
+        cause: Unreadable,
     },
     /// A module's text is refused in a line, with what is said of it.
     #[error("{name}:{line}: {code}")]
@@ -161,7 +161,7 @@ impl<'a> Failure<'a> {
                 stop,
                 ..
             } => write_stop_where(*name, code.number(), *stop, sink),
-            Failure::Unread { cause, .. } => write_texts(sink, &["  ", *cause, ".\n"]),
+            Failure::Unread { cause, .. } => write_texts(sink, &["  ", cause.words(), ".\n"]),
             Failure::Text { .. }
             | Failure::Compile { .. }
             | Failure::Repeated { .. }

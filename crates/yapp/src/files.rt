@@ -4,12 +4,43 @@ ghost use Rattle.std.specs.Prelude.{◌≡◌, ℕ, ◌+◌, List, Option, IfOk}
 
 use thiserror::Error;
 
+/// Why the system can't read a file.
+#[derive(Clone, Copy, Debug, PartialEq, Eq)]
+pub enum Unreadable {
+    /// None of that name is there.
+    NoFile,
+    /// The program may not read it.
+    NoPermission,
+    /// A directory has that name.
+    Directory,
+    /// The system says another cause.
+    Other,
+}
+
+impl Unreadable {
+    ghost use Rattle.std.specs.Prelude.{◌≡◌};
+    ghost use Rattle.yprogram.specs.Output.{words_of};
+    ghost use Rattle.yapp.specs.Unread.{unreadable_view};
+
+    /// The cause in words.
+    pub fn words(self) -> &'static str
+        ensures { result.now ≡ words_of (unreadable_view self) }
+    {
+        match self {
+            Unreadable::NoFile => "no such file",
+            Unreadable::NoPermission => "permission is denied",
+            Unreadable::Directory => "it is a directory",
+            Unreadable::Other => "the system can't read it",
+        }
+    }
+}
+
 /// Why a file wasn't read.
 #[derive(Clone, Copy, Debug, PartialEq, Eq, Error)]
 pub enum FileFault {
-    /// It couldn't be read, for a cause that is put in words.
+    /// It couldn't be read.
     #[error("cannot read")]
-    Unread(&'static str),
+    Unread(Unreadable),
     /// There was no memory for its contents.
     #[error("memory")]
     Memory,

@@ -20,7 +20,7 @@ pub use answering::answer;
 pub use document::{Document, edit_document};
 pub use edited::EditedDocument;
 pub use failure::{Failure, Stop};
-pub use files::{FileFault, Files};
+pub use files::{FileFault, Files, Unreadable};
 pub use program::{refuse, run, tell_memory};
 pub use report::{DocumentReport, Report};
 pub use saving::{Ended, SavedFile, Shelf, Unsaved, save, tell_unwritten};

@@ -40,15 +40,16 @@ compile_app = with_rule (over_files (codes "compile")) (wanted_all (codes "MODUL
 abbrev pub tree_app : App
 tree_app = with_rule (with_rule (over_files (codes "tree")) (wanted (codes "NAME"))) (wanted_all (codes "MODULE"))
 
--- a command over a document, of which each takes `--strict` and `--format`
+-- a command over a document, of which each takes `--strict`, `--config` and `--format`
 abbrev pub over_document : Text → App
-over_document name = with_rule (with_rule (over_files name) (flag (codes "strict"))) (option (codes "format"))
+over_document name =
+    with_rule (with_rule (with_rule (over_files name) (flag (codes "strict"))) (flag (codes "config"))) (option (codes "format"))
 
--- `validate [--explain] [--strict] [--format FORMAT] DATA MODULE..`
+-- `validate [--explain] [--strict] [--config] [--format FORMAT] DATA MODULE..`
 abbrev pub validate_app : App
 validate_app = with_rule (with_rule (over_document (codes "validate")) (wanted (codes "DATA"))) (wanted_all (codes "MODULE"))
 
--- `edit [--explain] [--strict] [--format FORMAT] [--dump] [--output FILE] DATA SCRIPT MODULE..`
+-- `edit [--explain] [--strict] [--config] [--format FORMAT] [--dump] [--output FILE] DATA SCRIPT MODULE..`
 abbrev pub edit_app : App
 edit_app = with_rule (with_rule (with_rule (with_rule (with_rule (over_document (codes "edit")) (flag (codes "dump")))
     (option (codes "output"))) (wanted (codes "DATA"))) (wanted (codes "SCRIPT"))) (wanted_all (codes "MODULE"))

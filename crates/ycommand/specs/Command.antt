@@ -77,6 +77,7 @@ refusals words = faults_of (meant words)
 abbrev pub options_of : List Row → spec.Options
 options_of rows = record {
   is_strict = is_given (codes "strict") rows;
+  of_configuration = is_given (codes "config") rows;
   as_json = bytes_eq (format_of rows) (codes "json");
   is_dump = is_given (codes "dump") rows;
   saved_as = first_of (codes "output") rows;
@@ -128,6 +129,7 @@ asks_reasons words = explained_by (subcommand_of yanglive (meant words))
 abbrev pub options_view : Options → spec.Options
 options_view o = record {
   is_strict = o.is_strict;
+  of_configuration = o.of_configuration;
   as_json = o.as_json;
   is_dump = o.is_dump;
   saved_as = option_map (λ name. name.now) o.saved_as;

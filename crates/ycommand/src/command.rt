@@ -24,6 +24,8 @@ pub struct CommandLine<'a> {
 pub struct Options<'a> {
     /// A document with a member that comes twice is refused.
     pub is_strict: bool,
+    /// Its configuration alone is looked at.
+    pub of_configuration: bool,
     /// Faults are told as JSON.
     pub as_json: bool,
     /// The document is printed in place of its faults.
@@ -112,7 +114,8 @@ Example: yanglive tree net net.yang";
 
 /// What `validate` says at the end of its help.
 const VALIDATE_HELP: &str =
-    "Prints a line for each fault, and then how many there are, as `0 faults`. The line has the code (V1 to V11), error-tag, error-app-tag, path, and the choice (V4, V5) or the number of the unique (V9), or - for none; [N] in a path is the position of an entry or item, from 1. With --format json a fault is an object on a line of its own, in the words of RESTCONF (RFC 8040, 7.1), and so is their number; what is refused stays a line on the error side.
+    "Prints a line for each fault, and then how many there are, as `0 faults`. The line has the code (V1 to V11, with --config V12), error-tag, error-app-tag, path, and the choice (V4, V5) or the number of the unique (V9), or - for none; [N] in a path is the position of an entry or item, from 1. With --format json a fault is an object on a line of its own, in the words of RESTCONF (RFC 8040, 7.1), and so is their number; what is refused stays a line on the error side.
+With --config the nodes of state (config false) are left out: none is wanted, and what is stored of one is told as V12, once for each schema node and row.
 A refused module is told as FILE:LINE: CODE (L1 to L8, C1 to C18), a refused document as FILE: CODE PATH (J1 to J7, with --strict J8); `yanglive explain CODE` says what it means.
 
 Exit status:
@@ -209,6 +212,16 @@ fn strict_argument<'a>(alloc: Global) -> Arg<'a>
         .help("Refuses a member that comes twice in one object")
 }
 
+/// `--config`
+fn config_argument<'a>(alloc: Global) -> Arg<'a>
+    ensures { IsArgument (flag (codes "config")) result }
+{
+    Arg::new(alloc, "config")
+        .long("config")
+        .action(ArgAction::SetTrue)
+        .help("Looks at configuration alone: no state data is wanted, and each is a fault (V12)")
+}
+
 /// `--format FORMAT`
 fn format_argument<'a>(alloc: Global) -> Arg<'a>
     ensures { IsArgument (option (codes "format")) result }
@@ -231,6 +244,7 @@ fn command_over_document<'a>(
 {
     command_over_files(alloc, name, about, help)?
         .arg(strict_argument(alloc))?
+        .arg(config_argument(alloc))?
         .arg(format_argument(alloc))
 }
 
@@ -279,7 +293,7 @@ fn tree_command<'a>(alloc: Global) -> Result<Command<'a>, AllocError>
     .arg(modules_argument(alloc))
 }
 
-/// `validate [--explain] [--strict] [--format FORMAT] DATA MODULE..`
+/// `validate [--explain] [--strict] [--config] [--format FORMAT] DATA MODULE..`
 fn validate_command<'a>(alloc: Global) -> Result<Command<'a>, AllocError>
     ensures { IfOk result (IsCommand validate_app) }
 {
@@ -323,7 +337,7 @@ fn output_argument<'a>(alloc: Global) -> Arg<'a>
         .help("Writes the edited document to FILE, once all else is printed")
 }
 
-/// `edit [--explain] [--strict] [--format FORMAT] [--dump] [--output FILE] DATA SCRIPT MODULE..`
+/// `edit [--explain] [--strict] [--config] [--format FORMAT] [--dump] [--output FILE] DATA SCRIPT MODULE..`
 fn edit_command<'a>(alloc: Global) -> Result<Command<'a>, AllocError>
     ensures { IfOk result (IsCommand edit_app) }
 {
@@ -412,6 +426,7 @@ fn options_in<'a>(found: &ArgMatches<'a>) -> Options<'a>
 {
     Options {
         is_strict: has_flag(found, "strict"),
+        of_configuration: has_flag(found, "config"),
         as_json: format_in(found) == "json",
         is_dump: has_flag(found, "dump"),
         saved_as: output_in(found),

@@ -1,5 +1,5 @@
 -- Worked examples: runs of the commands over modules and documents whose faults and refusals are known from the standard's rules.
-use Rattle.std.specs.Prelude.{true, ◌++◌, [], ◌∷◌, codes, Option, Some, None, option_map, option_and_then}
+use Rattle.std.specs.Prelude.{Bool, true, ◌++◌, [], ◌∷◌, codes, Option, Some, None, option_map, option_and_then}
 use Rattle.std.specs.Result.{result_ok}
 use Rattle.yspec.specs.text.Text.{Text}
 use Rattle.yspec.specs.text.Statement.{module_of}
@@ -71,6 +71,26 @@ strictly_shown document =
 abbrev pub strictly_edited : Text → Printed
 strictly_edited script = printed_by (edit (record as_dump { is_strict = true }) (codes "d.json") (codes "s.txt") (codes "m.yang" ∷ []))
     (Some module_p ∷ Some (codes "{\"p:c\":{\"id\":1}}") ∷ Some script ∷ [])
+
+-- hosts of which state is wanted, besides a choice that has a case of state
+abbrev pub state_module : Text
+state_module = module_text (codes "s") (codes "  list host {\n    key name;\n    leaf name { type string; }\n"
+    ++ (codes "    leaf up { type boolean; config false; mandatory true; }\n    list counter {\n      config false;\n      min-elements 1;\n"
+    ++ (codes "      leaf n { type uint8; }\n    }\n    leaf level { type uint8; config false; default 5; }\n    unique level;\n"
+    ++ codes "    choice mode {\n      mandatory true;\n      leaf auto { type empty; }\n      leaf seen { type empty; config false; }\n    }\n  }\n")))
+
+-- how the configuration of a document is looked at
+abbrev of_configuration : Options
+of_configuration = record plainly { of_configuration = true }
+
+-- what `validate --config` prints of a document under that module
+abbrev pub configured : Text → Printed
+configured document = printed_by (validate of_configuration (codes "d.json") (codes "m.yang" ∷ [])) (Some state_module ∷ Some document ∷ [])
+
+-- what `edit --config` prints of a document under it, or dumps
+abbrev pub edited_configuration : Bool → Text → Text → Printed
+edited_configuration is_dump document script = printed_by (edit (record of_configuration { is_dump = is_dump }) (codes "d.json") (codes "s.txt") (codes "m.yang" ∷ []))
+    (Some state_module ∷ Some document ∷ Some script ∷ [])
 
 -- what one prints under module p
 abbrev pub shown_by_p : Text → Printed

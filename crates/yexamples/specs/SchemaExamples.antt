@@ -43,7 +43,7 @@ abbrev pub within : ℕ → ℕ → Part
 within low high = record { low = pos low; high = pos high }
 
 abbrev pub limited_to : Base → List Part → Option Text → Shape
-limited_to base parts app_tag = single (record { base = base; limits = record { parts = parts; app_tag = app_tag } ∷ [] })
+limited_to base parts app_tag = single (record { base = base; limits = record { parts = parts; error = record { message = None; app_tag = app_tag } } ∷ [] })
 
 abbrev pub unrestricted : Shape → YangType
 unrestricted shape = record { shape = shape; requires_instance = None }

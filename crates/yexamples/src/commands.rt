@@ -8,7 +8,7 @@ ghost use Rattle.ycodes.specs.Codes.{reason_of};
 ghost use Rattle.yprogram.specs.Script.{lines_of};
 ghost use Rattle.yexamples.specs.SchemaExamples.{hosts, one_host};
 ghost use Rattle.yspec.specs.edit.Examples.{module_p, module_text};
-ghost use Rattle.yexamples.specs.RunExamples.{counted, drawn_as, dumped, edited_with_reasons, faulty, line_with_reasons, scripted, shown, shown_as_json, shown_of_two, without_faults, one_with_reasons, refused_with_reasons, shown_with_reasons, strictly_edited, strictly_shown, with_reasons};
+ghost use Rattle.yexamples.specs.RunExamples.{configured, counted, drawn_as, dumped, edited_configuration, edited_with_reasons, faulty, line_with_reasons, scripted, shown, shown_as_json, shown_of_two, state_module, without_faults, one_with_reasons, refused_with_reasons, shown_with_reasons, strictly_edited, strictly_shown, with_reasons};
 
 /// How many nodes modules define.
 pub fn counts()
@@ -189,6 +189,14 @@ pub fn reasons()
 pub fn explained_faults()
     ensures value { shown_with_reasons module_p (codes "{\"p:c\":{\"id\":256}}")
         ≡ one_with_reasons (codes "V1 invalid-value - /p:c/id -") (codes "/p:c/id: 256 isn't a value of uint8: it takes an integer without quotes in 0..255.") (codes "V1") }
+    ensures inner_message { shown_with_reasons
+        (module_text (codes "m") (codes "  typedef t { type uint8 { range \"0..9\" { error-message \"Too\\ngreat.\"; } } }\n  leaf v { type t { range \"2..5\" { error-message \"Outside.\"; } } }\n"))
+        (codes "{\"m:v\":10}")
+        ≡ one_with_reasons (codes "V1 invalid-value - /m:v -") (codes "/m:v: 10 isn't a value of t: it takes an integer without quotes in 2..5. Its module says: Too great.") (codes "V1") }
+    ensures outer_message { shown_with_reasons
+        (module_text (codes "m") (codes "  typedef t { type uint8 { range \"0..9\" { error-message \"Too\\ngreat.\"; } } }\n  leaf v { type t { range \"2..5\" { error-message \"Outside.\"; } } }\n"))
+        (codes "{\"m:v\":6}")
+        ≡ one_with_reasons (codes "V1 invalid-value - /m:v -") (codes "/m:v: 6 isn't a value of t: it takes an integer without quotes in 2..5. Its module says: Outside.") (codes "V1") }
     ensures missing_key { shown_with_reasons net_module (hosts (codes "{\"auto\":[null]}"))
         ≡ one_with_reasons (codes "V2 missing-element - /ex-net:net/host[1]/name -") (codes "/ex-net:net/host[1]: its key name is missing.") (codes "V2") }
     ensures missing_case { shown_with_reasons net_module (hosts (codes "{\"name\":\"it's\"}"))
@@ -218,6 +226,11 @@ pub fn faults_as_json()
     ensures value { shown_as_json module_p (codes "{\"p:c\":{\"id\":256}}")
         ≡ found 1 (codes "{\"error-message\":\"256 isn't a value of uint8: it takes an integer without quotes in 0..255.\",\"error-path\":\"/p:c/id\",\"error-tag\":\"invalid-value\",\"error-type\":\"application\",\"yanglive:code\":\"V1\",\"yanglive:path\":\"/p:c/id\"}\n"
         ++ codes "{\"yanglive:faults\":1}\n") }
+    ensures own_message { shown_as_json
+        (module_text (codes "m") (codes "  typedef t { type uint8 { range \"0..9\" { error-message \"Too\\ngreat.\"; } } }\n  leaf v { type t { range \"2..5\" { error-message \"Outside.\"; } } }\n"))
+        (codes "{\"m:v\":10}")
+        ≡ found 1 (codes "{\"error-message\":\"Too\\ngreat.\",\"error-path\":\"/m:v\",\"error-tag\":\"invalid-value\",\"error-type\":\"application\",\"yanglive:code\":\"V1\",\"yanglive:path\":\"/m:v\"}\n"
+        ++ codes "{\"yanglive:faults\":1}\n") }
     ensures missing_case { shown_as_json net_module (hosts (codes "{\"name\":\"a\"}"))
         ≡ found 1 (codes "{\"error-app-tag\":\"missing-choice\",\"error-message\":\"no case of the choice mode is there.\",\"error-path\":\"/ex-net:net/host[name='a']\",\"error-tag\":\"data-missing\",\"error-type\":\"application\",\"yanglive:code\":\"V4\",\"yanglive:info\":\"mode\",\"yanglive:path\":\"/ex-net:net/host[1]\"}\n"
         ++ codes "{\"yanglive:faults\":1}\n") }
@@ -229,6 +242,27 @@ pub fn faults_as_json()
     ensures dump { printed false (outcome (edit (record told_as_json { is_dump = true }) (codes "d.json") (codes "s.txt") (codes "m.yang" ∷ []))
         (Some module_p ∷ Some (codes "{\"p:c\":{\"id\":1}}") ∷ Some [] ∷ []))
         ≡ found 0 (codes "{\"p:c\":{\"id\":1}}\n") }
+{}
+
+/// The configuration of a document alone: no state is wanted, none of its defaults is in use, and what is stored of it is
+/// told, once for each schema node and row; the document is dumped as a whole.
+pub fn configuration_alone()
+    ensures wanted { shown state_module (codes "{\"s:host\":[{\"name\":\"a\",\"auto\":[null]},{\"name\":\"b\",\"auto\":[null]}]}")
+        ≡ found 1 (codes "V9 operation-failed data-not-unique /s:host[1] 1\nV3 data-missing - /s:host[1]/up -\nV6 operation-failed too-few-elements /s:host[1]/counter -\n"
+        ++ (codes "V9 operation-failed data-not-unique /s:host[2] 1\nV3 data-missing - /s:host[2]/up -\nV6 operation-failed too-few-elements /s:host[2]/counter -\n"
+        ++ codes "6 faults\n")) }
+    ensures unasked { configured (codes "{\"s:host\":[{\"name\":\"a\",\"auto\":[null]},{\"name\":\"b\",\"auto\":[null]}]}")
+        ≡ without_faults }
+    ensures state { configured (codes "{\"s:host\":[{\"name\":\"a\",\"auto\":[null]},{\"name\":\"b\",\"up\":\"x\",\"counter\":[{\"n\":1},{\"n\":300}],\"seen\":[null]}]}")
+        ≡ found 1 (codes "V12 unknown-element - /s:host[2]/up -\nV12 unknown-element - /s:host[2]/counter -\nV12 unknown-element - /s:host[2]/seen -\n"
+        ++ codes "V4 data-missing missing-choice /s:host[2] mode\n4 faults\n") }
+    ensures of_two_entries { configured (codes "{\"s:host\":[{\"name\":\"a\",\"auto\":[null],\"up\":true},{\"name\":\"a\",\"auto\":[null],\"up\":true}]}")
+        ≡ found 1 (codes "V12 unknown-element - /s:host[1]/up -\nV12 unknown-element - /s:host[2]/up -\n"
+        ++ codes "V8 operation-failed - /s:host[1] -\nV8 operation-failed - /s:host[2] -\n4 faults\n") }
+    ensures after_edits { edited_configuration false (codes "{\"s:host\":[{\"name\":\"a\",\"auto\":[null]}]}") (codes "create /s:host[1]/up true")
+        ≡ found 1 (codes "V12 unknown-element - /s:host[1]/up -\n1 faults\n") }
+    ensures dumped { edited_configuration true (codes "{\"s:host\":[{\"name\":\"a\",\"auto\":[null]}]}") (codes "create /s:host[1]/up true")
+        ≡ found 1 (codes "{\"s:host\":[{\"auto\":[null],\"name\":\"a\",\"up\":true}]}\n") }
 {}
 
 /// What is said of refused documents, where that is asked for: which member isn't known, or is written otherwise, and which

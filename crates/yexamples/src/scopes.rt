@@ -142,8 +142,8 @@ pub fn derived_types()
         ∷ []) 11 ≡ Some (own (record {
           shape = single (record {
             base = integer_base uint8;
-            limits = record { parts = record { low = pos 0; high = pos 9 } ∷ []; app_tag = None }
-                ∷ record { parts = record { low = pos 1; high = pos 5 } ∷ []; app_tag = None } ∷ [];
+            limits = record { parts = record { low = pos 0; high = pos 9 } ∷ []; error = record { message = None; app_tag = None } }
+                ∷ record { parts = record { low = pos 1; high = pos 5 } ∷ []; error = record { message = None; app_tag = None } } ∷ [];
           });
           requires_instance = None;
         })) }

@@ -14,7 +14,8 @@ use Rattle.yspec.specs.document.Document.{Step, Tree}
 use Rattle.yspec.specs.document.Reading.{Refusal, document_of}
 use Rattle.yspec.specs.document.Fault.{Fault}
 use Rattle.yspec.specs.document.FaultCode.{fault_number}
-use Rattle.yspec.specs.document.Faults.{faults_of, line_of}
+use Rattle.yspec.specs.document.Faults.{line_of}
+use Rattle.yspec.specs.document.StateData.{Inspected, inspected}
 use Rattle.yspec.specs.document.Path.{path_text}
 use Rattle.yspec.specs.document.Writing.{written_text}
 use Rattle.yexplain.specs.Sentences.{explained_fault}
@@ -28,6 +29,8 @@ use Rattle.yprogram.specs.Script.{after_lines, lines_of, refused_lines}
 pub record Options : Type 0 where
   -- one with a member that comes twice is refused
   pub is_strict : Bool
+  -- its configuration alone is looked at
+  pub of_configuration : Bool
   -- faults are told as JSON
   pub as_json : Bool
   -- the document is printed in place of its faults
@@ -36,7 +39,7 @@ pub record Options : Type 0 where
   pub saved_as : Option Text
 
 abbrev pub plainly : Options
-plainly = record { is_strict = false; as_json = false; is_dump = false; saved_as = None }
+plainly = record { is_strict = false; of_configuration = false; as_json = false; is_dump = false; saved_as = None }
 
 abbrev pub as_dump : Options
 as_dump = record plainly { is_dump = true }
@@ -90,11 +93,24 @@ abbrev pub printed : Bool → Outcome → Printed
 printed with_reasons o =
     record { output = spelled with_reasons o.output; errors = spelled with_reasons o.errors; status = o.status; saved = o.saved }
 
+-- why the system can't read a file
+pub data Unreadable : Type 0 where
+  no_file : Unreadable
+  no_permission : Unreadable
+  a_directory : Unreadable
+  another_cause : Unreadable
+
+abbrev pub words_of : Unreadable → Text
+words_of no_file = codes "no such file"
+words_of no_permission = codes "permission is denied"
+words_of a_directory = codes "it is a directory"
+words_of another_cause = codes "the system can't read it"
+
 -- what the kit and the system say: where a reader of JSON stops in a text, and why a file can't be read
 pub record Besides : Type 0 where
   pub line : ℕ
   pub column : ℕ
-  pub cause : Text
+  pub cause : Unreadable
 
 -- `FILE:LINE:COLUMN: ..`, where the document of a name stops being JSON
 abbrev pub stop_line : Besides → Text → List ℕ
@@ -104,7 +120,7 @@ stop_line besides name =
 abbrev pub aside_text : Besides → Aside → List ℕ
 aside_text besides nothing = []
 aside_text besides (stop_of name) = stop_line besides name
-aside_text besides cause = codes "  " ++ (besides.cause ++ codes ".\n")
+aside_text besides cause = codes "  " ++ (words_of besides.cause ++ codes ".\n")
 
 abbrev pub aside_where : Bool → Besides → Aside → List ℕ
 aside_where with_reasons besides aside = if with_reasons then aside_text besides aside else []
@@ -256,10 +272,10 @@ report schema tree faults = map (fault_part schema tree) faults ++ count_part (l
 abbrev pub dump : Schema → Tree → List ℕ
 dump schema tree = written_text schema tree ++ codes "\n"
 
--- what stands in place of the lines of its faults: the document, or its faults as JSON
-abbrev pub text_instead : Options → Schema → Tree → List Fault → Option Text
-text_instead options schema tree faults = if options.is_dump then Some (written_text schema tree)
-    else (if options.as_json then Some (json_text schema tree faults) else None)
+-- what stands in place of the lines of its faults: the document as a whole, or its faults as JSON
+abbrev pub text_instead : Options → Schema → Tree → Inspected → Option Text
+text_instead options schema tree i = if options.is_dump then Some (written_text schema tree)
+    else (if options.as_json then Some (json_text i.schema i.tree i.faults) else None)
 
 -- a text that ends with a line feed
 abbrev pub text_parts : Text → List Part
@@ -271,10 +287,10 @@ saved_by options schema tree = option_map (λ name. record { name = name; text =
 
 -- a document after edits, of which the refused ones are told in these lines
 abbrev pub left : Options → Schema → Tree → List Part → Outcome
-left options schema tree refused = let faults = faults_of schema tree in record {
-  output = option_map_or text_parts (text_instead options schema tree faults) (report schema tree faults);
+left options schema tree refused = let i = inspected options.of_configuration schema tree in record {
+  output = option_map_or text_parts (text_instead options schema tree i) (report i.schema i.tree i.faults);
   errors = refused;
-  status = if length faults == 0 && length refused == 0 then 0 else 1;
+  status = if length i.faults == 0 && length refused == 0 then 0 else 1;
   saved = saved_by options schema tree;
   aside = nothing;
 }

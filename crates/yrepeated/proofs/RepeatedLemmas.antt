@@ -13,7 +13,7 @@ use Rattle.std.proofs.lemmas.Bool.Decides.{same_from_decides, Decides-like}
 use Rattle.std.proofs.lemmas.List.{at_drop_more, map-append}
 use Rattle.std.proofs.lemmas.Map.Text.{is_eq-slice_cmp}
 use Rattle.std.proofs.lemmas.Slice.Eq.{bytes_eq-Decides}
-use Rattle.std.proofs.lemmas.Str.{IsUtf8-from_is_utf8, is_utf8-from_IsUtf8}
+use Rattle.std.proofs.lemmas.Str.{is_utf8-from_IsUtf8}
 use Rattle.json.specs.Json.{Json, object, Members, document}
 use Rattle.json.specs.Value.{members_view, value_view}
 use Rattle.json.specs.declared.error.Error.{Error}
@@ -24,6 +24,7 @@ use Rattle.yspec.specs.text.Text.{Text, is_text}
 use Rattle.yspec.specs.types.Names.{is_among}
 use Rattle.yspec.specs.schema.Schema.{Schema, SchemaNode, node_at}
 use Rattle.yspec.specs.document.Document.{Step}
+use Rattle.yspec.proofs.DocumentProofs.JsonLemmas.{none_read}
 use Rattle.ytree.specs.View.{place_view, step_view}
 use Rattle.ytree.specs.declared.tree.Step as code
 use Rattle.yrepeated.specs.Found.{steps_of}
@@ -107,12 +108,8 @@ top_told s there j ms is same = ap (λ (p : List Step). repeated_members s None 
 pub read_so : (bytes : List ℕ) (j : Json) → IsUtf8 bytes → document bytes ≡ Some j → json_in bytes ≡ Some j
 read_so bytes j utf8 is = ap (λ (b : Bool). cond b (document bytes) None) (is_utf8-from_IsUtf8 bytes utf8) ∙ is
 
-none_if : (bytes : List ℕ) (b : Bool) → is_utf8 bytes ≡ b → (IsUtf8 bytes → document bytes ≡ None) → cond b (document bytes) None ≡ None
-none_if bytes true is h = h (IsUtf8-from_is_utf8 bytes is)
-none_if bytes false is h = refl
-
 pub no_json : (bytes : List ℕ) → (IsUtf8 bytes → document bytes ≡ None) → json_in bytes ≡ None
-no_json bytes h = none_if bytes (is_utf8 bytes) refl h
+no_json bytes h = none_read bytes (document bytes) (is_utf8 bytes) refl h
 
 pub told_of_json : (s : Schema) (bytes : List ℕ) (j : Json) → json_in bytes ≡ Some j → repeated_at_top s j ≡ repeated_in s bytes
 unfolding repeated_in

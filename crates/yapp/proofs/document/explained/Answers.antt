@@ -1,6 +1,6 @@
 use Rattle.yspec.proofs.DocumentProofs.SortingLemmas.{in_order}
-use Rattle.yapp.specs.Edited.{schema_of, tree_of}
+use Rattle.yconfig.specs.Inspecting.{inspection_view}
 use Rattle.yapp.proofs.document.explained.Goals as goal
 
 pub returns : goal.returns
-returns c = c.explanation_of.ensures (in_order (schema_of c.args.document.now) (tree_of c.args.document.now) c.requires.fits)
+returns c = let i = inspection_view c.args.inspection.now in c.explanation_of.ensures (in_order i.schema i.tree c.requires.fits)

@@ -7,4 +7,5 @@ use Rattle.ycommand.proofs.command.command_over_document.Goals as goal
 pub returns : goal.returns
 returns c =
     let strict = with_argument _ (flag (codes "strict")) _ _ _ c.in_ok-command_over_files.ensures c.strict_argument.ensures c.in_ok-arg.ensures in
-    IfOk-weaker c.arg-2.result _ _ (λ r added. with_argument _ (option (codes "format")) _ r _ strict c.format_argument.ensures added) c.arg-2.ensures
+    let config = with_argument _ (flag (codes "config")) _ _ _ strict c.config_argument.ensures c.in_ok-arg-2.ensures in
+    IfOk-weaker c.arg-3.result _ _ (λ r added. with_argument _ (option (codes "format")) _ r _ config c.format_argument.ensures added) c.arg-3.ensures

@@ -7,6 +7,8 @@ pub returns : goal.returns
 unfolding yprogram_on_literals explanation_of
 returns c = record {
   value = refl;
+  inner_message = refl;
+  outer_message = refl;
   missing_key = refl;
   missing_case = refl;
   several_cases = refl;

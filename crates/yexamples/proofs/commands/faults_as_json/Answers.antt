@@ -6,6 +6,7 @@ pub returns : goal.returns
 unfolding yprogram_on_literals
 returns c = record {
   value = refl;
+  own_message = refl;
   missing_case = refl;
   none = refl;
   with_reasons = refl;

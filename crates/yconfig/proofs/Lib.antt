@@ -1,0 +1,2 @@
+pub mod ConfigurationLemmas
+pub mod RowLemmas
