@@ -9,7 +9,7 @@ use Rattle.yspec.specs.document.Reading.{document_of}
 use Rattle.yspec.specs.document.Writing.{written_text}
 use Rattle.yspec.specs.edit.Examples.{module_p, module_text}
 use Rattle.ycodes.specs.Codes.{reason_of}
-use Rattle.yprogram.specs.Output.{Options, Printed, as_dump, compile, draw, edit, outcome, plainly, printed, told_as_json, validate}
+use Rattle.yprogram.specs.Output.{Options, Printed, a_directory, as_dump, compile, draw, edit, outcome, plainly, printed, printed_with, told_as_json, validate}
 use Rattle.yexamples.specs.Printing.{found, printed_by}
 
 -- a mandatory leaf in a container in a container
@@ -91,6 +91,17 @@ configured document = printed_by (validate of_configuration (codes "d.json") (co
 abbrev pub edited_configuration : Bool → Text → Text → Printed
 edited_configuration is_dump document script = printed_by (edit (record of_configuration { is_dump = is_dump }) (codes "d.json") (codes "s.txt") (codes "m.yang" ∷ []))
     (Some state_module ∷ Some document ∷ Some script ∷ [])
+
+-- what `validate --explain` says on the error side of a document under module p, where its reader stops at the third column of
+-- the second line, and a file can't be read since it is a directory
+abbrev pub refused_beside : Text → Text
+refused_beside document = (printed_with (record { line = 2; column = 3; cause = a_directory }) true
+    (outcome (validate plainly (codes "d.json") (codes "m.yang" ∷ [])) (Some module_p ∷ Some document ∷ []))).errors
+
+-- the same without what the kit and the system say
+abbrev pub refused_alone : Text → Text
+refused_alone document =
+    (printed true (outcome (validate plainly (codes "d.json") (codes "m.yang" ∷ [])) (Some module_p ∷ Some document ∷ []))).errors
 
 -- what one prints under module p
 abbrev pub shown_by_p : Text → Printed

@@ -1,14 +1,14 @@
 //! Worked examples of commands: what is printed of the nodes of modules, and of documents after scripts of edits.
 
-ghost use Rattle.std.specs.Prelude.{◌≡◌, ◌++◌, [], ◌∷◌, Some, codes, false, true};
+ghost use Rattle.std.specs.Prelude.{◌≡◌, ◌++◌, [], ◌∷◌, None, Some, codes, false, true};
 ghost use Rattle.yexamples.specs.CompilingSamples.{net_module, k_module, t_module, restricted_module};
 ghost use Rattle.yexamples.specs.Printing.{failed, found};
-ghost use Rattle.yprogram.specs.Output.{as_dump, compile, edit, explain, outcome, plainly, printed, told_as_json, validate};
+ghost use Rattle.yprogram.specs.Output.{a_directory, as_dump, compile, edit, explain, outcome, plainly, printed, printed_with, told_as_json, validate};
 ghost use Rattle.ycodes.specs.Codes.{reason_of};
 ghost use Rattle.yprogram.specs.Script.{lines_of};
 ghost use Rattle.yexamples.specs.SchemaExamples.{hosts, one_host};
 ghost use Rattle.yspec.specs.edit.Examples.{module_p, module_text};
-ghost use Rattle.yexamples.specs.RunExamples.{configured, counted, drawn_as, dumped, edited_configuration, edited_with_reasons, faulty, line_with_reasons, scripted, shown, shown_as_json, shown_of_two, state_module, without_faults, one_with_reasons, refused_with_reasons, shown_with_reasons, strictly_edited, strictly_shown, with_reasons};
+ghost use Rattle.yexamples.specs.RunExamples.{configured, counted, drawn_as, dumped, edited_configuration, edited_with_reasons, faulty, line_with_reasons, refused_alone, refused_beside, scripted, shown, shown_as_json, shown_of_two, state_module, without_faults, one_with_reasons, refused_with_reasons, shown_with_reasons, strictly_edited, strictly_shown, with_reasons};
 
 /// How many nodes modules define.
 pub fn counts()
@@ -242,6 +242,21 @@ pub fn faults_as_json()
     ensures dump { printed false (outcome (edit (record told_as_json { is_dump = true }) (codes "d.json") (codes "s.txt") (codes "m.yang" ∷ []))
         (Some module_p ∷ Some (codes "{\"p:c\":{\"id\":1}}") ∷ Some [] ∷ []))
         ≡ found 0 (codes "{\"p:c\":{\"id\":1}}\n") }
+{}
+
+/// What the kit and the system say besides, where reasons are wanted: where a document stops being JSON, of no other refusal,
+/// and why a file can't be read.
+pub fn said_besides()
+    ensures no_json { refused_beside (codes "{\n  ")
+        ≡ refused_alone (codes "{\n  ") ++ codes "d.json:2:3: reading stops here\n" }
+    ensures no_object { refused_beside (codes "[]") ≡ refused_alone (codes "[]") ++ [] }
+    ensures another_name { refused_beside (codes "{\"c\":{}}") ≡ refused_alone (codes "{\"c\":{}}") ++ [] }
+    ensures unread { (printed_with (record { line = 2; column = 3; cause = a_directory }) true
+        (outcome (compile (codes "m.yang" ∷ [])) (None ∷ []))).errors
+        ≡ codes "cannot read m.yang\n  it is a directory.\n" }
+    ensures unasked { (printed_with (record { line = 2; column = 3; cause = a_directory }) false
+        (outcome (compile (codes "m.yang" ∷ [])) (None ∷ []))).errors
+        ≡ codes "cannot read m.yang\n" }
 {}
 
 /// The configuration of a document alone: no state is wanted, none of its defaults is in use, and what is stored of it is
