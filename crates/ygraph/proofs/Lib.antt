@@ -1,6 +1,6 @@
 pub mod ChainLemmas
 mod ChainWalkLemmas
-mod ReachingLaws
+pub mod ReachingLaws
 mod StepLaws
 mod EnterLemmas
 mod LeaveLemmas
