@@ -315,6 +315,32 @@ remove /ex-net:net/host[name='b']--
 V11 data-missing instance-required /ex-net:net/host[1]/uplink -
 1 faults
 ==
+{"ex-net:net":{"host":[{"name":"a","auto":[null],"uplink":"b"},{"name":"b","auto":[null]}]}}
+replace /ex-net:net/host[2] {"name":"b","speed":7}--
+0
+--
+0 faults
+==
+{"ex-net:net":{"host":[{"name":"a","auto":[null],"uplink":"b"},{"name":"b","auto":[null]}]}}
+replace /ex-net:net/host[2] {"name":"c","speed":7}--
+1
+--
+V11 data-missing instance-required /ex-net:net/host[1]/uplink -
+1 faults
+==
+{"ex-net:net":{"host":[{"name":"a","auto":[null],"uplink":"b"},{"name":"b","auto":[null]}]}}
+replace /ex-net:net/host[2] {"name":"c","speed":7}
+replace /ex-net:net/host[2]/name "b"--
+0
+--
+0 faults
+==
+{"ex-net:net":{"host":[{"name":"a","auto":[null]},{"name":"b","auto":[null]},{"name":"c","auto":[null]},{"name":"d","auto":[null]}]}}
+remove /ex-net:net/host[4]--
+0
+--
+0 faults
+==
 {"ex-net:net":{"host":[{"name":"a","auto":[null]},{"name":"b","auto":[null]},{"name":"c"}]}}
 remove /ex-net:net/host[1]--
 1
@@ -370,6 +396,12 @@ remove /ex-net:net/host[1]--
 line 1: E8
 --
 {"ex-net:net":{}}
+==
+{"ex-net:net":{"host":[{"name":"a","auto":[null],"uplink":"b"},{"name":"b","auto":[null]}]}}
+replace /ex-net:net/host[2] {"name":"b","speed":7}--
+0
+--
+{"ex-net:net":{"host":[{"auto":[null],"name":"a","uplink":"b"},{"name":"b","speed":7}]}}
 "#;
     assert_eq!(rt; first_wrong(rt.alloc(), DUMP, NETWORK, rows), None);
     let rows = "{\"k:want\":3}

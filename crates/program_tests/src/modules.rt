@@ -244,15 +244,29 @@ V1 invalid-value - /t:d -
     assert_eq!(rt; first_wrong(rt.alloc(), FRACTION, rows), None);
 }
 
+/// Whether a document under the module of lists and choices is refused so: the row is the document, and what is said.
+fn is_refused_document(alloc: Global, row: &str) -> Option<bool> {
+    let (document, line) = row.split_once('|')?;
+    is_refused_pair(alloc, NETWORK.as_bytes(), document, line)
+}
+
 #[test]
 fn refused_documents(rt: HostRuntime) {
-    let alloc = rt.alloc();
-    let outer = "{\"ex-net:net\":{\"ex-net:host\":[]}}";
-    let told = "d.json: J4 /ex-net:net\n";
-    assert!(rt; is_refused_pair(alloc, NETWORK.as_bytes(), outer, told) == Some(true));
-    let inner = "{\"ex-net:net\":{\"host\":[{\"name\":\"a\",\"port\":1.5}]}}";
-    let told = "d.json: J6 /ex-net:net/host[1]/port\n";
-    assert!(rt; is_refused_pair(alloc, NETWORK.as_bytes(), inner, told) == Some(true));
+    let rows = r#"{"ex-net:net":{"ex-net:host":[]}}|d.json: J4 /ex-net:net
+==
+{"net":{}}|d.json: J4 /
+==
+{"ex-net:net":{"host":[{"name":"a","port":1.5}]}}|d.json: J6 /ex-net:net/host[1]/port
+==
+|d.json: J1 /
+==
+[]|d.json: J2 /
+==
+{"ex-net:nat":1}|d.json: J3 /
+"#;
+    for row in rows.split("==\n") {
+        assert!(rt; is_refused_document(rt.alloc(), row) == Some(true), "{row}");
+    }
 }
 
 /// A module of these lines, the first of which is its fifth.
