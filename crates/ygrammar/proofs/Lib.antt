@@ -5,3 +5,4 @@ pub mod ListLemmas
 pub mod NumberLemmas
 pub mod SourceLemmas
 pub mod SpanLemmas
+pub mod WholeLemmas

@@ -7,3 +7,4 @@ pub mod NameView
 pub mod NamedType
 pub mod SourceView
 pub mod TableView
+pub mod Wholes

@@ -1,5 +1,5 @@
 -- The statements of a table as the specification's.
-use Rattle.std.specs.Prelude.{ℕ, List, Option}
+use Rattle.std.specs.Prelude.{ℕ, List, Option, map}
 use Rattle.yspec.specs.Forest.{Forest}
 use Rattle.yspec.specs.text.Statement.{Statement}
 use Rattle.yspec.specs.linking.Keyword as spec
@@ -24,6 +24,10 @@ source_view number s = record {
 
 abbrev pub seen_rows : Table Source → List (Place spec_source.Source)
 seen_rows t = seen source_view 0 (laid (slots_in t))
+
+-- its statements with all that stands below them in their modules' texts
+abbrev pub whole_rows : Table Source → List text.Labelled
+whole_rows t = map (λ p. text.view p.label.statement.now) (laid (slots_in t))
 
 -- how statements that are kept lie below one, from a number on
 abbrev pub listed : Option ℕ → ℕ → ℕ → Forest (spec.Keyword × Statement) → List (Place spec_source.Source)

@@ -8,7 +8,8 @@ ghost use Rattle.ytext.specs.View as text;
 ghost use Rattle.ytext.specs.View.{row_view};
 ghost use Rattle.ypreorder.specs.View.{slots_in};
 ghost use Rattle.yword.specs.KeywordView.{keyword_view};
-ghost use Rattle.ygrammar.specs.SourceView.{seen_rows, listed};
+ghost use Rattle.ygrammar.specs.SourceView.{seen_rows, whole_rows, listed};
+ghost use Rattle.ygrammar.specs.Wholes.{wholes_of};
 
 use crate::source::Source;
 use std::alloc::AllocError;
@@ -34,9 +35,11 @@ fn add_statements<'a>(
     home: usize,
     statements: &'a [Stmt],
 ) -> Result<(), AllocError>
-    ensures { OnOk result (seen_rows table.new ≡ seen_rows table.old
+    ensures listed { OnOk result (seen_rows table.new ≡ seen_rows table.old
         ++ listed parent home (length (slots_in table.old))
         (kept (row_view statements.entry.now))) }
+    ensures whole { OnOk result (whole_rows table.new ≡ whole_rows table.old
+        ++ wholes_of (row_view statements.entry.now)) }
 {
     for statement in statements {
         add_statement(table, parent, home, statement)?;
@@ -52,9 +55,11 @@ pub(crate) fn add_statement<'a>(
     home: usize,
     statement: &'a Stmt,
 ) -> Result<(), AllocError>
-    ensures { let s = text.view statement.entry.now in
+    ensures listed { let s = text.view statement.entry.now in
         OnOk result (seen_rows table.new ≡ seen_rows table.old
         ++ listed parent home (length (slots_in table.old)) (kept (node s.0 s.1 end))) }
+    ensures whole { let s = text.view statement.entry.now in
+        OnOk result (whole_rows table.new ≡ whole_rows table.old ++ wholes_of (node s.0 s.1 end)) }
 {
     let Some(keyword) = kept_keyword(statement) else {
         return Ok(());

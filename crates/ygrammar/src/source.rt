@@ -43,13 +43,14 @@ impl<'a> Source<'a> {
 
     /// A statement of a keyword, in the module of a number in the set.
     pub(crate) fn new(keyword: Keyword, statement: &'a Stmt, home: usize) -> Source<'a>
-        ensures { (number : ℕ) → source_view number result
+        ensures label { (number : ℕ) → source_view number result
             ≡ record {
               keyword = keyword_view keyword;
               statement = (view statement.entry.now).0;
               number = number;
               home = home;
             } }
+        ensures whole { result.statement.now ≡ statement.entry.now }
     {
         Source {
             keyword,

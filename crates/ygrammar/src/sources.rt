@@ -24,12 +24,15 @@ impl<'a> Sources<'a> {
     ghost use Rattle.ytext.specs.View.{modules_view};
     ghost use Rattle.ypreorder.specs.View.{row_by, slots_in};
     ghost use Rattle.ygrammar.specs.SourceView.{source_view};
-    ghost use Rattle.ygrammar.specs.LinkView.{view};
+    ghost use Rattle.ygrammar.specs.LinkView.{view, wholes};
+    ghost use Rattle.ygrammar.specs.Wholes.{wholes_of};
 
     /// The statements of some modules.
     pub fn of(alloc: Global, modules: &'a [Module]) -> Result<Sources<'a>, AllocError>
-        ensures { IfOk result (λ sources. view sources
+        ensures numbered { IfOk result (λ sources. view sources
             ≡ sources_of (modules_view modules.entry.now)) }
+        ensures whole { IfOk result (λ sources. wholes sources
+            ≡ wholes_of (modules_view modules.entry.now)) }
     {
         let mut table = Table::new(alloc);
         for (home, module) in modules.iter().enumerate() {

@@ -38,7 +38,7 @@ pub struct Linked<'t> {
 }
 
 impl<'t> Linked<'t> {
-    ghost use Rattle.std.specs.Prelude.{◌≡◌, option_map};
+    ghost use Rattle.std.specs.Prelude.{◌≡◌, option_map, slice_get};
     ghost use Rattle.std.specs.Option.{option_map_or};
     ghost use Rattle.yspec.specs.Forest.{end};
     ghost use Rattle.yspec.specs.linking.DerivedTypes as types;
@@ -53,7 +53,7 @@ impl<'t> Linked<'t> {
     ghost use Rattle.ylink.specs.TypedefView as typedef;
     ghost use Rattle.ylink.specs.TypeView.{meant_view};
     ghost use Rattle.ylink.specs.VerdictView.{AreVerdicts};
-    ghost use Rattle.ylink.specs.LinkedView.{view};
+    ghost use Rattle.ylink.specs.LinkedView.{view, wholes};
     ghost use Rattle.ylink.specs.StatementsView.{left, numbers_of};
 
     /// What a set of statements is linked to, once it is known that they break no rule.
@@ -69,7 +69,8 @@ impl<'t> Linked<'t> {
         requires named { typedef.IsOf typedefs (statements.view sources) }
         requires meant { AreMeanings typedefs.meanings.items (statements.view sources) }
         requires judged { AreVerdicts verdicts.items (statements.view sources) }
-        ensures { view result ≡ statements.view sources.entry }
+        ensures of { view result ≡ statements.view sources.entry }
+        ensures whole { wholes result ≡ statements.wholes sources.entry }
     {
         Linked {
             sources,
@@ -109,8 +110,10 @@ impl<'t> Linked<'t> {
     }
 
     fn source(&self, id: StmtId) -> Option<&Source<'t>>
-        ensures { option_map (λ s. source_view id.0 s.now) result
+        ensures label { option_map (λ s. source_view id.0 s.now) result
             ≡ option_map (λ p. p.source) (statement_at (view self.now) id.0) }
+        ensures whole { option_map (λ s. text.view s.now.statement.now) result
+            ≡ slice_get (wholes self.now) id.0 }
     {
         match self.sources.slots().get(id.0 as usize) {
             Some(row) => Some(&row.label),
@@ -118,9 +121,11 @@ impl<'t> Linked<'t> {
         }
     }
 
-    /// A statement; nothing of a number that none has.
+    /// A statement, with all that stands below it in its module's text; nothing of a number that none has.
     pub fn statement(&self, id: StmtId) -> Option<&'t Stmt>
-        ensures { option_map (λ s. (text.view s.now).0) result
+        ensures whole { option_map (λ s. text.view s.now) result
+            ≡ slice_get (wholes self.now) id.0 }
+        ensures numbered { option_map (λ s. (text.view s.now).0) result
             ≡ option_map (λ p. p.source.statement) (statement_at (view self.now) id.0) }
     {
         match self.source(id) {

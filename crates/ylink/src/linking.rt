@@ -9,11 +9,12 @@ ghost use Rattle.yspec.specs.linking.StatementBreaks.{statement_phase};
 ghost use Rattle.ytext.specs.View.{modules_view};
 ghost use Rattle.ygrammar.specs.BreakView.{seen};
 ghost use Rattle.ygrammar.specs.LinkView as statements;
+ghost use Rattle.ygrammar.specs.Wholes.{wholes_of};
 ghost use Rattle.ynames.specs.MeaningView.{AreMeanings};
 ghost use Rattle.ynames.specs.Ordered.{AreInOrder};
 ghost use Rattle.ynames.specs.PrefixView as prefix;
 ghost use Rattle.ylink.specs.TypedefView as typedef;
-ghost use Rattle.ylink.specs.LinkedView.{view};
+ghost use Rattle.ylink.specs.LinkedView.{view, wholes};
 ghost use Rattle.ylink.specs.Told.{told_by};
 
 use crate::fault::CompileFault;
@@ -34,7 +35,8 @@ use ytext::Module;
 /// number, of the first phase that has one (C1 to C10). Phases: the table of statements; prefixes, and names of modules and
 /// definitions; imports, and what names mean; types.
 pub fn link<'t>(alloc: Global, modules: &'t [Module]) -> Result<Linked<'t>, CompileFault>
-    ensures { Gives view told_by result (linked (modules_view modules.entry.now)) }
+    ensures told { Gives view told_by result (linked (modules_view modules.entry.now)) }
+    ensures whole { IfOk result (λ linked. wholes linked ≡ wholes_of (modules_view modules.entry.now)) }
 {
     if let Some(found) = broken_statement_rule(alloc, modules)? {
         return Err(CompileFault::from(found));
@@ -50,8 +52,10 @@ fn link_sources<'t>(
     sources: Sources<'t>,
 ) -> Result<Linked<'t>, CompileFault>
     requires made { statements.view sources ≡ sources_of (modules_view modules.now) }
+    requires whole { statements.wholes sources ≡ wholes_of (modules_view modules.now) }
     requires first { None ≡ least_from None (statement_phase (modules_view modules.now)) }
-    ensures { Gives view told_by result (linked (modules_view modules.entry.now)) }
+    ensures told { Gives view told_by result (linked (modules_view modules.entry.now)) }
+    ensures whole { IfOk result (λ linked. wholes linked ≡ wholes_of (modules_view modules.entry.now)) }
 {
     let prefixes = Prefixes::of(alloc, &sources)?;
     if let Some(found) = broken_names_rule(alloc, modules, &sources, &prefixes)? {
@@ -77,6 +81,7 @@ fn link_types<'t>(
     typedefs: Typedefs<'t>,
 ) -> Result<Linked<'t>, CompileFault>
     requires made { statements.view sources ≡ sources_of (modules_view modules.now) }
+    requires whole { statements.wholes sources ≡ wholes_of (modules_view modules.now) }
     requires prefixed { prefix.IsOf prefixes (statements.view sources) }
     requires ordered { AreInOrder order.items (statements.view sources) }
     requires named { typedef.IsOf typedefs (statements.view sources) }
@@ -85,7 +90,8 @@ fn link_types<'t>(
     requires names { None ≡ least_from None
         (names_phase (modules_view modules.now) (statements.view sources)) }
     requires meanings { None ≡ least_from None (meanings_phase (statements.view sources)) }
-    ensures { Gives view told_by result (linked (modules_view modules.entry.now)) }
+    ensures told { Gives view told_by result (linked (modules_view modules.entry.now)) }
+    ensures whole { IfOk result (λ linked. wholes linked ≡ wholes_of (modules_view modules.entry.now)) }
 {
     let verdicts = verdicts_of(alloc, &sources, &typedefs)?;
     if let Some(found) = broken_type_rule(&sources, &verdicts) {

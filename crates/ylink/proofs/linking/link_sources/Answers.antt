@@ -7,15 +7,15 @@ use Rattle.ylink.specs.Told.{seen, told_by, break_view}
 use Rattle.ylink.proofs.LinkingLemmas.{in_names, in_meanings, no_circles}
 use Rattle.ylink.proofs.linking.link_sources.Goals as goal
 
-pub returns-in-Some : goal.returns-in-Some
-returns-in-Some c =
+pub returns-in-Some-clause-told : goal.returns-in-Some-clause-told
+returns-in-Some-clause-told c =
     let f = modules_view c.args.modules.now in
     let s = statements.view c.args.sources in
     subst (λ fault. Fails (told_by fault) (linked f)) (sym c.from.ensures)
     (in_names f s c.requires.made c.requires.first (break_view c.in-Some.found) (sym (ap seen c.in-Some.is) ∙ c.in_ok-found.ensures))
 
-pub returns-in-Some-2 : goal.returns-in-Some-2
-returns-in-Some-2 c =
+pub returns-in-Some-2-clause-told : goal.returns-in-Some-2-clause-told
+returns-in-Some-2-clause-told c =
     let f = modules_view c.args.modules.now in
     let s = statements.view c.args.sources in
     let meant = c.in_ok-found-2.ensures (c.deref.ensures.value ∙ c.in_ok-holders.ensures)

@@ -5,7 +5,7 @@ use Rattle.yschema.proofs.ToldLemmas.{refused_linking, if_ok_any}
 use Rattle.yschema.proofs.building.compile.Goals as goal
 
 pub returns-in-Err-clause-exact : goal.returns-in-Err-clause-exact
-returns-in-Err-clause-exact c = refused_linking (modules_view c.args.modules.now) (told_by c.in-Err.fault) c.in-Err.ensures
+returns-in-Err-clause-exact c = refused_linking (modules_view c.args.modules.now) (told_by c.in-Err.fault) c.in-Err.ensures.told
 
 pub returns-in-Ok-clause-names : goal.returns-in-Ok-clause-names
 returns-in-Ok-clause-names c = if_ok_any _ names_differ c.compile_linked.result
