@@ -7,3 +7,4 @@ mod LeaveLemmas
 mod RankLemmas
 mod WorkLemmas
 mod EdgeLemmas
+mod DerivationLaws
