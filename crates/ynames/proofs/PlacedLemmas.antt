@@ -95,7 +95,7 @@ below_them ancestors (node s below after) p q (suc k, within, is) inside =
 
 -- ---- edges
 
-pub edge_among : (h : Placed → Option Edge) (ps : List Placed) (p : Placed) (a b : ℕ) → Contains ps p → h p ≡ Some (record { source = a; target = b })
+pub edge_among : {A : Type 0} (h : A → Option Edge) (ps : List A) (p : A) (a b : ℕ) → Contains ps p → h p ≡ Some (record { source = a; target = b })
     → has_edge (filter_map h ps) a b ≡ true
 edge_among h [] p a b at e = absurd (let within = at.1 in omega (arith, within))
 edge_among h (q ∷ ps) p a b (zero, within, is) e = ap (λ o. has_edge (cons_option o (filter_map h ps)) a b) (ap h is ∙ e)
