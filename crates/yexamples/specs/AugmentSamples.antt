@@ -34,6 +34,10 @@ added_to_c others = m_and_a (codes "  container c { }\n") others
 abbrev pub added_to_choice : Text → List Text
 added_to_choice others = m_and_a (codes "  choice h { container k { } }\n") others
 
+-- the same with two leafs of a in the choice
+abbrev pub two_added_to_choice : List Text
+two_added_to_choice = added_to_choice (codes "  augment /m:h { leaf y { type string; } leaf z { type string; } }\n")
+
 -- a module m with a container, a module b that adds a container to it, and a module a, given first, with these lines from 7
 -- on
 abbrev pub a_b_and_m : Text → List Text

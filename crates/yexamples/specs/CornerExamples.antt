@@ -1,6 +1,6 @@
 -- Worked examples of corners: schemas of several modules written out as values, and deep statements.
 use Rattle.std.specs.Prelude.{ℕ, zero, suc, false, [], ◌∷◌, ◌++◌, codes, None}
-use Rattle.yspec.specs.Forest.{end, node}
+use Rattle.yspec.specs.Forest.{Forest, end, node}
 use Rattle.yspec.specs.text.Text.{Text}
 use Rattle.yspec.specs.types.Types.{string_base, string_type}
 use Rattle.yspec.specs.schema.Schema.{Schema, container, leaf, choice, case, allowed}
@@ -42,6 +42,11 @@ other_target_schema = record {
       (node (node_of 1 (codes "x") (leaf (of_base (codes "string") string_base) allowed)) end
       (node (node_of 2 (codes "r") (leaf (referring string_type.shape 1) allowed)) end end)) end;
 }
+
+-- a forest of so many levels, in which each node has one below it and one behind it: 2^n - 1 times one node
+abbrev pub full : {A : Type 0} → A → ℕ → Forest A
+full label zero = end
+full label (suc n) = node label (full label n) (full label n)
 
 -- so many containers, each in the one before
 abbrev pub nested : ℕ → Text

@@ -63,6 +63,11 @@ abbrev pub s_and_u : Text → Text → List Text
 s_and_u lines others = module_text (codes "s") lines
     ∷ module_text (codes "u") (codes "  import s { prefix s; }\n" ++ others) ∷ []
 
+-- a module s with these lines, and a module u that has the prefix s itself, and uses a grouping g of that one
+abbrev pub s_and_other_s : Text → List Text
+s_and_other_s lines = module_text (codes "s") lines
+    ∷ codes "module u {\n  yang-version 1.1;\n  namespace \"urn:u\";\n  prefix s;\n  import s { prefix x; }\n  uses x:g;\n}\n" ∷ []
+
 -- a grouping whose leaf has a typedef of its module, and a module that uses it and has another typedef of that name
 abbrev pub two_typedefs : List Text
 two_typedefs = s_and_u (codes "  typedef t { type uint8 { range 0..9; } }\n  grouping g { leaf v { type t; } }\n")

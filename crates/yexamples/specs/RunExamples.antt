@@ -80,12 +80,17 @@ state_module = module_text (codes "s") (codes "  list host {\n    key name;\n   
     ++ codes "    choice mode {\n      mandatory true;\n      leaf auto { type empty; }\n      leaf seen { type empty; config false; }\n    }\n  }\n")))
 
 -- how the configuration of a document is looked at
-abbrev of_configuration : Options
+abbrev pub of_configuration : Options
 of_configuration = record plainly { of_configuration = true }
 
--- what `validate --config` prints of a document under that module
+-- what `validate --config` prints of a module's text and a document's
+abbrev pub shown_of_configuration : Text → Text → Printed
+shown_of_configuration module_bytes document =
+    printed_by (validate of_configuration (codes "d.json") (codes "m.yang" ∷ [])) (Some module_bytes ∷ Some document ∷ [])
+
+-- the same under that module
 abbrev pub configured : Text → Printed
-configured document = printed_by (validate of_configuration (codes "d.json") (codes "m.yang" ∷ [])) (Some state_module ∷ Some document ∷ [])
+configured document = shown_of_configuration state_module document
 
 -- what `edit --config` prints of a document under it, or dumps
 abbrev pub edited_configuration : Bool → Text → Text → Printed
@@ -141,6 +146,15 @@ scripted module_bytes document script = printed_by (edit plainly (codes "d.json"
 abbrev pub dumped : Text → Text → Text → Printed
 dumped module_bytes document script = printed_by (edit as_dump (codes "d.json") (codes "s.txt") (codes "m.yang" ∷ []))
     (Some module_bytes ∷ Some document ∷ Some script ∷ [])
+
+-- what `edit --output o.json` prints of these, with other options as they are, and what it writes to that file
+abbrev pub saved_by : Options → Text → Text → Text → Printed
+saved_by options module_bytes document script = printed_by (edit (record options { saved_as = Some (codes "o.json") }) (codes "d.json") (codes "s.txt") (codes "m.yang" ∷ []))
+    (Some module_bytes ∷ Some document ∷ Some script ∷ [])
+
+-- a text that is written to that file besides what is printed
+abbrev pub and_saved : Printed → Text → Printed
+and_saved p text = record p { saved = Some (record { name = codes "o.json"; text = text }) }
 
 -- what is printed on both sides where there is a fault, or a refused edit
 abbrev pub faulty : Text → Text → Printed

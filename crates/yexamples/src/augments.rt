@@ -92,6 +92,15 @@ pub fn added_nodes()
         (codes "  container c { leaf v { type string; } }\n")
         (codes "  augment /m:c { leaf v { type string; } }\n")))
         ≡ (0, codes "c") ∷ (0, codes "v") ∷ (1, codes "v") ∷ [] }
+    ensures cases_of_one_name { names_in (compiled_texts (m_and_a
+        (codes "  choice h { case k { leaf x { type string; } } }\n")
+        (codes "  augment /m:h { case k { leaf y { type string; } } }\n")))
+        ≡ (0, codes "h") ∷ (0, codes "k") ∷ (0, codes "x") ∷ (1, codes "k")
+        ∷ (1, codes "y") ∷ [] }
+    ensures one_case_twice { compiled_texts (added_to_choice
+        (codes "  augment /m:h { case c { leaf x { type string; } } }\n  augment /m:h {\n"
+        ++ codes "    case c { leaf y { type string; } } }\n"))
+        ≡ told_in 1 13 8 }
     ensures one_name_twice { compiled_texts (added_to_c
         (codes "  augment /m:c { leaf v { type string; } }\n  augment /m:c {\n"
         ++ codes "    leaf v { type string; } }\n"))

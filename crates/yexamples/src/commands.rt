@@ -8,7 +8,7 @@ ghost use Rattle.ycodes.specs.Codes.{reason_of};
 ghost use Rattle.yprogram.specs.Script.{lines_of};
 ghost use Rattle.yexamples.specs.SchemaExamples.{hosts, one_host};
 ghost use Rattle.yspec.specs.edit.Examples.{module_p, module_text};
-ghost use Rattle.yexamples.specs.RunExamples.{configured, counted, drawn_as, dumped, edited_configuration, edited_with_reasons, faulty, line_with_reasons, refused_alone, refused_beside, scripted, shown, shown_as_json, shown_of_two, state_module, without_faults, one_with_reasons, refused_with_reasons, shown_with_reasons, strictly_edited, strictly_shown, with_reasons};
+ghost use Rattle.yexamples.specs.RunExamples.{and_saved, configured, counted, drawn_as, dumped, edited_configuration, edited_with_reasons, faulty, line_with_reasons, of_configuration, refused_alone, refused_beside, saved_by, scripted, shown, shown_as_json, shown_of_configuration, shown_of_two, state_module, without_faults, one_with_reasons, refused_with_reasons, shown_with_reasons, strictly_edited, strictly_shown, with_reasons};
 
 /// How many nodes modules define.
 pub fn counts()
@@ -278,6 +278,39 @@ pub fn configuration_alone()
         ≡ found 1 (codes "V12 unknown-element - /s:host[1]/up -\n1 faults\n") }
     ensures dumped { edited_configuration true (codes "{\"s:host\":[{\"name\":\"a\",\"auto\":[null]}]}") (codes "create /s:host[1]/up true")
         ≡ found 1 (codes "{\"s:host\":[{\"auto\":[null],\"name\":\"a\",\"up\":true}]}\n") }
+{}
+
+/// Of state no case of a choice and no number of items is wanted where configuration alone is looked at.
+pub fn state_that_must_be()
+    ensures choice { shown (module_text (codes "m") (codes "  choice h { config false; mandatory true; leaf x { type empty; } }\n")) (codes "{}")
+        ≡ found 1 (codes "V4 data-missing missing-choice / h\n1 faults\n") }
+    ensures no_choice { shown_of_configuration (module_text (codes "m") (codes "  choice h { config false; mandatory true; leaf x { type empty; } }\n")) (codes "{}")
+        ≡ without_faults }
+    ensures items { shown (module_text (codes "m")
+        (codes "  leaf-list i { config false; min-elements 1; type uint8; }\n")) (codes "{}")
+        ≡ found 1 (codes "V6 operation-failed too-few-elements /m:i -\n1 faults\n") }
+    ensures no_items { shown_of_configuration (module_text (codes "m")
+        (codes "  leaf-list i { config false; min-elements 1; type uint8; }\n")) (codes "{}")
+        ≡ without_faults }
+{}
+
+/// With `--output` the document after the edits is written as a whole: whatever is wrong with it, whatever is printed of it,
+/// and with its state where configuration alone is looked at.
+pub fn saved_documents()
+    ensures good { saved_by plainly module_p (codes "{\"p:c\":{\"id\":1}}") (codes "replace /p:c/id 2")
+        ≡ and_saved without_faults (codes "{\"p:c\":{\"id\":2}}\n") }
+    ensures with_a_fault { saved_by plainly module_p (codes "{\"p:c\":{\"id\":1}}") (codes "replace /p:c/id 300")
+        ≡ and_saved (found 1 (codes "V1 invalid-value - /p:c/id -\n1 faults\n"))
+        (codes "{\"p:c\":{\"id\":300}}\n") }
+    ensures with_a_refused_edit { saved_by plainly module_p (codes "{\"p:c\":{\"id\":1}}") (codes "replace /p:c/id 2\nremove /p:c/note")
+        ≡ and_saved (faulty (codes "line 2: E7\n") (codes "0 faults\n")) (codes "{\"p:c\":{\"id\":2}}\n") }
+    ensures dumped { saved_by as_dump module_p (codes "{\"p:c\":{\"id\":1}}") (codes "replace /p:c/id 300")
+        ≡ and_saved (found 1 (codes "{\"p:c\":{\"id\":300}}\n")) (codes "{\"p:c\":{\"id\":300}}\n") }
+    ensures with_its_state { saved_by of_configuration state_module (codes "{\"s:host\":[{\"name\":\"a\",\"auto\":[null]}]}") (codes "create /s:host[1]/up true")
+        ≡ and_saved (found 1 (codes "V12 unknown-element - /s:host[1]/up -\n1 faults\n"))
+        (codes "{\"s:host\":[{\"auto\":[null],\"name\":\"a\",\"up\":true}]}\n") }
+    ensures refused { saved_by plainly module_p (codes "{\"c\":{}}") []
+        ≡ failed 2 (codes "d.json: J4 /") }
 {}
 
 /// What is said of refused documents, where that is asked for: which member isn't known, or is written otherwise, and which

@@ -1,7 +1,7 @@
 //! Worked examples of corners, each of which a plausible slip of a definition would turn.
 
 ghost use Rattle.std.specs.Prelude.{◌≡◌, ◌++◌, ◌∷◌, [], true, false, codes, replicate, Some, nat_lt};
-ghost use Rattle.yspec.specs.Forest.{Forest, end, node};
+ghost use Rattle.yspec.specs.Forest.{Forest, end, node, size};
 ghost use Rattle.yspec.specs.document.Document.{document_limit};
 ghost use Rattle.yspec.specs.schema.Breaks.{broken, first_broken, level_limit, limit_breaks, node_limit};
 ghost use Rattle.yspec.specs.schema.Diagram.{diagram};
@@ -9,12 +9,17 @@ ghost use Rattle.yspec.specs.text.Statement.{Statement, text_limit};
 ghost use Rattle.yspec.specs.text.Text.{is_identifier};
 ghost use Rattle.yspec.specs.linking.Keyword.{keywords};
 ghost use Rattle.yexamples.specs.TableSamples.{table_text};
-ghost use Rattle.yspec.specs.linking.Compiling.{phases_of_plan};
+ghost use Rattle.yspec.specs.linking.Compiling.{is_too_deep, phases_of_plan};
+ghost use Rattle.yspec.specs.linking.Expansion.{unfit_breaks};
+ghost use Rattle.yspec.specs.linking.Augments.{augment_breaks};
+ghost use Rattle.yspec.specs.linking.NodeBreaks.{name_breaks, node_breaks};
 ghost use Rattle.yspec.specs.linking.NodeCounts.{node_count};
-ghost use Rattle.yspec.specs.linking.Planned.{Plan};
+ghost use Rattle.yspec.specs.linking.Planned.{Plan, Planned};
 ghost use Rattle.yexamples.specs.CompilingSamples.{compiled_lines, compiled_texts, told_at, v_module};
-ghost use Rattle.yexamples.specs.CornerExamples.{nested, other_choice_schema, other_container_schema, other_target_schema, same_name_schema};
+ghost use Rattle.yexamples.specs.CornerExamples.{full, nested, other_choice_schema, other_container_schema, other_target_schema, same_name_schema};
 ghost use Rattle.yspec.specs.edit.Examples.{module_p, module_text};
+ghost use Rattle.yexamples.specs.AugmentSamples.{two_added_to_choice};
+ghost use Rattle.yexamples.specs.ExpansionSamples.{count_of_texts, names_in};
 ghost use Rattle.yexamples.specs.RunExamples.{counted, faulty, scripted, shown, shown_of_two, without_faults};
 ghost use Rattle.yexamples.specs.Printing.{failed, found};
 ghost use Rattle.yexamples.specs.SchemaExamples.{shown_under};
@@ -37,6 +42,23 @@ pub fn limits()
         ≡ Some (record { code = 18; module_number = 0; line = s.line }) }
     ensures behind_defaults { compiled_lines (nested 61
         ++ codes "\n  leaf a { type uint8; default 300; }\n") ≡ told_at 11 6 }
+{}
+
+/// The number of nodes is judged once more where all are made: a single node that an augment gives a choice counts without its
+/// case before.
+pub fn all_nodes()
+    ensures counted_before { count_of_texts two_added_to_choice ≡ 5 }
+    ensures made { names_in (compiled_texts two_added_to_choice)
+        ≡ (0, codes "h") ∷ (0, codes "k") ∷ (0, codes "k") ∷ (1, codes "y") ∷ (1, codes "y")
+        ∷ (1, codes "z") ∷ (1, codes "z") ∷ [] }
+    ensures most { (p : Planned) → is_too_deep (full p 16) ≡ false }
+    ensures one_more { (p : Planned) → is_too_deep (node p (full p 16) end) ≡ true }
+    ensures told { (s : Statement) (below : Forest Statement) (plan : Plan)
+        → nat_lt node_limit (node_count plan.modules) ≡ false
+        → unfit_breaks plan.modules ++ augment_breaks plan.modules ≡ [] → name_breaks plan ≡ []
+        → node_breaks plan ≡ [] → nat_lt node_limit (size plan.nodes) ≡ true
+        → first_broken (phases_of_plan (node s below end) plan)
+        ≡ Some (record { code = 18; module_number = 0; line = s.line }) }
 {}
 
 /// The table of statements: the form of each argument, and how many there may be of each substatement.
@@ -98,6 +120,16 @@ pub fn prefixes()
         (codes "  list l { key k; unique q:k; leaf k { type string; } }\n") ≡ told_at 6 5 }
     ensures of_a_path { compiled_lines (codes "  leaf a { type leafref { path /q:a; } }\n")
         ≡ told_at 6 5 }
+{}
+
+/// The same of a name that isn't the first of its statement.
+pub fn later_prefixes()
+    ensures of_a_path { compiled_lines (codes "  container a { leaf b { type string; } }\n  leaf r { type leafref { path /m:a/q:b; } }\n") ≡ told_at 6 6 }
+    ensures of_a_refine { compiled_lines (codes "  grouping g { container a { leaf b { type string; } } }\n  uses g {\n    refine a/q:b { default 7; } }\n") ≡ told_at 6 7 }
+    ensures of_an_augment { compiled_lines (codes "  container a { container b; }\n  augment /m:a/q:b { leaf c { type string; } }\n") ≡ told_at 6 6 }
+    ensures of_a_key { compiled_lines (codes "  list l { key \"k q:j\"; leaf k { type string; } leaf j { type string; } }\n") ≡ told_at 6 5 }
+    ensures of_a_unique { compiled_lines (codes "  list l { key k; unique \"u q:v\"; leaf k { type string; } leaf u { type string; } leaf v { type string; } }\n") ≡ told_at 6 5 }
+    ensures of_a_step_of_a_unique { compiled_lines (codes "  list l { key k; unique c/q:v; leaf k { type string; } container c { leaf v { type string; } } }\n") ≡ told_at 6 5 }
 {}
 
 /// Keys, defaults and references of modules that are just refused, or just not.

@@ -11,8 +11,10 @@ ghost use Rattle.yspec.specs.edit.Examples.{module_text};
 ghost use Rattle.yexamples.specs.SchemaExamples.{of_base, state_node, any_amount, number_value_of, referring, limited_to, unrestricted, within};
 ghost use Rattle.yspec.specs.schema.Schema.{container, leaf, leaf_list, list, choice, case, own_type, current, allowed, default_used, mandatory, key};
 ghost use Rattle.yspec.specs.types.Types.{integer_base, string_base, uint8, plain};
+ghost use Rattle.yexamples.specs.Printing.{found};
+ghost use Rattle.yexamples.specs.RunExamples.{shown_of_two};
 ghost use Rattle.yexamples.specs.CompilingSamples.{compiled_lines, compiled_texts, nodes_in, told_at};
-ghost use Rattle.yexamples.specs.ExpansionSamples.{kinds_in, kinds_made, names_in, drawn, number_leaf, text_leaf, plain_container, used_number, told_in, s_and_u, two_typedefs, doubling_module, count_of_texts, told_of_nodes};
+ghost use Rattle.yexamples.specs.ExpansionSamples.{kinds_in, kinds_made, names_in, drawn, number_leaf, text_leaf, plain_container, used_number, told_in, s_and_u, s_and_other_s, two_typedefs, doubling_module, count_of_texts, told_of_nodes};
 
 /// A grouping of another module: its types are those of that module, its nodes belong to the one that uses it.
 pub fn groupings_of_another_module()
@@ -42,6 +44,28 @@ pub fn groupings_of_another_module()
         (codes "  grouping g { leaf a { type uint8; }\n"
         ++ codes "    leaf r { type leafref { path /s:a; } } }\n") (codes "  uses s:g;\n"))
         ≡ told_in 0 17 6 }
+    ensures key_and_unique { shown_of_two
+        (module_text (codes "s") (codes "  grouping g { list l { key k; unique c/v; leaf k { type string; } container c { leaf v { type string; } } } }\n"))
+        (module_text (codes "u") (codes "  import s { prefix s; }\n  uses s:g;\n"))
+        (codes "{\"u:l\":[{\"k\":\"a\",\"c\":{\"v\":\"x\"}},{\"k\":\"a\",\"c\":{\"v\":\"x\"}}]}")
+        ≡ found 1 (codes "V8 operation-failed - /u:l[1] -\nV9 operation-failed data-not-unique /u:l[1] 1\n"
+        ++ codes "V8 operation-failed - /u:l[2] -\nV9 operation-failed data-not-unique /u:l[2] 1\n4 faults\n") }
+    ensures prefixed_key { compiled_texts (s_and_u
+        (codes "  grouping g {\n    list l { key s:k; leaf k { type string; } } }\n")
+        (codes "  uses s:g;\n"))
+        ≡ told_in 0 12 6 }
+    ensures key_by_its_own_prefixes { compiled_texts (s_and_other_s
+        (codes "  grouping g {\n    list l { key s:k; leaf k { type string; } } }\n"))
+        ≡ told_in 0 12 6 }
+    ensures path_by_its_own_prefixes { compiled_texts (s_and_other_s
+        (codes "  grouping g { leaf a { type uint8; }\n"
+        ++ codes "    leaf r { type leafref { path /s:a; } } }\n"))
+        ≡ told_in 0 17 6 }
+    ensures path_to_its_own_module { kinds_in (compiled_texts (s_and_other_s
+        (codes "  leaf a { type uint8; }\n"
+        ++ codes "  grouping g { leaf r { type leafref { path /s:a; } } }\n")))
+        ≡ number_leaf (codes "a") allowed
+        ∷ (codes "r", leaf (referring (plain (integer_base uint8)).shape 0) allowed) ∷ [] }
     ensures told_where_it_stands { compiled_texts (s_and_u
         (codes "  typedef t { type uint8; }\n  grouping g { leaf v { type t; } }\n")
         (codes "  leaf v { type string; }\n  uses s:g;\n"))
@@ -202,11 +226,9 @@ pub fn nested_refines()
         ++ codes "    uses g { refine s:a { default 7; } } }\n  uses h;\n")
         (codes "  uses s:h;\n"))
         ≡ told_in 0 14 7 }
-    ensures by_its_own_prefixes { compiled_texts (module_text (codes "s")
-        (codes "  grouping g { leaf a { type uint8; } }\n"
-        ++ codes "  grouping h { uses g { refine s:a { default 7; } } }\n")
-        ∷ (codes "module u {\n  yang-version 1.1;\n  namespace \"urn:u\";\n"
-        ++ codes "  prefix s;\n  import s { prefix x; }\n  uses x:h;\n}\n") ∷ [])
+    ensures by_its_own_prefixes { compiled_texts (s_and_other_s
+        (codes "  grouping h { leaf a { type uint8; } }\n"
+        ++ codes "  grouping g { uses h { refine s:a { default 7; } } }\n"))
         ≡ told_in 0 14 6 }
 {}
 

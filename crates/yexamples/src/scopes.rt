@@ -2,8 +2,8 @@
 
 ghost use Rattle.std.specs.Prelude.{◌≡◌, ◌++◌, [], ◌∷◌, codes, pos, true, false, Some, None};
 ghost use Rattle.yspec.specs.edit.Examples.{module_text};
-ghost use Rattle.yexamples.specs.RunExamples.{counted};
-ghost use Rattle.yexamples.specs.Printing.{found};
+ghost use Rattle.yexamples.specs.RunExamples.{counted, shown, without_faults};
+ghost use Rattle.yexamples.specs.Printing.{failed, found};
 ghost use Rattle.yspec.specs.types.Types.{integer_base, uint8, single};
 ghost use Rattle.yspec.specs.linking.TypeStatements.{own, of_target};
 ghost use Rattle.yspec.specs.linking.Circles.{import_circles, definition_circles};
@@ -119,6 +119,28 @@ pub fn meanings()
     ensures unused { told_line (codes "  grouping g { leaf a {\n type t; } }\n") ≡ Some (8, 6) }
 {}
 
+/// With the own prefix a name means what it means without one: a definition of an ancestor, too.
+pub fn own_prefixes()
+    ensures typedef { shown (module_text (codes "m") (codes "  container c {\n    typedef t { type uint8 { range 1..5; } }\n    leaf a { type m:t; }\n  }\n"))
+        (codes "{\"m:c\":{\"a\":6}}") ≡ found 1 (codes "V1 invalid-value - /m:c/a -\n1 faults\n") }
+    ensures grouping { shown (module_text (codes "m") (codes "  container c {\n    grouping g { leaf a { type string; } }\n    uses m:g;\n  }\n"))
+        (codes "{\"m:c\":{\"a\":\"x\"}}") ≡ without_faults }
+{}
+
+/// A grouping may be named as a built-in type, and `uses` means it.
+pub fn groupings_named_as_built_in_types()
+    ensures unused { counted (module_text (codes "m")
+        (codes "  grouping string { leaf a { type string; } }\n")) ≡ found 0 (codes "0 nodes\n") }
+    ensures used { counted (module_text (codes "m")
+        (codes "  grouping string { leaf a { type string; } }\n  uses string;\n"))
+        ≡ found 0 (codes "1 nodes\n") }
+    ensures outside { counted (module_text (codes "m")
+        (codes "  grouping binary { leaf a { type uint8; } }\n  uses binary;\n"))
+        ≡ found 0 (codes "1 nodes\n") }
+    ensures lost { counted (module_text (codes "m") (codes "  uses string;\n"))
+        ≡ failed 2 (codes "m.yang:5: C8") }
+{}
+
 /// Typedefs and groupings that refer to themselves.
 pub fn circles_of_definitions()
     ensures a_typedef { told_line (codes "  typedef t { type t; }\n") ≡ Some (9, 5) }
@@ -165,6 +187,12 @@ pub fn derived_types()
         ∷ []) 9 ≡ Some (of_target 0 (record { prefix = None; identifier = codes "b" } ∷ []) false) }
     ensures instance_required_again { type_at (module_text (codes "m") (codes "  typedef a { type leafref { path /b; require-instance false; } }\n  leaf b { type a; }\n  leaf c { type a { require-instance true; } }\n")
         ∷ []) 11 ≡ Some (of_target 0 (record { prefix = None; identifier = codes "b" } ∷ []) true) }
+    ensures range_of_a_reference { told_line (codes "  typedef a { type leafref { path /m:b; } }\n  leaf b { type uint8; }\n  leaf c { type a { range 1..2; } }\n")
+        ≡ Some (10, 7) }
+    ensures length_of_a_reference { told_line (codes "  typedef a { type leafref { path /m:b; } }\n  leaf b { type string; }\n  leaf c { type a { length 1; } }\n")
+        ≡ Some (10, 7) }
+    ensures path_of_a_reference { told_line (codes "  typedef a { type leafref { path /m:b; } }\n  leaf b { type uint8; }\n  leaf c { type a { path /m:b; } }\n")
+        ≡ Some (10, 7) }
     ensures path_of_another { type_at (module_text (codes "a") (codes "  import b { prefix x; }\n  leaf c { type x:r; }\n")
         ∷ module_text (codes "b") (codes "  typedef r { type leafref { path /x; } }\n") ∷ []) 7
         ≡ Some (of_target 1 (record { prefix = None; identifier = codes "x" } ∷ []) true) }
