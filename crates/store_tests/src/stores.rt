@@ -3,7 +3,7 @@
 use std::alloc::Global;
 use ycheck::FaultCode;
 use ymodel::SchemaId;
-use ystore::{Counted, Judged, Key, Label, NodeId, Nodes, Row, Told, same_keys};
+use ystore::{Counted, Judged, Key, Label, NodeId, Nodes, Row, Told, kept_loans, same_keys};
 use ytype::{Raw, Val, YType};
 
 pub(crate) const CONTAINER: SchemaId = SchemaId(1);
@@ -128,7 +128,9 @@ pub(crate) fn told(alloc: Global) -> Option<bool> {
         && counted.absence(Row::Below(node), 0) == None;
     let view = nodes.view();
     Some(
-        read && view.node_count() == 1
+        read && nodes.alloc() == alloc
+            && nodes.node_count() == 1
+            && view.node_count() == 1
             && view.children(Row::Top) == [(FIRST, node)].as_slice()
             && view.schema(node) == Some(FIRST)
             && view.parent(node) == Some(Row::Top)
@@ -148,6 +150,7 @@ pub(crate) fn keys(alloc: Global) -> Option<bool> {
         .ok()?
         .check(alloc, &text(alloc, "a")?)
         .ok()?;
+    kept_loans();
     same_keys();
     counted
         .await_instance(Key::Value(FIRST, value.clone().ok()?))

@@ -25,11 +25,12 @@ use Rattle.ypath.specs.declared.edit.EditFault.TheVariants.{Refused, Memory}
 use Rattle.yreach.specs.Reach.{reach}
 use Rattle.yplay.proofs.PlacedLemmas.{cases_of}
 use Rattle.ylist.specs.Listed.{list_told}
-use Rattle.ystore.specs.Store.{CountsOne, node_count, reads, total_at}
+use Rattle.ystore.specs.Store.{CountsOne, Stays, loans, node_count, reads, total_at}
 use Rattle.ystore.specs.declared.row.Row.TheVariants.{Top}
 use Rattle.ystore.specs.declared.nodes.Nodes.{Nodes}
 use Rattle.yshape.specs.Copies.{listed_below}
 use Rattle.yshape.specs.Hanging.{Branches, Hangs, Keeps, tree_of}
+use Rattle.yshape.specs.Parts.{OnlyReads}
 use Rattle.yshape.proofs.CopyLemmas.{levels_within, listed}
 use Rattle.yshape.proofs.PartLemmas.{one_read}
 use Rattle.ytell.specs.Totals.{IsTree}
@@ -42,7 +43,7 @@ use Rattle.ychange.specs.Places.{Amends, HoldsSorted, HoldsTold, Shows}
 use Rattle.ychange.specs.Reads.{ReadsWithin}
 use Rattle.ylive.specs.Kept.{AppliesIn, IsLive, Parts}
 use Rattle.ylive.specs.View.{view}
-use Rattle.ylive.specs.Answers.{Accepts, IsRefusal, answer_to, known_count}
+use Rattle.ylive.specs.Answers.{Accepts, IsRefusal, RisesBy, answer_to, known_count}
 use Rattle.ylive.specs.declared.outcome.Applied.{Applied}
 
 -- ---- what is listed
@@ -117,12 +118,24 @@ module _ {X E : Type 0} (nodes shown : Nodes) (see : X → Tree) (same : shown �
       (subst (Fits (schema_view.view schema)) (sym (copy ∙ ap document same)) (fits_kept (schema_view.view schema) nodes is_stale live))
   copy_fits schema is_stale old (Err e) is live copy = tt
 
+holds_still : (s : Schema) (before after : Nodes) (t : Tree) → OnlyReads before after → HoldsTold s before t → HoldsTold s after t
+holds_still s before after t only holds =
+    record {
+      branches = holds.branches;
+      is_tree = holds.is_tree;
+      keeps = keeps_read before after holds.branches Top end only holds.keeps;
+      told = told_still before after only.held (entries_keys before after only.entries) s holds.branches holds.told;
+    }
+
+only_lent : (before lent : Nodes) → Stays before lent → OnlyReads before lent
+only_lent before lent stays = record { held = stays.held; entries = stays.entries; node_count = stays.node_count }
+
 -- a store that is lent holds what it held
-pub holds_lent : (s : Schema) (nodes lent : Nodes) (is_stale : Bool) → lent ≡ nodes → IsLive s nodes is_stale → is_stale ≡ false
+pub holds_lent : (s : Schema) (nodes lent : Nodes) (is_stale : Bool) → Stays nodes lent → IsLive s nodes is_stale → is_stale ≡ false
     → (tree : Tree) × HoldsTold s lent tree × Fits s tree
-holds_lent s nodes lent is_stale same live fresh = (
+holds_lent s nodes lent is_stale stays live fresh = (
   document nodes,
-  subst (λ (n : Nodes). HoldsTold s n (document nodes)) (sym same) (told_kept s nodes is_stale live fresh),
+  holds_still s nodes lent (document nodes) (only_lent nodes lent stays) (told_kept s nodes is_stale live fresh),
   fits_kept s nodes is_stale live,
 )
 
@@ -208,14 +221,7 @@ known_is schema nodes shown is_stale old n is same live fresh total =
 
 -- a store that is read tells what it told
 pub holds_read : (s : Schema) (before after : Nodes) (t : Tree) → CountsOne before after → HoldsTold s before t → HoldsTold s after t
-holds_read s before after t counts holds =
-    let only = one_read before after counts in
-    record {
-      branches = holds.branches;
-      is_tree = holds.is_tree;
-      keeps = keeps_read before after holds.branches Top end only holds.keeps;
-      told = told_still before after only.held (entries_keys before after only.entries) s holds.branches holds.told;
-    }
+holds_read s before after t counts = holds_still s before after t (one_read before after counts)
 
 -- of a document that fits the rows are in order
 pub sorted_read : (s : Schema) (before after : Nodes) → CountsOne before after → ((tree : Tree) × HoldsTold s before tree × Fits s tree) → HoldsSorted s after
@@ -253,7 +259,7 @@ applies_in schema first read amended last t e counts once again holds fits befor
 
 -- ---- an edit of a live document
 
-module _ (schema : rust.Schema) (before lent after : Nodes) (is_stale : Bool) (e : Edit) (same : lent ≡ before) (live : IsLive (schema_view.view schema) before is_stale)
+module _ (schema : rust.Schema) (before lent after : Nodes) (is_stale : Bool) (e : Edit) (stays : Stays before lent) (live : IsLive (schema_view.view schema) before is_stale)
     (fresh : is_stale ≡ false) where
   abbrev of : Schema
   of = schema_view.view schema
@@ -265,9 +271,12 @@ module _ (schema : rust.Schema) (before lent after : Nodes) (is_stale : Bool) (e
   fits_before : Fits of (document before)
   fits_before = fits_kept of before is_stale live
 
+  held_lent : HoldsTold of lent (document before)
+  held_lent = holds_still of before lent (document before) (only_lent before lent stays) (told_kept of before is_stale live fresh)
+
   came_of : (r : Result Applied EditFault) → Came r → AppliesIn of (document before) e after r
   came_of r came =
-      came (document before) (subst (λ (n : Nodes). HoldsTold of n (document before)) (sym same) (told_kept of before is_stale live fresh)) fits_before
+      came (document before) held_lent fits_before
 
   pub live_accepted : (counts : Applied) → Came (Ok counts) → IsLive of after is_stale
   live_accepted counts came =
@@ -316,18 +325,26 @@ module _ (schema : rust.Schema) (before lent after : Nodes) (is_stale : Bool) (e
   abbrev pub Reads : Result Applied EditFault → Type 0
   Reads r = (tree : Tree) → HoldsTold of lent tree → Fits of tree → ReadsWithin (reach of tree e) lent after r
 
-  few_of : (r : Result Applied EditFault) → Reads r → ReadsWithin (reach of (document before) e) before after r
-  few_of r few =
-      subst (λ (n : Nodes). ReadsWithin (reach of (document before) e) n after r) same
-      (few (document before) (subst (λ (n : Nodes). HoldsTold of n (document before)) (sym same) (told_kept of before is_stale live fresh)) fits_before)
+  module _ (old : Parts) (is : record { schema = schema; nodes = before; is_stale = is_stale } ≡ old) (rises : reads before ≤ reads after) where
+    few_of : reads after ≤ reads lent + reach of (document before) e → RisesBy (reach (view old).schema (view old).tree e) (reads old.nodes) (reads after)
+    few_of few =
+        subst (λ (p : Parts). RisesBy (reach (view p).schema (view p).tree e) (reads p.nodes) (reads after)) is
+        (rises, subst (λ n. reads after ≤ n + reach of (document before) e) stays.reads few)
 
-  module _ (old : Parts) (is : record { schema = schema; nodes = before; is_stale = is_stale } ≡ old) where
-    pub few_accepted : (counts : Applied) → Reads (Ok counts) → reads after ≤ reads old.nodes + reach (view old).schema (view old).tree e
-    few_accepted counts few =
-        subst (λ (p : Parts). reads after ≤ reads p.nodes + reach (view p).schema (view p).tree e) is (few_of (Ok counts) few)
+    pub few_accepted : (counts : Applied) → Reads (Ok counts) → RisesBy (reach (view old).schema (view old).tree e) (reads old.nodes) (reads after)
+    few_accepted counts few = few_of (few (document before) held_lent fits_before)
 
     pub few_refused : (code : EditCode) (doc : Option DocCode) (fault : EditFault) → fault ≡ Refused code doc → Reads (Err fault)
-        → reads after ≤ reads old.nodes + reach (view old).schema (view old).tree e
+        → RisesBy (reach (view old).schema (view old).tree e) (reads old.nodes) (reads after)
     few_refused code doc fault refused few =
-        subst (λ (p : Parts). reads after ≤ reads p.nodes + reach (view p).schema (view p).tree e) is
-        (few_of (Err (Refused code doc)) (subst (λ (f : EditFault). Reads (Err f)) refused few))
+        few_of (subst (λ (f : EditFault). Reads (Err f)) refused few (document before) held_lent fits_before)
+
+pub never_fewer : (schema : rust.Schema) (before after : Nodes) (is_stale : Bool) (old : Parts) → record { schema = schema; nodes = before; is_stale = is_stale } ≡ old
+    → reads before ≤ reads after → reads old.nodes ≤ reads after
+never_fewer schema before after is_stale old is rises = subst (λ (p : Parts). reads p.nodes ≤ reads after) is rises
+
+-- ---- how often the store was lent
+
+pub tried : (schema : rust.Schema) (before : Nodes) (is_stale : Bool) (old : Parts) (after : ℕ) → record { schema = schema; nodes = before; is_stale = is_stale } ≡ old
+    → after ≡ loans before + 1 → after ≡ loans old.nodes + 1
+tried schema before is_stale old after is once = subst (λ (p : Parts). after ≡ loans p.nodes + 1) is once

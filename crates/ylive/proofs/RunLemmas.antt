@@ -1,5 +1,5 @@
 -- Edits one after the other.
-use Rattle.std.proofs.Common.{◌≡◌, ℕ, ◌+◌, ◌<◌, Bool, true, false, List, [], ◌∷◌, ◌++◌, length, take, get_or, refl, sym, subst, ap, ap₂, ◌∙◌, arith}
+use Rattle.std.proofs.Common.{◌≡◌, ℕ, ◌+◌, ◌<◌, Bool, true, false, List, [], ◌∷◌, ◌++◌, length, take, get_or, inl, refl, sym, subst, ap, ap₂, ◌∙◌, arith}
 use Rattle.std.specs.Prelude.{if◌then◌else◌}
 use Rattle.std.proofs.lemmas.List.{length-map, map_more, map_push, take-map}
 use Rattle.yspec.specs.schema.Schema.{Schema}
@@ -10,7 +10,7 @@ use Rattle.yspec.specs.edit.Live.{Live, with_tree, made_stale}
 use Rattle.ypath.specs.declared.edit.Edit as edit
 use Rattle.ypath.specs.EditView.{edit_view}
 use Rattle.ylive.specs.View.{edits_view, outcome_view, outcomes_view}
-use Rattle.ylive.specs.Answers.{Stops, after_edits, answer_to}
+use Rattle.ylive.specs.Answers.{Stops, StopsAfter, after_edits, answer_to}
 use Rattle.ylive.specs.declared.outcome.Outcome.{Outcome}
 use Rattle.ylive.specs.declared.outcome.StopCode.{StopCode}
 use Rattle.ylive.specs.declared.outcome.StopCode.TheVariants.{E12, E13}
@@ -85,3 +85,11 @@ stopped E12 done count i start now left xs told is same at within fresh so_far s
       omega (arith, place, length-map xs edit_view, within),
       stale ∙ ap made_stale (so_far.stands ∙ ap (λ es. after_edits es start) (sym (ap (λ n. take n (edits_view xs)) place ∙ take-map edit_view i xs))),
     )
+
+-- ---- how often the store was lent
+
+-- where memory runs out, it was lent once more than there are edits decided
+pub tried_next : (code : StopCode) (done count i before now after : ℕ) → code ≡ E12 → done ≡ count → count ≡ i → now ≡ before + i → after ≡ now + 1
+    → StopsAfter code done before after
+tried_next E13 done count i before now after is same at so_far more = absurd cc
+tried_next E12 done count i before now after is same at so_far more = inl (omega (arith, same, at, so_far, more))

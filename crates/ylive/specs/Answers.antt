@@ -1,5 +1,5 @@
 -- What calls on a live document answer, and what they leave of it, by cases.
-use Rattle.std.specs.Prelude.{◌≡◌, ℕ, ◌+◌, ◌<◌, ◌≤◌, true, false, List, length, take, Option, Some, None, Result, Ok, Err, Vec, if◌then◌else◌}
+use Rattle.std.specs.Prelude.{◌≡◌, ◌⊎◌, ℕ, ◌+◌, ◌<◌, ◌≤◌, true, false, List, length, take, Option, Some, None, Result, Ok, Err, Vec, if◌then◌else◌}
 use Rattle.yspec.specs.document.Document.{Tree}
 use Rattle.yspec.specs.edit.EditText as text
 use Rattle.yspec.specs.edit.Editing as editing
@@ -53,13 +53,24 @@ abbrev pub Edits : spec.Live → text.Edit → Result Applied Refused → spec.L
 Edits before e (Ok counts) after = Accepts before e counts after
 Edits before e (Err refused) after = Refuses before e refused after
 
+-- by so many at most
+abbrev pub RisesBy : ℕ → ℕ → ℕ → Type 0
+RisesBy most before after = (before ≤ after) × (after ≤ before + most)
+
 -- How the count of the store's reading calls rises where an edit of a document is accepted or refused: by its reach at most; by nothing
--- where the document was stale; where memory ran out that isn't said.
+-- where the document was stale; where memory ran out it isn't said by how many.
 abbrev pub ReadsFew : spec.Live → text.Edit → Result Applied Refused → ℕ → ℕ → Type 0
-ReadsFew live e (Ok counts) before after = after ≤ before + reach live.schema live.tree e
-ReadsFew live e (Err (refusals.Edit fault)) before after = after ≤ before + reach live.schema live.tree e
-ReadsFew live e (Err refusals.Memory) before after = Unit {0}
+ReadsFew live e (Ok counts) before after = RisesBy (reach live.schema live.tree e) before after
+ReadsFew live e (Err (refusals.Edit fault)) before after = RisesBy (reach live.schema live.tree e) before after
+ReadsFew live e (Err refusals.Memory) before after = before ≤ after
 ReadsFew live e (Err refusals.Stale) before after = after ≡ before
+
+-- how often the store is lent to an edit: once, but not where the document was stale
+abbrev pub TriesOnce : Result Applied Refused → ℕ → ℕ → Type 0
+TriesOnce (Ok counts) before after = after ≡ before + 1
+TriesOnce (Err (refusals.Edit fault)) before after = after ≡ before + 1
+TriesOnce (Err refusals.Memory) before after = after ≡ before + 1
+TriesOnce (Err refusals.Stale) before after = after ≡ before
 
 -- ---- lists of edits
 
@@ -88,6 +99,17 @@ abbrev pub Runs : {A : Type 0} → spec.Live → List text.Edit → Result (Vec 
 Runs before edits (Ok outcomes) after = (before.is_stale ≡ false)
     × (outcomes_view outcomes.items ≡ decisions before.schema before.tree edits) × (after ≡ after_edits edits before)
 Runs before edits (Err stopped) after = Stops stopped.code stopped.done before edits after
+
+-- E12: the store was lent to each edit that was decided and to the next one, at which memory ran out; or there was no room for what
+-- comes of them, and it was lent to none. E13: to none.
+abbrev pub StopsAfter : StopCode → ℕ → ℕ → ℕ → Type 0
+StopsAfter E12 done before after = (after ≡ before + (done + 1)) ⊎ ((done ≡ 0) × (after ≡ before))
+StopsAfter E13 done before after = after ≡ before
+
+-- how often the store is lent where edits are run: to each once
+abbrev pub Tries : {A : Type 0} → List text.Edit → Result (Vec Outcome A) Stopped → ℕ → ℕ → Type 0
+Tries edits (Ok outcomes) before after = after ≡ before + length edits
+Tries edits (Err stopped) before after = StopsAfter stopped.code stopped.done before after
 
 -- ---- faults
 

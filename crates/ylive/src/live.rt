@@ -26,7 +26,6 @@ use ystore::{Counted, Nodes, Row};
 /// until it is rebuilt neither edits nor lists of faults are answered.
 #[derive(Drop)]
 pub struct Live {
-    alloc: Global,
     schema: Schema,
     nodes: Nodes,
     is_stale: bool,
@@ -55,8 +54,9 @@ impl Live {
     ghost use Rattle.ypath.specs.EditView.{edit_view};
     ghost use Rattle.ytree.specs.View.{tree_view};
     ghost use Rattle.ylive.specs.View.{view};
-    ghost use Rattle.ystore.specs.Store.{reads};
-    ghost use Rattle.ylive.specs.Answers.{Edits, Lists, ReadsFew, Walks, known_count};
+    ghost use Rattle.ystore.specs.Store as store;
+    ghost use Rattle.ystore.specs.Store.{loans, reads};
+    ghost use Rattle.ylive.specs.Answers.{Edits, Lists, ReadsFew, TriesOnce, Walks, known_count};
 
     /// A document with its schema, under which it was read or made. Where memory runs out both are given back.
     pub fn open(alloc: Global, schema: Schema, tree: Tree) -> Result<Live, (Schema, Tree)>
@@ -68,7 +68,6 @@ impl Live {
     {
         match told_store(alloc, &schema, &tree) {
             Ok(nodes) => Ok(Live {
-                alloc,
                 schema,
                 nodes,
                 is_stale: false,
@@ -79,10 +78,11 @@ impl Live {
 
     /// Applies an edit, and tells how many faults there were and are. A refused edit changes nothing. Where memory runs
     /// out the document stays as it was, and is stale. It reads no more of the store than its reach says, whatever the size of
-    /// the document.
+    /// the document; the store is lent to it once, and stays that store.
     pub fn edit(&mut self, edit: &Edit) -> Result<Applied, Refused>
         ensures edits { Edits (view self.old) (edit_view edit.now) result (view self.new) }
         ensures reads { ReadsFew (view self.old) (edit_view edit.now) result (reads self.old.nodes) (reads self.new.nodes) }
+        ensures lent { TriesOnce result (loans self.old.nodes) (loans self.new.nodes) }
     {
         if self.is_stale {
             return Err(Refused::Stale);
@@ -106,7 +106,7 @@ impl Live {
         if self.is_stale {
             return Err(ListFault::Stale);
         }
-        match list(self.alloc, &self.schema, self.nodes.view()) {
+        match list(self.nodes.alloc(), &self.schema, self.nodes.view()) {
             Ok(found) => Ok(found),
             Err(_) => Err(ListFault::Memory),
         }
@@ -127,7 +127,7 @@ impl Live {
         ensures copy { IfOk result (λ tree. tree_view tree ≡ (view self.now).tree) }
         ensures fitting { IfOk result (λ tree. Fits (view self.now).schema (tree_view tree)) }
     {
-        copy_tree(self.alloc, self.nodes.view())
+        copy_tree(self.nodes.alloc(), self.nodes.view())
     }
 
     /// The schema of the document.
@@ -179,20 +179,23 @@ impl Live {
     {
         if self.is_stale {
             let tree = self.tree()?;
-            self.nodes = told_store(self.alloc, &self.schema, &tree)?;
+            self.nodes = told_store(self.nodes.alloc(), &self.schema, &tree)?;
             self.is_stale = false;
         }
         Ok(())
     }
 
     /// Where its nodes lie.
-    pub(crate) fn alloc(&self) -> Global {
-        self.alloc
+    pub(crate) fn alloc(&self) -> Global
+        ensures { result ≡ store.alloc self.now.nodes }
+    {
+        self.nodes.alloc()
     }
 
     /// Makes the document stale.
     pub(crate) fn mark_stale(&mut self)
-        ensures { view self.new ≡ made_stale (view self.old) }
+        ensures stale { view self.new ≡ made_stale (view self.old) }
+        ensures nodes { self.new.nodes ≡ self.old.nodes }
     {
         self.is_stale = true;
     }

@@ -8,15 +8,18 @@ use std::alloc::AllocError;
 use yinst::{Edit, EditFault};
 
 impl Live {
-    ghost use Rattle.std.specs.Prelude.{◌≡◌, false};
+    ghost use Rattle.std.specs.Prelude.{◌≡◌, ◌+◌, false};
     ghost use Rattle.ypath.specs.EditView.{edit_view};
     ghost use Rattle.ylive.specs.View.{view, edits_view};
-    ghost use Rattle.ylive.specs.Answers.{Decides, Runs};
+    ghost use Rattle.ylive.specs.Answers.{Decides, Runs, Tries};
+    ghost use Rattle.ystore.specs.Store.{loans};
 
     /// Applies edits in order, each to what the ones before it left, and tells what comes of each. A refused edit changes
-    /// nothing and doesn't end the list. Where memory runs out what was accepted stands, and the document is stale.
+    /// nothing and doesn't end the list. Where memory runs out what was accepted stands, the document is stale, and all edits
+    /// before the one at which it ran out are `done`.
     pub fn run(&mut self, edits: &[Edit]) -> Result<Vec<Outcome>, Stopped>
-        ensures { Runs (view self.old) (edits_view edits.now) result (view self.new) }
+        ensures runs { Runs (view self.old) (edits_view edits.now) result (view self.new) }
+        ensures lent { Tries (edits_view edits.now) result (loans self.old.nodes) (loans self.new.nodes) }
     {
         if self.is_stale() {
             return Err(Stopped {
@@ -43,7 +46,8 @@ impl Live {
     /// What comes of an edit of a document that isn't stale.
     fn decide(&mut self, edit: &Edit) -> Result<Outcome, AllocError>
         requires { (view self.old).is_stale ≡ false }
-        ensures { Decides (view self.old) (edit_view edit.now) result (view self.new) }
+        ensures decides { Decides (view self.old) (edit_view edit.now) result (view self.new) }
+        ensures lent { loans self.new.nodes ≡ loans self.old.nodes + 1 }
     {
         match self.edit(edit) {
             Ok(_) => Ok(Outcome::Accepted),
