@@ -1,0 +1,7 @@
+mod BreakLemmas
+mod TurnLemmas
+mod RankLemmas
+mod TypedefLemmas
+mod LeafrefLemmas
+mod ConfigurationLemmas
+mod SameRunLemmas

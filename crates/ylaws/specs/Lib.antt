@@ -1,0 +1,3 @@
+-- The words of the laws.
+pub mod Told
+pub mod Stateless

@@ -1,0 +1,25 @@
+//! That a bound on steps is no bound on what is meant: with more steps nothing else is found.
+
+ghost use Rattle.std.specs.Prelude.{◌≡◌, ◌+◌, ℕ, suc, List, []};
+ghost use Rattle.std.specs.List.{Contains};
+ghost use Rattle.yspec.specs.Forest.{Forest, size};
+ghost use Rattle.yspec.specs.text.Statement.{Statement};
+ghost use Rattle.yspec.specs.linking.Source.{Source, sources_of};
+ghost use Rattle.yspec.specs.linking.Circles.{definition_circles};
+ghost use Rattle.yspec.specs.linking.DerivedTypes.{known_within};
+ghost use Rattle.yspec.specs.linking.Planned.{Planned, nodes_of, type_of, type_within};
+ghost use Rattle.yspec.specs.linking.Compiling.{plan_of};
+
+/// Where no definition refers to itself, a typedef means by way of as many others as there are statements what it means by way
+/// of more.
+pub fn typedefs_known()
+    ensures { (statements : Forest Statement) (more number : ℕ) → let modules = sources_of statements in
+        definition_circles modules ≡ [] → known_within modules (size modules + more) number
+        ≡ known_within modules (size modules) number }
+{}
+
+/// A node that is planned has within as many leafrefs as there are nodes the type that it has within more.
+pub fn types_known()
+    ensures { (modules : Forest Source) (more : ℕ) (p : Planned) → let plan = plan_of modules in
+        Contains (nodes_of plan) p → type_within plan (suc (size plan.nodes) + more) p ≡ type_of plan p }
+{}
