@@ -14,10 +14,11 @@ use Rattle.ypreorder.specs.Layout.{IsLaidOut, numbered_by, forest_of}
 use Rattle.ypreorder.specs.declared.slot.Slot.{Slot}
 use Rattle.ygrammar.specs.SourceView.{source_view}
 use Rattle.ygrammar.specs.declared.source.Source as held
-use Rattle.ynames.proofs.PlacedLemmas.{AreFrom, are_from}
+use Rattle.ypreorder.proofs.NumberLemmas.{AreFrom}
+use Rattle.ynames.proofs.PlacedLemmas.{number_of, are_from}
 use Rattle.ynames.proofs.BelowLemmas.{source_at, below_found}
 
-later_none : (k : ℕ) (ps : List Placed) → AreFrom k ps → (n : ℕ) → n < k → find (λ (g : Grouping). g.number == n) (filter_map grouping_at ps) ≡ None
+later_none : (k : ℕ) (ps : List Placed) → AreFrom number_of k ps → (n : ℕ) → n < k → find (λ (g : Grouping). g.number == n) (filter_map grouping_at ps) ≡ None
 later_none k [] are n less = refl
 later_none k (p ∷ ps) are n less = by (is_source_of grouping_word p.source) (later_none (k + 1) ps are.1 n (omega (arith, less)))
   where
@@ -31,7 +32,7 @@ later_none k (p ∷ ps) are n less = by (is_source_of grouping_word p.source) (l
         (differs (p.source.number == n) refl) ∙ rest
     by false rest = rest
 
-find_grouping : (k : ℕ) (ps : List Placed) → AreFrom k ps → (n : ℕ)
+find_grouping : (k : ℕ) (ps : List Placed) → AreFrom number_of k ps → (n : ℕ)
     → find (λ (g : Grouping). g.number == n) (filter_map grouping_at ps) ≡ option_and_then grouping_at (find (λ (p : Placed). p.source.number == n) ps)
 find_grouping k [] are n = refl
 find_grouping k (p ∷ ps) are n = by (p.source.number == n) refl (is_source_of grouping_word p.source) refl (find_grouping (k + 1) ps are.1 n)

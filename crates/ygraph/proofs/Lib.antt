@@ -1,9 +1,10 @@
 pub mod ChainLemmas
 mod ChainWalkLemmas
-mod ReachingLaws
+pub mod ReachingLaws
 mod StepLaws
 mod EnterLemmas
 mod LeaveLemmas
 mod RankLemmas
 mod WorkLemmas
 mod EdgeLemmas
+mod DerivationLaws

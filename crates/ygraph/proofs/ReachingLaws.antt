@@ -210,3 +210,14 @@ pub leads_circle : (edges : List Edge) (e : Edge) → Reaches (HasEdge edges) e.
 leads_circle edges e r = reaches_within edges (reached edges (length edges) (e.target ∷ []))
     (closed_behind edges (length edges) (e.target ∷ []) (missing_most (e.target ∷ []) edges)) e.target e.source r
     (kept edges (length edges) (e.target ∷ []) e.target (or_left (e.target == e.target) false (eq-eqb e.target e.target refl)))
+
+-- ---- of any nodes to begin with
+
+pub reached_leads : (edges : List Edge) (nodes : List ℕ) (x : ℕ) → is_among (reached edges (length edges) nodes) x ≡ true
+    → (a : ℕ) × (is_among nodes a ≡ true) × Reaches (HasEdge edges) a x
+reached_leads edges nodes x h = reached_from edges (length edges) nodes x h
+
+pub leads_reached : (edges : List Edge) (nodes : List ℕ) (a x : ℕ) → is_among nodes a ≡ true → Reaches (HasEdge edges) a x
+    → is_among (reached edges (length edges) nodes) x ≡ true
+leads_reached edges nodes a x there r = reaches_within edges (reached edges (length edges) nodes)
+    (closed_behind edges (length edges) nodes (missing_most nodes edges)) a x r (kept edges (length edges) nodes a there)

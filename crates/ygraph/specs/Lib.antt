@@ -4,3 +4,5 @@ pub mod ChainSamples
 pub mod Reaching
 pub mod Search
 pub mod Edges
+pub mod Derivation
+pub mod DerivationSamples

@@ -1,9 +1,10 @@
-//! Graphs: where chains of references lead, and which edges lie on circles.
+//! Graphs: where chains of references lead, which edges lie on circles, and which nodes derive from which others.
 #![tactic(auto)]
 
 pub mod chain_examples;
 mod chains;
 mod circles;
+pub mod derivation;
 mod order;
 mod search;
 

@@ -14,12 +14,10 @@ use Rattle.yspec.specs.linking.Source.{Source, is_source_of, found_with, argumen
 use Rattle.yspec.specs.linking.TypeStatements.{wrong, verdict, verdicts, verdict_on, verdict_in_place, are_in_place, built_in_meant, derived}
 use Rattle.yspec.proofs.LinkingProofs.KeywordLemmas.{same_is}
 use Rattle.ygraph.specs.Reaching.{HasEdge}
-use Rattle.ypreorder.specs.Layout.{numbered_by}
-use Rattle.ygrammar.specs.declared.source.Source as held
-use Rattle.ygrammar.specs.SourceView.{source_view}
+use Rattle.ypreorder.proofs.NumberLemmas.{AreFrom, found_again, found_among}
 use Rattle.ynames.specs.ReferringView.{innermost_of}
 use Rattle.ynames.specs.ScopeView.{placed_at}
-use Rattle.ynames.proofs.PlacedLemmas.{edge_among, stands_at, among_them, below_them}
+use Rattle.ynames.proofs.PlacedLemmas.{number_of, edge_among, below_them}
 
 -- ---- verdicts
 
@@ -104,10 +102,8 @@ module _ (modules : Forest Source) (f g : ℕ → Known) where
 
 -- ---- a set of modules
 
-module _ (held_forest : Forest held.Source) where
-  abbrev set : Forest Source
-  set = numbered_by source_view 0 held_forest
-
+-- whose statements have the numbers from 0 on
+module _ (set : Forest Source) (numbered : AreFrom number_of 0 (statements_of set)) where
   module _ (known_here known_there : ℕ → Known) (d : ℕ) (same : (e : ℕ) → HasEdge (definition_edges set) d e → known_here e ≡ known_there e) where
     -- of a statement in the typedef
     same_named : (p : Placed) → Contains (statements_of set) p → referring p ≡ Some d → named set known_here p.source.number ≡ named set known_there p.source.number
@@ -117,7 +113,7 @@ module _ (held_forest : Forest held.Source) where
         ∙ ap (λ o. option_map_or known_there (option_map (λ (x : Source). x.number) (option_and_then (meaning set) o)) unknown) stands)
       where
         stands : Some p ≡ statement_at set p.source.number
-        stands = sym (stands_at held_forest p at)
+        stands = sym (found_again number_of (statements_of set) numbered p at)
 
         by : (o : Option Source) → meaning set p ≡ o
             → option_map_or known_here (option_map (λ (x : Source). x.number) o) unknown ≡ option_map_or known_there (option_map (λ (x : Source). x.number) o) unknown
@@ -136,7 +132,7 @@ module _ (held_forest : Forest held.Source) where
         by (Some p) e = is (is_source_of typedef_word p.source) refl
           where
             at : Contains (statements_of set) p × (p.source.number ≡ d)
-            at = among_them held_forest d p e
+            at = found_among number_of d p (statements_of set) e
 
             is : (b : Bool) → is_source_of typedef_word p.source ≡ b
                 → option_map_or (known_in_row set (named set known_here)) (cond b (Some p.below) None) unknown

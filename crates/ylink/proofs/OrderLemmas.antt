@@ -31,7 +31,7 @@ use Rattle.ylink.specs.TypedefView.{known_at, known_view, row_at, AreRows}
 use Rattle.ylink.specs.declared.typedefs.Known as known_in_code
 use Rattle.ylink.proofs.KnownLemmas.{same_known}
 use Rattle.ynames.proofs.OrderedLemmas.{edge_named, place_of}
-use Rattle.ynames.proofs.PlacedLemmas.{among_them, number_named_at}
+use Rattle.ynames.proofs.PlacedLemmas.{are_from, among_them, number_named_at}
 use Rattle.ylink.proofs.WithinLemmas.{meant_within}
 
 none_at : (meanings : List (Option ℕ)) (n : ℕ) → list_any is_some meanings ≡ false → meaning_at meanings n ≡ None
@@ -70,7 +70,7 @@ module _ (f : Forest held.Source) where
     unfolding known_within
     stable zero i below within = absurd (omega (arith, below))
     stable (suc m) i below within =
-        same_known f (known_within set (suc m)) (known_within set m) (get_or nodes i 0) (λ e edge.
+        same_known set (are_from [] 0 f) (known_within set (suc m)) (known_within set m) (get_or nodes i 0) (λ e edge.
         let at = place_of nodes set order e (edge_named f (get_or nodes i 0) e edge) in
         let inside = at.1 in
         let before = order.behind (get_or nodes i 0) e edge i at.0 within inside refl at.2 in
@@ -80,7 +80,7 @@ module _ (f : Forest held.Source) where
         → option_map_or (known_in_row set (named set table)) (typedef_row set (get_or nodes i 0)) unknown ≡ finally (get_or nodes i 0)
     unfolding known_within
     learned_own table i so_far within =
-        same_known f table finally (get_or nodes i 0) (λ e edge.
+        same_known set (are_from [] 0 f) table finally (get_or nodes i 0) (λ e edge.
         let at = place_of nodes set order e (edge_named f (get_or nodes i 0) e edge) in
         let inside = at.1 in
         let before = order.behind (get_or nodes i 0) e edge i at.0 within inside refl at.2 in

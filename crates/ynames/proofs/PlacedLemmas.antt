@@ -13,6 +13,7 @@ use Rattle.ygraph.specs.Reaching.{leads, has_edge}
 use Rattle.yspec.specs.linking.Scopes.{Placed, placed, statements_of, statement_at, meaning}
 use Rattle.yspec.specs.linking.DerivedTypes.{number_named}
 use Rattle.ypreorder.specs.Layout.{numbered_by}
+use Rattle.ypreorder.proofs.NumberLemmas.{AreFrom, from_append, found_at as found_by_number, found_again, found_among}
 use Rattle.ygrammar.specs.declared.source.Source as held
 use Rattle.ygrammar.specs.SourceView.{source_view}
 use Rattle.ynames.specs.MeaningView.{number_meant, meaning_at, AreMeanings}
@@ -21,18 +22,10 @@ use Rattle.ynames.proofs.NumberedLemmas.{length_placed}
 
 -- ---- numbers
 
--- they have the numbers from one on
-abbrev pub AreFrom : ℕ → List Placed → Type 0
-AreFrom k [] = ⊤
-AreFrom k (p ∷ ps) = (p.source.number ≡ k) × AreFrom (k + 1) ps
+abbrev pub number_of : Placed → ℕ
+number_of p = p.source.number
 
-from_append : (k : ℕ) (ps qs : List Placed) → AreFrom k ps → AreFrom (k + length ps) qs → AreFrom k (ps ++ qs)
-from_append k [] qs are others = let same : k + 0 ≡ k = omega arith in subst (λ n. AreFrom n qs) same others
-from_append k (p ∷ ps) qs are others =
-    let same : k + suc (length ps) ≡ (k + 1) + length ps = omega arith in
-    (are.0, from_append (k + 1) ps qs are.1 (subst (λ n. AreFrom n qs) same others))
-
-pub are_from : (ancestors : List (Source × Forest Source)) (k : ℕ) (f : Forest held.Source) → AreFrom k (placed ancestors (numbered_by source_view k f))
+pub are_from : (ancestors : List (Source × Forest Source)) (k : ℕ) (f : Forest held.Source) → AreFrom number_of k (placed ancestors (numbered_by source_view k f))
 unfolding placed
 are_from ancestors k end = tt
 are_from ancestors k (node l below after) =
@@ -43,37 +36,9 @@ are_from ancestors k (node l below after) =
     let count = length_placed source_view ((s, inner) ∷ ancestors) (k + 1) below in
     let same : k + suc (size below) ≡ (k + 1) + length under = omega (arith, count) in (
       refl,
-      from_append (k + 1) under behind (are_from ((s, inner) ∷ ancestors) (k + 1) below)
-          (subst (λ n. AreFrom n behind) same (are_from ancestors (k + suc (size below)) after)),
+      from_append number_of (k + 1) under behind (are_from ((s, inner) ∷ ancestors) (k + 1) below)
+          (subst (λ n. AreFrom number_of n behind) same (are_from ancestors (k + suc (size below)) after)),
     )
-
-found_from : (k : ℕ) (ps : List Placed) → AreFrom k ps → (n : ℕ) → find (λ p. p.source.number == (k + n)) ps ≡ slice_get ps n
-found_from k [] are n = refl
-found_from k (p ∷ ps) are zero =
-    let same : p.source.number ≡ k + 0 = are.0 ∙ omega arith in
-    ap (λ b. cond b (Some p) (find (λ q. q.source.number == (k + 0)) ps)) ((Decides-eqb p.source.number (k + 0)).1 same)
-found_from k (p ∷ ps) are (suc n) =
-    let further : k + suc n ≡ (k + 1) + n = omega arith in
-    ap (λ b. cond b (Some p) (find (λ q. q.source.number == (k + suc n)) ps)) (differs (p.source.number == (k + suc n)) refl)
-    ∙ (ap (λ m. find (λ q. q.source.number == m) ps) further ∙ found_from (k + 1) ps are.1 n)
-  where
-    differs : (b : Bool) → (p.source.number == (k + suc n)) ≡ b → b ≡ false
-    differs false e = refl
-    differs true e = absurd (let same = (Decides-eqb p.source.number (k + suc n)).0 e in let own = are.0 in omega (arith, same, own))
-
-number_from : (k : ℕ) (ps : List Placed) → AreFrom k ps → (i : ℕ) → i < length ps → (d : Placed) → (get_or ps i d).source.number ≡ k + i
-number_from k [] are i within d = absurd (omega arith)
-number_from k (p ∷ ps) are zero within d = are.0 ∙ omega arith
-number_from k (p ∷ ps) are (suc i) within d = let same : (k + 1) + i ≡ k + suc i = omega arith in number_from (k + 1) ps are.1 i (omega arith) d ∙ same
-
-found_among : (n : ℕ) (p : Placed) (ps : List Placed) → find (λ q. q.source.number == n) ps ≡ Some p → Contains ps p × (p.source.number ≡ n)
-found_among n p [] e = absurd cc
-found_among n p (q ∷ qs) e = by (q.source.number == n) refl e (λ later. found_among n p qs later)
-  where
-    by : (b : Bool) → (q.source.number == n) ≡ b → cond b (Some q) (find (λ r. r.source.number == n) qs) ≡ Some p
-        → (find (λ r. r.source.number == n) qs ≡ Some p → Contains qs p × (p.source.number ≡ n)) → Contains (q ∷ qs) p × (p.source.number ≡ n)
-    by true is e rest = let same : q ≡ p = cc in ((0, omega arith, same), sym (ap (λ (r : Placed). r.source.number) same) ∙ (Decides-eqb q.source.number n).0 is)
-    by false is e rest = let found = rest e in let at = found.0 in let within = at.1 in ((suc at.0, omega (arith, within), at.2), found.1)
 
 -- ---- a set of modules
 
@@ -82,23 +47,15 @@ module _ (f : Forest held.Source) where
   modules = numbered_by source_view 0 f
 
   pub found_at : (n : ℕ) → statement_at modules n ≡ slice_get (statements_of modules) n
-  found_at n =
-      let plain : n ≡ 0 + n = omega arith in
-      ap (λ m. find (λ p. p.source.number == m) (statements_of modules)) plain ∙ found_from 0 (statements_of modules) (are_from [] 0 f) n
+  found_at n = found_by_number number_of (statements_of modules) (are_from [] 0 f) n
 
   -- each of its statements is the one that has its number
   pub stands_at : (p : Placed) → Contains (statements_of modules) p → statement_at modules p.source.number ≡ Some p
-  stands_at p at =
-      let ps = statements_of modules in
-      let within = at.1 in
-      let is = at.2 in
-      let plain : 0 + at.0 ≡ at.0 = omega arith in
-      let number : p.source.number ≡ at.0 = sym (ap (λ (q : Placed). q.source.number) is) ∙ (number_from 0 ps (are_from [] 0 f) at.0 within p ∙ plain) in
-      ap (statement_at modules) number ∙ (found_at at.0 ∙ (slice_get-get_or ps at.0 p within ∙ ap (λ q. Some q) is))
+  stands_at p at = found_again number_of (statements_of modules) (are_from [] 0 f) p at
 
   -- and is among them
   pub among_them : (n : ℕ) (p : Placed) → statement_at modules n ≡ Some p → Contains (statements_of modules) p × (p.source.number ≡ n)
-  among_them n p e = found_among n p (statements_of modules) e
+  among_them n p e = found_among number_of n p (statements_of modules) e
 
   pub number_named_at : (meanings : List (Option ℕ)) → AreMeanings meanings modules → (n : ℕ) → number_named modules n ≡ meaning_at meanings n
   number_named_at meanings are n =
@@ -138,7 +95,7 @@ below_them ancestors (node s below after) p q (suc k, within, is) inside =
 
 -- ---- edges
 
-pub edge_among : (h : Placed → Option Edge) (ps : List Placed) (p : Placed) (a b : ℕ) → Contains ps p → h p ≡ Some (record { source = a; target = b })
+pub edge_among : {A : Type 0} (h : A → Option Edge) (ps : List A) (p : A) (a b : ℕ) → Contains ps p → h p ≡ Some (record { source = a; target = b })
     → has_edge (filter_map h ps) a b ≡ true
 edge_among h [] p a b at e = absurd (let within = at.1 in omega (arith, within))
 edge_among h (q ∷ ps) p a b (zero, within, is) e = ap (λ o. has_edge (cons_option o (filter_map h ps)) a b) (ap h is ∙ e)

@@ -3,3 +3,4 @@ pub mod TableLemmas
 pub mod LayoutLemmas
 pub mod LabelLemmas
 pub mod ChildrenLemmas
+pub mod NumberLemmas

@@ -50,6 +50,18 @@ module_e = module_with (codes "e") (codes "list e { key id; unique in/x; leaf id
 abbrev pub module_p : Text
 module_p = module_with (codes "p") (codes "container c { container d { leaf y { type string; } } container p { presence there; leaf z { type uint8; default 3; } leaf w { type string; } } leaf-list to { type leafref { path /p:c/p:p/p:z; } } }")
 
+-- leafs with a default each, and a leaf-list with three; a schema of four nodes and two levels
+abbrev pub module_d : Text
+module_d = module_with (codes "d") (codes "leaf x { type uint8; default 5; } leaf y { type uint8; default 6; } container c { leaf-list z { type uint8; default 1; default 2; default 3; } }")
+
+-- a choice in a container; with it and its cases a schema of seven nodes and four levels
+abbrev pub module_c : Text
+module_c = module_with (codes "c") (codes "container a { choice how { case one { leaf x { type uint8; } leaf y { type uint8; } } leaf z { type uint8; } } }")
+
+-- a leaf, and items beside it and outside its container that refer to it
+abbrev pub module_r : Text
+module_r = module_with (codes "r") (codes "container a { leaf x { type uint8; } leaf-list in { type leafref { path /r:a/r:x; } } } leaf-list to { type leafref { path /r:a/r:x; } }")
+
 -- ---- documents
 
 abbrev pub entries : Text

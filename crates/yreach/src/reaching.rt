@@ -1,7 +1,7 @@
 //! What edits may read, worked out.
 
 ghost use Rattle.std.specs.Prelude.{◌≡◌, [], ◌∷◌, codes, Some};
-ghost use Rattle.yreach.specs.ReachSamples.{reaches_under, module_h, module_k, module_e, module_p, entries};
+ghost use Rattle.yreach.specs.ReachSamples.{reaches_under, module_h, module_k, module_e, module_p, module_d, module_c, module_r, entries};
 
 /// A leaf with a default, and items that refer to it: 64 for each part, pair, schema node, and for one more. A default that
 /// is in use in neither tree has no part in it.
@@ -57,6 +57,28 @@ pub fn containers()
         (codes "remove /p:c/p" ∷ codes "replace /p:c/p {\"z\":4}" ∷ []) ≡ Some 1248 ∷ Some 1728 ∷ [] }
     ensures defaults_outside { reaches_under module_p (codes "{\"p:c\":{\"p\":{},\"to\":[3,3,4]}}")
         (codes "create /p:c/p/z 3" ∷ codes "create /p:c/p/w \"\"" ∷ []) ≡ Some 1056 ∷ Some 864 ∷ [] }
+{}
+
+/// Levels are those of the schema, and as many as the node with the most defaults has: three of a leaf-list, whatever others have.
+pub fn defaults_of_one_node()
+    ensures most { reaches_under module_d (codes "{}") (codes "remove /d:x" ∷ codes "create /d:c {}" ∷ [])
+        ≡ Some 560 ∷ Some 784 ∷ [] }
+{}
+
+/// A choice and its cases count among the schema nodes below a container.
+pub fn choices()
+    ensures in_a_container { reaches_under module_c (codes "{}")
+        (codes "remove /c:a" ∷ codes "create /c:a {}" ∷ codes "create /c:a {\"z\":1}" ∷ [])
+        ≡ Some 768 ∷ Some 1440 ∷ Some 1536 ∷ [] }
+{}
+
+/// What refers to a shared value counts where it stays outside the parts; in a part it is counted as part of it alone.
+pub fn references_inside()
+    ensures put { reaches_under module_r (codes "{\"r:to\":[5,7,9]}") (codes "create /r:a {\"x\":5,\"in\":[5,5]}" ∷ [])
+        ≡ Some 768 ∷ [] }
+    ensures taken { reaches_under module_r (codes "{\"r:a\":{\"x\":7,\"in\":[7]},\"r:to\":[5,7,9]}")
+        (codes "replace /r:a {\"x\":5,\"in\":[5,5]}" ∷ codes "remove /r:a" ∷ [])
+        ≡ Some 1152 ∷ Some 704 ∷ [] }
 {}
 
 /// A refused edit has no parts, whatever is wrong: a name, a predicate, what isn't there above it or itself, what is there

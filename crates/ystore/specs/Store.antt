@@ -2,6 +2,7 @@
 use Rattle.std.specs.Prelude.{◌≡◌, ℕ, ◌+◌, ◌<◌, Bool, true, false, eqb, List, [], Option, Some, None, is_some, option_map, if◌then◌else◌, length, IfSome}
 use Rattle.std.specs.Option.{option_map_or}
 use Rattle.std.specs.Ordering.{is_eq}
+use Rattle.std.specs.declared.alloc.Global.{Global}
 use Rattle.std.specs.declared.cmp.Ordering.{Ordering}
 use Rattle.std.specs.BTreeMap as map
 use Rattle.slab.specs.Slab as slab
@@ -40,9 +41,17 @@ entry_in nodes key = map.get key_cmp nodes.index key
 abbrev pub entry_at : Nodes → Key → Option entries.Entry
 entry_at nodes key = entry_by key_cmp nodes.index key
 
+-- where it lies
+abbrev pub alloc : Nodes → Global
+alloc nodes = nodes.alloc
+
+-- how often it was lent to edits
+abbrev pub loans : Nodes → ℕ
+loans nodes = nodes.count.loans.calls
+
 -- how many reading calls there were
 abbrev pub reads : Nodes → ℕ
-reads nodes = nodes.count.calls
+reads nodes = nodes.count.reads.calls
 
 -- how many nodes are stored, and for how many more there is room
 abbrev pub node_count : Nodes → ℕ

@@ -1,6 +1,6 @@
 -- What contracts see of a `View`.
 use Rattle.ystore.specs.declared.nodes.Nodes.{Nodes}
-use Rattle.ystore.specs.declared.view.View.{View}
+use Rattle.ystore.specs.declared.nodes.view.View.{View}
 
 -- the store that it shows
 abbrev pub viewed : View → Nodes

@@ -1,7 +1,8 @@
-//! Keys that are the same.
+//! Keys that are the same, and what a loan leaves.
 
-ghost use Rattle.std.specs.Prelude.{◌≡◌, true};
-ghost use Rattle.ystore.specs.Store.{entry_at, same_key};
+ghost use Rattle.std.specs.Prelude.{◌≡◌, ◌+◌, ◌≤◌, true};
+ghost use Rattle.ystore.specs.Store.{alloc, entry_at, loans, reads, same_key};
+ghost use Rattle.ystore.specs.Views.{lent, new_loan, store_of};
 
 use crate::index::same_found;
 use crate::key::Key;
@@ -14,3 +15,13 @@ pub fn same_keys()
 {
     same_found::<Key>();
 }
+
+/// However long a store is lent, it lies where it lay, counts one loan more than before, and no fewer reading calls.
+pub fn kept_loans()
+    ensures alloc { (name : _) → (before : _) → (c : _) → lent c ≡ new_loan name before
+        → alloc (store_of c) ≡ alloc before }
+    ensures loans { (name : _) → (before : _) → (c : _) → lent c ≡ new_loan name before
+        → loans (store_of c) ≡ loans before + 1 }
+    ensures reads { (name : _) → (before : _) → (c : _) → lent c ≡ new_loan name before
+        → reads before ≤ reads (store_of c) }
+{}

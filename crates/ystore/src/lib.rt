@@ -2,7 +2,7 @@
 #![tactic(auto)]
 
 mod children;
-mod counted;
+mod count;
 mod entry;
 mod index;
 mod key;
@@ -10,12 +10,9 @@ mod laws;
 mod nodes;
 mod record;
 mod row;
-mod view;
 
-pub use counted::Counted;
 pub use key::Key;
-pub use laws::same_keys;
-pub use nodes::Nodes;
+pub use laws::{kept_loans, same_keys};
+pub use nodes::{Counted, Nodes, View};
 pub use record::{Absence, Judged, Label, Told};
 pub use row::{NodeId, Row};
-pub use view::View;

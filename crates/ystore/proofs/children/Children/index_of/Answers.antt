@@ -1,4 +1,4 @@
-use Rattle.std.proofs.Common.{rules, ◌≡◌, ◌+◌, ◌-◌, ◌<◌, ◌≤◌, Some, option_map, slice_get, arith, ap, ap₂, sym, ◌∙◌}
+use Rattle.std.proofs.Common.{rules, ◌≡◌, ◌+◌, ◌-◌, Some, option_map, slice_get, arith, ap, ap₂, sym, ◌∙◌}
 use Rattle.ystore.specs.Children.{nodes_of}
 use Rattle.ystore.specs.Rows.{of_schema}
 use Rattle.ystore.proofs.RowLemmas.{count_is, first_before_end, found_among, first_is, none_is, none_yet}

@@ -1,7 +1,7 @@
 use Rattle.std.proofs.Common.{rules, ◌≡◌, Some}
 use Rattle.ystore.specs.Store.{record_at}
 use Rattle.ystore.proofs.StoreLemmas.{on_ok, room_made}
-use Rattle.ystore.proofs.counted.Counted.reserve_child.Goals as goal
+use Rattle.ystore.proofs.nodes.counted.Counted.reserve_child.Goals as goal
 
 pub returns-in-Some-clause-ok : goal.returns-in-Some-clause-ok
 returns-in-Some-clause-ok c =

@@ -1,10 +1,10 @@
 //! What an edit may call of a store.
 
+use super::Nodes;
 use crate::children::Children;
 use crate::entry::Entry;
 use crate::index::await_at;
 use crate::key::Key;
-use crate::nodes::Nodes;
 use crate::record::{Absence, Judged, Label, Record, Told};
 use crate::row::{NodeId, Row};
 use std::alloc::{AllocError, Global};
@@ -15,7 +15,7 @@ use ytype::Raw;
 /// one number or one value of what is held there. No call answers more, and none lends the store.
 #[derive(Drop)]
 pub struct Counted<'a> {
-    pub(crate) nodes: &'a mut Nodes,
+    pub(super) nodes: &'a mut Nodes,
 }
 
 impl<'a> Counted<'a> {
@@ -40,12 +40,14 @@ impl<'a> Counted<'a> {
     pub fn node_count(&self) -> usize
         ensures { result ≡ store.node_count (store_of self.now) }
     {
-        self.nodes.records.len()
+        self.nodes.node_count()
     }
 
     /// Where the store lies.
-    pub fn alloc(&self) -> Global {
-        self.nodes.alloc
+    pub fn alloc(&self) -> Global
+        ensures { result ≡ store.alloc (store_of self.now) }
+    {
+        self.nodes.alloc()
     }
 
     // ---- reading calls on records
@@ -55,7 +57,7 @@ impl<'a> Counted<'a> {
         ensures schema { result ≡ option_map (λ l. l.schema) (store.label_at (store_of self.old) id) }
         ensures counted { IsRead self.old self.new }
     {
-        self.nodes.count.rise();
+        self.nodes.count.count_read();
         match self.nodes.record(Row::Below(id)) {
             Some(record) => record.schema(),
             None => None,
@@ -68,7 +70,7 @@ impl<'a> Counted<'a> {
             ≡ option_and_then (λ l. l.value) (store.label_at (store_of self.old) id) }
         ensures* counted { sem 𝓛 (EndsRead self.entry) }
     {
-        self.nodes.count.rise();
+        self.nodes.count.count_read();
         match self.nodes.record(Row::Below(id)) {
             Some(record) => record.value(),
             None => None,
@@ -80,7 +82,7 @@ impl<'a> Counted<'a> {
         ensures parent { result ≡ option_map (λ l. l.parent) (store.label_at (store_of self.old) id) }
         ensures counted { IsRead self.old self.new }
     {
-        self.nodes.count.rise();
+        self.nodes.count.count_read();
         match self.nodes.record(Row::Below(id)) {
             Some(record) => record.parent(),
             None => None,
@@ -92,7 +94,7 @@ impl<'a> Counted<'a> {
         ensures total { result ≡ store.total_at (store_of self.old) row }
         ensures counted { IsRead self.old self.new }
     {
-        self.nodes.count.rise();
+        self.nodes.count.count_read();
         match self.nodes.record(row) {
             Some(record) => record.total,
             None => 0,
@@ -104,7 +106,7 @@ impl<'a> Counted<'a> {
         ensures length { result ≡ length (store.play_at (store_of self.old) row) }
         ensures counted { IsRead self.old self.new }
     {
-        self.nodes.count.rise();
+        self.nodes.count.count_read();
         match self.nodes.record(row) {
             Some(record) => record.told.play.len(),
             None => 0,
@@ -116,7 +118,7 @@ impl<'a> Counted<'a> {
         ensures absence { result ≡ slice_get (store.play_at (store_of self.old) row) place }
         ensures counted { IsRead self.old self.new }
     {
-        self.nodes.count.rise();
+        self.nodes.count.count_read();
         match self.nodes.record(row) {
             Some(record) => record.told.play.get(place).copied(),
             None => None,
@@ -128,7 +130,7 @@ impl<'a> Counted<'a> {
         ensures count { result ≡ length (store.children_at (store_of self.old) row) }
         ensures counted { IsRead self.old self.new }
     {
-        self.nodes.count.rise();
+        self.nodes.count.count_read();
         match self.nodes.record(row) {
             Some(record) => record.children.as_slice().len(),
             None => 0,
@@ -141,7 +143,7 @@ impl<'a> Counted<'a> {
             ≡ option_map (λ c. c.1) (slice_get (store.children_at (store_of self.old) row) place) }
         ensures counted { IsRead self.old self.new }
     {
-        self.nodes.count.rise();
+        self.nodes.count.count_read();
         match self.nodes.record(row) {
             Some(record) => record.children.get(place),
             None => None,
@@ -154,7 +156,7 @@ impl<'a> Counted<'a> {
             ≡ slice_get (rows.of_schema schema (store.children_at (store_of self.old) row)) place }
         ensures counted { IsRead self.old self.new }
     {
-        self.nodes.count.rise();
+        self.nodes.count.count_read();
         match self.nodes.record(row) {
             Some(record) => record.children.get_of(schema, place),
             None => None,
@@ -167,7 +169,7 @@ impl<'a> Counted<'a> {
             ≡ length (rows.of_schema schema (store.children_at (store_of self.old) row)) }
         ensures counted { IsRead self.old self.new }
     {
-        self.nodes.count.rise();
+        self.nodes.count.count_read();
         match self.nodes.record(row) {
             Some(record) => record.children.count_of(schema),
             None => 0,
@@ -180,7 +182,7 @@ impl<'a> Counted<'a> {
             ≡ entries.place_of node (rows.of_schema schema (store.children_at (store_of self.old) row)) }
         ensures counted { IsRead self.old self.new }
     {
-        self.nodes.count.rise();
+        self.nodes.count.count_read();
         match self.nodes.record(row) {
             Some(record) => record.children.index_of(schema, node),
             None => 0,
@@ -194,7 +196,7 @@ impl<'a> Counted<'a> {
         ensures count { result ≡ store.instances_at (store_of self.old) key.now }
         ensures counted { IsRead self.old self.new }
     {
-        self.nodes.count.rise();
+        self.nodes.count.count_read();
         match self.nodes.entry(key) {
             Some(entry) => entry.instances(),
             None => 0,
@@ -206,7 +208,7 @@ impl<'a> Counted<'a> {
         ensures count { result ≡ length (store.holders_at (store_of self.old) key.now) }
         ensures counted { IsRead self.old self.new }
     {
-        self.nodes.count.rise();
+        self.nodes.count.count_read();
         match self.nodes.entry(key) {
             Some(entry) => entry.nodes().len(),
             None => 0,
@@ -218,7 +220,7 @@ impl<'a> Counted<'a> {
         ensures holder { result ≡ slice_get (store.holders_at (store_of self.old) key.now) place }
         ensures counted { IsRead self.old self.new }
     {
-        self.nodes.count.rise();
+        self.nodes.count.count_read();
         match self.nodes.entry(key) {
             Some(entry) => entry.nodes().get(place).copied(),
             None => None,

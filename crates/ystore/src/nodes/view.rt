@@ -1,6 +1,6 @@
 //! What a store holds, without a count.
 
-use crate::nodes::Nodes;
+use super::Nodes;
 use crate::record::{Absence, Judged};
 use crate::row::{NodeId, Row};
 use ymodel::SchemaId;
@@ -9,7 +9,7 @@ use ytype::Raw;
 /// A store that is only read. Its reads aren't counted.
 #[derive(Clone, Copy)]
 pub struct View<'a> {
-    pub(crate) nodes: &'a Nodes,
+    pub(super) nodes: &'a Nodes,
 }
 
 impl<'a> View<'a> {
@@ -23,7 +23,7 @@ impl<'a> View<'a> {
     pub fn node_count(self) -> usize
         ensures { result ≡ store.node_count (viewed self.entry) }
     {
-        self.nodes.records.len()
+        self.nodes.node_count()
     }
 
     /// The nodes of a row, each with its schema node, by which they ascend.
