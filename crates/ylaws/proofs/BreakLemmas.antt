@@ -1,13 +1,13 @@
 -- The least of a list of breaks is one of them, and none of them comes before it.
-use Rattle.std.proofs.Common.{◌≡◌, Decides, ℕ, zero, suc, ◌≤◌, ◌<◌, Bool, true, false, cond, List, [], ◌∷◌, ◌++◌, Option, Some, None, ◌⊎◌, inl, inr, refl, sym, ap, subst, ◌∙◌, arith}
-use Rattle.std.specs.Prelude.{◌↔◌, ◌&&◌, ◌||◌, ◌==◌, nat_lt}
+use Rattle.std.proofs.Common.{◌≡◌, Decides, ℕ, zero, suc, ◌≤◌, ◌<◌, Bool, true, false, cond, List, [], ◌∷◌, Some, None, ◌⊎◌, inl, inr, refl, sym, ap, subst, ◌∙◌, arith}
+use Rattle.std.specs.Prelude.{◌↔◌, ◌==◌, nat_lt}
 use Rattle.std.specs.List.{All, Contains}
 use Rattle.std.proofs.lemmas.Bool.{cases_lt, false≢true}
 use Rattle.std.proofs.lemmas.Bool.Decides.{Decides-eqb, Decides-ltb, Decides-or, Decides-and}
 use Rattle.std.proofs.lemmas.Option.{same_Some}
 use Rattle.std.proofs.lemmas.List.Elements.{All-cons, All-nil, All-head, All-tail}
 use Rattle.yspec.specs.schema.Breaks.{Break, first_broken, is_before, least_from, lesser, or_told}
-use Rattle.yspec.proofs.LinkingProofs.BreakLemmas.{some_told, none_told}
+use Rattle.yspec.proofs.LinkingProofs.BreakLemmas.{none_told}
 use Rattle.ylaws.specs.Told.{IsFirstAndLeast}
 
 -- ---- the order

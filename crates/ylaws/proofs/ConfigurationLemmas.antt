@@ -1,19 +1,19 @@
 -- Under a schema without state nothing is left out of a document, and nothing is told of state.
-use Rattle.std.proofs.Common.{◌≡◌, ℕ, suc, ◌<◌, ◌≤◌, ◌+◌, Bool, true, false, cond, not, List, [], ◌∷◌, ◌++◌, Option, Some, None, refl, sym, ap, ap₂, ◌∙◌, subst, arith}
-use Rattle.std.specs.Prelude.{◌↔◌, ◌==◌, ◌&&◌}
+use Rattle.std.proofs.Common.{◌≡◌, ℕ, ◌≤◌, ◌+◌, Bool, true, false, cond, not, List, [], ◌∷◌, ◌++◌, Option, Some, None, refl, sym, ap, ap₂, ◌∙◌, arith}
+use Rattle.std.specs.Prelude.{◌↔◌, ◌==◌}
 use Rattle.std.specs.List.{list_all}
 use Rattle.std.specs.Option.{option_map_or}
 use Rattle.std.proofs.lemmas.Bool.{and_parts, false≢true}
 use Rattle.std.proofs.lemmas.Bool.Decides.{Decides-eqb}
 use Rattle.std.proofs.lemmas.List.Folds.{list_all-append}
 use Rattle.yspec.specs.Forest.{Forest, end, node, size, preorder, relabelled, find_label, first_of}
-use Rattle.yspec.specs.schema.Schema.{Schema, SchemaNode, node_at}
+use Rattle.yspec.specs.schema.Schema.{Schema, SchemaNode}
 use Rattle.yspec.specs.schema.Configuration.{asked_node, configuration_schema, unasked}
 use Rattle.yspec.specs.document.Document.{Tree, Stored, Step, step_at, step_to}
 use Rattle.yspec.specs.document.Fault.{Fault, plain_fault}
 use Rattle.yspec.specs.document.FaultCode.{V12}
 use Rattle.yspec.specs.document.Faults.{faults_of}
-use Rattle.yspec.specs.document.StateData.{Inspected, inspected, is_state, configuration_tree, state_faults, state_faults_in, state_told, step_behind, position_behind, is_many_at}
+use Rattle.yspec.specs.document.StateData.{inspected, is_state, configuration_tree, state_faults, state_faults_in, state_told, step_behind, position_behind, is_many_at}
 use Rattle.yspec.proofs.LinkingProofs.BreakLemmas.{none_first, none_second}
 use Rattle.ylaws.specs.Stateless.{HasNoState}
 

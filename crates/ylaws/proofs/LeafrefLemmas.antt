@@ -1,5 +1,5 @@
 -- The type of a planned node is found within as many leafrefs as there are nodes, or in no number of them.
-use Rattle.std.proofs.Common.{◌≡◌, ℕ, zero, suc, ◌+◌, ◌≤◌, ◌<◌, Bool, true, false, cond, List, [], ◌∷◌, ◌++◌, length, Option, Some, None, refl, sym, ap, ap₂, ◌∙◌, arith, subst, length-append}
+use Rattle.std.proofs.Common.{◌≡◌, ℕ, zero, suc, ◌+◌, ◌≤◌, Bool, true, false, cond, List, [], ◌∷◌, length, Option, Some, None, refl, sym, ap, ap₂, ◌∙◌, arith, subst, length-append}
 use Rattle.std.specs.Prelude.{◌==◌, ◌||◌, ◌&&◌, filter, find, map, option_map, option_and_then, slice_get}
 use Rattle.std.specs.List.{Contains, filter_map, cons_option}
 use Rattle.std.specs.Option.{option_map_or}
@@ -21,7 +21,7 @@ use Rattle.ygraph.specs.Reaching.{leads, has_edge, HasEdge, Reaches, here, along
 use Rattle.ygraph.proofs.ReachingLaws.{circle_leads}
 use Rattle.ypreorder.proofs.NumberLemmas.{AreFrom, from_append, found_among, stands_there, found_at as found_by_number}
 use Rattle.ynames.proofs.PlacedLemmas.{edge_among}
-use Rattle.ylaws.proofs.RankLemmas.{rank, rank_most, settled, IsStraight}
+use Rattle.ylaws.proofs.RankLemmas.{rank_most, settled, IsStraight}
 
 -- ---- lists
 

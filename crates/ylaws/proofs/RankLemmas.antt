@@ -1,12 +1,11 @@
 -- How many edges are still to be gone from a node falls along each edge that lies on no circle, and so bounds a recursion that
 -- follows such edges.
 use Rattle.std.proofs.Common.{◌≡◌, ℕ, zero, suc, ◌+◌, ◌≤◌, ◌<◌, Bool, true, false, cond, List, [], ◌∷◌, length, refl, sym, ap, ◌∙◌, arith}
-use Rattle.std.specs.Prelude.{◌==◌, ◌||◌}
+use Rattle.std.specs.Prelude.{◌||◌}
 use Rattle.std.specs.List.{list_any}
 use Rattle.std.proofs.lemmas.Bool.{false≢true}
-use Rattle.std.proofs.lemmas.Bool.Decides.{Decides-eqb}
 use Rattle.yspec.specs.linking.Graph.{Edge, is_on_circle}
-use Rattle.ygraph.specs.Reaching.{leads, has_edge, HasEdge, Reaches, here, along}
+use Rattle.ygraph.specs.Reaching.{leads, HasEdge, here, along}
 use Rattle.ygraph.proofs.ReachingLaws.{circle_leads, leads_circle, edge_first}
 
 -- ---- how many of a list pass a test

@@ -1,5 +1,5 @@
 -- Under modules without state a run prints the same with `--config` and without.
-use Rattle.std.proofs.Common.{◌≡◌, ℕ, suc, ◌+◌, Bool, true, false, cond, List, [], ◌∷◌, ◌++◌, length, map, Option, Some, None, Result, Ok, Err, refl, sym, ap, ◌∙◌, arith}
+use Rattle.std.proofs.Common.{◌≡◌, ℕ, ◌+◌, Bool, true, false, List, [], ◌∷◌, ◌++◌, length, map, Option, Some, None, Result, Ok, Err, refl, sym, ap, ◌∙◌, arith}
 use Rattle.std.specs.Prelude.{◌==◌, ◌&&◌, if◌then◌else◌}
 use Rattle.std.specs.Option.{option_map_or}
 use Rattle.yspec.specs.text.Text.{Text}
@@ -10,7 +10,7 @@ use Rattle.yspec.specs.document.StateData.{Inspected}
 use Rattle.yrepeated.specs.Repeated.{repeated_in}
 use Rattle.yprogram.specs.Part.{Part}
 use Rattle.yprogram.specs.Script.{after_lines, lines_of, refused_lines}
-use Rattle.yprogram.specs.Output.{Options, Outcome, Request, edit, edited, first_file, nothing, other_files, outcome, performed, repeated_document, report, saved_by, text_instead, text_parts, unless_repeated, validate, with_contents, with_document, with_files, with_first, with_tree}
+use Rattle.yprogram.specs.Output.{Options, Outcome, Request, edit, edited, first_file, nothing, other_files, outcome, performed, repeated_document, report, saved_by, text_instead, text_parts, unless_repeated, validate, with_document, with_files, with_first, with_tree}
 use Rattle.ylaws.specs.Stateless.{Give, HasNoState, looking}
 use Rattle.ylaws.proofs.ConfigurationLemmas.{same_inspected}
 

@@ -5,14 +5,14 @@ use Rattle.std.specs.List.{Contains, filter_map, cons_option}
 use Rattle.std.specs.Option.{option_map_or}
 use Rattle.yspec.specs.Forest.{Forest, end, node, join, size}
 use Rattle.yspec.specs.text.Statement.{Statement}
-use Rattle.yspec.specs.linking.Keyword.{Keyword, typedef_word, type_word}
+use Rattle.yspec.specs.linking.Keyword.{Keyword, typedef_word}
 use Rattle.yspec.specs.linking.Source.{Source, is_source_of, kept, numbered, sources_from, sources_of}
-use Rattle.yspec.specs.linking.Scopes.{Placed, placed, statements_of, statement_at, meaning, kind_named, names_built_in, definition_named}
+use Rattle.yspec.specs.linking.Scopes.{Placed, placed, statements_of, statement_at, kind_named, names_built_in, definition_named}
 use Rattle.yspec.specs.linking.Arguments.{name_of}
 use Rattle.yspec.specs.linking.Source.{argument_in}
 use Rattle.yspec.specs.linking.Graph.{Edge}
 use Rattle.yspec.specs.linking.Circles.{definition_circles, definition_edge, definition_edges, referring}
-use Rattle.yspec.specs.linking.DerivedTypes.{Known, unknown, named, known_in_row, known_within, typedef_row}
+use Rattle.yspec.specs.linking.DerivedTypes.{unknown, named, known_in_row, known_within, typedef_row}
 use Rattle.yspec.proofs.LinkingProofs.KeywordLemmas.{same_is}
 use Rattle.ygraph.specs.Reaching.{HasEdge}
 use Rattle.ypreorder.proofs.NumberLemmas.{AreFrom, from_append, found_among}
