@@ -9,6 +9,7 @@ use Rattle.std.proofs.lemmas.List.Elements.{All-cons, All-nil, All-head, All-tai
 use Rattle.yspec.specs.schema.Breaks.{Break, first_broken, is_before, least_from, lesser, or_told}
 use Rattle.yspec.proofs.LinkingProofs.BreakLemmas.{none_told}
 use Rattle.ylaws.specs.Told.{IsFirstAndLeast}
+use Rattle.ylaws.proofs.ListLemmas.{first_of, later_of}
 
 -- ---- the order
 
@@ -124,23 +125,17 @@ least_up_to (b ∷ bs) a told e =
       All-cons (λ c. is_before c told ≡ false) b bs (up_to told lower b rest.0 (lesser_second a b)) rest.1,
     )
 
-first_of : (b told : Break) (bs : List Break) → b ≡ told → Contains (b ∷ bs) told
-first_of b told bs e = (0, omega arith, e)
-
-later_of : (b told : Break) (bs : List Break) → Contains bs told → Contains (b ∷ bs) told
-later_of b told bs at = let within = at.1 in (suc at.0, omega (arith, within), at.2)
-
 one_from : (bs : List Break) (a told : Break) → least_from (Some a) bs ≡ Some told → Contains (a ∷ bs) told
-one_from [] a told e = first_of a told [] (same_Some a told e)
+one_from [] a told e = first_of told a [] (same_Some a told e)
 one_from (b ∷ bs) a told e = by (one_from bs (lesser (Some a) b) told e)
   where
     of_two : (a ≡ told) ⊎ (b ≡ told) → Contains (a ∷ b ∷ bs) told
-    of_two (inl is) = first_of a told (b ∷ bs) is
-    of_two (inr is) = later_of a told (b ∷ bs) (first_of b told bs is)
+    of_two (inl is) = first_of told a (b ∷ bs) is
+    of_two (inr is) = later_of told a (b ∷ bs) (first_of told b bs is)
 
     by : Contains (lesser (Some a) b ∷ bs) told → Contains (a ∷ b ∷ bs) told
     by (zero, within, is) = of_two (one_of_two a b told is)
-    by (suc k, within, is) = later_of a told (b ∷ bs) (later_of b told bs (k, omega (arith, within), is))
+    by (suc k, within, is) = later_of told a (b ∷ bs) (later_of told b bs (k, omega (arith, within), is))
 
 -- ---- phases
 

@@ -1,3 +1,4 @@
+mod ListLemmas
 mod BreakLemmas
 mod TurnLemmas
 mod RankLemmas

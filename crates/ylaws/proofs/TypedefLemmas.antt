@@ -1,7 +1,6 @@
 -- Where no definition refers to itself, what a typedef means is found in as many steps as there are statements.
-use Rattle.std.proofs.Common.{◌≡◌, ℕ, zero, suc, ◌+◌, ◌≤◌, ◌<◌, Bool, true, false, cond, List, [], ◌∷◌, ◌++◌, length, Option, Some, None, refl, sym, ap, ap₂, ◌∙◌, arith, subst, length-append, append_assoc}
+use Rattle.std.proofs.Common.{◌≡◌, ℕ, zero, suc, ◌+◌, ◌<◌, Bool, true, false, cond, List, [], ◌∷◌, ◌++◌, length, Option, Some, None, refl, sym, ap, ap₂, ◌∙◌, arith, subst, length-append, append_assoc}
 use Rattle.std.specs.Prelude.{option_map, option_and_then}
-use Rattle.std.specs.List.{Contains, filter_map, cons_option}
 use Rattle.std.specs.Option.{option_map_or}
 use Rattle.yspec.specs.Forest.{Forest, end, node, join, size}
 use Rattle.yspec.specs.text.Statement.{Statement}
@@ -19,6 +18,7 @@ use Rattle.ypreorder.proofs.NumberLemmas.{AreFrom, from_append, found_among}
 use Rattle.ynames.proofs.PlacedLemmas.{number_of}
 use Rattle.ylink.proofs.KnownLemmas.{same_known}
 use Rattle.ylink.proofs.OrderLemmas.{straight}
+use Rattle.ylaws.proofs.ListLemmas.{fewer}
 use Rattle.ylaws.proofs.RankLemmas.{rank, rank_most, settled, IsStraight}
 
 -- ---- statements have the numbers from 0 on
@@ -89,28 +89,6 @@ no_edge modules p is =
     by true none = refl
     by false none = ap (option_and_then (λ kind. option_and_then (definition_named modules kind p) (name_of (argument_in p.source)))) none
 
-module _ (edge : Placed → Option Edge) where
-  no_more : (ps : List Placed) → length (filter_map edge ps) ≤ length ps
-  no_more [] = omega arith
-  no_more (p ∷ ps) = by (edge p) (no_more ps)
-    where
-      by : (o : Option Edge) → length (filter_map edge ps) ≤ length ps → length (cons_option o (filter_map edge ps)) ≤ suc (length ps)
-      by None rest = omega (arith, rest)
-      by (Some e) rest = omega (arith, rest)
-
-  fewer_edges : (ps : List Placed) (p : Placed) → Contains ps p → edge p ≡ None → length (filter_map edge ps) < length ps
-  fewer_edges [] p at none = absurd (let within = at.1 in omega (arith, within))
-  fewer_edges (q ∷ ps) p (zero, within, is) none =
-      let rest = no_more ps in
-      let same : filter_map edge (q ∷ ps) ≡ filter_map edge ps = ap (λ o. cons_option o (filter_map edge ps)) (ap edge is ∙ none) in
-      let few : length (filter_map edge (q ∷ ps)) ≡ length (filter_map edge ps) = ap (λ es. length es) same in
-      omega (arith, rest, few)
-  fewer_edges (q ∷ ps) p (suc k, within, is) none = by (edge q) (fewer_edges ps p (k, omega (arith, within), is) none)
-    where
-      by : (o : Option Edge) → length (filter_map edge ps) < length ps → length (cons_option o (filter_map edge ps)) < suc (length ps)
-      by None rest = omega (arith, rest)
-      by (Some e) rest = omega (arith, rest)
-
 -- ---- steps
 
 module _ (set : Forest Source) (numbers : AreFrom number_of 0 (statements_of set)) (apart : definition_circles set ≡ []) where
@@ -141,7 +119,7 @@ module _ (set : Forest Source) (numbers : AreFrom number_of 0 (statements_of set
           of_word false other e = absurd cc
           of_word true typedef e =
               let inside = (found_among number_of d p (statements_of set) at).0 in
-              let few = fewer_edges (definition_edge set) (statements_of set) p inside (no_edge set p typedef) in
+              let few = fewer (definition_edge set) (statements_of set) p inside (no_edge set p typedef) in
               let most = rank_most edges d in
               let count = length_placed [] set in
               omega (arith, few, most, count)
