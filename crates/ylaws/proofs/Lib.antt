@@ -6,3 +6,4 @@ mod TypedefLemmas
 mod LeafrefLemmas
 mod ConfigurationLemmas
 mod SameRunLemmas
+mod NameLemmas
