@@ -7,3 +7,4 @@ mod LeafrefLemmas
 mod ConfigurationLemmas
 mod SameRunLemmas
 mod NameLemmas
+mod KeptLemmas

@@ -1,10 +1,10 @@
 //! What is left once things were done in turn, each as soon as it is ready.
 
-ghost use Rattle.std.specs.Prelude.{◌≡◌, ◌≤◌, ℕ, Bool, List, length, false};
-ghost use Rattle.std.specs.List.{All};
+ghost use Rattle.std.specs.Prelude.{◌≡◌, ◌≤◌, ◌⊎◌, ℕ, Bool, List, length, false, true};
+ghost use Rattle.std.specs.List.{All, Contains};
 ghost use Rattle.yspec.specs.Forest.{Forest};
 ghost use Rattle.yspec.specs.linking.Source.{Source};
-ghost use Rattle.yspec.specs.linking.Augments.{augmented, in_turn, is_ready};
+ghost use Rattle.yspec.specs.linking.Augments.{Augment, augmented, augments_of, in_turn, is_ready};
 
 /// Where there are as many turns as things that wait, nothing that is left in the end is ready by then.
 pub fn left_in_turn<S, A>()
@@ -17,4 +17,11 @@ pub fn left_in_turn<S, A>()
 pub fn augments_left()
     ensures { (modules : Forest Source) → All
         (λ a. is_ready modules (augmented modules).0 a ≡ false) (augmented modules).1 }
+{}
+
+/// Each augment of a set of modules is left, or has in the end a target which may take what it adds: none is lost, and what
+/// others add takes no target away.
+pub fn augments_kept()
+    ensures { (modules : Forest Source) (a : Augment) → Contains (augments_of modules) a
+        → Contains (augmented modules).1 a ⊎ (is_ready modules (augmented modules).0 a ≡ true) }
 {}
