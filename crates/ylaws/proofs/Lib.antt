@@ -8,3 +8,5 @@ mod ConfigurationLemmas
 mod SameRunLemmas
 mod NameLemmas
 mod KeptLemmas
+mod WayLemmas
+mod ListedLemmas

@@ -1,3 +1,4 @@
 -- The words of the laws.
 pub mod Told
 pub mod Stateless
+pub mod Listed
