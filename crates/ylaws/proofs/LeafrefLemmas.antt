@@ -15,6 +15,7 @@ use Rattle.yspec.specs.linking.Compiling.{plan_of}
 use Rattle.yspec.specs.linking.Planned.{at_top}
 use Rattle.yspec.specs.linking.Augments.{augmented}
 use Rattle.yspec.specs.linking.Prefixes.{node_name}
+use Rattle.yspec.proofs.LinkingProofs.LinkedLemmas.{planned-size}
 use Rattle.ygraph.specs.Reaching.{HasEdge, Reaches, here, along}
 use Rattle.ygraph.proofs.ReachingLaws.{circle_leads}
 use Rattle.ypreorder.proofs.NumberLemmas.{AreFrom, from_append, found_among, stands_there, found_at as found_by_number}
@@ -29,12 +30,6 @@ length-preorder end = refl
 length-preorder (node l below after) =
     ap suc (length-append (preorder below) (preorder after) ∙ ap₂ (λ m n. m + n) (length-preorder below) (length-preorder after))
 
-size_planned : (k : ℕ) (around : Around) (f : Forest Part) → size (planned k around f) ≡ size f
-unfolding planned
-size_planned k around end = refl
-size_planned k around (node p below after) =
-    ap₂ (λ a b. suc (a + b)) (size_planned (k + 1) (around_below k around p) below) (size_planned (k + suc (size below)) around after)
-
 abbrev number_of : Planned → ℕ
 number_of p = p.number
 
@@ -45,7 +40,7 @@ planned_from k around (node p below after) =
     let under = planned (k + 1) (around_below k around p) below in
     let behind = planned (k + suc (size below)) around after in
     let count = length-preorder under in
-    let few = size_planned (k + 1) (around_below k around p) below in
+    let few = planned-size (k + 1) (around_below k around p) below in
     let same : k + suc (size below) ≡ (k + 1) + length (preorder under) = omega (arith, count, few) in (
       refl,
       from_append number_of (k + 1) (preorder under) (preorder behind) (planned_from (k + 1) (around_below k around p) below)

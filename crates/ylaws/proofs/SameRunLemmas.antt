@@ -1,5 +1,5 @@
 -- Under modules without state a run prints the same with `--config` and without.
-use Rattle.std.proofs.Common.{◌≡◌, ℕ, ◌+◌, Bool, true, false, List, [], ◌∷◌, ◌++◌, length, map, Option, Some, None, Result, Ok, Err, refl, sym, ap, ◌∙◌, arith}
+use Rattle.std.proofs.Common.{◌≡◌, ℕ, ◌+◌, Bool, true, false, List, [], ◌∷◌, ◌++◌, length, map, Option, Some, None, Result, Ok, Err, refl, sym, ap, ◌∙◌, subst, arith}
 use Rattle.std.specs.Prelude.{◌==◌, ◌&&◌, if◌then◌else◌}
 use Rattle.std.specs.Option.{option_map_or}
 use Rattle.yspec.specs.text.Text.{Text}
@@ -11,7 +11,8 @@ use Rattle.yrepeated.specs.Repeated.{repeated_in}
 use Rattle.yprogram.specs.Part.{Part}
 use Rattle.yprogram.specs.Script.{after_lines, lines_of, refused_lines}
 use Rattle.yprogram.specs.Output.{Options, Outcome, Request, edit, edited, first_file, nothing, other_files, outcome, performed, repeated_document, report, saved_by, text_instead, text_parts, unless_repeated, validate, with_document, with_files, with_first, with_tree}
-use Rattle.ylaws.specs.Stateless.{Give, HasNoState, looking}
+use Rattle.yprogram.proofs.RunLemmas.{IsReport, is_compiled}
+use Rattle.ylaws.specs.Stateless.{Give, HasNoState, IsGiven, looking}
 use Rattle.ylaws.proofs.ConfigurationLemmas.{same_inspected}
 
 -- ---- files
@@ -97,6 +98,23 @@ module _ (schema : Schema) where
       unfolding outcome
       edited_same script = same_outcome (edit (looking true options) document script names) (edit (looking false options) document script names)
           names (document ∷ script ∷ []) contents more count (same_performed (λ files. lines_of (first_file files)))
+
+-- ---- modules under which a run reports
+
+given_by : (options : Options) (document : Text) (names : List Text) (contents more : List (List ℕ)) → length contents ≡ length names
+    → IsReport (with_files (document ∷ []) (map Some more) (λ rest. performed (validate options document names) (contents ++ rest))) → IsGiven names contents
+given_by options document names contents [] count shown = absurd (omega (arith, shown))
+given_by options document names contents (bytes ∷ more) count shown =
+    let next : Schema → Tree → List (List ℕ) → Outcome = λ schema tree files. edited options schema tree [] in
+    let code = is_compiled names contents (bytes ∷ []) (with_first options.is_strict document next) count shown in
+    (code.schema, (code.top, code.compiles), code.is)
+
+pub given_where_reported : (options : Options) (document : Text) (names : List Text) (contents more : List (List ℕ)) → length contents ≡ length names
+    → IsReport (outcome (validate options document names) (map Some (contents ++ more))) → IsGiven names contents
+unfolding outcome
+given_where_reported options document names contents more count shown =
+    given_by options document names contents more count
+    (subst IsReport (all_read names (document ∷ []) contents more (performed (validate options document names)) count) shown)
 
 pub same_validated : (options : Options) (document : Text) (names : List Text) (contents more : List (List ℕ)) (schema : Schema)
     → length contents ≡ length names → Give names contents schema → HasNoState schema

@@ -4,6 +4,7 @@ use Rattle.std.specs.List.{list_all}
 use Rattle.yspec.specs.Forest.{preorder}
 use Rattle.yspec.specs.text.Text.{Text}
 use Rattle.yspec.specs.schema.Schema.{Schema}
+use Rattle.yspec.specs.linking.Compiling.{IsCompiled}
 use Rattle.yprogram.specs.Output.{Options, Outcome, with_schema}
 
 -- all nodes are configuration
@@ -14,6 +15,10 @@ HasNoState schema = list_all (λ n. n.config) (preorder schema.nodes) ≡ true
 abbrev pub Give : List Text → List (List ℕ) → Schema → Type 0
 Give names contents schema =
     (files : List (List ℕ)) (next : Schema → List (List ℕ) → Outcome) → with_schema names (contents ++ files) next ≡ next schema files
+
+-- some schema, of a set that compiles
+abbrev pub IsGiven : List Text → List (List ℕ) → Type 0
+IsGiven names contents = (schema : Schema) × IsCompiled schema × Give names contents schema
 
 -- some words of a command line, with `--config` or without
 abbrev pub looking : Bool → Options → Options
