@@ -43,7 +43,7 @@ module _ {E : ℕ → ℕ → Type 0} where
   one_more e here = by_one e
   one_more e (along f r) = by_more e (one_more f r)
 
-  first_edge : {a c : ℕ} → Derives E a c → (b : ℕ) × E a b × Reaches E b c
+  pub first_edge : {a c : ℕ} → Derives E a c → (b : ℕ) × E a b × Reaches E b c
   first_edge (by_one {b = b} e) = (b, e, here)
   first_edge (by_more {b = b} e d) = let r = first_edge d in (b, e, along r.1 r.2)
 

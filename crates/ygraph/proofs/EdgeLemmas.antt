@@ -38,7 +38,7 @@ mapped : (E F : ℕ → ℕ → Type 0) → ((a b : ℕ) → E a b → F a b) �
 mapped E F more a b here = here
 mapped E F more a b (along {b = c} e r) = along (more a c e) (mapped E F more c b r)
 
-bool_same : (x y : Bool) → (x ≡ true → y ≡ true) → (y ≡ true → x ≡ true) → x ≡ y
+pub bool_same : (x y : Bool) → (x ≡ true → y ≡ true) → (y ≡ true → x ≡ true) → x ≡ y
 bool_same true y f g = sym (f refl)
 bool_same false false f g = refl
 bool_same false true f g = g refl

@@ -8,3 +8,4 @@ mod RankLemmas
 mod WorkLemmas
 mod EdgeLemmas
 mod DerivationLaws
+mod MarkLemmas

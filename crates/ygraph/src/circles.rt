@@ -38,7 +38,7 @@ fn covering(count: usize, edge: &Edge) -> usize
 }
 
 /// One more than the greatest number of a node.
-fn node_count(edges: &[Edge]) -> usize
+pub(crate) fn node_count(edges: &[Edge]) -> usize
     ensures { AreWithin result edges.now }
 {
     let mut count = 0;
