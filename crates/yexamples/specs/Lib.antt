@@ -5,6 +5,7 @@ pub mod CompilingSamples
 pub mod ScopeSamples
 pub mod ExpansionSamples
 pub mod AugmentSamples
+pub mod IdentitySamples
 pub mod TableSamples
 pub mod DiagramExamples
 pub mod CornerExamples

@@ -5,7 +5,7 @@ use Rattle.yspec.specs.Forest.{Forest}
 use Rattle.yspec.specs.text.Text.{Text}
 use Rattle.yspec.specs.edit.Examples.{module_text}
 use Rattle.yspec.specs.schema.Breaks.{Break, first_broken}
-use Rattle.yspec.specs.linking.Source.{Source, sources_of}
+use Rattle.yspec.specs.linking.Source.{Source, Stated, sources_of}
 use Rattle.yexamples.specs.LinkingSamples.{statements_in, told_of}
 use Rattle.yspec.specs.linking.TypeStatements.{Meant}
 use Rattle.yspec.specs.linking.Scopes.{Placed, statement_at, meaning}
@@ -45,7 +45,7 @@ abbrev pub type_at : List Text → ℕ → Option Meant
 type_at texts number = type_meant (sources_in texts) number
 
 abbrev pub default_at : List Text → ℕ → Option Text
-default_at texts number = asked_at (λ modules p. default_meant modules p.source) texts number
+default_at texts number = option_map (λ (t : Stated). t.text) (asked_at (λ modules p. default_meant modules p.source) texts number)
 
 -- ---- chains of typedefs, each of the one before
 

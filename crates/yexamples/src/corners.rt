@@ -63,7 +63,7 @@ pub fn all_nodes()
 
 /// The table of statements: the form of each argument, and how many there may be of each substatement.
 pub fn table()
-    ensures { table_text keywords ≡ codes "module identifier: yang-version 1 namespace 1 prefix 1 import * organization ? contact ? revision * extension * augment * description ? reference ? typedef * grouping * uses * container * leaf * leaf-list * list * choice *\n"
+    ensures { table_text keywords ≡ codes "module identifier: yang-version 1 namespace 1 prefix 1 import * organization ? contact ? revision * extension * augment * identity * description ? reference ? typedef * grouping * uses * container * leaf * leaf-list * list * choice *\n"
         ++ (codes "yang-version text:\n"
         ++ (codes "namespace text:\n"
         ++ (codes "prefix identifier:\n"
@@ -86,7 +86,7 @@ pub fn table()
         ++ (codes "case identifier: uses * container * leaf * leaf-list * list * choice * status ? description ? reference ?\n"
         ++ (codes "uses name: refine * status ? description ? reference ?\n"
         ++ (codes "refine relative path: default * mandatory ? presence ? config ? min-elements ? max-elements ? description ? reference ?\n"
-        ++ (codes "type name: fraction-digits ? range ? length ? enum * bit * path ? require-instance ? type *\n"
+        ++ (codes "type name: fraction-digits ? range ? length ? enum * bit * path ? require-instance ? type * base *\n"
         ++ (codes "fraction-digits digits:\n"
         ++ (codes "range ranges: error-message ? error-app-tag ? description ? reference ?\n"
         ++ (codes "length ranges: error-message ? error-app-tag ? description ? reference ?\n"
@@ -108,7 +108,9 @@ pub fn table()
         ++ (codes "ordered-by order:\n"
         ++ (codes "status status:\n"
         ++ (codes "key names:\n"
-        ++ (codes "unique relative paths:\n"))))))))))))))))))))))))))))))))))))))))))))) }
+        ++ (codes "unique relative paths:\n"
+        ++ (codes "identity identifier: base * status ? description ? reference ?\n"
+        ++ (codes "base name:\n"))))))))))))))))))))))))))))))))))))))))))))))) }
 {}
 
 /// Prefixes that name nothing, in each statement whose argument has names.

@@ -9,6 +9,7 @@ pub mod diagrams;
 pub mod documents;
 pub mod examples;
 pub mod groupings;
+pub mod identities;
 pub mod linking;
 pub mod modules;
 pub mod scopes;

@@ -4,12 +4,13 @@ use Rattle.std.specs.Prelude.{◌&&◌, map, option_map, option_and_then, slice_
 use Rattle.std.specs.List.{Contains, filter_map}
 use Rattle.std.specs.Option.{option_map_or}
 use Rattle.yspec.specs.Forest.{Forest, end, node, size, preorder}
-use Rattle.yspec.specs.types.Types.{YangType}
+use Rattle.yspec.specs.types.Types.{YangType, type_in}
 use Rattle.yspec.specs.linking.Graph.{Edge, is_on_circle}
 use Rattle.yspec.specs.linking.Parts.{Part}
 use Rattle.yspec.specs.linking.Prefixes.{NodeName}
 use Rattle.yspec.specs.linking.Source.{Source}
 use Rattle.yspec.specs.linking.TypeStatements.{Meant, own, of_target}
+use Rattle.yspec.specs.linking.Identities.{module_name}
 use Rattle.yspec.specs.linking.Planned.{Planned, Plan, Around, around_below, planned, nodes_of, data_nodes, data_child_called, data_node_at, is_data, is_leaf_or_leaf_list, leaf_found, meant_in, target_meant, target_of, referring, type_by, type_within, type_of, same_number, is_called}
 use Rattle.yspec.specs.linking.Compiling.{plan_of}
 use Rattle.yspec.specs.linking.Planned.{at_top}
@@ -202,7 +203,8 @@ module _ (plan : Plan) where
               let there = found_there d p is in
               by_node p there.0 (subst (λ k. (n : ℕ) → HasEdge edges k n → IsStraight edges k n → found many n ≡ found few n) (sym there.1) same)
 
-    type_settled : (more : ℕ) (p : Planned) → Contains (nodes_of plan) p → type_within plan (suc (size plan.nodes) + more) p ≡ type_of plan p
+    type_settled : (more : ℕ) (p : Planned) → Contains (nodes_of plan) p
+        → type_within plan (suc (size plan.nodes) + more) p ≡ type_within plan (suc (size plan.nodes)) p
     type_settled more p at =
         let most = rank_most edges p.number in
         let few = no_more edge_of (nodes_of plan) in
@@ -212,5 +214,8 @@ module _ (plan : Plan) where
         ∙ found_at (suc (size plan.nodes)) p at)
 
 pub types_settled : (modules : Forest Source) (more : ℕ) (p : Planned) → Contains (nodes_of (plan_of modules)) p
-    → type_within (plan_of modules) (suc (size (plan_of modules).nodes) + more) p ≡ type_of (plan_of modules) p
-types_settled modules more p at = type_settled (plan_of modules) (planned_from 0 at_top (augmented modules).0) more p at
+    → option_map (type_in (module_name (plan_of modules).modules p.part.owner)) (type_within (plan_of modules) (suc (size (plan_of modules).nodes) + more) p)
+    ≡ type_of (plan_of modules) p
+types_settled modules more p at =
+    ap (option_map (type_in (module_name (plan_of modules).modules p.part.owner)))
+    (type_settled (plan_of modules) (planned_from 0 at_top (augmented modules).0) more p at)

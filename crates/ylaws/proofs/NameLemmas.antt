@@ -12,7 +12,7 @@ use Rattle.std.proofs.lemmas.Slice.Eq.{bytes_eq-Decides}
 use mathlib.Core.Logic.{⊎_elim}
 use Rattle.yspec.specs.Forest.{Forest, end, node, row}
 use Rattle.yspec.specs.text.Text.{Text, is_text}
-use Rattle.yspec.specs.linking.Keyword.{Keyword, same_keyword, grouping_word, typedef_word}
+use Rattle.yspec.specs.linking.Keyword.{Keyword, same_keyword, grouping_word, identity_word, typedef_word}
 use Rattle.yspec.specs.linking.Source.{Source, is_source_of, argument_in}
 use Rattle.yspec.specs.linking.Scopes.{Placed, placed, around, defines, holder, is_built_in, is_definition, is_taken, statements_of, taken_break, taken_breaks}
 use Rattle.yspec.proofs.LinkingProofs.BreakLemmas.{none_first, none_second, unbroken}
@@ -151,7 +151,7 @@ meaning_once modules kind name p a b none at in_a in_b is_a is_b def_a =
     let among = of_placed all [] modules (λ q there. there) tt p at in
     let one = each_first all none kind name p.ancestors among a in_a is_a def_a in
     let word = sym (kind_of kind name b is_b) ∙ kind_of kind name a is_a in
-    let def_b = ap (λ k. same_keyword typedef_word k || same_keyword grouping_word k) word ∙ def_a in
+    let def_b = ap (λ k. same_keyword typedef_word k || (same_keyword grouping_word k || same_keyword identity_word k)) word ∙ def_a in
     let two = each_first all none kind name p.ancestors among b in_b is_b def_b in
     let same : Some one.0 ≡ Some two.0 = sym one.1 ∙ two.1 in
     sym one.2 ∙ (ap (λ (o : Option Source). option_map_or (λ s. s.number) o 0) same ∙ two.2)

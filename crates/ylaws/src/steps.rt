@@ -1,12 +1,14 @@
 //! That a bound on steps is no bound on what is meant: with more steps nothing else is found.
 
-ghost use Rattle.std.specs.Prelude.{◌≡◌, ◌+◌, ℕ, suc, List, []};
+ghost use Rattle.std.specs.Prelude.{◌≡◌, ◌+◌, ℕ, suc, List, [], option_map};
 ghost use Rattle.std.specs.List.{Contains};
 ghost use Rattle.yspec.specs.Forest.{Forest, size};
 ghost use Rattle.yspec.specs.text.Statement.{Statement};
+ghost use Rattle.yspec.specs.types.Types.{type_in};
 ghost use Rattle.yspec.specs.linking.Source.{Source, sources_of};
 ghost use Rattle.yspec.specs.linking.Circles.{definition_circles};
 ghost use Rattle.yspec.specs.linking.DerivedTypes.{known_within};
+ghost use Rattle.yspec.specs.linking.Identities.{module_name};
 ghost use Rattle.yspec.specs.linking.Planned.{Planned, nodes_of, type_of, type_within};
 ghost use Rattle.yspec.specs.linking.Compiling.{plan_of};
 
@@ -18,8 +20,11 @@ pub fn typedefs_known()
         ≡ known_within modules (size modules) number }
 {}
 
-/// A node that is planned has within as many leafrefs as there are nodes the type that it has within more.
+/// However many leafrefs more than there are nodes are followed from a node that is planned, what is found is its type, once
+/// it is put into the node's module.
 pub fn types_known()
     ensures { (modules : Forest Source) (more : ℕ) (p : Planned) → let plan = plan_of modules in
-        Contains (nodes_of plan) p → type_within plan (suc (size plan.nodes) + more) p ≡ type_of plan p }
+        Contains (nodes_of plan) p
+        → option_map (type_in (module_name plan.modules p.part.owner))
+        (type_within plan (suc (size plan.nodes) + more) p) ≡ type_of plan p }
 {}

@@ -4,12 +4,14 @@ pub mod Arguments
 pub mod Table
 pub mod StatementBreaks
 pub mod Source
+pub mod BuiltIns
 pub mod TypeStatements
 pub mod Prefixes
 pub mod Imports
 pub mod Scopes
 pub mod Graph
 pub mod Circles
+pub mod Identities
 pub mod DerivedTypes
 pub mod Parts
 pub mod Planned

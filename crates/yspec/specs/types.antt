@@ -2,6 +2,7 @@
 pub mod Ranges
 pub mod Numerals
 pub mod Names
+pub mod Identities
 pub mod Types
 pub mod Restriction
 pub mod Values

@@ -3,11 +3,11 @@
 ghost use Rattle.std.specs.Prelude.{◌≡◌, ◌^◌, ◌-◌, [], ◌∷◌, pos, negsuc, true, false, codes, option_and_then, is_some};
 ghost use Rattle.yspec.specs.types.Names.{enum_names, bit_names};
 ghost use Rattle.yspec.specs.types.Ranges.{number};
-ghost use Rattle.yspec.specs.types.Types.{text, int, bool, int8, int32, int64, uint8, uint16, uint64, text_value, number_value, integer_type, uint8_type, string_type, value, taken, app_tag_of, message_of};
+ghost use Rattle.yspec.specs.types.Types.{text, int, bool, int8, int32, int64, uint8, uint16, uint64, text_value, number_value, integer_type, uint8_type, string_type, value, type_in, taken, app_tag_of, message_of};
 ghost use Rattle.yspec.specs.types.Order.{same_value, TellsValues};
 ghost use Rattle.yspec.specs.types.Restriction.{require_instance, narrowed, union_type, leafref_type};
-ghost use Rattle.yspec.specs.types.Values.{canonical};
-ghost use Rattle.yspec.specs.types.TypeExamples.{decimal, shown, number_is, default_of, from_to, one, at, tagged, explained, untagged, measured, gaps, twice_narrowed, is_taken, named, numbered, five_enums, enumeration, bits, three_bits, taken_by, shown_by};
+ghost use Rattle.yspec.specs.types.Values.{canonical, value_of_text};
+ghost use Rattle.yspec.specs.types.TypeExamples.{decimal, shown, number_is, default_of, from_to, one, at, tagged, explained, untagged, measured, gaps, twice_narrowed, is_taken, named, numbered, five_enums, enumeration, bits, three_bits, taken_by, shown_by, identity_sample, names_sample};
 
 /// Numbers with a point, of two digits after it and of eighteen.
 pub fn decimals()
@@ -214,4 +214,37 @@ pub fn equal_values()
     ensures of_two_members { same_value (value (Some 0) (number_value (pos 5)))
         (value (Some 1) (number_value (pos 5)))
         ≡ false }
+{}
+
+/// An identity is named with its module, or alone where that is the leaf's; its value is the same, and so is its canonical text.
+pub fn identities()
+    ensures plain { taken identity_sample (text (codes "eth")) ≡ number_is (pos 4) }
+    ensures with_module { taken identity_sample (text (codes "i:eth")) ≡ number_is (pos 4) }
+    ensures canonical { shown identity_sample (codes "eth") ≡ Some (codes "i:eth") }
+    ensures of_another_module { shown identity_sample (codes "j:opt") ≡ Some (codes "j:opt") }
+    ensures plain_of_another_module { taken identity_sample (text (codes "opt")) ≡ None }
+    ensures plain_where_the_leaf_stands { shown (type_in (codes "j") identity_sample) (codes "opt")
+        ≡ Some (codes "j:opt") }
+    ensures plain_no_more { taken (type_in (codes "j") identity_sample) (text (codes "eth")) ≡ None }
+    ensures the_base_itself { taken identity_sample (text (codes "i:base1")) ≡ None }
+    ensures not_derived { taken identity_sample (text (codes "odd")) ≡ None }
+    ensures no_name { taken identity_sample (text []) ≡ None }
+    ensures no_module { taken identity_sample (text (codes ":eth")) ≡ None }
+    ensures two_colons { taken identity_sample (text (codes "i:eth:")) ≡ None }
+    ensures no_text { taken identity_sample (int (pos 4)) ≡ None }
+    ensures default_plain { value_of_text (names_sample (codes "i")) identity_sample (codes "eth")
+        ≡ number_is (pos 4) }
+    ensures default_with_prefix { value_of_text (names_sample (codes "j")) identity_sample (codes "p:eth")
+        ≡ number_is (pos 4) }
+    ensures default_of_own_module { value_of_text (names_sample (codes "j")) identity_sample (codes "opt")
+        ≡ number_is (pos 9) }
+    ensures default_with_module { value_of_text (names_sample (codes "j")) identity_sample (codes "i:eth")
+        ≡ None }
+    ensures default_elsewhere { value_of_text (names_sample (codes "j")) identity_sample (codes "eth")
+        ≡ None }
+    ensures in_a_union { taken (union_type (uint8_type ∷ identity_sample ∷ string_type ∷ []))
+        (text (codes "eth")) ≡ Some (value (Some 1) (number_value (pos 4))) }
+    ensures behind_it_in_a_union { taken (union_type (uint8_type ∷ identity_sample ∷ string_type ∷ []))
+        (text (codes "odd")) ≡ Some (value (Some 2) (text_value (codes "odd"))) }
+    ensures no_range { narrowed identity_sample (untagged (one (pos 4) ∷ [])) ≡ None }
 {}

@@ -5,7 +5,7 @@ use Rattle.std.proofs.lemmas.Slice.Eq.{bytes_eq-Decides}
 use Rattle.std.specs.Prelude.{find, slice_get, unwrap_or}
 use Rattle.std.specs.List.{list_all}
 use Rattle.yspec.specs.text.Text.{Text, is_text}
-use Rattle.yspec.specs.linking.Keyword.{Keyword, keyword_number, keyword_text, same_keyword, keywords, keyword_named, module_word, yang_version_word, namespace_word, prefix_word, import_word, revision_date_word, organization_word, contact_word, description_word, reference_word, revision_word, extension_word, typedef_word, grouping_word, augment_word, container_word, leaf_word, leaf_list_word, list_word, choice_word, case_word, uses_word, refine_word, type_word, fraction_digits_word, range_word, length_word, enum_word, bit_word, path_word, require_instance_word, error_message_word, error_app_tag_word, value_word, position_word, units_word, default_word, config_word, mandatory_word, presence_word, min_elements_word, max_elements_word, ordered_by_word, status_word, key_word, unique_word}
+use Rattle.yspec.specs.linking.Keyword.{Keyword, keyword_number, keyword_text, same_keyword, keywords, keyword_named, module_word, yang_version_word, namespace_word, prefix_word, import_word, revision_date_word, organization_word, contact_word, description_word, reference_word, revision_word, extension_word, typedef_word, grouping_word, augment_word, container_word, leaf_word, leaf_list_word, list_word, choice_word, case_word, uses_word, refine_word, type_word, fraction_digits_word, range_word, length_word, enum_word, bit_word, path_word, require_instance_word, error_message_word, error_app_tag_word, value_word, position_word, units_word, default_word, config_word, mandatory_word, presence_word, min_elements_word, max_elements_word, ordered_by_word, status_word, key_word, unique_word, identity_word, base_word}
 use Rattle.yspec.specs.linking.Arguments.{identifier_form}
 use Rattle.yspec.specs.linking.StatementBreaks.{is_prefixed}
 use Rattle.yspec.specs.linking.Table.{rule_of}
@@ -58,6 +58,8 @@ by_number ordered_by_word = refl
 by_number status_word = refl
 by_number key_word = refl
 by_number unique_word = refl
+by_number identity_word = refl
+by_number base_word = refl
 
 pub same_is : (j k : Keyword) → same_keyword j k ≡ true → j ≡ k
 same_is j k same = ap (λ o. unwrap_or o j) (sym (by_number j) ∙ (ap (slice_get keywords) (eqb-true (keyword_number j) (keyword_number k) same) ∙ by_number k))

@@ -3,25 +3,21 @@ use Rattle.std.specs.Prelude.{ℕ, zero, suc, Bool, false, List, [], ◌∷◌, 
 use Rattle.std.specs.List.{flat_map}
 use Rattle.std.specs.Option.{option_map_or}
 use Rattle.yspec.specs.Forest.{Forest, size, first_of}
-use Rattle.yspec.specs.text.Text.{Text}
 use Rattle.yspec.specs.types.Types.{YangType}
 use Rattle.yspec.specs.linking.Keyword as word
-use Rattle.yspec.specs.linking.Source.{Source, is_source_of, argument_with, found_with}
+use Rattle.yspec.specs.linking.Source.{Source, Stated, is_source_of, stated_with, found_with}
 use Rattle.yspec.specs.linking.TypeStatements.{Meant, Verdict, unjudged, verdict_on, meaning_of, own_type, told}
-use Rattle.yspec.specs.linking.Scopes.{Placed, statements_of, statement_at, meaning}
+pub use Rattle.yspec.specs.linking.Scopes.{number_named}
+use Rattle.yspec.specs.linking.Scopes.{Placed, statements_of, statement_at}
 use Rattle.yspec.specs.schema.Breaks.{Break}
 
 -- what is known of a typedef: the verdict on its `type` statement, and the default that it has, or else its type
 pub record Known : Type 0 where
   pub verdict : Verdict
-  pub default : Option Text
+  pub default : Option Stated
 
 abbrev pub unknown : Known
 unknown = record { verdict = unjudged; default = None }
-
--- the number of the definition that the statement of a number names
-abbrev pub number_named : Forest Source → ℕ → Option ℕ
-number_named modules number = option_map (λ d. d.number) (option_and_then (meaning modules) (statement_at modules number))
 
 -- what is known of the definition that the statement of a number names, given what is known of each
 abbrev pub named : Forest Source → (ℕ → Known) → ℕ → Known
@@ -34,7 +30,7 @@ verdict_by named number = (named number).verdict
 abbrev pub known_by : Forest Source → (ℕ → Known) → Forest Source → Source × Forest Source → Known
 known_by modules names row type = record {
   verdict = verdict_on modules (verdict_by names) false type.0 type.1;
-  default = first_of (argument_with word.default_word row) (names type.0.number).default;
+  default = first_of (stated_with word.default_word row) (names type.0.number).default;
 }
 
 abbrev pub known_in_row : Forest Source → (ℕ → Known) → Forest Source → Known
@@ -78,7 +74,7 @@ abbrev pub type_stated : Forest Source → ℕ → Option YangType
 type_stated modules number = option_and_then own_type (type_meant modules number)
 
 -- the default that the typedef has which it names
-abbrev pub default_meant : Forest Source → Source → Option Text
+abbrev pub default_meant : Forest Source → Source → Option Stated
 default_meant modules s = (known_named modules s.number).default
 
 -- ---- C10

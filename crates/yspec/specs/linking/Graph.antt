@@ -1,4 +1,4 @@
--- Graphs: which edges lie on circles.
+-- Graphs: which edges lie on circles, and where a node leads.
 use Rattle.std.specs.Prelude.{ℕ, zero, suc, ◌==◌, ◌&&◌, ◌++◌, Bool, not, List, [], ◌∷◌, map, filter, length}
 use Rattle.std.specs.List.{list_any}
 
@@ -25,3 +25,7 @@ reached edges (suc steps) nodes = reached edges steps (nodes ++ map target_of (f
 -- whether an edge's target leads back to its source
 abbrev pub is_on_circle : List Edge → Edge → Bool
 is_on_circle edges e = is_among (reached edges (length edges) (e.target ∷ [])) e.source
+
+-- the nodes to which a node leads by one edge or more
+abbrev pub behind : List Edge → ℕ → List ℕ
+behind edges n = reached edges (length edges) (map target_of (filter (λ e. e.source == n) edges))

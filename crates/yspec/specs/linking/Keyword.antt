@@ -49,6 +49,8 @@ pub data Keyword : Type 0 where
   status_word : Keyword
   key_word : Keyword
   unique_word : Keyword
+  identity_word : Keyword
+  base_word : Keyword
 
 abbrev pub keyword_text : Keyword → Text
 keyword_text module_word = codes "module"
@@ -97,6 +99,8 @@ keyword_text ordered_by_word = codes "ordered-by"
 keyword_text status_word = codes "status"
 keyword_text key_word = codes "key"
 keyword_text unique_word = codes "unique"
+keyword_text identity_word = codes "identity"
+keyword_text base_word = codes "base"
 
 abbrev pub keyword_number : Keyword → ℕ
 keyword_number module_word = 0
@@ -145,6 +149,8 @@ keyword_number ordered_by_word = 42
 keyword_number status_word = 43
 keyword_number key_word = 44
 keyword_number unique_word = 45
+keyword_number identity_word = 46
+keyword_number base_word = 47
 
 abbrev pub same_keyword : Keyword → Keyword → Bool
 same_keyword a b = keyword_number a == keyword_number b
@@ -157,7 +163,7 @@ keywords = module_word ∷ yang_version_word ∷ namespace_word ∷ prefix_word 
     choice_word ∷ case_word ∷ uses_word ∷ refine_word ∷ type_word ∷ fraction_digits_word ∷ range_word ∷
     length_word ∷ enum_word ∷ bit_word ∷ path_word ∷ require_instance_word ∷ error_message_word ∷
     error_app_tag_word ∷ value_word ∷ position_word ∷ units_word ∷ default_word ∷ config_word ∷ mandatory_word ∷
-    presence_word ∷ min_elements_word ∷ max_elements_word ∷ ordered_by_word ∷ status_word ∷ key_word ∷ unique_word ∷ []
+    presence_word ∷ min_elements_word ∷ max_elements_word ∷ ordered_by_word ∷ status_word ∷ key_word ∷ unique_word ∷ identity_word ∷ base_word ∷ []
 
 -- the keyword that a text is, if it is one; a prefixed one is none of these
 abbrev pub keyword_named : Text → Option Keyword

@@ -6,14 +6,13 @@ use Rattle.yspec.specs.Forest.{Forest, end, node, find_below}
 use Rattle.yspec.specs.text.Text.{Text, is_text}
 use Rattle.yspec.specs.types.Types.{YangType}
 use Rattle.yspec.specs.types.Order.{same_value}
-use Rattle.yspec.specs.types.Values.{value_of_text}
 use Rattle.yspec.specs.linking.Keyword.{Keyword}
 use Rattle.yspec.specs.linking.Keyword as word
-use Rattle.yspec.specs.linking.Source.{argument_in}
+use Rattle.yspec.specs.linking.Source.{Stated, argument_in}
 use Rattle.yspec.specs.linking.Scopes.{statement_at}
 use Rattle.yspec.specs.linking.TypeStatements.{Meant, own, of_target}
 use Rattle.yspec.specs.linking.Planned.{Planned, Plan, same_number, nodes_of, node_of, child_called, is_a, is_leaf_or_leaf_list, stated_in, meant_in, target_meant, type_of, is_on_circle}
-use Rattle.yspec.specs.linking.SchemaNodes.{is_mandatory, min_elements_of, key_names, key_numbers, unique_ways, own_defaults, default_texts, default_case, is_key}
+use Rattle.yspec.specs.linking.SchemaNodes.{is_mandatory, min_elements_of, key_names, key_numbers, unique_ways, own_defaults, default_texts, value_stated, default_case, is_key}
 use Rattle.yspec.specs.schema.Breaks.{Break, broken, when}
 
 -- a rule that is broken is told at the node's statement
@@ -102,28 +101,28 @@ reference_breaks plan p = when (is_leaf_or_leaf_list p && option_map_or (is_wron
 
 -- ---- C11: defaults
 
-abbrev pub is_empty : List Text → Bool
+abbrev pub is_empty : List Stated → Bool
 is_empty [] = true
 is_empty (t ∷ ts) = false
 
-abbrev pub is_refused : YangType → Text → Bool
-is_refused type text = not (is_some (value_of_text type text))
+abbrev pub is_refused : Plan → YangType → Stated → Bool
+is_refused plan type t = not (is_some (value_stated plan type t))
 
 -- of a leaf that is no key
 abbrev pub is_wrong_default : Plan → Planned → YangType → Bool
 is_wrong_default plan p type =
-    if is_mandatory p then not (is_empty (own_defaults p)) else list_any (is_refused type) (default_texts plan p)
+    if is_mandatory p then not (is_empty (own_defaults p)) else list_any (is_refused plan type) (default_texts plan p)
 
-abbrev pub same_default : YangType → Text → Text → Bool
-same_default type t u = option_map_or (λ v. option_map_or (same_value v) (value_of_text type u) false) (value_of_text type t) false
+abbrev pub same_default : Plan → YangType → Stated → Stated → Bool
+same_default plan type t u = option_map_or (λ v. option_map_or (same_value v) (value_stated plan type u) false) (value_stated plan type t) false
 
-abbrev pub has_equal : YangType → List Text → Bool
-has_equal type [] = false
-has_equal type (t ∷ ts) = list_any (same_default type t) ts || has_equal type ts
+abbrev pub has_equal : Plan → YangType → List Stated → Bool
+has_equal plan type [] = false
+has_equal plan type (t ∷ ts) = list_any (same_default plan type t) ts || has_equal plan type ts
 
 abbrev pub are_wrong_defaults : Plan → Planned → YangType → Bool
 are_wrong_defaults plan p type = if nat_lt 0 (min_elements_of p) then not (is_empty (own_defaults p))
-    else list_any (is_refused type) (default_texts plan p) || (p.config && has_equal type (default_texts plan p))
+    else list_any (is_refused plan type) (default_texts plan p) || (p.config && has_equal plan type (default_texts plan p))
 
 -- whether a node must be stored, given that of those below it; a case needn't (RFC 7950, 3)
 abbrev pub must_be : Planned → Bool → Bool

@@ -3,7 +3,7 @@ use Rattle.std.specs.Prelude.{ℕ, zero, suc, ◌+◌, ◌==◌, ◌&&◌, ◌||
 use Rattle.std.specs.Option.{option_map_or, option_eq}
 use Rattle.yspec.specs.Forest.{Forest, end, node, size, preorder}
 use Rattle.yspec.specs.text.Text.{Text, is_text}
-use Rattle.yspec.specs.types.Types.{YangType}
+use Rattle.yspec.specs.types.Types.{YangType, type_in}
 use Rattle.yspec.specs.linking.Keyword.{Keyword}
 use Rattle.yspec.specs.linking.Keyword as word
 use Rattle.yspec.specs.linking.Source.{Source, is_source_of, argument_in, argument_with, first_with}
@@ -11,6 +11,7 @@ use Rattle.yspec.specs.linking.Parts.{Part}
 use Rattle.yspec.specs.linking.Prefixes.{NodeName, node_name}
 use Rattle.yspec.specs.linking.TypeStatements.{Meant, own, of_target}
 use Rattle.yspec.specs.linking.DerivedTypes.{type_meant}
+use Rattle.yspec.specs.linking.Identities.{module_name}
 
 -- a part as it will be a schema node
 pub record Planned : Type 0 where
@@ -163,9 +164,9 @@ unfoldable pub type_within : Plan → ℕ → Planned → Option YangType
 type_within plan zero p = None
 type_within plan (suc steps) p = option_and_then (type_by plan (type_within plan steps) p) (meant_in plan p)
 
--- the type of a leaf or leaf-list; none where a leafref leads nowhere, or in a circle
+-- the type of a leaf or leaf-list, in its own module; none where a leafref leads nowhere, or in a circle
 abbrev pub type_of : Plan → Planned → Option YangType
-type_of plan p = type_within plan (suc (size plan.nodes)) p
+type_of plan p = option_map (type_in (module_name plan.modules p.part.owner)) (type_within plan (suc (size plan.nodes)) p)
 
 -- whether a leafref leads to the node of a number, within so many steps
 unfoldable pub leads_to : Plan → ℕ → ℕ → Planned → Bool

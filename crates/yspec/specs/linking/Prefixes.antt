@@ -35,6 +35,7 @@ names_given word.key_word t = unwrap_or (key_of t) []
 names_given word.unique_word t = flat_map (λ path. path) (unwrap_or (unique_of t) [])
 names_given word.path_word t = unwrap_or (leafref_path_of t) []
 names_given word.uses_word t = option_map_or (λ n. n ∷ []) (name_of t) []
+names_given word.base_word t = option_map_or (λ n. n ∷ []) (name_of t) []
 names_given word.refine_word t = unwrap_or (relative_path_of t) []
 names_given word.augment_word t = unwrap_or (absolute_path_of t) []
 names_given _ t = []

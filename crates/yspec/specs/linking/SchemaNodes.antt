@@ -4,12 +4,13 @@ use Rattle.std.specs.List.{list_any, filter_map, flat_map}
 use Rattle.std.specs.Option.{option_map_or}
 use Rattle.yspec.specs.Forest.{Forest, relabelled}
 use Rattle.yspec.specs.text.Text.{Text}
-use Rattle.yspec.specs.types.Types.{Val, string_type}
+use Rattle.yspec.specs.types.Types.{YangType, Val, string_type}
 use Rattle.yspec.specs.types.Values.{value_of_text}
 use Rattle.yspec.specs.linking.Keyword.{Keyword}
 use Rattle.yspec.specs.linking.Keyword as word
 use Rattle.yspec.specs.linking.Arguments.{Name, key_of, unique_of, count_of, max_elements_of, status_of}
-use Rattle.yspec.specs.linking.Source.{Source, argument_in, argument_with, first_with, all_with}
+use Rattle.yspec.specs.linking.Source.{Source, Stated, stated_by, argument_in, argument_with, first_with, all_with}
+use Rattle.yspec.specs.linking.Identities.{names_of}
 use Rattle.yspec.specs.linking.DerivedTypes.{default_meant}
 use Rattle.yspec.specs.linking.Prefixes.{NodeName, node_name}
 use Rattle.yspec.specs.linking.Planned.{Planned, Plan, is_said, is_a, stated_in, node_of, child_called, way, target_of, type_of}
@@ -61,25 +62,29 @@ tuples_of plan p = record { keys = key_numbers plan p; uniques = map (map leaf_p
 
 -- ---- defaults (RFC 7950, 7.6.1, 7.7.2 and 7.9.3)
 
-abbrev pub own_defaults : Planned → List Text
-own_defaults p = map argument_in (all_with word.default_word p.part.own)
+abbrev pub own_defaults : Planned → List Stated
+own_defaults p = map stated_by (all_with word.default_word p.part.own)
 
 -- that of its type, where it may be without a value
-abbrev pub type_default : Plan → Planned → Option Text
+abbrev pub type_default : Plan → Planned → Option Stated
 type_default plan p = if is_mandatory p || nat_lt 0 (min_elements_of p) then None
     else option_and_then (default_meant plan.modules) (first_with word.type_word p.part.own)
 
 -- its own defaults, or where it has none that of its type
-abbrev pub default_texts : Plan → Planned → List Text
+abbrev pub default_texts : Plan → Planned → List Stated
 default_texts plan p = defaults_or (option_map_or (λ t. t ∷ []) (type_default plan p) []) (own_defaults p)
   where
-    defaults_or : List Text → List Text → List Text
+    defaults_or : List Stated → List Stated → List Stated
     defaults_or others [] = others
     defaults_or others (t ∷ ts) = t ∷ ts
 
--- what a type makes of a default; none that it doesn't take
-abbrev pub default_value : Plan → Planned → Text → Option Val
-default_value plan p text = option_and_then (λ type. value_of_text type text) (type_of plan p)
+-- what a type makes of a text of a module
+abbrev pub value_stated : Plan → YangType → Stated → Option Val
+value_stated plan type t = value_of_text (names_of plan.modules t.home) type t.text
+
+-- what its type makes of a default; none that it doesn't take
+abbrev pub default_value : Plan → Planned → Stated → Option Val
+default_value plan p t = option_and_then (λ type. value_stated plan type t) (type_of plan p)
 
 abbrev pub absent_by : Option Val → Absence
 absent_by None = allowed

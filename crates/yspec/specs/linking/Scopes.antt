@@ -1,6 +1,6 @@
--- Scopes: which definition the name of a type or a grouping means where it stands, and names that are taken, C7, or not found,
+-- Scopes: which definition the name of a type, a grouping or an identity means where it stands, and names that are taken, C7, or not found,
 -- C8 (RFC 7950, 5.5, 6.2.1, 7.3 and 7.12).
-use Rattle.std.specs.Prelude.{ℕ, ◌==◌, ◌&&◌, ◌||◌, ◌++◌, Bool, false, not, List, [], ◌∷◌, find, reverse, Option, Some, None, is_some, option_and_then, if◌then◌else◌}
+use Rattle.std.specs.Prelude.{ℕ, ◌==◌, ◌&&◌, ◌||◌, ◌++◌, Bool, false, not, List, [], ◌∷◌, find, reverse, Option, Some, None, is_some, option_map, option_and_then, if◌then◌else◌}
 use Rattle.std.specs.List.{flat_map}
 use Rattle.std.specs.Option.{option_map_or}
 use Rattle.yspec.specs.Forest.{Forest, end, node, row}
@@ -10,7 +10,7 @@ use Rattle.yspec.specs.linking.Keyword as word
 use Rattle.yspec.specs.linking.Arguments.{Name, name_of}
 use Rattle.yspec.specs.linking.Source.{Source, is_source_of, argument_in}
 use Rattle.yspec.specs.linking.StatementBreaks.{is_type_outside}
-use Rattle.yspec.specs.linking.TypeStatements.{built_in_named}
+use Rattle.yspec.specs.linking.BuiltIns.{built_in_named}
 use Rattle.yspec.specs.linking.Imports.{body_at, module_meant}
 use Rattle.yspec.specs.schema.Breaks.{Break, broken, when}
 
@@ -47,6 +47,7 @@ around ancestors = flat_map (λ a. row a.1) ancestors
 abbrev pub kind_named : Keyword → Option Keyword
 kind_named word.type_word = Some word.typedef_word
 kind_named word.uses_word = Some word.grouping_word
+kind_named word.base_word = Some word.identity_word
 kind_named _ = None
 
 -- A name without a prefix, or with that of the module in which it stands, means a definition among the substatements of an
@@ -66,16 +67,20 @@ is_built_in name = is_some (built_in_named name) || is_type_outside name
 abbrev pub names_built_in : Source → Bool
 names_built_in s = is_source_of word.type_word s && is_built_in (argument_in s)
 
--- the typedef or grouping that a `type` or `uses` statement names; none for a built-in type
+-- the typedef, grouping or identity that a `type`, `uses` or `base` statement names; none for a built-in type
 abbrev pub meaning : Forest Source → Placed → Option Source
 meaning modules p = if names_built_in p.source then None
     else option_and_then (λ kind. option_and_then (definition_named modules kind p) (name_of (argument_in p.source)))
     (kind_named p.source.keyword)
 
+-- the number of the definition that the statement of a number names
+abbrev pub number_named : Forest Source → ℕ → Option ℕ
+number_named modules number = option_map (λ d. d.number) (option_and_then (meaning modules) (statement_at modules number))
+
 -- ---- C7: names that are taken
 
 abbrev pub is_definition : Source → Bool
-is_definition s = is_source_of word.typedef_word s || is_source_of word.grouping_word s
+is_definition s = is_source_of word.typedef_word s || (is_source_of word.grouping_word s || is_source_of word.identity_word s)
 
 -- Of several definitions of one kind and name around a statement the outermost has the name, and there the first.
 abbrev pub holder : Placed → Option Source

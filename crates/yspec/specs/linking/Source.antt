@@ -67,6 +67,17 @@ all_with k sources = filter (is_source_of k) (row sources)
 abbrev pub argument_with : Keyword → Forest Source → Option Text
 argument_with k sources = option_map argument_in (first_with k sources)
 
+-- the argument of a statement, with the number of the module in which it stands
+pub record Stated : Type 0 where
+  pub home : ℕ
+  pub text : Text
+
+abbrev pub stated_by : Source → Stated
+stated_by s = record { home = s.home; text = argument_in s }
+
+abbrev pub stated_with : Keyword → Forest Source → Option Stated
+stated_with k sources = option_map stated_by (first_with k sources)
+
 -- the first of a row with a keyword, and what stands below it
 abbrev pub found_with : Keyword → Forest Source → Option (Source × Forest Source)
 found_with k end = None

@@ -25,9 +25,9 @@ has_keyword k s = option_map_or (same_keyword k) (keyword_named s.keyword) false
 abbrev pub argument_breaks : ℕ → Form → Statement → List Break
 argument_breaks m form s = when (not (option_map_or (fits form) s.argument false)) (broken 3 m s.line)
 
--- built-in types that aren't compiled (RFC 7950, 9.8, 9.10 and 9.13)
+-- built-in types that aren't compiled (RFC 7950, 9.8 and 9.13)
 abbrev pub types_outside : List Text
-types_outside = codes "binary" ∷ codes "identityref" ∷ codes "instance-identifier" ∷ []
+types_outside = codes "binary" ∷ codes "instance-identifier" ∷ []
 
 abbrev pub is_type_outside : Text → Bool
 is_type_outside t = list_any (is_text t) types_outside

@@ -1,7 +1,7 @@
 -- The table of statements: which argument each takes, and which substatements, how many of each (RFC 7950, 7 and 14).
 use Rattle.std.specs.Prelude.{List, [], ◌∷◌, ◌++◌}
 pub use Rattle.yspec.specs.schema.Breaks.{Count, exactly_one, at_most_one, any_number}
-use Rattle.yspec.specs.linking.Keyword.{Keyword, module_word, yang_version_word, namespace_word, prefix_word, import_word, revision_date_word, organization_word, contact_word, description_word, reference_word, revision_word, extension_word, typedef_word, grouping_word, augment_word, container_word, leaf_word, leaf_list_word, list_word, choice_word, case_word, uses_word, refine_word, type_word, fraction_digits_word, range_word, length_word, enum_word, bit_word, path_word, require_instance_word, error_message_word, error_app_tag_word, value_word, position_word, units_word, default_word, config_word, mandatory_word, presence_word, min_elements_word, max_elements_word, ordered_by_word, status_word, key_word, unique_word}
+use Rattle.yspec.specs.linking.Keyword.{Keyword, module_word, yang_version_word, namespace_word, prefix_word, import_word, revision_date_word, organization_word, contact_word, description_word, reference_word, revision_word, extension_word, typedef_word, grouping_word, augment_word, container_word, leaf_word, leaf_list_word, list_word, choice_word, case_word, uses_word, refine_word, type_word, fraction_digits_word, range_word, length_word, enum_word, bit_word, path_word, require_instance_word, error_message_word, error_app_tag_word, value_word, position_word, units_word, default_word, config_word, mandatory_word, presence_word, min_elements_word, max_elements_word, ordered_by_word, status_word, key_word, unique_word, identity_word, base_word}
 use Rattle.yspec.specs.linking.Arguments.{Form, identifier_form, name_form, date_form, relative_path_form, absolute_path_form, leafref_path_form, key_form, unique_form, flag_form, status_form, ordered_by_form, count_form, max_elements_form, value_form, fraction_digits_form, spans_form, any_form}
 
 pub record Allowed : Type 0 where
@@ -48,7 +48,7 @@ amounts = perhaps min_elements_word ∷ perhaps max_elements_word ∷ []
 
 abbrev pub in_module : List Allowed
 in_module = one yang_version_word ∷ one namespace_word ∷ one prefix_word ∷ many import_word ∷ perhaps organization_word
-    ∷ perhaps contact_word ∷ many revision_word ∷ many extension_word ∷ many augment_word ∷ (texts ++ definitions ++ nodes)
+    ∷ perhaps contact_word ∷ many revision_word ∷ many extension_word ∷ many augment_word ∷ many identity_word ∷ (texts ++ definitions ++ nodes)
 
 abbrev pub in_import : List Allowed
 in_import = one prefix_word ∷ perhaps revision_date_word ∷ texts
@@ -58,7 +58,7 @@ in_typedef = one type_word ∷ perhaps units_word ∷ perhaps default_word ∷ d
 
 abbrev pub in_type : List Allowed
 in_type = perhaps fraction_digits_word ∷ perhaps range_word ∷ perhaps length_word ∷ many enum_word ∷ many bit_word
-    ∷ perhaps path_word ∷ perhaps require_instance_word ∷ many type_word ∷ []
+    ∷ perhaps path_word ∷ perhaps require_instance_word ∷ many type_word ∷ many base_word ∷ []
 
 abbrev pub in_range : List Allowed
 in_range = perhaps error_message_word ∷ perhaps error_app_tag_word ∷ texts
@@ -130,3 +130,5 @@ rule_of ordered_by_word = rule ordered_by_form []
 rule_of status_word = rule status_form []
 rule_of key_word = rule key_form []
 rule_of unique_word = rule unique_form []
+rule_of identity_word = rule identifier_form (many base_word ∷ doc)
+rule_of base_word = rule name_form []

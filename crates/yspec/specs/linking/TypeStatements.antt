@@ -1,5 +1,5 @@
 -- The types that `type` statements mean, and where one breaks a rule of its own (RFC 7950, 7.3, 7.4 and 9).
-use Rattle.std.specs.Prelude.{ℕ, ℤ, pos, ◌&&◌, Bool, true, false, List, [], ◌∷◌, map, codes, Option, Some, None, find, option_map, option_and_then, unwrap_or, if◌then◌else◌}
+use Rattle.std.specs.Prelude.{ℕ, ℤ, pos, ◌&&◌, Bool, true, false, List, [], ◌∷◌, codes, Option, Some, None, option_map, option_and_then, unwrap_or, if◌then◌else◌}
 use Rattle.std.specs.List.{list_all}
 use Rattle.std.specs.Option.{option_map_or}
 use Rattle.yspec.specs.Forest.{Forest, end, node, row}
@@ -7,57 +7,17 @@ use Rattle.yspec.specs.text.Text.{Text, is_text}
 use Rattle.yspec.specs.types.Ranges.{ErrorText, Span}
 use Rattle.yspec.specs.types.Names.{Naming, Assigned, enum_names, bit_names}
 use Rattle.yspec.specs.types.Restriction.{Restriction, range, length, narrowed, union_type}
-use Rattle.yspec.specs.types.Types.{Integer, int8, int16, int32, int64, uint8, uint16, uint32, uint64, Base, decimal_base, boolean_base, empty_base, enumeration_base, bits_base, YangType, plain, integer_type, string_type}
+use Rattle.yspec.specs.types.Types.{Base, decimal_base, boolean_base, empty_base, enumeration_base, bits_base, YangType, plain, integer_type, string_type}
 use Rattle.yspec.specs.linking.Keyword.{Keyword}
 use Rattle.yspec.specs.linking.Keyword as word
 use Rattle.yspec.specs.linking.Arguments.{Name, spans_of, leafref_path_of, value_of, count_of, fraction_digits_of}
 use Rattle.yspec.specs.linking.Source.{Source, is_source_of, argument_in, argument_with, found_with}
+pub use Rattle.yspec.specs.linking.BuiltIns.{BuiltIn, integer, decimal64, string, boolean, empty, enumeration, bits, union, leafref, identityref, built_in_name, named_so, all_built_in, built_in_types}
+unfoldable pub use Rattle.yspec.specs.linking.BuiltIns.{built_in_named}
+use Rattle.yspec.specs.linking.Identities.{bases_in, identity_type}
 use Rattle.yspec.specs.schema.Breaks.{Break, broken}
 
 -- ---- built-in types
-
-pub data BuiltIn : Type 0 where
-  integer : Integer → BuiltIn
-  decimal64 : BuiltIn
-  string : BuiltIn
-  boolean : BuiltIn
-  empty : BuiltIn
-  enumeration : BuiltIn
-  bits : BuiltIn
-  union : BuiltIn
-  leafref : BuiltIn
-
--- the name of one
-abbrev pub built_in_name : BuiltIn → Text
-built_in_name (integer int8) = codes "int8"
-built_in_name (integer int16) = codes "int16"
-built_in_name (integer int32) = codes "int32"
-built_in_name (integer int64) = codes "int64"
-built_in_name (integer uint8) = codes "uint8"
-built_in_name (integer uint16) = codes "uint16"
-built_in_name (integer uint32) = codes "uint32"
-built_in_name (integer uint64) = codes "uint64"
-built_in_name decimal64 = codes "decimal64"
-built_in_name string = codes "string"
-built_in_name boolean = codes "boolean"
-built_in_name empty = codes "empty"
-built_in_name enumeration = codes "enumeration"
-built_in_name bits = codes "bits"
-built_in_name union = codes "union"
-built_in_name leafref = codes "leafref"
-
-abbrev pub named_so : BuiltIn → Text × BuiltIn
-named_so type = (built_in_name type, type)
-
-abbrev pub all_built_in : List BuiltIn
-all_built_in = integer int8 ∷ integer int16 ∷ integer int32 ∷ integer int64 ∷ integer uint8 ∷ integer uint16 ∷ integer uint32
-    ∷ integer uint64 ∷ decimal64 ∷ string ∷ boolean ∷ empty ∷ enumeration ∷ bits ∷ union ∷ leafref ∷ []
-
-abbrev pub built_in_types : List (Text × BuiltIn)
-built_in_types = map named_so all_built_in
-
-unfoldable pub built_in_named : Text → Option BuiltIn
-built_in_named name = option_map (λ entry. entry.1) (find (λ entry. is_text name entry.0) built_in_types)
 
 -- the one that a `type` statement of a set of modules names
 abbrev pub built_in_meant : Forest Source → Source → Option BuiltIn
@@ -97,6 +57,7 @@ may_bear bits word.bit_word = true
 may_bear union word.type_word = true
 may_bear leafref word.path_word = true
 may_bear leafref word.require_instance_word = true
+may_bear identityref word.base_word = true
 may_bear _ _ = false
 
 abbrev pub are_in_place : BuiltIn → Forest Source → Bool
@@ -138,7 +99,7 @@ of_names base names (n ∷ ns) = option_map (λ given. plain (base given)) (name
 abbrev pub limited_range : Forest Source → YangType → Option YangType
 limited_range below type = limited (stated word.range_word range below) type
 
--- a type that is no union and no leafref
+-- a type that is no union, no leafref and no identityref
 abbrev pub single_type : BuiltIn → Forest Source → Option YangType
 single_type (integer i) below = limited_range below (integer_type i)
 single_type decimal64 below = option_and_then (λ digits. limited_range below (plain (decimal_base digits)))
@@ -173,10 +134,16 @@ leafref_verdict true s below = wrong
 leafref_verdict false s below = option_map_or (λ steps. means (of_target s.home steps (is_required below)))
     (option_and_then leafref_path_of (argument_with word.path_word below)) wrong
 
-abbrev pub verdict_in_place : Bool → Source → BuiltIn → Forest Source → List Verdict → Verdict
-verdict_in_place is_member s union below members = union_verdict members
-verdict_in_place is_member s leafref below members = leafref_verdict is_member s below
-verdict_in_place is_member s type below members = option_map_or (λ t. means (own t)) (single_type type below) wrong
+-- with bases that are found; there must be one
+abbrev pub identity_verdict : Forest Source → ℕ → List ℕ → Verdict
+identity_verdict modules home [] = wrong
+identity_verdict modules home (base ∷ bases) = means (own (identity_type modules home (base ∷ bases)))
+
+abbrev pub verdict_in_place : Forest Source → Bool → Source → BuiltIn → Forest Source → List Verdict → Verdict
+verdict_in_place modules is_member s union below members = union_verdict members
+verdict_in_place modules is_member s leafref below members = leafref_verdict is_member s below
+verdict_in_place modules is_member s identityref below members = identity_verdict modules s.home (bases_in modules below)
+verdict_in_place modules is_member s type below members = option_map_or (λ t. means (own t)) (single_type type below) wrong
 
 -- ---- by way of a typedef
 
@@ -206,7 +173,7 @@ derived is_member below _ = unjudged
 -- on a `type` statement of a set of modules, a member of a union or not; `members` are the verdicts on those below it
 abbrev pub verdict : Forest Source → (ℕ → Verdict) → Bool → Source → Forest Source → List Verdict → Verdict
 verdict modules named is_member s below members = option_map_or (λ type. if are_in_place type below
-    then verdict_in_place is_member s type below members else wrong) (built_in_meant modules s)
+    then verdict_in_place modules is_member s type below members else wrong) (built_in_meant modules s)
     (derived is_member below (named s.number))
 
 -- the verdicts on the `type` statements of a row, which are members of a union

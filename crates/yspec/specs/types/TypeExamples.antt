@@ -3,9 +3,10 @@ use Rattle.std.specs.Prelude.{ℕ, ℤ, pos, Bool, false, List, [], ◌∷◌, c
 use Rattle.std.specs.Option.{option_map_or}
 use Rattle.yspec.specs.text.Text.{Text}
 use Rattle.yspec.specs.types.Ranges.{Bound, least, greatest, number, Span, ErrorText}
-use Rattle.yspec.specs.types.Names.{Naming, enum_names, bit_names}
-use Rattle.yspec.specs.types.Types.{Raw, text, Val, number_value, Integer, YangType, plain, integer_type, decimal_base, enumeration_base, bits_base, taken, value}
+use Rattle.yspec.specs.types.Names.{Naming, Assigned, enum_names, bit_names}
+use Rattle.yspec.specs.types.Types.{Raw, text, Val, number_value, Integer, YangType, plain, integer_type, decimal_base, enumeration_base, bits_base, identity_base, taken, value}
 use Rattle.yspec.specs.types.Restriction.{Restriction, range, length, narrowed}
+use Rattle.yspec.specs.types.Identities.{ModuleNames}
 use Rattle.yspec.specs.types.Values.{value_of_text, canonical}
 
 abbrev pub decimal : ℕ → YangType
@@ -20,7 +21,7 @@ number_is z = Some (value None (number_value z))
 
 -- the values of an integer's default
 abbrev pub default_of : Integer → Text → Option Val
-default_of i t = value_of_text (integer_type i) t
+default_of i t = value_of_text (record { own = codes "m"; prefixed = [] }) (integer_type i) t
 
 abbrev pub at : ℤ → Bound
 at z = number z 0
@@ -83,3 +84,17 @@ taken_by type t = option_and_then (λ y. taken y (text t)) type
 
 abbrev pub shown_by : Option YangType → Text → Option Text
 shown_by type t = option_and_then (λ y. shown y t) type
+
+-- base1, eth and fast of a module i, odd of it, and opt of a module j, by the numbers of their statements
+abbrev pub five_identities : List Assigned
+five_identities = record { name = codes "i:base1"; number = pos 3 } ∷ record { name = codes "i:eth"; number = pos 4 }
+    ∷ record { name = codes "i:fast"; number = pos 6 } ∷ record { name = codes "i:odd"; number = pos 8 }
+    ∷ record { name = codes "j:opt"; number = pos 9 } ∷ []
+
+-- those that derive from base1, at a leaf of i
+abbrev pub identity_sample : YangType
+identity_sample = plain (identity_base (codes "i") five_identities (pos 4 ∷ pos 6 ∷ pos 9 ∷ []))
+
+-- what a module calls itself, and the module i, whose prefix there is p
+abbrev pub names_sample : Text → ModuleNames
+names_sample own = record { own = own; prefixed = (codes "p", codes "i") ∷ [] }

@@ -1,11 +1,13 @@
 -- Types, and the values that they take (RFC 7950, 9; the forms of JSON by RFC 7951, 6).
-use Rattle.std.specs.Prelude.{ℕ, ◌+◌, ◌-◌, ◌^◌, ℤ, pos, negsuc, Bool, true, false, not, ◌||◌, ◌==◌, List, [], ◌∷◌, length, Option, Some, None, is_some, option_map, option_and_then, find, if◌then◌else◌}
-use Rattle.std.specs.List.{list_all}
+use Rattle.std.specs.Prelude.{ℕ, ◌+◌, ◌-◌, ◌^◌, ℤ, pos, negsuc, Bool, true, false, not, ◌||◌, ◌==◌, List, [], ◌∷◌, length, map, Option, Some, None, is_some, option_map, option_and_then, find, if◌then◌else◌}
+use Rattle.std.specs.List.{list_all, list_any}
+use Rattle.std.specs.Ordering.{int_eq}
 use Rattle.std.specs.Str.{chars}
 use Rattle.yspec.specs.text.Text.{Text, is_text, is_yang_char, carriage_return}
 use Rattle.yspec.specs.types.Ranges.{Part, ErrorText, Limit, holds, lies_in}
 use Rattle.yspec.specs.types.Numerals.{integer_of, decimal_of}
 use Rattle.yspec.specs.types.Names.{Assigned, words_of, are_bit_names, named_by, positions_of}
+use Rattle.yspec.specs.types.Identities.{name_within}
 
 -- what a document has at a leaf
 pub data Raw : Type 0 where
@@ -17,7 +19,7 @@ pub data Raw : Type 0 where
 -- what a type makes of it
 pub data Content : Type 0 where
   text_value : Text → Content
-  -- an integer, the number of an enum, or a decimal64 in units of its last digit
+  -- an integer, the number of an enum or of an identity, or a decimal64 in units of its last digit
   number_value : ℤ → Content
   bool_value : Bool → Content
   empty_value : Content
@@ -68,6 +70,9 @@ pub data Base : Type 0 where
   empty_base : Base
   enumeration_base : List Assigned → Base
   bits_base : List Assigned → Base
+  -- The identities of a set of modules by name, and the numbers of those that it takes; before them the name of the module
+  -- of the leaf.
+  identity_base : Text → List Assigned → List ℤ → Base
 
 -- a type that is no union: its ranges or lengths stand from the built-in type outwards
 pub record SimpleType : Type 0 where
@@ -129,6 +134,16 @@ abbrev pub bits_taken : List Assigned → List Text → Option Content
 bits_taken names words = if are_bit_names names words
     then Some (bits_value (positions_of (named_by names words))) else None
 
+abbrev pub is_numbered : List ℤ → ℤ → Bool
+is_numbered numbers z = list_any (λ n. int_eq n z) numbers
+
+abbrev pub identity_if_taken : List ℤ → Assigned → Option Content
+identity_if_taken numbers a = if is_numbered numbers a.number then Some (number_value a.number) else None
+
+-- the identity of a name, where it is one of those of some numbers (RFC 7950, 9.10)
+abbrev pub identity_named : List Assigned → List ℤ → Text → Option Content
+identity_named identities numbers name = option_and_then (identity_if_taken numbers) (find (λ a. is_text name a.name) identities)
+
 abbrev pub string_taken : Text → Option Content
 string_taken t = if is_string_value t then Some (text_value t) else None
 
@@ -141,6 +156,7 @@ text_taken boolean_base t = None
 text_taken empty_base t = None
 text_taken (enumeration_base names) t = enum_taken names t
 text_taken (bits_base names) t = bits_taken names (words_of t)
+text_taken (identity_base home identities numbers) t = identity_named identities numbers (name_within home t)
 
 abbrev in_text : Raw → (Text → Option Content) → Option Content
 in_text (text t) taken = taken t
@@ -164,6 +180,24 @@ base_taken boolean_base raw = bool_taken raw
 base_taken empty_base raw = empty_taken raw
 base_taken (enumeration_base names) raw = in_text raw (enum_taken names)
 base_taken (bits_base names) raw = in_text raw (λ t. bits_taken names (words_of t))
+base_taken (identity_base home identities numbers) raw = in_text raw (λ t. identity_named identities numbers (name_within home t))
+
+-- ---- the module of a leaf
+
+-- The types of a leaf of a module: plain names of identities are of that module (RFC 7951, 6.8).
+abbrev pub base_in : Text → Base → Base
+base_in home (identity_base other identities numbers) = identity_base home identities numbers
+base_in home b = b
+
+abbrev pub simple_in : Text → SimpleType → SimpleType
+simple_in home s = record s { base = base_in home s.base }
+
+abbrev pub shape_in : Text → Shape → Shape
+shape_in home (single s) = single (simple_in home s)
+shape_in home (union members) = union (map (simple_in home) members)
+
+abbrev pub type_in : Text → YangType → YangType
+type_in home type = record type { shape = shape_in home type.shape }
 
 -- ---- restrictions
 

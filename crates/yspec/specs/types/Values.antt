@@ -6,7 +6,8 @@ use Rattle.std.specs.Option.{option_map_or}
 use Rattle.yspec.specs.text.Text.{Text, is_text, space}
 use Rattle.yspec.specs.types.Numerals.{default_integer_of, integer_text, decimal_text}
 use Rattle.yspec.specs.types.Names.{Assigned}
-use Rattle.yspec.specs.types.Types.{Content, text_value, number_value, bool_value, empty_value, bits_value, Val, Base, integer_base, decimal_base, string_base, boolean_base, empty_base, enumeration_base, bits_base, SimpleType, Shape, single, union, YangType, number_within, numbers_of, text_taken, limited, shape_value}
+use Rattle.yspec.specs.types.Identities.{ModuleNames, name_stated}
+use Rattle.yspec.specs.types.Types.{Content, text_value, number_value, bool_value, empty_value, bits_value, Val, Base, integer_base, decimal_base, string_base, boolean_base, empty_base, enumeration_base, bits_base, identity_base, identity_named, is_numbered, SimpleType, Shape, single, union, YangType, number_within, numbers_of, text_taken, limited, shape_value}
 
 -- ---- texts of a module
 
@@ -14,22 +15,23 @@ abbrev pub bool_of : Text → Option Content
 bool_of t = if is_text t (codes "true") then Some (bool_value true)
     else (if is_text t (codes "false") then Some (bool_value false) else None)
 
--- an integer may be hexadecimal or octal; an `empty` has no text
-abbrev pub base_read : Base → Text → Option Content
-base_read (integer_base i) t = option_and_then (number_within (numbers_of i)) (default_integer_of t)
-base_read (decimal_base digits) t = text_taken (decimal_base digits) t
-base_read string_base t = text_taken string_base t
-base_read boolean_base t = bool_of t
-base_read empty_base t = None
-base_read (enumeration_base names) t = text_taken (enumeration_base names) t
-base_read (bits_base names) t = text_taken (bits_base names) t
+-- an integer may be hexadecimal or octal; an `empty` has no text; an identity is named as the module names others
+abbrev pub base_read : ModuleNames → Base → Text → Option Content
+base_read names (integer_base i) t = option_and_then (number_within (numbers_of i)) (default_integer_of t)
+base_read names (decimal_base digits) t = text_taken (decimal_base digits) t
+base_read names string_base t = text_taken string_base t
+base_read names boolean_base t = bool_of t
+base_read names empty_base t = None
+base_read names (enumeration_base enums) t = text_taken (enumeration_base enums) t
+base_read names (bits_base bits) t = text_taken (bits_base bits) t
+base_read names (identity_base home identities numbers) t = option_and_then (identity_named identities numbers) (name_stated names t)
 
-abbrev pub simple_read : SimpleType → Text → Option Content
-simple_read type t = option_and_then (limited type.limits) (base_read type.base t)
+abbrev pub simple_read : ModuleNames → SimpleType → Text → Option Content
+simple_read names type t = option_and_then (limited type.limits) (base_read names type.base t)
 
 -- the value of a text of a module, as a default is one
-abbrev pub value_of_text : YangType → Text → Option Val
-value_of_text type t = shape_value (λ s. simple_read s t) type.shape
+abbrev pub value_of_text : ModuleNames → YangType → Text → Option Val
+value_of_text names type t = shape_value (λ s. simple_read names s t) type.shape
 
 -- ---- canonical texts
 
@@ -41,11 +43,8 @@ abbrev pub spaced_from : Bool → List Assigned → Text
 spaced_from first [] = []
 spaced_from first (a ∷ names) = (if first then a.name else space ∷ a.name) ++ spaced_from false names
 
-abbrev pub is_position : List ℤ → ℤ → Bool
-is_position positions z = list_any (λ p. int_eq p z) positions
-
 abbrev pub names_at : List ℤ → List Assigned → List Assigned
-names_at positions names = filter (λ a. is_position positions a.number) names
+names_at positions names = filter (λ a. is_numbered positions a.number) names
 
 abbrev pub bool_text : Bool → Text
 bool_text true = codes "true"
@@ -54,6 +53,7 @@ bool_text false = codes "false"
 abbrev pub number_text : Base → ℤ → Text
 number_text (decimal_base digits) z = decimal_text digits z
 number_text (enumeration_base names) z = name_of_number names z
+number_text (identity_base home identities numbers) z = name_of_number identities z
 number_text _ z = integer_text z
 
 abbrev pub bits_text : Base → List ℤ → Text

@@ -1,7 +1,7 @@
 use Rattle.std.proofs.Common.{refl}
 use Rattle.std.specs.Prelude.{◌≡◌, Some}
 use Rattle.yprogram.proofs.ProgramLiterals.{yprogram_on_literals}
-use Rattle.yspec.specs.linking.Keyword.{Keyword, keyword_named, keyword_text, module_word, yang_version_word, namespace_word, prefix_word, import_word, revision_date_word, organization_word, contact_word, description_word, reference_word, revision_word, extension_word, typedef_word, grouping_word, augment_word, container_word, leaf_word, leaf_list_word, list_word, choice_word, case_word, uses_word, refine_word, type_word, fraction_digits_word, range_word, length_word, enum_word, bit_word, path_word, require_instance_word, error_message_word, error_app_tag_word, value_word, position_word, units_word, default_word, config_word, mandatory_word, presence_word, min_elements_word, max_elements_word, ordered_by_word, status_word, key_word, unique_word}
+use Rattle.yspec.specs.linking.Keyword.{Keyword, keyword_named, keyword_text, module_word, yang_version_word, namespace_word, prefix_word, import_word, revision_date_word, organization_word, contact_word, description_word, reference_word, revision_word, extension_word, typedef_word, grouping_word, augment_word, container_word, leaf_word, leaf_list_word, list_word, choice_word, case_word, uses_word, refine_word, type_word, fraction_digits_word, range_word, length_word, enum_word, bit_word, path_word, require_instance_word, error_message_word, error_app_tag_word, value_word, position_word, units_word, default_word, config_word, mandatory_word, presence_word, min_elements_word, max_elements_word, ordered_by_word, status_word, key_word, unique_word, identity_word, base_word}
 use Rattle.yexamples.proofs.linking.keywords.Goals as goal
 
 named : (k : Keyword) → keyword_named (keyword_text k) ≡ Some k
@@ -52,6 +52,8 @@ named ordered_by_word = refl
 named status_word = refl
 named key_word = refl
 named unique_word = refl
+named identity_word = refl
+named base_word = refl
 
 pub returns : goal.returns
 unfolding yprogram_on_literals
