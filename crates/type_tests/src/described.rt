@@ -1,9 +1,14 @@
 //! Types as the rows of tables describe them: step by step, as `uint8 > range:1..10:tag`. The steps work on a row of
-//! types: a built-in type is put behind it, a restriction and `leafref` take its last, and `union` its last two, as in
-//! `uint8 > string > union`. Each function answers none where a row is malformed or memory ran out.
+//! types: a built-in type is put behind it, a restriction, `leafref` and `module` take its last, and `union` its last two, as
+//! in `uint8 > string > union`. Each function answers none where a row is malformed or memory ran out.
 
 use std::alloc::Global;
-use ytype::{Bound, ErrorText, FractionDigits, Naming, NarrowFault, Restriction, Span, YType};
+use std::collections::BTreeSet;
+use std::rc::Rc;
+use ynumber::enum_names;
+use ytype::{
+    Bound, ErrorText, FractionDigits, Identities, Naming, NarrowFault, Restriction, Span, YType,
+};
 
 /// A type, or why there is none.
 pub(crate) type Narrowed = Result<YType, NarrowFault>;
@@ -115,6 +120,32 @@ fn integer(alloc: Global, name: &str) -> Option<Narrowed> {
     }
 }
 
+fn numbers(alloc: Global, text: &str) -> Option<BTreeSet<i64>> {
+    let mut numbers = BTreeSet::new(alloc);
+    for number in text.split(',') {
+        numbers.insert(number.parse::<i64>().ok()?).ok()?;
+    }
+    Some(numbers)
+}
+
+fn module_name(alloc: Global, text: &str) -> Option<Rc<String>> {
+    Rc::new(alloc, String::from_str(alloc, text).ok()?).ok()
+}
+
+// The module whose identities are named plainly, all identities, and the numbers of those that are taken, as
+// `a|a:x=3,b:y=7|3`.
+fn identityref(alloc: Global, text: &str) -> Option<Narrowed> {
+    let (home, rest) = text.split_once('|')?;
+    let (names, taken) = rest.split_once('|')?;
+    let names = enum_names(alloc, &namings(alloc, names)?).ok()?;
+    let identities = Identities::new(
+        module_name(alloc, home)?,
+        Rc::new(alloc, names).ok()?,
+        Rc::new(alloc, numbers(alloc, taken)?).ok()?,
+    );
+    Some(YType::identityref(alloc, &identities))
+}
+
 // A built-in type.
 fn built_in(alloc: Global, kind: &str, rest: &str) -> Option<Narrowed> {
     match kind {
@@ -124,6 +155,7 @@ fn built_in(alloc: Global, kind: &str, rest: &str) -> Option<Narrowed> {
         "decimal64" => decimal(alloc, rest),
         "enumeration" => Some(YType::enumeration(alloc, &namings(alloc, rest)?)),
         "bits" => Some(YType::bits(alloc, &namings(alloc, rest)?)),
+        "identityref" => identityref(alloc, rest),
         _ => integer(alloc, kind),
     }
 }
@@ -147,6 +179,12 @@ fn restricted(alloc: Global, types: &mut Vec<YType>, by: &Restriction) -> Option
     Some(types.pop()?.narrow(alloc, by))
 }
 
+// The last type, at leafs of a module of this name.
+fn of_module(alloc: Global, types: &mut Vec<YType>, home: &str) -> Option<Narrowed> {
+    let home = module_name(alloc, home)?;
+    Some(Ok(types.pop()?.of_module(alloc, &home).ok()?))
+}
+
 fn leafref(alloc: Global, types: &mut Vec<YType>) -> Option<Narrowed> {
     Some(YType::leafref(alloc, &types.pop()?))
 }
@@ -167,6 +205,7 @@ fn next(alloc: Global, types: &mut Vec<YType>, step: &str) -> Option<Narrowed> {
         "range" | "length" | "instance" => {
             restricted(alloc, types, &restriction(alloc, kind, rest)?)
         }
+        "module" => of_module(alloc, types, rest),
         "leafref" => leafref(alloc, types),
         "union" => union_of(alloc, types),
         _ => built_in(alloc, kind, rest),

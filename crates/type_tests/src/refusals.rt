@@ -48,7 +48,13 @@ bits:a=4294967295,b/refused
 bits:a=4294967296,b/refused
 bits:a=-1,b/refused
 bits:a,a/refused
-bits:a,b=0/refused";
+bits:a,b=0/refused
+identityref:a|a:x=3|3/made
+identityref:a|a:x=3|3 > leafref/made
+identityref:a|a:x=3|3 > range:3..3/refused
+identityref:a|a:x=3|3 > length:1..3/refused
+identityref:a|a:x=3|3 > instance:true/refused
+identityref:a|a:x=3|3 > leafref > instance:false/made";
     for row in rows.lines() {
         assert!(rt; holds(rt.alloc(), row) == Some(true), "{row:?}");
     }

@@ -3,7 +3,7 @@
 use crate::described::described;
 use std::alloc::Global;
 use std::cmp::Ordering;
-use ytype::{BadValue, Raw, Val, YType};
+use ytype::{BadValue, ModuleNames, Raw, Val, YType};
 
 fn unquoted(text: &str) -> Option<Raw> {
     match text {
@@ -33,8 +33,13 @@ fn printed(alloc: Global, of: &YType, raw: &Raw) -> Result<String, BadValue> {
     Ok(of.check(alloc, raw)?.canonical(alloc, of)?)
 }
 
+// A default stands in module b, where a has the prefix p.
 fn printed_default(alloc: Global, of: &YType, text: &str) -> Result<String, BadValue> {
-    Ok(of.from_text(alloc, text)?.canonical(alloc, of)?)
+    let names = ModuleNames {
+        own: "b",
+        prefixed: &[("q", "b"), ("p", "a")],
+    };
+    Ok(of.from_text(alloc, text, &names)?.canonical(alloc, of)?)
 }
 
 fn printed_copy(alloc: Global, of: &YType, raw: &Raw) -> Result<String, BadValue> {
@@ -100,7 +105,8 @@ uint8 > range:2..5:tag~narrow/7/narrow
 uint8 > range:2..5~narrow/3/-
 uint8 > range:2..5~narrow/300/-
 string > length:2..5~too short/'a/too short
-string > length:2..5~too short > uint8 > union/'a/-";
+string > length:2..5~too short > uint8 > union/'a/-
+identityref:a|a:x=3,a:y=4|3/'y/-";
     for row in rows.lines() {
         assert!(rt; gives_message(rt.alloc(), row) == Some(true));
     }
@@ -219,7 +225,33 @@ boolean > uint8 > string > union > union/null/!
 boolean > uint8 > string > union > union/'5/5
 uint8 > string > union/256/!
 uint8 > leafref > instance:true/255/255
-uint8 > leafref > instance:true/256/!";
+uint8 > leafref > instance:true/256/!
+identityref:a|a:x=3,a:y=4,b:x=7,b:z=9|3,9/'x/a:x
+identityref:a|a:x=3,a:y=4,b:x=7,b:z=9|3,9/'a:x/a:x
+identityref:a|a:x=3,a:y=4,b:x=7,b:z=9|3,9/'b:z/b:z
+identityref:a|a:x=3,a:y=4,b:x=7,b:z=9|3,9/'z/!
+identityref:a|a:x=3,a:y=4,b:x=7,b:z=9|3,9/'y/!
+identityref:a|a:x=3,a:y=4,b:x=7,b:z=9|3,9/'b:x/!
+identityref:a|a:x=3,a:y=4,b:x=7,b:z=9|3,9/'c:x/!
+identityref:a|a:x=3,a:y=4,b:x=7,b:z=9|3,9/'/!
+identityref:a|a:x=3,a:y=4,b:x=7,b:z=9|3,9/':x/!
+identityref:a|a:x=3,a:y=4,b:x=7,b:z=9|3,9/'a:/!
+identityref:a|a:x=3,a:y=4,b:x=7,b:z=9|3,9/'a:x:/!
+identityref:a|a:x=3,a:y=4,b:x=7,b:z=9|3,9/' x/!
+identityref:a|a:x=3,a:y=4,b:x=7,b:z=9|3,9/3/!
+identityref:a|a:x=3,a:y=4,b:x=7,b:z=9|3,9/null/!
+identityref:a|a:x=3,a:y=4,b:x=7,b:z=9|3,9 > module:b/'z/b:z
+identityref:a|a:x=3,a:y=4,b:x=7,b:z=9|3,9 > module:b/'x/!
+identityref:a|a:x=3,a:y=4,b:x=7,b:z=9|3,9 > module:b/'a:x/a:x
+identityref:a|a:x=3,a:y=4,b:x=7,b:z=9|3,9 > leafref > module:b/'z/b:z
+identityref:a|a:x=3,b:x=4|3 > uint8 > union/'x/a:x
+identityref:a|a:x=3,b:x=4|3 > uint8 > union > module:b/'x/!
+identityref:a|a:x=3,b:x=4|4 > uint8 > union > module:b/'x/b:x
+identityref:a|a:x=3,b:x=4|4 > uint8 > union > module:b/4/4
+string > uint8 > union > module:b/'x/x
+identityref:a|a:a=1,a:b=2,a:c=3,a:d=4,a:e=5,a:f=6,a:g=7,a:h=8,b:a=9|2,9/'b/a:b
+identityref:a|a:a=1,a:b=2,a:c=3,a:d=4,a:e=5,a:f=6,a:g=7,a:h=8,b:a=9|2,9/'b:a/b:a
+identityref:a|a:a=1,a:b=2,a:c=3,a:d=4,a:e=5,a:f=6,a:g=7,a:h=8,b:a=9|2,9/'a/!";
     for row in rows.lines() {
         assert!(rt;
             holds(rt.alloc(), Way::Document, row) == Some(true),
@@ -261,7 +293,19 @@ enumeration:a=-5,b/b/b
 enumeration:a=-5,b/c/!
 enumeration:a=-5,b//!
 uint8 > range:1..10 > range:2..5:t2/0x7/!
-empty//!";
+empty//!
+identityref:a|a:x=3,a:y=4,b:x=7,b:z=9|3,9/p:x/a:x
+identityref:a|a:x=3,a:y=4,b:x=7,b:z=9|3,9/z/b:z
+identityref:a|a:x=3,a:y=4,b:x=7,b:z=9|3,9/q:z/b:z
+identityref:a|a:x=3,a:y=4,b:x=7,b:z=9|3,9/x/!
+identityref:a|a:x=3,a:y=4,b:x=7,b:z=9|3,9/a:x/!
+identityref:a|a:x=3,a:y=4,b:x=7,b:z=9|3,9/p:y/!
+identityref:a|a:x=3,a:y=4,b:x=7,b:z=9|3,9/p:/!
+identityref:a|a:x=3,a:y=4,b:x=7,b:z=9|3,9/p:x:/!
+identityref:a|a:x=3,a:y=4,b:x=7,b:z=9|3,9//!
+identityref:a|a:x=3,a:y=4,b:x=7,b:z=9|3,9 > module:b/p:x/a:x
+identityref:a|a:x=3,b:x=7|7 > string > union > module:a/x/b:x
+identityref:a|a:x=3,b:x=7|3 > string > union > module:a/x/x";
     for row in rows.lines() {
         assert!(rt;
             holds(rt.alloc(), Way::Default, row) == Some(true),
@@ -313,6 +357,8 @@ fn orders(rt: HostRuntime) {
 enumeration:a,b=5,c,d=2,e/'d<'b
 enumeration:a,b=5,c,d=2,e/'b<'c
 enumeration:a,b=5,c,d=2,e/'c<'e
+identityref:a|a:y=3,b:x=7,a:x=9|3,7,9/'y<'b:x
+identityref:a|a:y=3,b:x=7,a:x=9|3,7,9/'b:x<'x
 uint8 > string > union/5<'5
 boolean > uint8 > string > union > union/5<'5";
     for row in rows.lines() {
@@ -354,4 +400,8 @@ fn memory(rt: HostRuntime) {
     assert!(rt; holds_of(rt.alloc(), Way::Default, OF_ALL_KINDS, "0x5/5") != Some(false));
     let tagged = "uint8 > range:1..10:t1 > range:2..5:t2/20/!t1";
     assert!(rt; holds(rt.alloc(), Way::Document, tagged) != Some(false));
+    let named = "identityref:a|a:x=3,b:x=7|7 > uint8 > union > module:b/'x/b:x";
+    assert!(rt; holds(rt.alloc(), Way::Copy, named) != Some(false));
+    let stated = "identityref:a|a:x=3,b:x=7|7/x/b:x";
+    assert!(rt; holds(rt.alloc(), Way::Default, stated) != Some(false));
 }

@@ -1,22 +1,23 @@
 -- What tables of names find, and one name more.
-use Rattle.std.proofs.Common.{◌≡◌, ℕ, zero, suc, ◌+◌, ℤ, pos, ◌+ℤ◌, Bool, true, false, not, cond, ◌||◌, List, [], ◌∷◌, map, length, Option, Some, None, refl, sym, ap, subst, ◌∙◌, arith}
+use Rattle.std.proofs.Common.{◌≡◌, ℕ, zero, suc, ◌+◌, ℤ, pos, ◌+ℤ◌, Bool, true, false, not, cond, ◌&&◌, ◌||◌, List, [], ◌∷◌, ◌++◌, map, length, Option, Some, None, refl, sym, ap, subst, ◌∙◌, arith}
 use Rattle.std.specs.Prelude.{option_map, find, is_some, int_lt, slice_get, string_bytes, FitsSigned}
 use Rattle.std.specs.Int.{w64}
-use Rattle.std.specs.List.{list_any, AllZip}
+use Rattle.std.specs.List.{list_all, list_any, AllZip}
 use Rattle.std.specs.Map.{lookup}
-use Rattle.std.specs.Option.{option_map_or}
+use Rattle.std.specs.Option.{option_map_or, option_or}
 use Rattle.std.specs.Cmp.{signed_Decides, int_eq_equiv}
 use Rattle.std.specs.Cmp.Lexicographic.{slice_cmp}
 use Rattle.std.specs.Ordering.{is_eq, nat_cmp, int_cmp, int_eq, match_ordering}
 use Rattle.std.specs.declared.cmp.Ordering.TheVariants.{Less, Equal, Greater}
 use Rattle.std.specs.BTreeMap.{BTreeMap, is_at, insert_entry, get_by_text}
 use Rattle.std.specs.declared.string.String.{String}
+use Rattle.std.proofs.lemmas.Int.{ints}
 use Rattle.std.proofs.lemmas.Bool.Decides.{same_from_decides, Decides-like}
 use Rattle.std.proofs.lemmas.Slice.Eq.{bytes_eq-Decides}
 use Rattle.yspec.specs.text.Text.{Text, is_text}
 use Rattle.yspec.specs.types.Names.{Assigned, next_after, placed, is_like, is_among}
 use Rattle.ynumber.specs.Words.{named}
-use Rattle.ynumber.specs.Tables.{assigned, new_placed, AreWords, IsIndex, Finds, AreAlike, HasMore}
+use Rattle.ynumber.specs.Tables.{assigned, new_placed, number_named, AreWords, IsIndex, Finds, AreAlike, HasMore}
 
 -- ---- tests
 
@@ -231,3 +232,93 @@ table_copied None None es fs finds same is = subst AreWords (sym is) finds
 table_copied None (Some n) es fs finds same is = absurd same
 table_copied (Some m) None es fs finds same is = absurd same
 table_copied (Some m) (Some n) es fs finds same is = index_copied m n es fs finds same is
+
+-- ---- a name of a number above all others
+
+not_before : (x y : ℤ) → int_lt x y ≡ true → int_lt y x ≡ false
+not_before x y e = grind (arith, ints, e)
+
+not_same : (x y : ℤ) → int_lt x y ≡ true → int_eq y x ≡ false
+not_same x y e = grind (arith, ints, e)
+
+both_hold : (a b : Bool) → (a && b) ≡ true → (a ≡ true) × (b ≡ true)
+both_hold true b e = (refl, e)
+both_hold false b e = absurd cc
+
+pub placed_last : (a : Assigned) (xs : List Assigned) → list_all (λ (b : Assigned). int_lt b.number a.number) xs ≡ true → placed a xs ≡ xs ++ a ∷ []
+placed_last a [] later = refl
+placed_last a (b ∷ bs) later =
+    let both = both_hold _ _ later in
+    ap (λ l. cond l (a ∷ b ∷ bs) (b ∷ placed a bs)) (not_before b.number a.number both.0)
+    ∙ ap (λ (xs : List Assigned). b ∷ xs) (placed_last a bs both.1)
+
+pub number_last : (a : Assigned) (xs : List Assigned) → list_all (λ (b : Assigned). int_lt b.number a.number) xs ≡ true → list_any (λ (b : Assigned). int_eq a.number b.number) xs ≡ false
+number_last a [] later = refl
+number_last a (b ∷ bs) later =
+    let both = both_hold _ _ later in
+    ap (λ l. l || list_any (λ (b : Assigned). int_eq a.number b.number) bs) (not_same b.number a.number both.0) ∙ number_last a bs both.1
+
+words_last : (a : Assigned) (xs : List Assigned) → FitsSigned w64 a.number → AreWords xs → AreWords (xs ++ a ∷ [])
+words_last a [] fits words = (fits, tt)
+words_last a (b ∷ bs) fits words = (words.0, words_last a bs fits words.1)
+
+or_nothing : (o : Option ℤ) → option_or o None ≡ o
+or_nothing None = refl
+or_nothing (Some y) = refl
+
+or_one : (o : Option ℤ) (b : Bool) (z : ℤ) → (b ≡ true → is_some o ≡ false) → cond b (Some z) o ≡ option_or o (cond b (Some z) None)
+or_one o false z apart = sym (or_nothing o)
+or_one o true z apart = by o (apart refl)
+  where
+    by : (o : Option ℤ) → is_some o ≡ false → Some z ≡ option_or o (Some z)
+    by None e = refl
+    by (Some y) e = absurd cc
+
+or_none : (o : Option ℤ) (b : Bool) (z : ℤ) → (b ≡ true → is_some o ≡ true) → o ≡ option_or o (cond b (Some z) None)
+or_none o false z there = sym (or_nothing o)
+or_none o true z there = by o (there refl)
+  where
+    by : (o : Option ℤ) → is_some o ≡ true → o ≡ option_or o (Some z)
+    by None e = absurd cc
+    by (Some y) e = refl
+
+number_behind : (t : Text) (a : Assigned) (xs : List Assigned)
+    → number_named t (xs ++ a ∷ []) ≡ option_or (number_named t xs) (cond (is_text t a.name) (Some a.number) None)
+number_behind t a [] = by (is_text t a.name)
+  where
+    by : (b : Bool) → option_map (λ (a : Assigned). a.number) (cond b (Some a) None) ≡ cond b (Some a.number) None
+    by true = refl
+    by false = refl
+number_behind t a (x ∷ xs) = by (is_text t x.name) (number_behind t a xs)
+  where
+    by : (b : Bool) → number_named t (xs ++ a ∷ []) ≡ option_or (number_named t xs) (cond (is_text t a.name) (Some a.number) None)
+        → option_map (λ (a : Assigned). a.number) (cond b (Some x) (find (λ (b : Assigned). is_text t b.name) (xs ++ a ∷ [])))
+        ≡ option_or (option_map (λ (a : Assigned). a.number) (cond b (Some x) (find (λ (b : Assigned). is_text t b.name) xs))) (cond (is_text t a.name) (Some a.number) None)
+    by true h = refl
+    by false h = h
+
+-- two texts that are the same are named alike
+named_alike : (t : Text) (a : Assigned) (xs : List Assigned) (b : Bool) → is_among (map (λ (a : Assigned). a.name) xs) a.name ≡ b → is_text t a.name ≡ true → is_some (number_named t xs) ≡ b
+named_alike t a xs b is same =
+    ap (λ (u : Text). is_some (number_named u xs)) ((bytes_eq-Decides t a.name).0 same) ∙ named_among a.name xs ∙ is
+
+-- the table finds the first of a name, whether the last one has a name that is known
+pub kept_later : {Z : Type 0} (table : Option (BTreeMap (String Z) ℤ)) (a : Assigned) (xs ys : List Assigned) → Finds table xs → FitsSigned w64 a.number
+    → is_among (map (λ (a : Assigned). a.name) xs) a.name ≡ true → ys ≡ xs ++ a ∷ [] → Finds table ys
+kept_later None a xs ys finds fits known is = subst AreWords (sym is) (words_last a xs fits finds)
+kept_later (Some table) a xs ys finds fits known is = subst (IsIndex table) (sym is) (record {
+  finds = λ t. finds.finds t ∙ or_none (number_named t xs) (is_text t a.name) a.number (named_alike t a xs true known) ∙ sym (number_behind t a xs);
+  words = words_last a xs fits finds.words;
+})
+
+pub more_later : {Z : Type 0} (before after : Option (BTreeMap (String Z) ℤ)) (a : Assigned) (xs ys : List Assigned) → Finds before xs → FitsSigned w64 a.number
+    → is_among (map (λ (a : Assigned). a.name) xs) a.name ≡ false → ys ≡ xs ++ a ∷ [] → HasMore before after a.name a.number → Finds after ys
+more_later None None a xs ys finds fits new is more = subst AreWords (sym is) (words_last a xs fits finds)
+more_later None (Some after) a xs ys finds fits new is more = absurd more
+more_later (Some before) None a xs ys finds fits new is more = absurd more
+more_later (Some before) (Some after) a xs ys finds fits new is more = subst (IsIndex after) (sym is) (record {
+  finds = λ t. more t ∙ ap (λ b. cond b (Some a.number) (get_by_text before t)) (text_turned a.name t)
+      ∙ ap (λ (o : Option ℤ). cond (is_text t a.name) (Some a.number) o) (finds.finds t)
+      ∙ or_one (number_named t xs) (is_text t a.name) a.number (named_alike t a xs false new) ∙ sym (number_behind t a xs);
+  words = words_last a xs fits finds.words;
+})

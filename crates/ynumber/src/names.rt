@@ -1,8 +1,8 @@
 //! Names with their numbers, and how each is found.
 
-ghost use Rattle.std.specs.Prelude.{◌≡◌, ◌+ℤ◌, pos, [], map, option_map, option_copied, find, ok_or, IfOk};
+ghost use Rattle.std.specs.Prelude.{◌≡◌, ◌++◌, ◌∷◌, ◌+ℤ◌, int_lt, pos, true, [], map, option_map, option_copied, find, ok_or, IfOk};
 ghost use Rattle.std.specs.Ordering.{int_eq};
-ghost use Rattle.std.specs.List.{list_any};
+ghost use Rattle.std.specs.List.{list_all, list_any};
 ghost use Rattle.yspec.specs.text.Text.{is_text};
 ghost use Rattle.yspec.specs.types.Names.{next_number, is_among, is_like};
 ghost use Rattle.yspec.specs.Results.{Gives};
@@ -103,7 +103,7 @@ fn number_among(by_number: &BTreeMap<i64, String>, text: &str) -> Option<i64>
 
 impl Names {
     /// No names, where so many are to come.
-    pub(crate) fn new(alloc: Global, count: usize) -> Names
+    pub fn new(alloc: Global, count: usize) -> Names
         ensures { result ≡ [] }
     {
         let by_name = if count <= FEW {
@@ -170,6 +170,25 @@ impl Names {
         ensures { result ≡ list_any (is_like (named name.now number)) self.now }
     {
         self.has_name(name) || self.by_number.contains_key(&number)
+    }
+
+    /// With one name more, of a number above all others. Of two that are the same the first is found.
+    pub fn with_later(self, alloc: Global, name: &str, number: i64) -> Result<Names, AllocError>
+        requires later { list_all (λ a. int_lt a.number number) self ≡ true }
+        ensures { IfOk result (λ names. names ≡ self ++ named name.now number ∷ []) }
+    {
+        let is_known = self.has_name(name);
+        let Names {
+            mut by_number,
+            by_name,
+        } = self;
+        by_number.insert(number, String::from_str(alloc, name)?)?;
+        let by_name = if is_known {
+            by_name
+        } else {
+            with_name(alloc, by_name, name, number)?
+        };
+        Ok(Names { by_number, by_name })
     }
 
     /// With one name more. Refused where the name or the number is there.

@@ -11,6 +11,7 @@ use Rattle.ytype.specs.declared.base.Found.TheVariants as found
 use Rattle.ytype.specs.declared.val.Content.{Content}
 use Rattle.ytype.specs.declared.val.Content.TheVariants as content
 use Rattle.yspec.specs.types.Types as types
+use Rattle.ytype.specs.Identities.{identities_view}
 
 abbrev pub raw_of : Raw → types.Raw
 raw_of (raw.Text t) = types.text (string_bytes t)
@@ -36,6 +37,7 @@ base_of base.Boolean = types.boolean_base
 base_of base.Empty = types.empty_base
 base_of (base.Enumeration names) = types.enumeration_base names.value
 base_of (base.Bits names) = types.bits_base names.value
+base_of (base.Identity identities) = identities_view identities
 
 abbrev pub found_of : Found → types.Content
 found_of (found.Text t) = types.text_value t.now

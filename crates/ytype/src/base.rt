@@ -1,14 +1,16 @@
 //! Built-in types, and what each takes (RFC 7950, 9; RFC 7951, 6).
 
-ghost use Rattle.std.specs.Prelude.{◌≡◌, length, option_map, IfOk};
+ghost use Rattle.std.specs.Prelude.{◌≡◌, length, option_map, IfOk, string_bytes};
 ghost use Rattle.std.specs.Str.{chars};
-ghost use Rattle.yspec.specs.types.Types.{numbers_of, is_written_as_text, is_string_char, is_string_value, number_value, bool_value, integer_taken, decimal_taken, enum_taken, bits_taken, string_taken, text_taken, base_taken, measure};
+ghost use Rattle.yspec.specs.types.Types.{numbers_of, is_written_as_text, is_string_char, is_string_value, number_value, bool_value, integer_taken, decimal_taken, enum_taken, bits_taken, string_taken, text_taken, base_taken, base_in, measure};
 ghost use Rattle.yspec.specs.types.Names.{words_of};
 ghost use Rattle.yspec.specs.types.Values.{base_read, bool_of};
 ghost use Rattle.ytype.specs.View.{raw_of, integer_of, base_of, found_of, content_of};
+ghost use Rattle.ytype.specs.Identities.{is_identity, module_names_view};
 ghost use Rattle.ynumber.specs.Words.{IsNarrow};
 ghost use Rattle.ytype.specs.Founds.{founds};
 
+use crate::identity::{Identities, ModuleNames};
 use crate::raw::Raw;
 use crate::val::Content;
 use std::alloc::{AllocError, Global};
@@ -137,6 +139,7 @@ pub enum Base {
     Empty,
     Enumeration(Rc<Names>),
     Bits(Rc<Names>),
+    Identity(Identities),
 }
 
 impl Clone for Base {
@@ -153,6 +156,42 @@ impl Clone for Base {
             Base::Empty => Ok(Base::Empty),
             Base::Enumeration(names) => Ok(Base::Enumeration(names.clone()?)),
             Base::Bits(names) => Ok(Base::Bits(names.clone()?)),
+            Base::Identity(identities) => Ok(Base::Identity(identities.clone()?)),
+        }
+    }
+}
+
+impl Base {
+    /// Whether it is that of an identityref.
+    pub(crate) fn is_identity(&self) -> bool
+        ensures { result ≡ is_identity (base_of self.now) }
+    {
+        match self {
+            Base::Identity(_) => true,
+            Base::Integer(_)
+            | Base::Decimal(_)
+            | Base::Text
+            | Base::Boolean
+            | Base::Empty
+            | Base::Enumeration(_)
+            | Base::Bits(_) => false,
+        }
+    }
+
+    /// The same for leafs of a module of this name.
+    pub(crate) fn of_module(&self, home: &Rc<String>) -> Result<Base, AllocError>
+        ensures { IfOk result (λ base. base_of base
+            ≡ base_in (string_bytes home.now.value) (base_of self.now)) }
+    {
+        match self {
+            Base::Integer(integer) => Ok(Base::Integer(*integer)),
+            Base::Decimal(digits) => Ok(Base::Decimal(*digits)),
+            Base::Text => Ok(Base::Text),
+            Base::Boolean => Ok(Base::Boolean),
+            Base::Empty => Ok(Base::Empty),
+            Base::Enumeration(names) => Ok(Base::Enumeration(names.clone()?)),
+            Base::Bits(names) => Ok(Base::Bits(names.clone()?)),
+            Base::Identity(identities) => Ok(Base::Identity(identities.within(home)?)),
         }
     }
 }
@@ -226,6 +265,15 @@ fn string_found(text: &str) -> Option<Found<'_>>
     }
 }
 
+fn identity_found<'a>(number: Option<i64>) -> Option<Found<'a>>
+    ensures { founds result ≡ option_map number_value number }
+{
+    match number {
+        None => None,
+        Some(number) => Some(Found::Number(i128::from(number))),
+    }
+}
+
 fn bits_found<'a>(alloc: Global, names: &Names, text: &str) -> Result<Option<Found<'a>>, AllocError>
     ensures { IfOk result (λ found. founds found ≡ bits_taken names.now (words_of text.now)) }
 {
@@ -244,6 +292,7 @@ impl Base {
             Base::Text => Ok(string_found(text)),
             Base::Enumeration(names) => Ok(enum_found(names, text)),
             Base::Bits(names) => bits_found(alloc, names, text),
+            Base::Identity(identities) => Ok(identity_found(identities.taken(alloc, text)?)),
             Base::Integer(_) => Ok(None),
             Base::Boolean => Ok(None),
             Base::Empty => Ok(None),
@@ -272,9 +321,11 @@ impl Base {
     pub(crate) fn read<'a>(
         &self,
         alloc: Global,
+        names: &ModuleNames<'_>,
         text: &'a str,
     ) -> Result<Option<Found<'a>>, AllocError>
-        ensures { IfOk result (λ found. founds found ≡ base_read (base_of self.now) text.now) }
+        ensures { IfOk result (λ found. founds found
+            ≡ base_read (module_names_view names.now) (base_of self.now) text.now) }
     {
         match self {
             Base::Integer(integer) => Ok(number_found(default_integer_in(
@@ -282,6 +333,9 @@ impl Base {
                 text.as_bytes(),
             ))),
             Base::Boolean => Ok(bool_found(text)),
+            Base::Identity(identities) => {
+                Ok(identity_found(identities.read(alloc, names, text)?))
+            }
             _ => self.text_taken(alloc, text),
         }
     }

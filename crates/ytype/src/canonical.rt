@@ -22,6 +22,7 @@ fn number_text(alloc: Global, base: &Base, number: i128) -> Result<String, Alloc
     match base {
         Base::Decimal(digits) => decimal_text(alloc, *digits, number),
         Base::Enumeration(names) => name_of_number(alloc, names, number),
+        Base::Identity(identities) => name_of_number(alloc, identities.names(), number),
         _ => integer_text(alloc, number),
     }
 }

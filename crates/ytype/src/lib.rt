@@ -4,6 +4,7 @@
 mod base;
 mod canonical;
 mod fault;
+mod identity;
 mod raw;
 mod simple;
 mod val;
@@ -11,6 +12,7 @@ mod ytype;
 
 pub use base::{Base, Integer};
 pub use fault::BadValue;
+pub use identity::{Identities, ModuleNames, cut_at_colon, identity_name};
 pub use raw::Raw;
 pub use simple::SimpleType;
 pub use val::Val;

@@ -4,17 +4,19 @@ ghost use Rattle.std.specs.Prelude.{◌≡◌, ◌++◌, ◌∷◌, [], option_a
 ghost use Rattle.std.specs.Option.{ForSome};
 ghost use Rattle.std.specs.String.{string_bytes};
 ghost use Rattle.yspec.specs.types.Ranges.{holds};
-ghost use Rattle.yspec.specs.types.Types.{excluding, limited, simple_taken, simple_excluding, simple_error};
+ghost use Rattle.yspec.specs.types.Types.{excluding, limited, simple_taken, simple_excluding, simple_error, simple_in};
 ghost use Rattle.yspec.specs.types.Values.{simple_read, content_text};
 ghost use Rattle.yspec.specs.types.Restriction.{left_by, limited_by, with_limit, range_base, length_base, narrowed_simple};
 ghost use Rattle.ynumber.specs.View.{text_of, restriction_of};
 ghost use Rattle.yspec.specs.Results.{Gives};
 ghost use Rattle.ynumber.specs.Words.{narrow_refusal, same};
 ghost use Rattle.ytype.specs.View.{raw_of, base_of, content_of};
+ghost use Rattle.ytype.specs.Identities.{is_identity, module_names_view};
 ghost use Rattle.ytype.specs.Founds.{founds, contents, now_of};
 
 use crate::base::{Base, Found, Integer};
 use crate::canonical::content_text;
+use crate::identity::ModuleNames;
 use crate::raw::Raw;
 use crate::val::Content;
 use std::alloc::{AllocError, Global};
@@ -117,6 +119,16 @@ impl LimitedType {
             Some(limit) => Some(limit),
             None => excluding(slice::from_ref(&self.outermost), number),
         }
+    }
+
+    fn of_module(&self, home: &Rc<String>) -> Result<LimitedType, AllocError>
+        ensures { IfOk result (λ type. type ≡ simple_in (string_bytes home.now.value) self.now) }
+    {
+        Ok(LimitedType {
+            base: self.base.of_module(home)?,
+            inner: self.inner.clone()?,
+            outermost: self.outermost.clone()?,
+        })
     }
 
     fn left(&self) -> &[Part]
@@ -222,10 +234,48 @@ impl SimpleType {
     }
 
     /// The value of a text of a module.
-    pub(crate) fn read(&self, alloc: Global, text: &str) -> Result<Option<Content>, AllocError>
-        ensures { IfOk result (λ content. contents content ≡ simple_read self.now text.now) }
+    pub(crate) fn read(
+        &self,
+        alloc: Global,
+        names: &ModuleNames<'_>,
+        text: &str,
+    ) -> Result<Option<Content>, AllocError>
+        ensures { IfOk result (λ content. contents content
+            ≡ simple_read (module_names_view names.now) self.now text.now) }
     {
-        self.within(alloc, self.base().read(alloc, text)?)
+        self.within(alloc, self.base().read(alloc, names, text)?)
+    }
+
+    /// The same for leafs of a module of this name.
+    pub(crate) fn of_module(
+        &self,
+        alloc: Global,
+        home: &Rc<String>,
+    ) -> Result<SimpleType, AllocError>
+        ensures { IfOk result (λ type. type ≡ simple_in (string_bytes home.now.value) self.now) }
+    {
+        if self.is_identity() {
+            self.made_for(alloc, home)
+        } else {
+            self.clone()
+        }
+    }
+
+    /// Whether it begins with an identityref.
+    pub(crate) fn is_identity(&self) -> bool
+        ensures { result ≡ is_identity self.now.base }
+    {
+        self.base().is_identity()
+    }
+
+    fn made_for(&self, alloc: Global, home: &Rc<String>) -> Result<SimpleType, AllocError>
+        ensures { IfOk result (λ type. type ≡ simple_in (string_bytes home.now.value) self.now) }
+    {
+        let form = match &self.form {
+            Form::Plain(base) => Form::Plain(base.of_module(home)?),
+            Form::Limited(limited) => Form::Limited(Rc::new(alloc, limited.of_module(home)?)?),
+        };
+        Ok(SimpleType { form })
     }
 
     /// The canonical text of what it took.

@@ -1,7 +1,7 @@
 //! Types.
 
-ghost use Rattle.std.specs.Prelude.{◌≡◌, ◌++◌, Ok, IfOk, OnOk, Some, None, option_map, ok_or};
-ghost use Rattle.yspec.specs.types.Types.{taken, error_text_of, app_tag_of, message_of, simple_taken, first_value, plain, integer_type, string_type, uint8_type, int8, int16, int32, int64, uint8, uint16, uint32, uint64, boolean_base, empty_base, decimal_base, enumeration_base, bits_base};
+ghost use Rattle.std.specs.Prelude.{◌≡◌, ◌++◌, Ok, IfOk, OnOk, Some, None, map, option_map, ok_or, string_bytes};
+ghost use Rattle.yspec.specs.types.Types.{taken, error_text_of, app_tag_of, message_of, simple_taken, first_value, simple_in, shape_in, type_in, plain, integer_type, string_type, uint8_type, int8, int16, int32, int64, uint8, uint16, uint32, uint64, boolean_base, empty_base, decimal_base, enumeration_base, bits_base};
 ghost use Rattle.yspec.specs.types.Values.{value_of_text, simple_read, taker};
 ghost use Rattle.yspec.specs.types.Names as names;
 ghost use Rattle.yspec.specs.types.Restriction.{members_of, union_type, leafref_type, narrowed};
@@ -11,10 +11,13 @@ ghost use Rattle.ynumber.specs.Words.{narrow_refusal, same};
 ghost use Rattle.ytype.specs.View.{raw_of, base_of, integer_of};
 ghost use Rattle.ytype.specs.Founds.{now_of};
 ghost use Rattle.ytype.specs.Shapes.{shape_of};
+ghost use Rattle.std.specs.List.{list_any};
+ghost use Rattle.ytype.specs.Identities.{identities_view, is_identity, module_names_view};
 ghost use Rattle.ytype.specs.Refusals.{value_refusal};
 
 use crate::base::{Base, Integer};
 use crate::fault::BadValue;
+use crate::identity::{Identities, ModuleNames};
 use crate::raw::Raw;
 use crate::simple::SimpleType;
 use crate::val::Val;
@@ -203,6 +206,13 @@ impl YType {
         }
     }
 
+    /// Identities that derive from others (9.10).
+    pub fn identityref(_alloc: Global, identities: &Identities) -> Result<YType, NarrowFault>
+        ensures { Gives same narrow_refusal result (Ok (plain (identities_view identities.now))) }
+    {
+        Ok(plain(Base::Identity(identities.clone()?)))
+    }
+
     /// What one of its members takes (9.12).
     pub fn union(alloc: Global, types: &[YType]) -> Result<YType, NarrowFault>
         ensures { Gives same narrow_refusal result (Ok (union_type types.now)) }
@@ -258,11 +268,17 @@ fn first_taken(alloc: Global, members: &[SimpleType], raw: &Raw) -> Result<Optio
     Ok(None)
 }
 
-fn first_read(alloc: Global, members: &[SimpleType], text: &str) -> Result<Option<Val>, AllocError>
-    ensures { IfOk result (λ val. val ≡ first_value (λ s. simple_read s text.now) 0 members.now) }
+fn first_read(
+    alloc: Global,
+    members: &[SimpleType],
+    names: &ModuleNames<'_>,
+    text: &str,
+) -> Result<Option<Val>, AllocError>
+    ensures { IfOk result (λ val. val
+        ≡ first_value (λ s. simple_read (module_names_view names.now) s text.now) 0 members.now) }
 {
     'members: for (number, member) in members.iter().enumerate() {
-        match member.read(alloc, text)? {
+        match member.read(alloc, names, text)? {
             None => {}
             Some(content) => return Ok(Some(Val::new(Some(number), content))),
         }
@@ -270,7 +286,57 @@ fn first_read(alloc: Global, members: &[SimpleType], text: &str) -> Result<Optio
     Ok(None)
 }
 
+impl Shape {
+    fn of_module(&self, alloc: Global, home: &Rc<String>) -> Result<Shape, AllocError>
+        ensures { IfOk result (λ shape. shape_of shape
+            ≡ shape_in (string_bytes home.now.value) (shape_of self.now)) }
+    {
+        match self {
+            Shape::Single(simple) => Ok(Shape::Single(simple.of_module(alloc, home)?)),
+            Shape::Union(members) => {
+                if !have_identities(members) {
+                    return self.clone();
+                }
+                let made = members_in(alloc, members, home)?;
+                Ok(Shape::Union(Rc::new(alloc, made)?))
+            }
+        }
+    }
+}
+
+/// Whether a member is an identityref.
+fn have_identities(members: &[SimpleType]) -> bool
+    ensures { result ≡ list_any (λ s. is_identity s.base) members.now }
+{
+    members.iter().any(SimpleType::is_identity)
+}
+
+fn members_in(
+    alloc: Global,
+    members: &[SimpleType],
+    home: &Rc<String>,
+) -> Result<Vec<SimpleType>, AllocError>
+    ensures { IfOk result (λ made. made.items
+        ≡ map (simple_in (string_bytes home.now.value)) members.now) }
+{
+    let mut made = Vec::with_capacity(alloc, members.len())?;
+    'members: for member in members {
+        made.push(member.of_module(alloc, home)?)?;
+    }
+    Ok(made)
+}
+
 impl YType {
+    /// The same type for leafs of a module of this name: a name of an identity without a module is of that one.
+    pub fn of_module(&self, alloc: Global, home: &Rc<String>) -> Result<YType, AllocError>
+        ensures { IfOk result (λ type. type ≡ type_in (string_bytes home.now.value) self.now) }
+    {
+        Ok(YType {
+            shape: self.shape.of_module(alloc, home)?,
+            requires_instance: self.requires_instance,
+        })
+    }
+
     /// The type that took a value of a member.
     pub(crate) fn taker(&self, member: Option<usize>) -> Option<&SimpleType>
         ensures { now_of result ≡ taker self.now.shape member }
@@ -376,16 +442,23 @@ impl YType {
         }
     }
 
-    /// The value of a text of a module, as a default is one. A refusal bears no error-app-tag.
-    pub fn from_text(&self, alloc: Global, text: &str) -> Result<Val, BadValue>
-        ensures { Gives same value_refusal result (ok_or (value_of_text self.now text.now) None) }
+    /// The value of a text of a module, as a default is one, given what the module calls itself and others. A refusal bears no
+    /// error-app-tag.
+    pub fn from_text(
+        &self,
+        alloc: Global,
+        text: &str,
+        names: &ModuleNames<'_>,
+    ) -> Result<Val, BadValue>
+        ensures { Gives same value_refusal result
+            (ok_or (value_of_text (module_names_view names.now) self.now text.now) None) }
     {
         match &self.shape {
-            Shape::Single(simple) => match simple.read(alloc, text)? {
+            Shape::Single(simple) => match simple.read(alloc, names, text)? {
                 Some(content) => Ok(Val::new(None, content)),
                 None => Err(BadValue::Refused { app_tag: None }),
             },
-            Shape::Union(members) => match first_read(alloc, members, text)? {
+            Shape::Union(members) => match first_read(alloc, members, names, text)? {
                 Some(val) => Ok(val),
                 None => Err(BadValue::Refused { app_tag: None }),
             },

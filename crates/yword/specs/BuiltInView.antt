@@ -21,3 +21,4 @@ built_in_view types.Enumeration = spec.enumeration
 built_in_view types.Bits = spec.bits
 built_in_view types.Union = spec.union
 built_in_view types.Leafref = spec.leafref
+built_in_view types.Identityref = spec.identityref

@@ -50,3 +50,5 @@ keyword_view words.OrderedBy = spec.ordered_by_word
 keyword_view words.Status = spec.status_word
 keyword_view words.Key = spec.key_word
 keyword_view words.Unique = spec.unique_word
+keyword_view words.Identity = spec.identity_word
+keyword_view words.Base = spec.base_word

@@ -24,6 +24,7 @@ pub enum BuiltIn {
     Bits,
     Union,
     Leafref,
+    Identityref,
 }
 
 impl BuiltIn {
@@ -64,6 +65,7 @@ impl BuiltIn {
             BuiltIn::Bits => "bits",
             BuiltIn::Union => "union",
             BuiltIn::Leafref => "leafref",
+            BuiltIn::Identityref => "identityref",
         }
     }
 }
@@ -112,6 +114,7 @@ fn of_another_length(name: &str) -> Option<BuiltIn>
         "enumeration" => BuiltIn::Enumeration,
         "leafref" => BuiltIn::Leafref,
         "decimal64" => BuiltIn::Decimal64,
+        "identityref" => BuiltIn::Identityref,
         _ => return None,
     })
 }

@@ -55,10 +55,12 @@ pub enum Keyword {
     Status,
     Key,
     Unique,
+    Identity,
+    Base,
 }
 
 /// How many keywords there are.
-pub const KEYWORDS: usize = 46;
+pub const KEYWORDS: usize = 48;
 
 impl Keyword {
     /// Its number, from 0.
@@ -122,6 +124,7 @@ fn of_four(text: &str) -> Option<Keyword>
         "uses" => Keyword::Uses,
         "enum" => Keyword::Enum,
         "path" => Keyword::Path,
+        "base" => Keyword::Base,
         _ => return None,
     })
 }
@@ -182,6 +185,7 @@ fn of_middle(text: &str) -> Option<Keyword>
         "augment" => Keyword::Augment,
         "position" => Keyword::Position,
         "presence" => Keyword::Presence,
+        "identity" => Keyword::Identity,
         _ => return None,
     })
 }
