@@ -107,8 +107,8 @@ fn node_text(alloc: Global, node: &SchemaNode) -> Result<String, AllocError> {
     format!(in alloc; "{config}{kind} {}", node.name.as_str())
 }
 
-// Whether the nodes of a schema are these, a line each.
-fn are_nodes(alloc: Global, schema: &Schema, lines: &str) -> Option<bool> {
+/// Whether the nodes of a schema are these, a line each.
+pub(crate) fn are_nodes(alloc: Global, schema: &Schema, lines: &str) -> Option<bool> {
     let mut number = 0;
     for line in lines.lines() {
         let node = schema.kind(SchemaId(number))?;

@@ -16,6 +16,8 @@ mod groupings;
 #[cfg(test)]
 mod halves;
 #[cfg(test)]
+mod identities;
+#[cfg(test)]
 mod kinds;
 #[cfg(test)]
 mod limits;

@@ -119,6 +119,41 @@ create /v:e[3]/id 2 => 5 to 6 => {"v:e":[{"id":1,"in":{"x":"p"}},{"id":2,"in":{"
     assert_eq!(rt; first_wrong_history(rt.alloc(), ENTRIES, histories), None);
 }
 
+// Identities as keys, values of tuples and targets of references, by either spelling.
+const IDENTITIES: &str = "module m {
+  yang-version 1.1;
+  namespace \"urn:m\";
+  prefix m;
+  identity r;
+  identity a { base r; }
+  identity b { base a; }
+  list l {
+    key k;
+    unique x;
+    leaf k { type identityref { base r; } }
+    leaf x { type identityref { base r; } default m:a; }
+  }
+  leaf t { type leafref { path /l/k; } }
+}
+";
+
+#[test]
+fn identities(rt: HostRuntime) {
+    let histories = r#"{"m:l":[{"k":"a"},{"k":"m:b","x":"m:b"}],"m:t":"m:a"}
+# opened => passed over => {"m:l":[{"k":"a"},{"k":"m:b","x":"m:b"}],"m:t":"m:a"} => none
+create /m:l[k='m:a']/x "b" => 0 to 2 => {"m:l":[{"k":"a","x":"b"},{"k":"m:b","x":"m:b"}],"m:t":"m:a"} => V9 operation-failed data-not-unique /m:l[1] 1|V9 operation-failed data-not-unique /m:l[2] 1|
+replace /m:l[k='m:b']/k "a" => 2 to 4 => {"m:l":[{"k":"a","x":"b"},{"k":"a","x":"m:b"}],"m:t":"m:a"} => V8 operation-failed - /m:l[1] -|V9 operation-failed data-not-unique /m:l[1] 1|V8 operation-failed - /m:l[2] -|V9 operation-failed data-not-unique /m:l[2] 1|
+remove /m:l[k='m:r'] => E7 => {"m:l":[{"k":"a","x":"b"},{"k":"a","x":"m:b"}],"m:t":"m:a"} => V8 operation-failed - /m:l[1] -|V9 operation-failed data-not-unique /m:l[1] 1|V8 operation-failed - /m:l[2] -|V9 operation-failed data-not-unique /m:l[2] 1|
+remove /m:l[1] => 4 to 0 => {"m:l":[{"k":"a","x":"m:b"}],"m:t":"m:a"} => none
+replace /m:t "r" => 0 to 1 => {"m:l":[{"k":"a","x":"m:b"}],"m:t":"r"} => V1 invalid-value - /m:t -|
+replace /m:t "b" => 1 to 1 => {"m:l":[{"k":"a","x":"m:b"}],"m:t":"b"} => V11 data-missing instance-required /m:t -|
+create /m:l {"k":"m:b"} => 1 to 0 => {"m:l":[{"k":"a","x":"m:b"},{"k":"m:b"}],"m:t":"b"} => none"#;
+    assert_eq!(rt;
+        first_wrong_history(rt.alloc(), IDENTITIES, histories),
+        None
+    );
+}
+
 // No entry stands at a position of a list without any.
 #[test]
 fn absent_lists(rt: HostRuntime) {

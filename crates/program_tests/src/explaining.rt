@@ -211,10 +211,10 @@ yanglive validate --explain two.json p.yang
 1 0
 V1 invalid-value - /p:c/id -
   /p:c/id: 256 isn't a value of uint8: it takes an integer without quotes in 0..255.
-  A value isn't one that its type takes. Look at the type's range, length and names; 64-bit integers and decimal64 are strings.
+  A value isn't one that its type takes. Look at the type's range, length and names; 64-bit integers and decimal64 are strings, and identities of other modules are module:name.
 V1 invalid-value - /p:c/note -
   /p:c/note: 5 isn't a value of string: it takes a text in quotes.
-  A value isn't one that its type takes. Look at the type's range, length and names; 64-bit integers and decimal64 are strings.
+  A value isn't one that its type takes. Look at the type's range, length and names; 64-bit integers and decimal64 are strings, and identities of other modules are module:name.
 2 faults
 ==
 yanglive validate two.json p.yang
@@ -242,7 +242,7 @@ line 6: E10 J3
   No node of that name may stand there. Correct the name, or give the module that defines it.
 V1 invalid-value - /p:c/id -
   /p:c/id: 300 isn't a value of uint8: it takes an integer without quotes in 0..255.
-  A value isn't one that its type takes. Look at the type's range, length and names; 64-bit integers and decimal64 are strings.
+  A value isn't one that its type takes. Look at the type's range, length and names; 64-bit integers and decimal64 are strings, and identities of other modules are module:name.
 1 fault
 ==
 yanglive edit --dump --explain empty.json script p.yang
@@ -269,7 +269,7 @@ V2 missing-element - /net:host[1]/name -
   An entry of a list lacks a leaf of its key. Add it.
 V1 invalid-value - /net:host[1]/speed -
   /net:host[1]/speed: \"x\" isn't a value of uint16: it takes an integer without quotes in 0..65535.
-  A value isn't one that its type takes. Look at the type's range, length and names; 64-bit integers and decimal64 are strings.
+  A value isn't one that its type takes. Look at the type's range, length and names; 64-bit integers and decimal64 are strings, and identities of other modules are module:name.
 2 faults
 ==
 yanglive validate --explain uplink n.yang
@@ -344,7 +344,7 @@ yanglive edit --explain good adding n.yang
 1 0
 V1 invalid-value - /net:host[2]/port -
   /net:host[name='b']/port: \"7\" isn't a value of uint16: it takes an integer without quotes in 0..65535.
-  A value isn't one that its type takes. Look at the type's range, length and names; 64-bit integers and decimal64 are strings.
+  A value isn't one that its type takes. Look at the type's range, length and names; 64-bit integers and decimal64 are strings, and identities of other modules are module:name.
 1 fault
 ==
 yanglive edit --dump --explain good adding n.yang

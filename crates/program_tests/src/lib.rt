@@ -18,6 +18,8 @@ mod formatting;
 #[cfg(test)]
 mod groupings;
 #[cfg(test)]
+mod identities;
+#[cfg(test)]
 mod modules;
 #[cfg(test)]
 mod running;

@@ -29,11 +29,11 @@ use Rattle.yword.proofs.KeywordLemmas.{text_of_named}
 
 -- ---- how many there are of each
 
-pub number_below : (k : Keyword) → keyword_number k < 46
+pub number_below : (k : Keyword) → keyword_number k < 48
 number_below k = slice_get_within keywords (keyword_number k) k (by_number k)
 
 -- one more of a keyword
-pub one_more : (counts : List ℕ) (j k : Keyword) → length counts ≡ 46
+pub one_more : (counts : List ℕ) (j k : Keyword) → length counts ≡ 48
     → count_at (slice_set counts (keyword_number j) (get_or counts (keyword_number j) 0 + 1)) k ≡ cond (same_keyword k j) (count_at counts k + 1) (count_at counts k)
 one_more counts j k long =
     unwrap_or-slice_get (slice_set counts m (get_or counts m 0 + 1)) (keyword_number k) 0

@@ -12,6 +12,7 @@ use Rattle.ypreorder.specs.declared.siblings.Node.{Node}
 use Rattle.ypreorder.specs.declared.table.Table.{Table}
 use Rattle.yword.specs.KeywordView.{keyword_view}
 use Rattle.ygrammar.specs.declared.source.Source.{Source}
+use Rattle.ygrammar.specs.declared.source.Stated.{Stated}
 
 -- a statement of a number
 abbrev pub source_view : ℕ → Source → spec_source.Source
@@ -21,6 +22,9 @@ source_view number s = record {
   number = number;
   home = s.home;
 }
+
+abbrev pub stated_view : Stated → spec_source.Stated
+stated_view s = record { home = s.home; text = s.text.now }
 
 abbrev pub seen_rows : Table Source → List (Place spec_source.Source)
 seen_rows t = seen source_view 0 (laid (slots_in t))

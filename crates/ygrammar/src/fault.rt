@@ -23,9 +23,9 @@ pub enum CompileCode {
     C6 = 6,
     /// Two modules or two definitions of one name.
     C7 = 7,
-    /// A type or a grouping isn't found.
+    /// A type, a grouping or an identity isn't found.
     C8 = 8,
-    /// Imports, typedefs or groupings lead in a circle.
+    /// Imports, typedefs, groupings or identities lead in a circle.
     C9 = 9,
     /// A type breaks a rule of its own.
     C10 = 10,

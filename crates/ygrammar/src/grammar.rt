@@ -207,7 +207,7 @@ fn is_type_outside(keyword: Keyword, statement: &Stmt) -> bool
     keyword.is(Keyword::Type)
         && matches!(
             statement.argument(),
-            Some("binary") | Some("identityref") | Some("instance-identifier")
+            Some("binary") | Some("instance-identifier")
         )
 }
 

@@ -24,6 +24,6 @@ pub use name::{
 pub use number::{count, enum_value, fraction_digits, max_elements};
 pub use refining::may_bear;
 pub use row::{argument_of, argument_with, first_with, found_with};
-pub use source::Source;
+pub use source::{Source, Stated};
 pub use sources::Sources;
 pub use span::spans;

@@ -20,6 +20,13 @@ pub struct Source<'a> {
     ghost named: { option_map built_in_view type_name ≡ type_named (keyword_view keyword) (view statement.now).0 },
 }
 
+/// The argument of a statement, and the number of the module in which that stands: what it names is what it names there.
+#[derive(Clone, Copy, Debug)]
+pub struct Stated<'a> {
+    pub home: usize,
+    pub text: &'a str,
+}
+
 /// The built-in type that a statement of a keyword names, where it is a `type` statement.
 fn type_named(keyword: Keyword, statement: &Stmt) -> Option<BuiltIn>
     ensures { option_map built_in_view result
@@ -38,7 +45,7 @@ impl<'a> Source<'a> {
     ghost use Rattle.yspec.specs.linking.TypeStatements.{built_in_named};
     ghost use Rattle.yword.specs.KeywordView.{keyword_view};
     ghost use Rattle.ygrammar.specs.NamedType.{argument_text};
-    ghost use Rattle.ygrammar.specs.SourceView.{source_view};
+    ghost use Rattle.ygrammar.specs.SourceView.{source_view, stated_view};
     ghost use Rattle.yword.specs.BuiltInView.{built_in_view};
 
     /// A statement of a keyword, in the module of a number in the set.
@@ -65,6 +72,19 @@ impl<'a> Source<'a> {
         ensures { result.now ≡ argument_text (view self.now.statement.now).0 }
     {
         self.statement.argument().unwrap_or("")
+    }
+
+    /// The argument, with the number of the module.
+    pub fn stated(&self) -> Stated<'a>
+        ensures { stated_view result ≡ record {
+          home = self.now.home;
+          text = argument_text (view self.now.statement.now).0;
+        } }
+    {
+        Stated {
+            home: self.home,
+            text: self.argument(),
+        }
     }
 
     /// The built-in type that the argument names. That of a `type` statement is known without a look at its text.

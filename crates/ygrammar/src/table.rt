@@ -38,6 +38,7 @@ const IN_MODULE: &[Allowed] = &[
     Allowed(Keyword::Revision, Count::Any),
     Allowed(Keyword::Extension, Count::Any),
     Allowed(Keyword::Augment, Count::Any),
+    Allowed(Keyword::Identity, Count::Any),
     Allowed(Keyword::Description, Count::AtMostOne),
     Allowed(Keyword::Reference, Count::AtMostOne),
     Allowed(Keyword::Typedef, Count::Any),
@@ -212,6 +213,7 @@ const IN_TYPE: &[Allowed] = &[
     Allowed(Keyword::Path, Count::AtMostOne),
     Allowed(Keyword::RequireInstance, Count::AtMostOne),
     Allowed(Keyword::Type, Count::Any),
+    Allowed(Keyword::Base, Count::Any),
 ];
 
 const IN_RANGE: &[Allowed] = &[
@@ -230,6 +232,13 @@ const IN_ENUM: &[Allowed] = &[
 
 const IN_BIT: &[Allowed] = &[
     Allowed(Keyword::Position, Count::AtMostOne),
+    Allowed(Keyword::Status, Count::AtMostOne),
+    Allowed(Keyword::Description, Count::AtMostOne),
+    Allowed(Keyword::Reference, Count::AtMostOne),
+];
+
+const IN_IDENTITY: &[Allowed] = &[
+    Allowed(Keyword::Base, Count::Any),
     Allowed(Keyword::Status, Count::AtMostOne),
     Allowed(Keyword::Description, Count::AtMostOne),
     Allowed(Keyword::Reference, Count::AtMostOne),
@@ -286,6 +295,8 @@ pub(crate) fn rule_of(keyword: Keyword) -> Rule
         Keyword::Status => (Form::Status, &[]),
         Keyword::Key => (Form::Key, &[]),
         Keyword::Unique => (Form::Unique, &[]),
+        Keyword::Identity => (Form::Identifier, IN_IDENTITY),
+        Keyword::Base => (Form::Name, &[]),
     };
     Rule {
         form,

@@ -5,12 +5,11 @@ use Rattle.std.specs.List.{Contains}
 use Rattle.std.specs.Option.{option_map_or}
 use Rattle.std.proofs.lemmas.List.Elements.{Contains-append_left, Contains-append_right}
 use Rattle.yspec.specs.Forest.{Forest, end, node, first_of}
-use Rattle.yspec.specs.text.Text.{Text}
 use Rattle.yspec.specs.linking.Circles.{referring, innermost, definition_edge, definition_edges}
 use Rattle.yspec.specs.linking.DerivedTypes.{Known, unknown, named, verdict_by, known_by, known_in_row, typedef_row}
 use Rattle.yspec.specs.linking.Keyword.{same_keyword, type_word, typedef_word, default_word}
 use Rattle.yspec.specs.linking.Scopes.{Placed, placed, statements_of, statement_at, meaning, kind_named}
-use Rattle.yspec.specs.linking.Source.{Source, is_source_of, found_with, argument_with}
+use Rattle.yspec.specs.linking.Source.{Source, Stated, is_source_of, found_with, stated_with}
 use Rattle.yspec.specs.linking.TypeStatements.{wrong, verdict, verdicts, verdict_on, verdict_in_place, are_in_place, built_in_meant, derived}
 use Rattle.yspec.proofs.LinkingProofs.KeywordLemmas.{same_is}
 use Rattle.ygraph.specs.Reaching.{HasEdge}
@@ -40,7 +39,7 @@ module _ (modules : Forest Source) (f g : ℕ → Known) where
       by true is inner rest =
           let own = a.0 is in
           ap₂ (λ v vs. v ∷ vs)
-          (ap₂ (λ (k : Known) vs. option_map_or (λ type. cond (are_in_place type below) (verdict_in_place true s type below vs) wrong)
+          (ap₂ (λ (k : Known) vs. option_map_or (λ type. cond (are_in_place type below) (verdict_in_place modules true s type below vs) wrong)
           (built_in_meant modules s) (derived true below k.verdict)) own.0 (inner own.1))
           rest
       by false is inner rest = rest
@@ -48,7 +47,7 @@ module _ (modules : Forest Source) (f g : ℕ → Known) where
   pub same_verdict : (is_member : Bool) (s : Source) (below : Forest Source) → f s.number ≡ g s.number → Agree below
       → verdict_on modules (verdict_by f) is_member s below ≡ verdict_on modules (verdict_by g) is_member s below
   same_verdict is_member s below own inner =
-      ap₂ (λ (k : Known) vs. option_map_or (λ type. cond (are_in_place type below) (verdict_in_place is_member s type below vs) wrong)
+      ap₂ (λ (k : Known) vs. option_map_or (λ type. cond (are_in_place type below) (verdict_in_place modules is_member s type below vs) wrong)
       (built_in_meant modules s) (derived is_member below k.verdict)) own (same_verdicts below inner)
 
   pub agree_all : ((n : ℕ) → f n ≡ g n) → (row : Forest Source) → Agree row
@@ -74,9 +73,9 @@ module _ (modules : Forest Source) (f g : ℕ → Known) where
       by None e = refl
       by (Some t) e =
           let same = agree_found row a t e in
-          ap₂ (λ v (d : Option Text). record { verdict = v; default = d })
+          ap₂ (λ v (d : Option Stated). record { verdict = v; default = d })
           (same_verdict false t.0 t.1 same.0 same.1)
-          (ap (λ (k : Known). first_of (argument_with default_word row) k.default) same.0)
+          (ap (λ (k : Known). first_of (stated_with default_word row) k.default) same.0)
 
   -- ---- by where statements stand
 

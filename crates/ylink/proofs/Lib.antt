@@ -1,4 +1,7 @@
 pub mod KnownLemmas
+pub mod NumberLemmas
+pub mod IdentityLemmas
+pub mod ModuleNameLemmas
 pub mod OrderLemmas
 pub mod RowLemmas
 pub mod TypeLemmas

@@ -6,7 +6,7 @@ use Rattle.yspec.specs.types.Names.{Naming}
 use Rattle.yspec.specs.linking.Keyword.{Keyword}
 use Rattle.yspec.specs.linking.Source.{Source, is_source_of, argument_in}
 use Rattle.yspec.specs.linking.TypeStatements as spec
-use Rattle.yspec.specs.linking.TypeStatements.{namings, verdicts, verdict, member_types, union_verdict, single_type}
+use Rattle.yspec.specs.linking.TypeStatements.{namings, verdicts, verdict, member_types, union_verdict}
 use Rattle.std.specs.Prelude.{◌==◌, ℕ, length, map, option_and_then}
 use Rattle.std.specs.Option.{option_map_or}
 use Rattle.yspec.specs.types.Types.{YangType}

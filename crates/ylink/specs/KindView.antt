@@ -1,7 +1,6 @@
 -- Kinds of statements below a `type` statement: by their keywords, and by what they state.
 use Rattle.std.specs.Prelude.{ℤ, List, Option}
 use Rattle.yspec.specs.Forest.{Forest}
-use Rattle.yspec.specs.text.Text.{Text}
 use Rattle.yspec.specs.types.Ranges.{ErrorText, Span}
 use Rattle.yspec.specs.types.Restriction.{Restriction, range, length}
 use Rattle.yspec.specs.linking.Keyword.{Keyword, range_word, length_word, enum_word, bit_word}

@@ -2,6 +2,9 @@ pub mod KindView
 pub mod TypeView
 pub mod TypedefView
 pub mod VerdictView
+pub mod DerivedView
+pub mod IdentityView
+pub mod ModuleView
 pub mod LinkedView
 pub mod Told
 pub mod StatementsView

@@ -4,20 +4,21 @@ use Rattle.std.specs.Option.{option_map_or}
 use Rattle.yspec.specs.Forest.{Forest}
 use Rattle.yspec.specs.linking.Keyword.{typedef_word}
 use Rattle.yspec.specs.linking.Source.{Source, is_source_of}
-use Rattle.yspec.specs.linking.Scopes.{Placed, statements_of}
+use Rattle.yspec.specs.linking.Scopes.{Placed, statements_of, number_named}
 use Rattle.yspec.specs.linking.TypeStatements.{Verdict}
 use Rattle.yspec.specs.linking.DerivedTypes as spec
 use Rattle.ypreorder.specs.View.{row_by}
 use Rattle.ypreorder.specs.declared.siblings.Siblings.{Siblings}
-use Rattle.ygrammar.specs.SourceView.{source_view}
+use Rattle.ygrammar.specs.SourceView.{source_view, stated_view}
 use Rattle.ygrammar.specs.declared.source.Source as held
 use Rattle.ynames.specs.MeaningView.{meaning_at}
+use Rattle.ylink.specs.IdentityView as identity
 use Rattle.ylink.specs.TypeView.{verdict_view}
 use Rattle.ylink.specs.declared.typedefs.Known.{Known}
 use Rattle.ylink.specs.declared.typedefs.Typedefs.{Typedefs}
 
 abbrev pub known_view : Known → spec.Known
-known_view k = record { verdict = verdict_view k.verdict; default = option_map (λ t. t.now) k.default }
+known_view k = record { verdict = verdict_view k.verdict; default = option_map stated_view k.default }
 
 -- what a table holds of the typedef of a number
 abbrev pub known_at : List (Option Known) → ℕ → spec.Known
@@ -33,6 +34,11 @@ verdicts_in t = spec.verdict_by (names_in t)
 -- they are the typedefs of a set
 abbrev pub IsOf : Typedefs → Forest Source → Type 0
 IsOf t modules = (number : ℕ) → names_in t number ≡ spec.known_named modules number
+
+-- they rest on what names of a set mean, and on its identities
+pub record RestsOn (t : Typedefs) (modules : Forest Source) : Type 0 where
+  pub named : (number : ℕ) → number_named modules number ≡ meaning_at t.meanings.items number
+  pub identities : identity.IsOf t.identities modules
 
 -- ---- their rows
 

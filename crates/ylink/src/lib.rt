@@ -1,11 +1,14 @@
 //! The statements of a set of modules, linked: what their names and types mean, and the rules that they break.
 #![tactic(auto)]
 
+mod derived;
 mod fault;
+mod identities;
 mod judging;
 mod limit;
 mod linked;
 mod linking;
+mod modules;
 mod naming;
 mod ordering;
 mod repeated;

@@ -7,11 +7,13 @@ ghost use Rattle.ynames.specs.PrefixView as prefix;
 ghost use Rattle.ylink.specs.TypedefView as typedef;
 ghost use Rattle.ylink.specs.VerdictView.{AreVerdicts};
 
+use crate::modules::{module_at, prefixed_in};
 use crate::statements::Statements;
 use crate::typedefs::Typedefs;
 use crate::types::{Meant, Verdict};
 use crate::verdicts::verdict_held;
-use ygrammar::{Source, Sources};
+use std::alloc::{AllocError, Global};
+use ygrammar::{Source, Sources, Stated, argument_of};
 use ynames::Prefixes;
 use ytext::Stmt;
 use ytype::YType;
@@ -38,18 +40,20 @@ pub struct Linked<'t> {
 }
 
 impl<'t> Linked<'t> {
-    ghost use Rattle.std.specs.Prelude.{◌≡◌, option_map, slice_get};
+    ghost use Rattle.std.specs.Prelude.{◌≡◌, IfOk, map, option_map, slice_get};
     ghost use Rattle.std.specs.Option.{option_map_or};
     ghost use Rattle.yspec.specs.Forest.{end};
     ghost use Rattle.yspec.specs.linking.DerivedTypes as types;
+    ghost use Rattle.yspec.specs.linking.Identities as identities;
     ghost use Rattle.yspec.specs.linking.Imports as imports;
     ghost use Rattle.yspec.specs.linking.Scopes.{statement_at};
     ghost use Rattle.ytext.specs.View as text;
     ghost use Rattle.ygrammar.specs.LinkView as statements;
-    ghost use Rattle.ygrammar.specs.SourceView.{source_view};
+    ghost use Rattle.ygrammar.specs.SourceView.{source_view, stated_view};
     ghost use Rattle.ynames.specs.MeaningView.{AreMeanings};
     ghost use Rattle.ynames.specs.Ordered.{AreInOrder};
     ghost use Rattle.ynames.specs.PrefixView as prefix;
+    ghost use Rattle.ytype.specs.Identities.{pair_view};
     ghost use Rattle.ylink.specs.TypedefView as typedef;
     ghost use Rattle.ylink.specs.TypeView.{meant_view};
     ghost use Rattle.ylink.specs.VerdictView.{AreVerdicts};
@@ -102,7 +106,7 @@ impl<'t> Linked<'t> {
         &self.order
     }
 
-    /// The number of the typedef or grouping that each statement names, by its own.
+    /// The number of the typedef, grouping or identity that each statement names, by its own.
     pub fn meanings(&self) -> &[Option<u32>]
         ensures { AreMeanings result.now (view self.now) }
     {
@@ -159,7 +163,7 @@ impl<'t> Linked<'t> {
         Statements::new(self.sources.below(id.0))
     }
 
-    /// The typedef or grouping that a `type` or `uses` statement names; none for a built-in type.
+    /// The typedef, grouping or identity that a `type`, `uses` or `base` statement names; none for a built-in type.
     pub fn meaning(&self, id: StmtId) -> Option<StmtId>
         ensures { option_map (λ d. d.0) result ≡ types.number_named (view self.now) id.0 }
     {
@@ -174,6 +178,31 @@ impl<'t> Linked<'t> {
         ensures { result ≡ imports.module_meant (view self.now) «module» name.now }
     {
         self.prefixes.module_meant(module, name)
+    }
+
+    /// The name of the module of a number; no text where there is no such module.
+    pub fn module_name(&self, module: usize) -> &'t str
+        ensures { result.now ≡ identities.module_name (view self.now) «module» }
+    {
+        match module_at(&self.sources, module) {
+            Some(statement) => argument_of(statement),
+            None => "",
+        }
+    }
+
+    /// The prefixes that the module of a number declares, each with the name of the module for which it stands.
+    pub fn prefixed(
+        &self,
+        alloc: Global,
+        module: usize,
+    ) -> Result<Vec<(&'t str, &'t str)>, AllocError>
+        ensures { IfOk result (λ entries. map pair_view entries.items
+            ≡ (identities.names_of (view self.now) «module»).prefixed) }
+    {
+        match module_at(&self.sources, module) {
+            Some(statement) => prefixed_in(alloc, argument_of(statement), statement.children()),
+            None => Ok(Vec::new(alloc)),
+        }
     }
 
     /// What the `type` statement of a number means.
@@ -195,8 +224,8 @@ impl<'t> Linked<'t> {
     }
 
     /// The default of the typedef that the statement of a number names, or else of its type.
-    pub fn default_named(&self, number: u32) -> Option<&'t str>
-        ensures { option_map (λ t. t.now) result
+    pub fn default_named(&self, number: u32) -> Option<Stated<'t>>
+        ensures { option_map stated_view result
             ≡ (types.known_named (view self.now) number).default }
     {
         self.typedefs.default_named(number)

@@ -18,6 +18,7 @@ ghost use Rattle.ylink.specs.LinkedView.{view, wholes};
 ghost use Rattle.ylink.specs.Told.{told_by};
 
 use crate::fault::CompileFault;
+use crate::identities::Identities;
 use crate::judging::broken_type_rule;
 use crate::linked::Linked;
 use crate::ordering::order_of;
@@ -67,7 +68,8 @@ fn link_sources<'t>(
         return Err(CompileFault::from(found));
     }
     let order = order_of(alloc, &sources, &holders, &meanings)?;
-    let typedefs = Typedefs::of(alloc, &sources, meanings, &order)?;
+    let identities = Identities::of(alloc, &sources, &holders, &meanings)?;
+    let typedefs = Typedefs::of(alloc, &sources, meanings, identities, &order)?;
     link_types(alloc, modules, sources, prefixes, order, typedefs)
 }
 
@@ -86,6 +88,7 @@ fn link_types<'t>(
     requires ordered { AreInOrder order.items (statements.view sources) }
     requires named { typedef.IsOf typedefs (statements.view sources) }
     requires meant { AreMeanings typedefs.meanings.items (statements.view sources) }
+    requires rests { typedef.RestsOn typedefs (statements.view sources) }
     requires first { None ≡ least_from None (statement_phase (modules_view modules.now)) }
     requires names { None ≡ least_from None
         (names_phase (modules_view modules.now) (statements.view sources)) }

@@ -7,9 +7,10 @@ ghost use Rattle.ygrammar.specs.LinkView.{view};
 ghost use Rattle.ygrammar.specs.SourceView.{source_view};
 ghost use Rattle.ylink.specs.TypedefView.{row_at, rows_view, AreRows};
 
+use crate::identities::Identities;
 use crate::types::{Verdict, verdict_on};
 use std::alloc::{AllocError, Global};
-use ygrammar::{Source, Sources, argument_with, found_with};
+use ygrammar::{Source, Sources, Stated, first_with, found_with};
 use ynames::meaning_at;
 use ypreorder::{Node, Siblings};
 use yword::Keyword;
@@ -20,7 +21,7 @@ pub(crate) struct Known<'t> {
     /// What its `type` statement means.
     pub verdict: Verdict<'t>,
     /// The default that it has, or else its type.
-    pub default: Option<&'t str>,
+    pub default: Option<Stated<'t>>,
 }
 
 /// What the typedefs of a set of modules mean, found by the statements that name them.
@@ -30,6 +31,8 @@ pub(crate) struct Typedefs<'t> {
     meanings: Vec<Option<u32>>,
     // What is known of each statement that is a typedef, by its number.
     known: Vec<Option<Known<'t>>>,
+    // The identities of the set, over which types stand.
+    identities: Identities,
 }
 
 /// The row below a statement, where it is a typedef.
@@ -105,10 +108,11 @@ impl<'t> Typedefs<'t> {
     ghost use Rattle.yspec.specs.linking.DerivedTypes as spec;
     ghost use Rattle.ypreorder.specs.View.{row_by};
     ghost use Rattle.ygrammar.specs.LinkView.{view};
-    ghost use Rattle.ygrammar.specs.SourceView.{node_view, source_view};
+    ghost use Rattle.ygrammar.specs.SourceView.{node_view, source_view, stated_view};
     ghost use Rattle.ynames.specs.MeaningView.{meaning_at, AreMeanings};
     ghost use Rattle.ynames.specs.Ordered.{AreInOrder};
-    ghost use Rattle.ylink.specs.TypedefView.{known_at, known_view, names_in, IsOf};
+    ghost use Rattle.ylink.specs.IdentityView as identity;
+    ghost use Rattle.ylink.specs.TypedefView.{known_at, known_view, names_in, IsOf, RestsOn};
 
     /// The number of the definition that each statement names.
     pub(crate) fn meanings(&self) -> &[Option<u32>]
@@ -124,6 +128,13 @@ impl<'t> Typedefs<'t> {
         meaning_at(&self.meanings, number as usize)
     }
 
+    /// The identities of the set.
+    pub(crate) fn identities(&self) -> &Identities
+        ensures { result.now ≡ self.now.identities }
+    {
+        &self.identities
+    }
+
     /// What is known of the typedef that the statement of a number names.
     pub(crate) fn named(&self, number: u32) -> Option<&Known<'t>>
         ensures { option_map_or (λ k. known_view k.now) result spec.unknown
@@ -136,8 +147,8 @@ impl<'t> Typedefs<'t> {
     }
 
     /// The default of the typedef that the statement of a number names, or of its type.
-    pub(crate) fn default_named(&self, number: u32) -> Option<&'t str>
-        ensures { option_map (λ t. t.now) result ≡ (names_in self.now number).default }
+    pub(crate) fn default_named(&self, number: u32) -> Option<Stated<'t>>
+        ensures { option_map stated_view result ≡ (names_in self.now number).default }
     {
         self.named(number)?.default
     }
@@ -150,12 +161,13 @@ impl<'t> Typedefs<'t> {
         row: Siblings<'_, Source<'t>>,
         type_statement: Node<'_, Source<'t>>,
     ) -> Result<Known<'t>, AllocError>
+        requires { RestsOn self.now (view sources.now) }
         ensures { IfOk result (λ known. known_view known ≡ spec.known_by (view sources.now)
             (names_in self.now) (row_by source_view row.entry) (node_view type_statement.entry)) }
     {
         let verdict = verdict_on(alloc, sources, self, false, type_statement)?;
-        let default = match argument_with(Keyword::Default, row) {
-            Some(text) => Some(text),
+        let default = match first_with(Keyword::Default, row) {
+            Some(statement) => Some(statement.label().stated()),
             None => self.default_named(type_statement.number()),
         };
         Ok(Known { verdict, default })
@@ -168,6 +180,7 @@ impl<'t> Typedefs<'t> {
         sources: &Sources<'t>,
         row: Option<Siblings<'_, Source<'t>>>,
     ) -> Result<Option<Known<'t>>, AllocError>
+        requires { RestsOn self.now (view sources.now) }
         ensures { IfOk result (λ known. option_map_or known_view known spec.unknown
             ≡ option_map_or (spec.known_in_row (view sources.now) (names_in self.now))
             (option_map (row_by source_view) row.entry) spec.unknown) }
@@ -189,7 +202,9 @@ impl<'t> Typedefs<'t> {
         number: usize,
         row: Option<Siblings<'_, Source<'t>>>,
     ) -> Result<(), AllocError>
+        requires { RestsOn self.now (view sources.now) }
         ensures meanings { self.new.meanings ≡ self.old.meanings }
+        ensures identities { self.new.identities ≡ self.old.identities }
         ensures count { OnOk result (length self.new.known.items ≡ length self.old.known.items) }
         ensures known { (e : ℕ) → OnOk result (number < length self.old.known.items
             → known_at self.new.known.items e ≡ (if e == number then option_map_or
@@ -204,25 +219,32 @@ impl<'t> Typedefs<'t> {
         Ok(())
     }
 
-    /// The typedefs of a set, given what each statement means and an order in which each typedef stands behind those that it
-    /// names.
+    /// The typedefs of a set, given what each statement means, the identities, and an order in which each typedef stands behind
+    /// those that it names.
     pub(crate) fn of(
         alloc: Global,
         sources: &Sources<'t>,
         meanings: Vec<Option<u32>>,
+        identities: Identities,
         order: &[usize],
     ) -> Result<Typedefs<'t>, AllocError>
         requires meant { AreMeanings meanings.items (view sources.now) }
+        requires identities { identity.IsOf identities (view sources.now) }
         requires ordered { AreInOrder order.now (view sources.now) }
         ensures known { IfOk result (λ typedefs. IsOf typedefs (view sources.now)) }
         ensures meanings { IfOk result
             (λ typedefs. AreMeanings typedefs.meanings.items (view sources.now)) }
+        ensures rests { IfOk result (λ typedefs. RestsOn typedefs (view sources.now)) }
     {
         if order.is_empty() {
             let known = Vec::new(alloc);
-            return Ok(Typedefs { meanings, known });
+            return Ok(Typedefs {
+                meanings,
+                known,
+                identities,
+            });
         }
-        Typedefs::learned(alloc, sources, meanings, order)
+        Typedefs::learned(alloc, sources, meanings, identities, order)
     }
 
     /// The same, each learned in its turn.
@@ -230,17 +252,24 @@ impl<'t> Typedefs<'t> {
         alloc: Global,
         sources: &Sources<'t>,
         meanings: Vec<Option<u32>>,
+        identities: Identities,
         order: &[usize],
     ) -> Result<Typedefs<'t>, AllocError>
         requires meant { AreMeanings meanings.items (view sources.now) }
+        requires identities { identity.IsOf identities (view sources.now) }
         requires ordered { AreInOrder order.now (view sources.now) }
         ensures known { IfOk result (λ typedefs. IsOf typedefs (view sources.now)) }
         ensures meanings { IfOk result
             (λ typedefs. AreMeanings typedefs.meanings.items (view sources.now)) }
+        ensures rests { IfOk result (λ typedefs. RestsOn typedefs (view sources.now)) }
     {
         let rows = typedef_rows(alloc, sources)?;
         let known = none_known(alloc, rows.len())?;
-        let mut typedefs = Typedefs { meanings, known };
+        let mut typedefs = Typedefs {
+            meanings,
+            known,
+            identities,
+        };
         for number in order {
             typedefs.learn(alloc, sources, *number, row_of(&rows, *number))?;
         }

@@ -2,8 +2,9 @@
 
 ghost use Rattle.std.specs.Prelude.{◌≡◌, IfOk, false, true, None, map, option_map, option_and_then};
 ghost use Rattle.std.specs.Option.{option_map_or};
-ghost use Rattle.yspec.specs.Forest.{row};
+ghost use Rattle.yspec.specs.Forest.{Forest, row};
 ghost use Rattle.yspec.specs.linking.Arguments.{fraction_digits_of, leafref_path_of};
+ghost use Rattle.yspec.specs.linking.Identities.{bases_in};
 ghost use Rattle.yspec.specs.linking.Keyword as word;
 ghost use Rattle.yspec.specs.linking.Source as sources;
 ghost use Rattle.yspec.specs.linking.TypeStatements as spec;
@@ -15,8 +16,9 @@ ghost use Rattle.ygrammar.specs.SourceView.{source_view};
 ghost use Rattle.yword.specs.BuiltInView.{built_in_view};
 ghost use Rattle.yspec.specs.linking.DerivedTypes.{unknown};
 ghost use Rattle.ylink.specs.TypeView.{meant_view, verdict_view};
-ghost use Rattle.ylink.specs.TypedefView.{known_view, verdicts_in};
+ghost use Rattle.ylink.specs.TypedefView.{known_view, verdicts_in, RestsOn};
 
+use crate::derived::bases_in;
 use crate::limit::{accepted_type, measured_type, narrowed_type, ranged_type};
 use crate::naming::{bits, enumeration};
 use crate::typedefs::{Known, Typedefs};
@@ -68,6 +70,7 @@ fn may_bear(type_name: BuiltIn, keyword: Keyword) -> bool
         BuiltIn::Bits => matches!(keyword, Keyword::Bit),
         BuiltIn::Union => matches!(keyword, Keyword::Type),
         BuiltIn::Leafref => matches!(keyword, Keyword::Path | Keyword::RequireInstance),
+        BuiltIn::Identityref => matches!(keyword, Keyword::Base),
         BuiltIn::Boolean | BuiltIn::Empty => false,
     }
 }
@@ -109,7 +112,7 @@ fn decimal(alloc: Global, below: Siblings<'_, Source<'_>>) -> Result<Option<YTyp
     }
 }
 
-/// A type that is no union and no leafref.
+/// A type that is no union, no leafref and no identityref.
 fn single_type(
     alloc: Global,
     type_name: BuiltIn,
@@ -133,7 +136,7 @@ fn single_type(
         BuiltIn::Empty => accepted_type(YType::empty(alloc)),
         BuiltIn::Enumeration => enumeration(alloc, below),
         BuiltIn::Bits => bits(alloc, below),
-        BuiltIn::Union | BuiltIn::Leafref => Ok(None),
+        BuiltIn::Union | BuiltIn::Leafref | BuiltIn::Identityref => Ok(None),
     }
 }
 
@@ -226,21 +229,43 @@ fn own_or<'t>(made: Option<YType>, other: Verdict<'t>) -> Verdict<'t>
     }
 }
 
+/// The verdict on a `type` statement that names identityref, given the identities of the set.
+fn identity_verdict<'t>(
+    alloc: Global,
+    typedefs: &Typedefs<'t>,
+    statement: Node<'_, Source<'t>>,
+) -> Result<Verdict<'t>, AllocError>
+    ensures { (modules : Forest sources.Source) → RestsOn typedefs.now modules
+        → IfOk result (λ verdict. verdict_view verdict ≡ spec.identity_verdict modules
+        statement.entry.label.now.home
+        (bases_in modules (row_by source_view statement.entry.children))) }
+{
+    let bases = bases_in(alloc, typedefs.meanings(), statement.children())?;
+    let home = statement.label().home;
+    Ok(own_or(
+        typedefs.identities().type_of(alloc, home, &bases)?,
+        Verdict::Wrong,
+    ))
+}
+
 fn verdict_in_place<'t>(
     alloc: Global,
+    typedefs: &Typedefs<'t>,
     is_member: bool,
     type_name: BuiltIn,
     statement: Node<'_, Source<'t>>,
     members: Vec<Verdict<'t>>,
 ) -> Result<Verdict<'t>, AllocError>
-    ensures { IfOk result (λ verdict. verdict_view verdict
-        ≡ spec.verdict_in_place is_member (label_by source_view statement.entry)
+    ensures { (modules : Forest sources.Source) → RestsOn typedefs.now modules
+        → IfOk result (λ verdict. verdict_view verdict
+        ≡ spec.verdict_in_place modules is_member (label_by source_view statement.entry)
         (built_in_view type_name) (row_by source_view statement.entry.children)
         (map verdict_view members.entry.items)) }
 {
     match type_name {
         BuiltIn::Union => union_verdict(alloc, members),
         BuiltIn::Leafref => leafref_verdict(alloc, is_member, statement),
+        BuiltIn::Identityref => identity_verdict(alloc, typedefs, statement),
         _ => Ok(own_or(
             single_type(alloc, type_name, statement.children())?,
             Verdict::Wrong,
@@ -331,6 +356,7 @@ pub(crate) fn judge_type<'t>(
     statement: Node<'_, Source<'t>>,
     members: Vec<Verdict<'t>>,
 ) -> Result<Verdict<'t>, AllocError>
+    requires { RestsOn typedefs.now (view sources.now) }
     ensures { IfOk result (λ verdict. verdict_view verdict
         ≡ spec.verdict (view sources.now) (verdicts_in typedefs.now) is_member
         (label_by source_view statement.entry) (row_by source_view statement.entry.children)
@@ -343,7 +369,7 @@ pub(crate) fn judge_type<'t>(
     if !are_in_place(type_name, statement.children()) {
         return Ok(Verdict::Wrong);
     }
-    verdict_in_place(alloc, is_member, type_name, statement, members)
+    verdict_in_place(alloc, typedefs, is_member, type_name, statement, members)
 }
 
 /// The verdicts on the members of a union that stand in a row of a set.
@@ -353,6 +379,7 @@ fn member_verdicts<'t>(
     typedefs: &Typedefs<'t>,
     statements: Siblings<'_, Source<'t>>,
 ) -> Result<Vec<Verdict<'t>>, AllocError>
+    requires { RestsOn typedefs.now (view sources.now) }
     ensures { IfOk result (λ found. map verdict_view found.items ≡ spec.verdicts
         (view sources.now) (verdicts_in typedefs.now) (row_by source_view statements.entry)) }
 {
@@ -376,6 +403,7 @@ pub(crate) fn verdict_on<'t>(
     is_member: bool,
     statement: Node<'_, Source<'t>>,
 ) -> Result<Verdict<'t>, AllocError>
+    requires { RestsOn typedefs.now (view sources.now) }
     ensures { IfOk result (λ verdict. verdict_view verdict
         ≡ spec.verdict_on (view sources.now) (verdicts_in typedefs.now) is_member
         (label_by source_view statement.entry) (row_by source_view statement.entry.children)) }

@@ -7,7 +7,7 @@ ghost use Rattle.ypreorder.specs.View.{row_by};
 ghost use Rattle.ygrammar.specs.LinkView.{view};
 ghost use Rattle.ygrammar.specs.SourceView.{source_view};
 ghost use Rattle.ylink.specs.TypeView.{verdict_view};
-ghost use Rattle.ylink.specs.TypedefView.{verdicts_in, IsOf};
+ghost use Rattle.ylink.specs.TypedefView.{verdicts_in, IsOf, RestsOn};
 ghost use Rattle.ylink.specs.VerdictView.{judged, members_below, members_in, table_view, verdict_held, AreVerdicts};
 
 use crate::typedefs::Typedefs;
@@ -59,6 +59,7 @@ fn add_verdicts<'t>(
     statements: Siblings<'_, Source<'t>>,
     table: &mut Vec<Option<Box<Verdict<'t>>>>,
 ) -> Result<Vec<Verdict<'t>>, AllocError>
+    requires { RestsOn typedefs.now (view sources.now) }
     ensures members { IfOk result (λ members. map verdict_view members.items
         ≡ members_below (view sources.now) (verdicts_in typedefs.now) in_union
         (row_by source_view statements.entry)) }
@@ -90,6 +91,7 @@ pub(crate) fn verdicts_of<'t>(
     sources: &Sources<'t>,
     typedefs: &Typedefs<'t>,
 ) -> Result<Vec<Option<Box<Verdict<'t>>>>, AllocError>
+    requires { RestsOn typedefs.now (view sources.now) }
     ensures { IsOf typedefs.now (view sources.now)
         → IfOk result (λ table. AreVerdicts table.items (view sources.now)) }
 {

@@ -15,7 +15,7 @@ use Rattle.ygrammar.specs.declared.source.Source as held
 use Rattle.ygrammar.specs.SourceView.{source_view}
 use Rattle.ynames.specs.DefinitionView.{first_number, kind_word}
 use Rattle.ynames.specs.declared.definitions.DefinitionKind.{DefinitionKind}
-use Rattle.ynames.specs.declared.definitions.DefinitionKind.TheVariants.{Typedef, Grouping}
+use Rattle.ynames.specs.declared.definitions.DefinitionKind.TheVariants.{Typedef, Grouping, Identity}
 use Rattle.ynames.proofs.FirstNamedLemmas.{first_of_both}
 
 -- ---- a row, one statement after another
@@ -75,8 +75,12 @@ neither true b e = absurd cc
 neither false b e = (refl, e)
 
 pub not_defined : (kind : DefinitionKind) (s : Source) → is_definition s ≡ false → is_source_of (kind_word kind) s ≡ false
-not_defined Typedef s none = (neither (is_source_of (kind_word Typedef) s) (is_source_of (kind_word Grouping) s) none).0
-not_defined Grouping s none = (neither (is_source_of (kind_word Typedef) s) (is_source_of (kind_word Grouping) s) none).1
+not_defined Typedef s none =
+    (neither (is_source_of (kind_word Typedef) s) (is_source_of (kind_word Grouping) s || is_source_of (kind_word Identity) s) none).0
+not_defined Grouping s none = (neither (is_source_of (kind_word Grouping) s) (is_source_of (kind_word Identity) s)
+    (neither (is_source_of (kind_word Typedef) s) (is_source_of (kind_word Grouping) s || is_source_of (kind_word Identity) s) none).1).0
+not_defined Identity s none = (neither (is_source_of (kind_word Grouping) s) (is_source_of (kind_word Identity) s)
+    (neither (is_source_of (kind_word Typedef) s) (is_source_of (kind_word Grouping) s || is_source_of (kind_word Identity) s) none).1).1
 
 pub none_defined : (kind : DefinitionKind) (name : Text) (xs : List Source) → list_any is_definition xs ≡ false
     → None ≡ first_number (kind_word kind) name xs

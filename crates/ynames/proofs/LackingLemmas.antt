@@ -9,21 +9,21 @@ use Rattle.yspec.specs.text.Text.{Text}
 use Rattle.yspec.specs.linking.Arguments.{Name, name_of}
 use Rattle.yspec.specs.linking.Circles.{innermost, referring, circle_break, definition_circle, definition_circles, definition_edges}
 use Rattle.yspec.specs.linking.Imports.{body_at, module_meant}
-use Rattle.yspec.specs.linking.Keyword.{Keyword, same_keyword, typedef_word, grouping_word}
+use Rattle.yspec.specs.linking.Keyword.{Keyword, same_keyword, typedef_word, grouping_word, identity_word}
 use Rattle.yspec.specs.linking.Source.{Source, is_source_of, argument_in}
 use Rattle.yspec.specs.linking.Scopes.{Placed, placed, statements_of, around, defines, defined_in, definition_named, is_definition, kind_named, meaning, names_built_in}
 use Rattle.yspec.specs.schema.Breaks.{Break}
 use Rattle.yspec.proofs.LinkingProofs.KeywordLemmas.{of_each, same_is}
 use Rattle.ynames.specs.declared.definitions.DefinitionKind.{DefinitionKind}
-use Rattle.ynames.specs.declared.definitions.DefinitionKind.TheVariants.{Typedef, Grouping}
+use Rattle.ynames.specs.declared.definitions.DefinitionKind.TheVariants.{Typedef, Grouping, Identity}
 use Rattle.ynames.specs.DefinitionView.{kind_word}
 use Rattle.ynames.specs.MeaningView.{number_meant}
 use Rattle.ynames.proofs.DefinitionLemmas.{neither, not_defined, none_defined}
 
--- ---- of both kinds
+-- ---- of each kind
 
 abbrev is_kind : Keyword → Bool
-is_kind k = same_keyword typedef_word k || same_keyword grouping_word k
+is_kind k = same_keyword typedef_word k || (same_keyword grouping_word k || same_keyword identity_word k)
 
 named_kind : (k : Keyword) → option_map_or is_kind (kind_named k) true ≡ true
 named_kind k = of_each (λ k. option_map_or is_kind (kind_named k) true) refl k
@@ -32,9 +32,13 @@ module _ {A : Type 0} (f : Keyword → Option A) (none : (kind : DefinitionKind)
   none_of : (k : Keyword) → is_kind k ≡ true → f k ≡ None
   none_of k is = by (same_keyword typedef_word k) refl is
     where
-      by : (b : Bool) → same_keyword typedef_word k ≡ b → (b || same_keyword grouping_word k) ≡ true → f k ≡ None
+      other : (b : Bool) → same_keyword grouping_word k ≡ b → (b || same_keyword identity_word k) ≡ true → f k ≡ None
+      other true e is = sym (ap f (same_is grouping_word k e)) ∙ none Grouping
+      other false e is = sym (ap f (same_is identity_word k is)) ∙ none Identity
+
+      by : (b : Bool) → same_keyword typedef_word k ≡ b → (b || (same_keyword grouping_word k || same_keyword identity_word k)) ≡ true → f k ≡ None
       by true e is = sym (ap f (same_is typedef_word k e)) ∙ none Typedef
-      by false e is = sym (ap f (same_is grouping_word k is)) ∙ none Grouping
+      by false e is = other (same_keyword grouping_word k) refl is
 
   none_named : (k : Keyword) → option_and_then f (kind_named k) ≡ None
   none_named k = by (kind_named k) (named_kind k)

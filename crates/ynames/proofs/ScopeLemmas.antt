@@ -8,7 +8,7 @@ use Rattle.std.proofs.lemmas.List.{append-nil, reverse-append}
 use Rattle.std.proofs.lemmas.List.Folds.{list_any-append}
 use Rattle.yspec.specs.Forest.{Forest, end, node, row, first_of, preorder}
 use Rattle.yspec.specs.text.Text.{Text}
-use Rattle.yspec.specs.linking.Keyword.{same_keyword, typedef_word, grouping_word}
+use Rattle.yspec.specs.linking.Keyword.{same_keyword, typedef_word, grouping_word, identity_word}
 use Rattle.yspec.specs.linking.Source.{Source, is_source_of, argument_in}
 use Rattle.yspec.specs.linking.Scopes.{Placed, placed, around, holder, is_taken, is_built_in, is_definition, taken_break}
 use Rattle.yspec.specs.schema.Breaks.{Break, broken, least_from, when}
@@ -84,7 +84,7 @@ or_false false = refl
 
 module _ (p : Placed) where
   of_typedef : p.source.keyword ≡ typedef_word → is_taken p ≡ (is_held p || is_built_in (argument_in p.source))
-  of_typedef is = ap (λ k. (same_keyword typedef_word k || same_keyword grouping_word k) && (is_held p || (same_keyword typedef_word k && is_built_in (argument_in p.source)))) is
+  of_typedef is = ap (λ k. (same_keyword typedef_word k || (same_keyword grouping_word k || same_keyword identity_word k)) && (is_held p || (same_keyword typedef_word k && is_built_in (argument_in p.source)))) is
 
   pub taken_held : (held : Bool) → p.source.keyword ≡ typedef_word → held ≡ is_held p → held ≡ true → held ≡ is_taken p
   taken_held held is held_is stands =
@@ -97,7 +97,11 @@ module _ (p : Placed) where
 
   pub taken_grouping : (held : Bool) → p.source.keyword ≡ grouping_word → held ≡ is_held p → held ≡ is_taken p
   taken_grouping held is held_is =
-      held_is ∙ sym (ap (λ k. (same_keyword typedef_word k || same_keyword grouping_word k) && (is_held p || (same_keyword typedef_word k && is_built_in (argument_in p.source)))) is ∙ or_false (is_held p))
+      held_is ∙ sym (ap (λ k. (same_keyword typedef_word k || (same_keyword grouping_word k || same_keyword identity_word k)) && (is_held p || (same_keyword typedef_word k && is_built_in (argument_in p.source)))) is ∙ or_false (is_held p))
+
+  pub taken_identity : (held : Bool) → p.source.keyword ≡ identity_word → held ≡ is_held p → held ≡ is_taken p
+  taken_identity held is held_is =
+      held_is ∙ sym (ap (λ k. (same_keyword typedef_word k || (same_keyword grouping_word k || same_keyword identity_word k)) && (is_held p || (same_keyword typedef_word k && is_built_in (argument_in p.source)))) is ∙ or_false (is_held p))
 
 -- ---- a set without definitions
 

@@ -2,19 +2,20 @@
 use Rattle.std.specs.Prelude.{◌≡◌, ℕ, List, Option, None, find, option_map, option_and_then, reverse}
 use Rattle.yspec.specs.Forest.{Forest, row, first_of}
 use Rattle.yspec.specs.text.Text.{Text}
-use Rattle.yspec.specs.linking.Keyword.{Keyword, typedef_word, grouping_word}
+use Rattle.yspec.specs.linking.Keyword.{Keyword, typedef_word, grouping_word, identity_word}
 use Rattle.yspec.specs.linking.Source.{Source}
 use Rattle.yspec.specs.linking.Scopes.{defines, around}
 use Rattle.ynames.specs.FirstNamedView.{named}
 use Rattle.ynames.specs.declared.first_named.FirstNamed.{FirstNamed}
 use Rattle.ynames.specs.declared.definitions.Definitions.{Definitions}
 use Rattle.ynames.specs.declared.definitions.DefinitionKind.{DefinitionKind}
-use Rattle.ynames.specs.declared.definitions.DefinitionKind.TheVariants.{Typedef, Grouping}
+use Rattle.ynames.specs.declared.definitions.DefinitionKind.TheVariants.{Typedef, Grouping, Identity}
 use Rattle.ynames.specs.declared.definitions.Scope.{Scope, Top, Below'}
 
 abbrev pub kind_word : DefinitionKind → Keyword
 kind_word Typedef = typedef_word
 kind_word Grouping = grouping_word
+kind_word Identity = identity_word
 
 -- the number of the first of some statements that defines a name
 abbrev pub first_number : Keyword → Text → List Source → Option ℕ
@@ -27,6 +28,7 @@ AreFirst names k statements = (name : Text) → named names name ≡ first_numbe
 abbrev pub first_in : DefinitionKind → Definitions → Text → Option ℕ
 first_in Typedef d = named d.typedefs
 first_in Grouping d = named d.groupings
+first_in Identity d = named d.identities
 
 -- the definitions are those of a row
 abbrev pub AreOf : Definitions → Forest Source → Type 0

@@ -1,4 +1,4 @@
--- What names of types and groupings mean, by numbers.
+-- What names of types, groupings and identities mean, by numbers.
 use Rattle.std.specs.Prelude.{◌≡◌, ℕ, ◌&&◌, Bool, not, is_some, map, List, Option, option_map, option_and_then, slice_get}
 use Rattle.yspec.specs.Forest.{Forest, row}
 use Rattle.yspec.specs.text.Text.{Text}
@@ -18,7 +18,7 @@ use Rattle.ynames.specs.PlaceView.{by_place}
 abbrev pub numbered : Option Source → Option ℕ
 numbered = option_map (λ d. d.number)
 
--- the number of the typedef or grouping that a statement names
+-- the number of the typedef, grouping or identity that a statement names
 abbrev pub number_meant : Forest Source → Placed → Option ℕ
 number_meant modules p = numbered (meaning modules p)
 

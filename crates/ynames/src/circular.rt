@@ -1,4 +1,4 @@
-//! Where typedefs or groupings refer to themselves (RFC 7950, 7.3 and 7.12).
+//! Where typedefs, groupings or identities refer to themselves (RFC 7950, 7.3, 7.12 and 7.18.2).
 
 ghost use Rattle.std.specs.Prelude.{◌≡◌, ℕ, Bool, false, IfOk, map};
 ghost use Rattle.std.specs.List.{filter_map};
@@ -88,8 +88,8 @@ pub(crate) fn least_circle(
     told
 }
 
-/// The lesser of one so far and of the references by which a typedef or a grouping refers to itself, given the innermost
-/// definition around each statement and what each means.
+/// The lesser of one so far and of the references by which a typedef, a grouping or an identity refers to itself, given the
+/// innermost definition around each statement and what each means.
 pub fn broken_circle_rule(
     alloc: Global,
     sources: &Sources<'_>,

@@ -22,6 +22,7 @@ use yword::Keyword;
 pub(crate) enum DefinitionKind {
     Typedef,
     Grouping,
+    Identity,
 }
 
 /// The definitions of a row, by their names.
@@ -30,6 +31,7 @@ pub(crate) struct Definitions<'t> {
     // The numbers of the first statements of each name.
     typedefs: FirstNamed<'t, u32>,
     groupings: FirstNamed<'t, u32>,
+    identities: FirstNamed<'t, u32>,
 }
 
 /// Where names are looked for: the rows around a statement, innermost first.
@@ -48,7 +50,10 @@ pub(crate) enum Scope<'a, 't> {
 fn is_definition(statement: &Source<'_>) -> bool
     ensures { (number : ℕ) → result ≡ is_definition (source_view number statement.now) }
 {
-    matches!(statement.keyword, Keyword::Typedef | Keyword::Grouping)
+    matches!(
+        statement.keyword,
+        Keyword::Typedef | Keyword::Grouping | Keyword::Identity
+    )
 }
 
 /// Whether a row has definitions.
@@ -123,9 +128,11 @@ impl<'t> Definitions<'t> {
     {
         let typedefs = first_named(alloc, Keyword::Typedef, statements)?;
         let groupings = first_named(alloc, Keyword::Grouping, statements)?;
+        let identities = first_named(alloc, Keyword::Identity, statements)?;
         Ok(Definitions {
             typedefs,
             groupings,
+            identities,
         })
     }
 
@@ -149,6 +156,7 @@ impl<'t> Definitions<'t> {
         match kind {
             DefinitionKind::Typedef => self.typedefs.get(name),
             DefinitionKind::Grouping => self.groupings.get(name),
+            DefinitionKind::Identity => self.identities.get(name),
         }
     }
 }

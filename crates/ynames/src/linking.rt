@@ -1,4 +1,4 @@
-//! What names of modules, types and groupings mean nothing, and what refers to itself.
+//! What names of modules, types, groupings and identities mean nothing, and what refers to itself.
 
 ghost use Rattle.std.specs.Prelude.{◌≡◌, None, IfOk};
 ghost use Rattle.yspec.specs.schema.Breaks.{least_from};
@@ -16,9 +16,9 @@ use crate::prefix::modules_by_name;
 use std::alloc::{AllocError, Global};
 use ygrammar::{BrokenRule, Sources};
 
-/// The least of the imports that the set doesn't meet, of the types and groupings that aren't found, and of the imports,
-/// typedefs and groupings that refer to themselves, by module and line, given the innermost definition around each statement
-/// and what each means.
+/// The least of the imports that the set doesn't meet, of the types, groupings and identities that aren't found, and of the
+/// imports, typedefs, groupings and identities that refer to themselves, by module and line, given the innermost definition
+/// around each statement and what each means.
 pub fn broken_meaning_rule(
     alloc: Global,
     sources: &Sources<'_>,

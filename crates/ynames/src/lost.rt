@@ -1,4 +1,4 @@
-//! Where the name of a type or a grouping means nothing (RFC 7950, 5.5, 6.4.1 and 7.13).
+//! Where the name of a type, a grouping or an identity means nothing (RFC 7950, 5.5, 6.4.1, 7.13 and 7.18.2).
 
 ghost use Rattle.std.specs.Prelude.{◌≡◌, ℕ};
 ghost use Rattle.yspec.specs.schema.Breaks.{least_from};
@@ -28,7 +28,7 @@ fn is_lost(statement: &Source<'_>, meaning: Option<u32>) -> bool
 {
     match statement.keyword {
         Keyword::Type => !is_built_in(statement) && meaning.is_none(),
-        Keyword::Uses => meaning.is_none(),
+        Keyword::Uses | Keyword::Base => meaning.is_none(),
         _ => false,
     }
 }
@@ -49,7 +49,7 @@ fn judge_lost(
     )
 }
 
-/// The lesser of one so far and of the names of types and groupings that mean nothing, by module and line.
+/// The lesser of one so far and of the names of types, groupings and identities that mean nothing, by module and line.
 pub fn broken_lost_rule(
     sources: &Sources<'_>,
     meanings: &[Option<u32>],

@@ -1,4 +1,5 @@
-//! Which typedef or grouping each `type` and `uses` statement names (RFC 7950, 5.5, 6.2.1, 6.4.1 and 7.13).
+//! Which typedef, grouping or identity each `type`, `uses` and `base` statement names (RFC 7950, 5.5, 6.2.1, 6.4.1, 7.13 and
+//! 7.18.2).
 
 ghost use Rattle.std.specs.Prelude.{◌≡◌, ◌++◌, List, IfOk, OnOk, map};
 ghost use Rattle.yspec.specs.Forest.{Forest};
@@ -132,6 +133,7 @@ impl<'a, 't> NamedModules<'a, 't> {
                 }
             }
             Keyword::Uses => self.definition_of(scope, DefinitionKind::Grouping, statement),
+            Keyword::Base => self.definition_of(scope, DefinitionKind::Identity, statement),
             _ => None,
         }
     }
@@ -158,8 +160,8 @@ fn add_meanings<'t>(
     Ok(())
 }
 
-/// Of each statement of a set, by its number, that of the typedef or grouping that it names; none for a built-in type, and
-/// where a name means nothing.
+/// Of each statement of a set, by its number, that of the typedef, grouping or identity that it names; none for a built-in
+/// type, and where a name means nothing.
 pub fn meanings_of<'t>(
     alloc: Global,
     sources: &Sources<'t>,

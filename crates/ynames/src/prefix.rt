@@ -236,7 +236,7 @@ fn has_unknown_prefix(
     let home = source.home;
     Ok(match source.keyword {
         Keyword::Type => is_unknown_type(prefixes, source),
-        Keyword::Uses => is_unknown_name(prefixes, source),
+        Keyword::Uses | Keyword::Base => is_unknown_name(prefixes, source),
         Keyword::Refine => {
             has_unknown_among(prefixes, home, relative_path(alloc, source.argument())?)
         }

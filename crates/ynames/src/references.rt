@@ -1,4 +1,4 @@
-//! Which typedefs and groupings refer to which (RFC 7950, 7.3 and 7.12).
+//! Which typedefs, groupings and identities refer to which (RFC 7950, 7.3, 7.12 and 7.18.2).
 
 ghost use Rattle.std.specs.Prelude.{◌≡◌, IfOk, map, option_map};
 ghost use Rattle.std.specs.List.{filter_map};

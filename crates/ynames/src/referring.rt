@@ -1,8 +1,8 @@
-//! Which typedef or grouping holds each `type` and `uses` statement (RFC 7950, 7.3 and 7.12).
+//! Which typedef, grouping or identity holds each `type`, `uses` and `base` statement (RFC 7950, 7.3, 7.12 and 7.18.2).
 
 ghost use Rattle.std.specs.Prelude.{◌≡◌, ◌++◌, List, Some, IfOk, OnOk, map, option_and_then, if◌then◌else◌};
 ghost use Rattle.yspec.specs.linking.Circles.{referring};
-ghost use Rattle.yspec.specs.linking.Keyword.{typedef_word, grouping_word};
+ghost use Rattle.yspec.specs.linking.Keyword.{typedef_word, grouping_word, identity_word};
 ghost use Rattle.yspec.specs.linking.Scopes.{placed, kind_named};
 ghost use Rattle.yspec.specs.linking.Source.{is_source_of};
 ghost use Rattle.ypreorder.specs.View.{row_by, label_by};
@@ -33,16 +33,23 @@ fn innermost_below(
     }
 }
 
-/// The innermost definition of the kind that a statement with a keyword names, given those of both kinds.
-fn holder_of(keyword: Keyword, typedef: Option<u32>, grouping: Option<u32>) -> Option<u32>
+/// The innermost definition of the kind that a statement with a keyword names, given those of each kind.
+fn holder_of(
+    keyword: Keyword,
+    typedef: Option<u32>,
+    grouping: Option<u32>,
+    identity: Option<u32>,
+) -> Option<u32>
     ensures { (ancestors : List _) → typedef ≡ innermost_of typedef_word ancestors
         → grouping ≡ innermost_of grouping_word ancestors
+        → identity ≡ innermost_of identity_word ancestors
         → result ≡ option_and_then (λ kind. innermost_of kind ancestors)
         (kind_named (keyword_view keyword)) }
 {
     match keyword {
         Keyword::Type => typedef,
         Keyword::Uses => grouping,
+        Keyword::Base => identity,
         _ => None,
     }
 }
@@ -51,19 +58,28 @@ fn holder_of(keyword: Keyword, typedef: Option<u32>, grouping: Option<u32>) -> O
 fn add_holders(
     typedef: Option<u32>,
     grouping: Option<u32>,
+    identity: Option<u32>,
     statements: Siblings<'_, Source<'_>>,
     made: &mut Vec<Option<u32>>,
 ) -> Result<(), AllocError>
     ensures { (ancestors : List _) → typedef ≡ innermost_of typedef_word ancestors
         → grouping ≡ innermost_of grouping_word ancestors
+        → identity ≡ innermost_of identity_word ancestors
         → OnOk result (made.new.items ≡ made.old.items
         ++ map referring (placed ancestors (row_by source_view statements.entry))) }
 {
     for statement in statements {
-        made.push(holder_of(statement.label().keyword, typedef, grouping))?;
+        made.push(holder_of(statement.label().keyword, typedef, grouping, identity))?;
         let inner_typedef = innermost_below(Keyword::Typedef, typedef, statement);
         let inner_grouping = innermost_below(Keyword::Grouping, grouping, statement);
-        add_holders(inner_typedef, inner_grouping, statement.children(), made)?;
+        let inner_identity = innermost_below(Keyword::Identity, identity, statement);
+        add_holders(
+            inner_typedef,
+            inner_grouping,
+            inner_identity,
+            statement.children(),
+            made,
+        )?;
     }
     Ok(())
 }
@@ -77,6 +93,6 @@ pub fn holders_of(alloc: Global, sources: &Sources<'_>) -> Result<Vec<Option<u32
         return nothing_of(alloc, sources);
     }
     let mut made = Vec::new(alloc);
-    add_holders(None, None, sources.modules(), &mut made)?;
+    add_holders(None, None, None, sources.modules(), &mut made)?;
     Ok(made)
 }

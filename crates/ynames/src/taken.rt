@@ -1,4 +1,4 @@
-//! Where a definition has a name that is taken (RFC 7950, 5.5, 6.2.1, 7.3 and 7.12).
+//! Where a definition has a name that is taken (RFC 7950, 5.5, 6.2.1, 7.3, 7.12 and 7.18).
 
 ghost use Rattle.std.specs.Prelude.{◌≡◌, ◌==◌, List, IfOk, false, not};
 ghost use Rattle.std.specs.List.{flat_map};
@@ -28,7 +28,7 @@ use yword::Keyword;
 fn is_type_outside(name: &str) -> bool
     ensures { result ≡ breaks.is_type_outside name.now }
 {
-    matches!(name, "binary" | "identityref" | "instance-identifier")
+    matches!(name, "binary" | "instance-identifier")
 }
 
 /// Whether the argument of a statement is the name of a built-in type.
@@ -61,6 +61,7 @@ fn is_taken(scope: &Scope<'_, '_>, number: u32, statement: &Source<'_>) -> bool
             is_held(scope, DefinitionKind::Typedef, number, statement) || is_built_in(statement)
         }
         Keyword::Grouping => is_held(scope, DefinitionKind::Grouping, number, statement),
+        Keyword::Identity => is_held(scope, DefinitionKind::Identity, number, statement),
         _ => false,
     }
 }
@@ -92,7 +93,7 @@ fn broken_taken_rule_in<'t>(
     Ok(told)
 }
 
-/// The lesser of one so far and of the typedefs and groupings whose names are taken, by module and line.
+/// The lesser of one so far and of the typedefs, groupings and identities whose names are taken, by module and line.
 pub fn broken_taken_rule(
     alloc: Global,
     sources: &Sources<'_>,

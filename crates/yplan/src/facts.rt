@@ -3,13 +3,14 @@
 ghost use Rattle.std.specs.Prelude.{◌≡◌, map, IfOk};
 ghost use Rattle.yspec.specs.linking.SchemaNodes as spec;
 ghost use Rattle.yspec.specs.linking.NodeBreaks as breaks;
+ghost use Rattle.ygrammar.specs.SourceView.{stated_view};
 ghost use Rattle.yplan.specs.PlanView.{view};
 ghost use Rattle.yplan.specs.PlannedView.{planned_view};
 
 use crate::plan::Plan;
 use crate::planned::Planned;
 use std::alloc::{AllocError, Global};
-use ygrammar::{argument_of, count, max_elements};
+use ygrammar::{Stated, count, max_elements};
 use ymodel::Amount;
 use yword::{Keyword, Status, status_of};
 
@@ -109,19 +110,19 @@ impl<'a, 't> Planned<'a, 't> {
     }
 }
 
-/// The texts of all its own defaults, in order (RFC 7950, 7.6.4 and 7.7.4).
+/// All its own defaults, in order, each with the module in which it stands (RFC 7950, 7.6.4 and 7.7.4).
 pub fn own_defaults<'t>(
     alloc: Global,
     planned: &Planned<'_, 't>,
-) -> Result<Vec<&'t str>, AllocError>
-    ensures { (number : _) → IfOk result (λ texts. map (λ t. t.now) texts.items
+) -> Result<Vec<Stated<'t>>, AllocError>
+    ensures { (number : _) → IfOk result (λ defaults. map stated_view defaults.items
         ≡ spec.own_defaults (planned_view number planned.now)) }
 {
-    let mut texts = Vec::new(alloc);
+    let mut defaults = Vec::new(alloc);
     for statement in planned.own_with(Keyword::Default) {
-        texts.push(argument_of(statement))?;
+        defaults.push(statement.label().stated())?;
     }
-    Ok(texts)
+    Ok(defaults)
 }
 
 /// Whether the default case of a choice isn't there, or is needless, or holds what must be stored (RFC 7950, 7.9.3).

@@ -5,9 +5,9 @@ use Rattle.std.specs.Option.{option_map_or}
 use Rattle.yspec.specs.Forest.{size}
 use Rattle.yspec.specs.types.Types.{YangType}
 use Rattle.yspec.specs.linking.TypeStatements.{Meant, own, of_target}
-use Rattle.yspec.specs.linking.Planned.{Planned, Plan, nodes_of, meant_in, target_of, target_meant, referring, type_by, type_within, type_of, leads_to}
+use Rattle.yspec.specs.linking.Planned.{Planned, Plan, nodes_of, meant_in, target_of, target_meant, referring, type_by, type_within, leads_to}
 use Rattle.yspec.specs.linking.Planned as plans
-use Rattle.yresolve.specs.ChainTypes.{own_type, as_meant}
+use Rattle.yresolve.specs.ChainTypes.{own_type, as_meant, type_led}
 use Rattle.ygraph.specs.Chains.{next_of, end_within, end_of, leads, is_on_circle}
 use Rattle.ygraph.proofs.ChainLemmas.{some_same, some_none, end_here, end_there, end_none, leads_here, leads_there}
 
@@ -113,8 +113,8 @@ module _ (plan : Plan) (next : List (Option ℕ)) where
       circles_same p a = leads_same (length next) p.number p a ∙ ap (λ n. leads_to plan n p.number p) count
 
       pub type_by_end : (p q : Planned) → Stands p → Stands q → end_of next p.number ≡ Some q.number
-          → type_of plan p ≡ option_map (as_meant (meant_in plan p)) (own_type (meant_in plan q))
+          → type_led plan p ≡ option_map (as_meant (meant_in plan p)) (own_type (meant_in plan q))
       type_by_end p q a b h = sym (ap (λ n. type_within plan (suc n) p) count) ∙ type_at_end (suc (length next)) p q a b h
 
-      pub no_type : (p : Planned) → Stands p → end_of next p.number ≡ None → type_of plan p ≡ None
+      pub no_type : (p : Planned) → Stands p → end_of next p.number ≡ None → type_led plan p ≡ None
       no_type p a h = sym (ap (λ n. type_within plan (suc n) p) count) ∙ no_type_without_end (suc (length next)) p a h

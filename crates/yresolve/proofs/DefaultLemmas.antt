@@ -8,18 +8,21 @@ use Rattle.std.specs.BTreeSet.{BTreeSet, contains_by}
 use Rattle.std.specs.BTreeMap.{is_at}
 use Rattle.std.proofs.lemmas.Bool.{lt-ltb, le-ltb, ltb-true, ltb-false, ne_eqb, eqb-true}
 use Rattle.std.proofs.lemmas.List.{length-map}
-use Rattle.yspec.specs.text.Text.{Text}
 use Rattle.yspec.specs.types.Types.{YangType, Val}
-use Rattle.yspec.specs.types.Order.{value_cmp, same_value}
 use Rattle.yspec.specs.types.Values.{value_of_text}
+use Rattle.yspec.specs.types.Order.{value_cmp, same_value}
 use Rattle.yspec.specs.Forest.{Forest}
-use Rattle.yspec.specs.linking.Source.{Source, first_with, found_with}
+use Rattle.yspec.specs.linking.Source.{Source, Stated, first_with, found_with}
 use Rattle.yspec.specs.linking.DerivedTypes.{default_meant}
 use Rattle.yspec.specs.linking.Keyword.{Keyword, same_keyword, leaf_word, leaf_list_word, choice_word, type_word, default_word}
 use Rattle.yspec.specs.linking.Planned.{Planned, Plan, stated_in, type_of}
-use Rattle.yspec.specs.linking.SchemaNodes.{is_mandatory, min_elements_of, is_key, own_defaults, type_default, default_texts, default_case}
+use Rattle.yspec.specs.linking.SchemaNodes.{is_mandatory, min_elements_of, is_key, own_defaults, type_default, default_texts, value_stated, default_case}
 use Rattle.yspec.specs.linking.NodeBreaks.{is_empty, is_refused, has_equal, is_wrong_default, are_wrong_defaults, is_wrong_case, is_default_wrong}
+use Rattle.ygrammar.specs.SourceView.{stated_view}
+use Rattle.ygrammar.specs.declared.source.Stated as code
 use Rattle.ygrammar.proofs.SourceLemmas.{first_found}
+use Rattle.yresolve.specs.ModulesView.{AreNamesOf, value_by}
+use Rattle.yresolve.specs.declared.modules.ModuleTable.{ModuleTable}
 use Rattle.yresolve.specs.Values.{comes_twice, wrong_leaf, wrong_leaf_list}
 
 -- ---- values that were seen
@@ -88,17 +91,24 @@ any_values {B = B} f test (x ∷ xs) = by (f x) (any_values f test xs)
     by None h = h
     by (Some y) h = ap (λ b. test y || b) h
 
-pub equal_values : (type : YangType) (ts : List Text) → has_equal type ts ≡ comes_twice same_value (filter_map (value_of_text type) ts)
-equal_values type [] = refl
-equal_values type (t ∷ ts) = by (value_of_text type t) (equal_values type ts)
-  where
-    same : Option Val → Text → Bool
-    same o u = option_map_or (λ v. option_map_or (same_value v) (value_of_text type u) false) o false
+-- what a type takes from texts is the same by the names that are held
+pub same_values : (table : ModuleTable) (plan : Plan) → AreNamesOf table plan.modules → (type : YangType) (ts : List Stated)
+    → filter_map (value_by table type) ts ≡ filter_map (value_stated plan type) ts
+same_values table plan are type [] = refl
+same_values table plan are type (t ∷ ts) =
+    ap₂ cons_option (ap (λ names. value_of_text names type t.text) (are t.home)) (same_values table plan are type ts)
 
-    by : (o : Option Val) → has_equal type ts ≡ comes_twice same_value (filter_map (value_of_text type) ts)
-        → (list_any (same o) ts || has_equal type ts) ≡ comes_twice same_value (cons_option o (filter_map (value_of_text type) ts))
-    by None h = ap (λ b. b || has_equal type ts) (any_none (same None) ts (λ u. refl)) ∙ h
-    by (Some v) h = ap₂ ◌||◌ (any_values (value_of_text type) (same_value v) ts) h
+pub equal_values : (plan : Plan) (type : YangType) (ts : List Stated) → has_equal plan type ts ≡ comes_twice same_value (filter_map (value_stated plan type) ts)
+equal_values plan type [] = refl
+equal_values plan type (t ∷ ts) = by (value_stated plan type t) (equal_values plan type ts)
+  where
+    same : Option Val → Stated → Bool
+    same o u = option_map_or (λ v. option_map_or (same_value v) (value_stated plan type u) false) o false
+
+    by : (o : Option Val) → has_equal plan type ts ≡ comes_twice same_value (filter_map (value_stated plan type) ts)
+        → (list_any (same o) ts || has_equal plan type ts) ≡ comes_twice same_value (cons_option o (filter_map (value_stated plan type) ts))
+    by None h = ap (λ b. b || has_equal plan type ts) (any_none (same None) ts (λ u. refl)) ∙ h
+    by (Some v) h = ap₂ ◌||◌ (any_values (value_stated plan type) (same_value v) ts) h
 
 taken_most : {A B : Type 0} (f : A → Option B) (xs : List A) → length (filter_map f xs) ≤ length xs
 taken_most {B = B} f [] = omega arith
@@ -109,54 +119,54 @@ taken_most {B = B} f (x ∷ xs) = by (f x) (taken_most f xs)
     by (Some y) h = omega (arith, h)
 
 -- one is refused where fewer are taken than there are
-pub any_refused : (type : YangType) (ts : List Text) → list_any (is_refused type) ts ≡ ltb (length (filter_map (value_of_text type) ts)) (length ts)
-any_refused type [] = refl
-any_refused type (t ∷ ts) = by (value_of_text type t) (taken_most (value_of_text type) ts) (any_refused type ts)
+pub any_refused : (plan : Plan) (type : YangType) (ts : List Stated) → list_any (is_refused plan type) ts ≡ ltb (length (filter_map (value_stated plan type) ts)) (length ts)
+any_refused plan type [] = refl
+any_refused plan type (t ∷ ts) = by (value_stated plan type t) (taken_most (value_stated plan type) ts) (any_refused plan type ts)
   where
     taken : List Val
-    taken = filter_map (value_of_text type) ts
+    taken = filter_map (value_stated plan type) ts
 
     next : (m n : ℕ) (b : Bool) → ltb m n ≡ b → b ≡ ltb (suc m) (suc n)
     next m n true e = sym (lt-ltb (suc m) (suc n) (omega (arith, ltb-true m n e)))
     next m n false e = sym (le-ltb (suc m) (suc n) (omega (arith, ltb-false m n e)))
 
-    by : (o : Option Val) → length taken ≤ length ts → list_any (is_refused type) ts ≡ ltb (length taken) (length ts)
-        → (not (is_some o) || list_any (is_refused type) ts) ≡ ltb (length (cons_option o taken)) (suc (length ts))
+    by : (o : Option Val) → length taken ≤ length ts → list_any (is_refused plan type) ts ≡ ltb (length taken) (length ts)
+        → (not (is_some o) || list_any (is_refused plan type) ts) ≡ ltb (length (cons_option o taken)) (suc (length ts))
     by None most h = sym (lt-ltb (length taken) (suc (length ts)) (omega (arith, most)))
     by (Some v) most h = h ∙ next (length taken) (length ts) (ltb (length taken) (length ts)) refl
 
 -- ---- the defaults of a node
 
-no_texts : (ts : List (Bor Text)) → eqb (length ts) 0 ≡ is_empty (map (λ t. t.now) ts)
+no_texts : (ts : List code.Stated) → eqb (length ts) 0 ≡ is_empty (map stated_view ts)
 no_texts [] = refl
 no_texts (t ∷ ts) = let other : suc (length ts) ≢ 0 = omega arith in ne_eqb (suc (length ts)) 0 other
 
 -- others where there are none
-abbrev texts_or : List Text → List Text → List Text
+abbrev texts_or : List Stated → List Stated → List Stated
 texts_or others [] = others
 texts_or others (t ∷ ts) = t ∷ ts
 
-abbrev of_type : Plan → Planned → List Text
+abbrev of_type : Plan → Planned → List Stated
 of_type plan p = option_map_or (λ t. t ∷ []) (type_default plan p) []
 
 -- a node with defaults of its own has these
-pub own_texts : (plan : Plan) (p : Planned) (texts : List (Bor Text)) → eqb (length texts) 0 ≡ false → map (λ t. t.now) texts ≡ own_defaults p
-    → map (λ t. t.now) texts ≡ default_texts plan p
+pub own_texts : (plan : Plan) (p : Planned) (texts : List code.Stated) → eqb (length texts) 0 ≡ false → map stated_view texts ≡ own_defaults p
+    → map stated_view texts ≡ default_texts plan p
 own_texts plan p [] some are = absurd cc
 own_texts plan p (t ∷ ts) some are = ap (texts_or (of_type plan p)) are
 
 -- one without has that of its type
-pub texts_of_type : (plan : Plan) (p : Planned) (texts more : List (Bor Text)) (d : Option (Bor Text)) → eqb (length texts) 0 ≡ true
-    → map (λ t. t.now) texts ≡ own_defaults p → option_map (λ t. t.now) d ≡ type_default plan p
-    → more ≡ texts ++ option_map_or (λ t. t ∷ []) d [] → map (λ t. t.now) more ≡ default_texts plan p
+pub texts_of_type : (plan : Plan) (p : Planned) (texts more : List code.Stated) (d : Option code.Stated) → eqb (length texts) 0 ≡ true
+    → map stated_view texts ≡ own_defaults p → option_map stated_view d ≡ type_default plan p
+    → more ≡ texts ++ option_map_or (λ t. t ∷ []) d [] → map stated_view more ≡ default_texts plan p
 texts_of_type plan p (t ∷ ts) more d none are is ends = absurd (some_texts t ts none)
   where
-    some_texts : (x : Bor Text) (xs : List (Bor Text)) → eqb (suc (length xs)) 0 ≡ true → ⊥
+    some_texts : (x : code.Stated) (xs : List code.Stated) → eqb (suc (length xs)) 0 ≡ true → ⊥
     some_texts x xs e = let other : suc (length xs) ≢ 0 = omega arith in other (eqb-true (suc (length xs)) 0 e)
 texts_of_type plan p [] more d none are is ends =
-    ap (map (λ t. t.now)) ends ∙ (by d ∙ (ap (λ o. option_map_or (λ t. t ∷ []) o []) is ∙ ap (texts_or (of_type plan p)) are))
+    ap (map stated_view) ends ∙ (by d ∙ (ap (λ o. option_map_or (λ t. t ∷ []) o []) is ∙ ap (texts_or (of_type plan p)) are))
   where
-    by : (o : Option (Bor Text)) → map (λ t. t.now) (option_map_or (λ t. t ∷ []) o []) ≡ option_map_or (λ t. t ∷ []) (option_map (λ t. t.now) o) []
+    by : (o : Option code.Stated) → map stated_view (option_map_or (λ t. t ∷ []) o []) ≡ option_map_or (λ t. t ∷ []) (option_map stated_view o) []
     by None = refl
     by (Some t) = refl
 
@@ -165,16 +175,16 @@ module _ (plan : Plan) (p : Planned) (type : YangType) where
   stated = not (is_empty (own_defaults p))
 
   abbrev refused : Bool
-  refused = list_any (is_refused type) (default_texts plan p)
+  refused = list_any (is_refused plan type) (default_texts plan p)
 
   abbrev equal : Bool
-  equal = has_equal type (default_texts plan p)
+  equal = has_equal plan type (default_texts plan p)
 
-  some_stated : (texts : List (Bor Text)) → map (λ t. t.now) texts ≡ own_defaults p → not (eqb (length texts) 0) ≡ stated
+  some_stated : (texts : List code.Stated) → map stated_view texts ≡ own_defaults p → not (eqb (length texts) 0) ≡ stated
   some_stated texts are = ap not (no_texts texts ∙ ap is_empty are)
 
   -- of a leaf with a default of its own
-  pub wrong_beside : (texts : List (Bor Text)) → map (λ t. t.now) texts ≡ own_defaults p → is_mandatory p ≡ true
+  pub wrong_beside : (texts : List code.Stated) → map stated_view texts ≡ own_defaults p → is_mandatory p ≡ true
       → not (eqb (length texts) 0) ≡ is_wrong_default plan p type
   wrong_beside texts are must = some_stated texts are ∙ ap (λ b. cond b stated refused) (sym must)
 
@@ -182,26 +192,26 @@ module _ (plan : Plan) (p : Planned) (type : YangType) where
   by_least : (b : Bool) → ltb 0 (min_elements_of p) ≡ b → cond b stated (refused || (p.config && equal)) ≡ are_wrong_defaults plan p type
   by_least b is = ap (λ d. cond d stated (refused || (p.config && equal))) (sym is)
 
-  pub wrong_least : (texts : List (Bor Text)) → map (λ t. t.now) texts ≡ own_defaults p → (n : ℕ) → n ≡ min_elements_of p → 0 < n
+  pub wrong_least : (texts : List code.Stated) → map stated_view texts ≡ own_defaults p → (n : ℕ) → n ≡ min_elements_of p → 0 < n
       → not (eqb (length texts) 0) ≡ are_wrong_defaults plan p type
   wrong_least texts are n is above = some_stated texts are ∙ by_least true (ap (ltb 0) (sym is) ∙ lt-ltb 0 n above)
 
-  module _ (texts : List (Bor Text)) (are : map (λ t. t.now) texts ≡ default_texts plan p) where
-    some_refused : (values : List Val) → values ≡ filter_map (value_of_text type) (map (λ t. t.now) texts) → ltb (length values) (length texts) ≡ refused
+  module _ (texts : List code.Stated) (are : map stated_view texts ≡ default_texts plan p) where
+    some_refused : (values : List Val) → values ≡ filter_map (value_stated plan type) (map stated_view texts) → ltb (length values) (length texts) ≡ refused
     some_refused values taken =
-        ap₂ (λ m n. ltb m n) (ap length taken) (sym (length-map texts (λ t. t.now)))
-        ∙ (sym (any_refused type (map (λ t. t.now) texts)) ∙ ap (list_any (is_refused type)) are)
+        ap₂ (λ m n. ltb m n) (ap length taken) (sym (length-map texts stated_view))
+        ∙ (sym (any_refused plan type (map stated_view texts)) ∙ ap (list_any (is_refused plan type)) are)
 
-    some_equal : (values : List Val) → values ≡ filter_map (value_of_text type) (map (λ t. t.now) texts) → comes_twice same_value values ≡ equal
-    some_equal values taken = ap (comes_twice same_value) taken ∙ (sym (equal_values type (map (λ t. t.now) texts)) ∙ ap (has_equal type) are)
+    some_equal : (values : List Val) → values ≡ filter_map (value_stated plan type) (map stated_view texts) → comes_twice same_value values ≡ equal
+    some_equal values taken = ap (comes_twice same_value) taken ∙ (sym (equal_values plan type (map stated_view texts)) ∙ ap (has_equal plan type) are)
 
     -- of a leaf
-    pub wrong_refused : (values : List Val) → values ≡ filter_map (value_of_text type) (map (λ t. t.now) texts) → is_mandatory p ≡ false
+    pub wrong_refused : (values : List Val) → values ≡ filter_map (value_stated plan type) (map stated_view texts) → is_mandatory p ≡ false
         → ltb (length values) (length texts) ≡ is_wrong_default plan p type
     wrong_refused values taken may = some_refused values taken ∙ ap (λ b. cond b stated refused) (sym may)
 
     -- of a leaf-list
-    module _ (n : ℕ) (is : n ≡ min_elements_of p) (none : n ≤ 0) (values : List Val) (taken : values ≡ filter_map (value_of_text type) (map (λ t. t.now) texts)) where
+    module _ (n : ℕ) (is : n ≡ min_elements_of p) (none : n ≤ 0) (values : List Val) (taken : values ≡ filter_map (value_stated plan type) (map stated_view texts)) where
       by_values : (b : Bool) → ltb (length values) (length texts) ≡ b → (b || (p.config && comes_twice same_value values)) ≡ are_wrong_defaults plan p type
       by_values b fewer =
           ap₂ (λ r e. r || (p.config && e)) (sym fewer ∙ some_refused values taken) (some_equal values taken)
@@ -223,7 +233,7 @@ module _ (plan : Plan) (p : Planned) (type : YangType) where
 pub no_default : (plan : Plan) (p : Planned) → (is_mandatory p || ltb 0 (min_elements_of p)) ≡ true → None ≡ type_default plan p
 no_default plan p must = ap (λ b. cond b None (option_and_then (default_meant plan.modules) (first_with type_word p.part.own))) (sym must)
 
-pub default_named : (plan : Plan) (p : Planned) (found : Option (Source × Forest Source)) (default : Option Text) → (is_mandatory p || ltb 0 (min_elements_of p)) ≡ false
+pub default_named : (plan : Plan) (p : Planned) (found : Option (Source × Forest Source)) (default : Option Stated) → (is_mandatory p || ltb 0 (min_elements_of p)) ≡ false
     → found ≡ found_with type_word p.part.own → default ≡ option_and_then (λ (x : Source × Forest Source). default_meant plan.modules x.0) found
     → default ≡ type_default plan p
 default_named plan p found default may is so =

@@ -1,6 +1,7 @@
 pub mod ChainPlanLemmas
 pub mod MeaningLemmas
 pub mod CollectLemmas
+pub mod ModuleLemmas
 pub mod TypeLemmas
 pub mod ReferenceLemmas
 pub mod DefaultLemmas

@@ -4,7 +4,9 @@ use Rattle.std.specs.Prelude.{◌&&◌, option_map, option_and_then, slice_get, 
 use Rattle.std.proofs.lemmas.Option.{slice_get-map}
 use Rattle.std.proofs.lemmas.List.{length-map}
 use Rattle.yspec.specs.Forest.{size}
-use Rattle.yspec.specs.types.Types.{YangType}
+use Rattle.yspec.specs.text.Text.{Text}
+use Rattle.yspec.specs.types.Types.{YangType, type_in}
+use Rattle.yspec.specs.linking.Identities.{module_name}
 use Rattle.yspec.specs.linking.Prefixes.{NodeName, node_name}
 use Rattle.yspec.specs.linking.TypeStatements as stated
 use Rattle.yspec.specs.linking.TypeStatements.{own, of_target}
@@ -15,7 +17,7 @@ use Rattle.ypreorder.specs.View.{slots_in, forest_in}
 use Rattle.ypreorder.specs.declared.slot.Slot.{Slot}
 use Rattle.ypreorder.proofs.LabelLemmas.{label_at, length-labels, size-by}
 use Rattle.ypreorder.proofs.RowLemmas.{size_forest}
-use Rattle.yresolve.specs.ChainTypes.{own_type, as_meant}
+use Rattle.yresolve.specs.ChainTypes.{own_type, as_meant, type_led}
 use Rattle.ygraph.specs.Chains.{next_of, end_within, end_of}
 use Rattle.ygraph.specs.Chains as chains
 use Rattle.yplan.specs.PlanView.{view}
@@ -25,9 +27,11 @@ use Rattle.yplan.specs.declared.planned.Planned as code
 use Rattle.ygraph.specs.declared.chains.Chain.{Chain}
 use Rattle.yplan.proofs.PlanLemmas.{nodes_are}
 use Rattle.yplan.proofs.NodeLemmas.{found_stands, find-filter, stands_at}
+use Rattle.yresolve.specs.ModulesView.{AreNamesOf}
+use Rattle.yresolve.specs.declared.modules.ModuleTable.{ModuleTable}
 use Rattle.yresolve.proofs.ChainPlanLemmas.{Stands, circles_same, type_by_end, no_type}
 use Rattle.ygraph.proofs.ChainLemmas.{some_same, some_none, end_here, end_there, end_none}
-use Rattle.yresolve.specs.TypesView.{meant_at, type_told, types_told, target_number}
+use Rattle.yresolve.specs.TypesView.{meant_at, end_at, type_at, type_told, target_number}
 
 some_is : {X : Type 0} → (x y : X) → Some x ≡ Some y → x ≡ y
 some_is x y e = ap (λ o. unwrap_or o x) e
@@ -42,9 +46,18 @@ same_lists (x ∷ xs) [] e h = absurd (omega (arith, e))
 same_lists (x ∷ xs) (y ∷ ys) e h =
     ap₂ (λ z zs. z ∷ zs) (some_is x y (h 0 y refl)) (same_lists xs ys (omega (arith, e)) (λ i z there. h (suc i) z there))
 
-map_map : {X Y Z : Type 0} (f : Y → Z) (g : X → Y) (o : Option X) → option_map (λ x. f (g x)) o ≡ option_map f (option_map g o)
-map_map f g None = refl
-map_map f g (Some x) = refl
+-- ---- a type in the module of its node
+
+type_kept : (home : Text) (m : Option stated.Meant) (t : YangType) → as_meant m (type_in home t) ≡ type_in home (as_meant m t)
+type_kept home None t = refl
+type_kept home (Some (own type)) t = refl
+type_kept home (Some (of_target at steps required)) t = refl
+
+-- what its own statement says of a type, once that is in its module
+pub told_in : (home : Text) (m : Option stated.Meant) (o : Option YangType) (t made told : YangType) → Some t ≡ o → made ≡ type_in home t
+    → told ≡ as_meant m made → Some told ≡ option_map (type_in home) (option_map (as_meant m) o)
+told_in home m o t made told is so said =
+    ap Some (said ∙ (ap (as_meant m) so ∙ type_kept home m t)) ∙ ap (λ x. option_map (type_in home) (option_map (as_meant m) x)) is
 
 -- ---- nodes by number
 
@@ -141,7 +154,7 @@ module _ (plan : Plan) where
         ap (λ o. unwrap_or o None) (slice_get-map (meant_in (view plan)) (nodes_of (view plan)) p.number) ∙ ap (λ o. unwrap_or (option_map (meant_in (view plan)) o) None) here
 
     told_here : (p : spec.Planned) → Stands (view plan) next p → (o : Option ℕ) → end_of next p.number ≡ o
-        → type_told (map (meant_in (view plan)) (nodes_of (view plan))) p.number o ≡ type_of (view plan) p
+        → type_told (map (meant_in (view plan)) (nodes_of (view plan))) p.number o ≡ type_led (view plan) p
     told_here p here None h = sym (no_type (view plan) next refers_to found counted p here h)
     told_here p here (Some e) h =
         let meants = map (meant_in (view plan)) (nodes_of (view plan)) in
@@ -151,17 +164,9 @@ module _ (plan : Plan) where
         (ap (meant_at meants) (sym last.2) ∙ meant_here q last.1)
         ∙ sym (type_by_end (view plan) next refers_to found counted p q here last.1 (h ∙ ap Some (sym last.2)))
 
-    types_at : (meants : List (Option stated.Meant)) (k : ℕ) (cs : List Chain) (i : ℕ)
-        → slice_get (types_told meants k cs) i ≡ option_map (λ c. type_told meants (k + i) c.end) (slice_get cs i)
-    types_at meants k [] i = refl
-    types_at meants k (c ∷ cs) zero = ap (λ n. Some (type_told meants n c.end)) (omega arith)
-    types_at meants k (c ∷ cs) (suc i) =
-        let here : k + 1 + i ≡ k + suc i = omega arith in
-        types_at meants (k + 1) cs i ∙ ap (λ n. option_map (λ x. type_told meants n x.end) (slice_get cs i)) here
-
-    length-types : (meants : List (Option stated.Meant)) (k : ℕ) (cs : List Chain) → length (types_told meants k cs) ≡ length cs
-    length-types meants k [] = refl
-    length-types meants k (c ∷ cs) = ap suc (length-types meants (k + 1) cs)
+    end_told : (o : Option Chain) (e : Option ℕ) → option_map (λ (c : Chain). c.end) o ≡ Some e → option_and_then (λ (c : Chain). c.end) o ≡ e
+    end_told None e h = absurd cc
+    end_told (Some c) e h = some_is c.end e h
 
     module _ (told : List Chain) (count : length told ≡ length next) where
       within : (i : ℕ) (p : spec.Planned) → slice_get (nodes_of (view plan)) i ≡ Some p → i < length next
@@ -176,27 +181,34 @@ module _ (plan : Plan) where
           below (y ∷ ys) zero x h = omega arith
           below (y ∷ ys) (suc n) x h = let more = below ys n x h in omega (arith, more)
 
-      pub all_typed : ((i : ℕ) → i < length next → option_map (λ c. c.end) (slice_get told i) ≡ Some (end_of next i))
-          → types_told (map (meant_in (view plan)) (nodes_of (view plan))) 0 told ≡ map (type_of (view plan)) (nodes_of (view plan))
-      all_typed ends = same_lists (types_told (map (meant_in (view plan)) nodes) 0 told) (map (type_of (view plan)) nodes)
-          (length-types (map (meant_in (view plan)) nodes) 0 told ∙ (count ∙ (ap length are ∙ (length-map nodes (target_number (view plan)) ∙ sym (length-map nodes (type_of (view plan)))))))
+      pub all_typed : (table : ModuleTable) → AreNamesOf table (view plan).modules
+          → ((i : ℕ) → i < length next → option_map (λ c. c.end) (slice_get told i) ≡ Some (end_of next i))
+          → map (type_at table (map (meant_in (view plan)) (nodes_of (view plan))) told) (nodes_of (view plan)) ≡ map (type_of (view plan)) (nodes_of (view plan))
+      all_typed table are_names ends = same_lists (map made nodes) (map (type_of (view plan)) nodes)
+          (length-map nodes made ∙ sym (length-map nodes (type_of (view plan))))
           (λ i t there. at_place i t (slice_get nodes i) refl (sym (slice_get-map (type_of (view plan)) nodes i) ∙ there))
         where
           nodes : List spec.Planned
           nodes = nodes_of (view plan)
 
+          meants : List (Option stated.Meant)
+          meants = map (meant_in (view plan)) nodes
+
+          made : spec.Planned → Option YangType
+          made = type_at table meants told
+
+          made_here : (p : spec.Planned) → Stands (view plan) next p → made p ≡ type_of (view plan) p
+          made_here p here =
+              let ended = end_told (slice_get told p.number) (end_of next p.number) (ends p.number (within p.number p here)) in
+              ap (λ names. option_map (type_in names.own) (type_told meants p.number (end_at told p.number))) (are_names p.part.owner)
+              ∙ ap (option_map (type_in (module_name (view plan).modules p.part.owner)))
+              (ap (type_told meants p.number) ended ∙ told_here p here (end_of next p.number) refl)
+
           at_place : (i : ℕ) (t : Option YangType) (o : Option spec.Planned) → slice_get nodes i ≡ o → option_map (type_of (view plan)) o ≡ Some t
-              → slice_get (types_told (map (meant_in (view plan)) nodes) 0 told) i ≡ Some t
+              → slice_get (map made nodes) i ≡ Some t
           at_place i t None e h = absurd cc
           at_place i t (Some p) e h =
-              let meants = map (meant_in (view plan)) nodes in
-              let is = number_is i p e in
-              let none : 0 + i ≡ p.number = omega (arith, is) in
-              types_at meants 0 told i
-              ∙ (map_map (λ end. type_told meants (0 + i) end) (λ (c : Chain). c.end) (slice_get told i)
-              ∙ (ap (option_map (λ end. type_told meants (0 + i) end)) (ends i (within i p e))
-              ∙ (ap₂ (λ n m. Some (type_told meants n (end_of next m))) none (sym is)
-              ∙ (ap Some (told_here p (stands next i p e) (end_of next p.number) refl) ∙ h))))
+              slice_get-map made nodes i ∙ (ap (option_map made) e ∙ (ap Some (made_here p (stands next i p e)) ∙ h))
 
       pub all_circled : ((i : ℕ) → i < length next → option_map (λ c. c.on_circle) (slice_get told i) ≡ Some (chains.is_on_circle next i))
           → map (λ (c : Chain). c.on_circle) told ≡ map (is_on_circle (view plan)) (nodes_of (view plan))

@@ -1,4 +1,5 @@
 pub mod ChainTypes
+pub mod ModulesView
 pub mod TypesView
 pub mod Values
 pub mod TuplesView

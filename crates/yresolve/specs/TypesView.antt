@@ -1,7 +1,7 @@
 -- What the types of a plan's nodes mean, by number.
-use Rattle.std.specs.Prelude.{◌≡◌, ℕ, ◌+◌, List, [], ◌∷◌, map, Option, None, slice_get, unwrap_or, option_map, option_and_then}
+use Rattle.std.specs.Prelude.{◌≡◌, ℕ, List, map, Option, None, slice_get, unwrap_or, option_map, option_and_then}
 use Rattle.std.specs.Borrow.{Bor}
-use Rattle.yspec.specs.types.Types.{YangType}
+use Rattle.yspec.specs.types.Types.{YangType, type_in}
 use Rattle.yspec.specs.linking.TypeStatements as spec
 use Rattle.yspec.specs.linking.Planned.{Planned, Plan, nodes_of, meant_in, target_of, type_of, is_on_circle}
 use Rattle.yspec.specs.linking.SchemaNodes.{number_in}
@@ -9,6 +9,8 @@ use Rattle.ylink.specs.TypeView.{meant_view}
 use Rattle.ylink.specs.declared.types.Meant.{Meant}
 use Rattle.ygraph.specs.declared.chains.Chain.{Chain}
 use Rattle.yresolve.specs.ChainTypes.{own_type, as_meant}
+use Rattle.yresolve.specs.ModulesView.{names_in}
+use Rattle.yresolve.specs.declared.modules.ModuleTable.{ModuleTable}
 use Rattle.yresolve.specs.declared.types.Types.{Types}
 
 abbrev pub meants_view : List (Option (Bor Meant)) → List (Option spec.Meant)
@@ -25,10 +27,13 @@ own_at meants number = own_type (meant_at meants number)
 abbrev pub type_told : List (Option spec.Meant) → ℕ → Option ℕ → Option YangType
 type_told meants number end = option_map (as_meant (meant_at meants number)) (option_and_then (own_at meants) end)
 
--- those of the nodes from a number on, whose references these chains tell
-abbrev pub types_told : List (Option spec.Meant) → ℕ → List Chain → List (Option YangType)
-types_told meants number [] = []
-types_told meants number (c ∷ cs) = type_told meants number c.end ∷ types_told meants (number + 1) cs
+-- where the references of the node of a number lead, by these chains
+abbrev pub end_at : List Chain → ℕ → Option ℕ
+end_at chains number = option_and_then (λ (c : Chain). c.end) (slice_get chains number)
+
+-- the type of a node, in its own module
+abbrev pub type_at : ModuleTable → List (Option spec.Meant) → List Chain → Planned → Option YangType
+type_at names meants chains p = option_map (type_in (names_in names p.part.owner).own) (type_told meants p.number (end_at chains p.number))
 
 abbrev pub target_number : Plan → Planned → Option ℕ
 target_number plan p = option_map number_in (target_of plan p)

@@ -2,46 +2,62 @@
 
 ghost use Rattle.std.specs.Prelude.{◌≡◌, ◌&&◌, map, is_some, option_map, IfOk};
 ghost use Rattle.std.specs.List.{filter_map};
-ghost use Rattle.yspec.specs.types.Values.{value_of_text};
 ghost use Rattle.yspec.specs.types.Order.{same_value};
 ghost use Rattle.yspec.specs.linking.Keyword.{default_word};
 ghost use Rattle.yspec.specs.linking.Planned as plans;
 ghost use Rattle.yspec.specs.linking.Planned.{stated_in, type_of};
 ghost use Rattle.yspec.specs.linking.SchemaNodes as spec;
 ghost use Rattle.yspec.specs.linking.NodeBreaks as breaks;
+ghost use Rattle.ygrammar.specs.SourceView.{stated_view};
 ghost use Rattle.ylink.specs.LinkedView.{IsOf};
+ghost use Rattle.yplan.specs.NodesView.{node_view};
 ghost use Rattle.yplan.specs.PlannedView.{planned_view};
 ghost use Rattle.yplan.specs.PlanView.{view};
+ghost use Rattle.yresolve.specs.ModulesView.{value_by};
 ghost use Rattle.yresolve.specs.ResolvedView as resolved_as;
 ghost use Rattle.yresolve.specs.Values.{comes_twice, wrong_leaf, wrong_leaf_list};
 
+use crate::modules::ModuleTable;
 use crate::resolved::Resolved;
 use std::alloc::{AllocError, Global};
 use std::collections::BTreeSet;
+use ygrammar::Stated;
 use ylink::Linked;
-use yplan::{Plan, Planned, is_wrong_case, own_defaults};
+use yplan::{Plan, PlanNode, Planned, is_wrong_case, own_defaults};
 use ytype::{BadValue, Val, YType};
 use yword::Keyword;
 
-/// The value that a type takes from a text, where it takes it.
-fn value_of(alloc: Global, value_type: &YType, text: &str) -> Result<Option<Val>, AllocError>
-    ensures { IfOk result (λ value. value ≡ value_of_text value_type.now text.now) }
+/// The value that a type takes from a text of a module, where it takes it.
+fn value_of(
+    alloc: Global,
+    modules: &ModuleTable<'_>,
+    value_type: &YType,
+    stated: Stated<'_>,
+) -> Result<Option<Val>, AllocError>
+    ensures { IfOk result (λ value. value
+        ≡ value_by modules.now value_type.now (stated_view stated.entry)) }
 {
-    match value_type.from_text(alloc, text) {
+    let names = modules.names(stated.home);
+    match value_type.from_text(alloc, stated.text, &names) {
         Ok(value) => Ok(Some(value)),
         Err(BadValue::Refused { .. }) => Ok(None),
         Err(BadValue::Memory) => Err(AllocError),
     }
 }
 
-/// The values that a type takes from texts, in order.
-fn values_of(alloc: Global, value_type: &YType, texts: &[&str]) -> Result<Vec<Val>, AllocError>
+/// The values that a type takes from texts of modules, in order.
+fn values_of(
+    alloc: Global,
+    modules: &ModuleTable<'_>,
+    value_type: &YType,
+    texts: &[Stated<'_>],
+) -> Result<Vec<Val>, AllocError>
     ensures { IfOk result (λ values. values.items
-        ≡ filter_map (value_of_text value_type.now) (map (λ t. t.now) texts.now)) }
+        ≡ filter_map (value_by modules.now value_type.now) (map stated_view texts.now)) }
 {
     let mut values = Vec::new(alloc);
     for text in texts {
-        if let Some(value) = value_of(alloc, value_type, text)? {
+        if let Some(value) = value_of(alloc, modules, value_type, *text)? {
             values.push(value)?;
         }
     }
@@ -62,9 +78,9 @@ fn comes_twice(alloc: Global, values: &[Val]) -> Result<bool, AllocError>
 }
 
 /// The default of the type of a node, where it may be without a value.
-fn type_default<'t>(linked: &Linked<'t>, planned: &Planned<'_, 't>) -> Option<&'t str>
+fn type_default<'t>(linked: &Linked<'t>, planned: &Planned<'_, 't>) -> Option<Stated<'t>>
     ensures { (plan : plans.Plan) (number : _) → IsOf linked.now plan.modules
-        → option_map (λ t. t.now) result
+        → option_map stated_view result
         ≡ spec.type_default plan (planned_view number planned.now) }
 {
     let statement = planned.first_own(Keyword::Type)?;
@@ -76,14 +92,14 @@ fn type_default<'t>(linked: &Linked<'t>, planned: &Planned<'_, 't>) -> Option<&'
     Some(text)
 }
 
-/// The texts of the defaults of a node, in order: its own, or where it has none that of its type.
+/// The defaults of a node, in order, each with the module in which it stands: its own, or where it has none that of its type.
 fn default_texts<'t>(
     alloc: Global,
     linked: &Linked<'t>,
     planned: &Planned<'_, 't>,
-) -> Result<Vec<&'t str>, AllocError>
+) -> Result<Vec<Stated<'t>>, AllocError>
     ensures { (plan : plans.Plan) (number : _) → IsOf linked.now plan.modules
-        → IfOk result (λ texts. map (λ t. t.now) texts.items
+        → IfOk result (λ texts. map stated_view texts.items
         ≡ spec.default_texts plan (planned_view number planned.now)) }
 {
     let mut texts = own_defaults(alloc, planned)?;
@@ -103,21 +119,21 @@ pub fn default_values<'t>(
     planned: &Planned<'_, 't>,
 ) -> Result<Vec<Val>, AllocError>
     ensures { (plan : plans.Plan) (number : _) → resolved_as.IsOf resolved.now plan
-        → IfOk result (λ values. values.items ≡ filter_map (value_of_text value_type.now)
+        → IfOk result (λ values. values.items ≡ filter_map (spec.value_stated plan value_type.now)
         (spec.default_texts plan (planned_view number planned.now))) }
 {
     let texts = default_texts(alloc, resolved.linked, planned)?;
-    values_of(alloc, value_type, &texts)
+    values_of(alloc, &resolved.modules, value_type, &texts)
 }
 
 /// Whether a leaf that is no key is mandatory and has a default of its own, or has one that its type doesn't take.
 fn is_wrong_default<'t>(
     alloc: Global,
-    linked: &Linked<'t>,
+    resolved: &Resolved<'_, 't>,
     value_type: &YType,
     planned: &Planned<'_, 't>,
 ) -> Result<bool, AllocError>
-    ensures { (plan : plans.Plan) (number : _) → IsOf linked.now plan.modules
+    ensures { (plan : plans.Plan) (number : _) → resolved_as.IsOf resolved.now plan
         → IfOk result (λ wrong. wrong
         ≡ breaks.is_wrong_default plan (planned_view number planned.now) value_type.now) }
 {
@@ -125,8 +141,8 @@ fn is_wrong_default<'t>(
         let stated = own_defaults(alloc, planned)?;
         return Ok(!stated.is_empty());
     }
-    let texts = default_texts(alloc, linked, planned)?;
-    let values = values_of(alloc, value_type, &texts)?;
+    let texts = default_texts(alloc, resolved.linked, planned)?;
+    let values = values_of(alloc, &resolved.modules, value_type, &texts)?;
     Ok(values.len() < texts.len())
 }
 
@@ -134,11 +150,11 @@ fn is_wrong_default<'t>(
 /// configuration, two that are the same.
 fn are_wrong_defaults<'t>(
     alloc: Global,
-    linked: &Linked<'t>,
+    resolved: &Resolved<'_, 't>,
     value_type: &YType,
     planned: &Planned<'_, 't>,
 ) -> Result<bool, AllocError>
-    ensures { (plan : plans.Plan) (number : _) → IsOf linked.now plan.modules
+    ensures { (plan : plans.Plan) (number : _) → resolved_as.IsOf resolved.now plan
         → IfOk result (λ wrong. wrong
         ≡ breaks.are_wrong_defaults plan (planned_view number planned.now) value_type.now) }
 {
@@ -146,8 +162,8 @@ fn are_wrong_defaults<'t>(
         let stated = own_defaults(alloc, planned)?;
         return Ok(!stated.is_empty());
     }
-    let texts = default_texts(alloc, linked, planned)?;
-    let values = values_of(alloc, value_type, &texts)?;
+    let texts = default_texts(alloc, resolved.linked, planned)?;
+    let values = values_of(alloc, &resolved.modules, value_type, &texts)?;
     if values.len() < texts.len() {
         return Ok(true);
     }
@@ -161,12 +177,12 @@ fn are_wrong_defaults<'t>(
 /// Whether a leaf has a wrong default, given whether it is a key, and its type.
 fn is_wrong_leaf<'t>(
     alloc: Global,
-    linked: &Linked<'t>,
+    resolved: &Resolved<'_, 't>,
     planned: &Planned<'_, 't>,
     is_key: bool,
     value_type: Option<&YType>,
 ) -> Result<bool, AllocError>
-    ensures { (plan : plans.Plan) (number : _) → IsOf linked.now plan.modules
+    ensures { (plan : plans.Plan) (number : _) → resolved_as.IsOf resolved.now plan
         → IfOk result (λ wrong. wrong
         ≡ wrong_leaf plan (planned_view number planned.now) is_key
         (option_map (λ t. t.now) value_type.entry)) }
@@ -176,7 +192,7 @@ fn is_wrong_leaf<'t>(
             if is_key {
                 return Ok(false);
             }
-            is_wrong_default(alloc, linked, value_type, planned)
+            is_wrong_default(alloc, resolved, value_type, planned)
         }
         None => Ok(false),
     }
@@ -185,17 +201,17 @@ fn is_wrong_leaf<'t>(
 /// Whether a leaf-list has wrong defaults, given its type.
 fn is_wrong_leaf_list<'t>(
     alloc: Global,
-    linked: &Linked<'t>,
+    resolved: &Resolved<'_, 't>,
     planned: &Planned<'_, 't>,
     value_type: Option<&YType>,
 ) -> Result<bool, AllocError>
-    ensures { (plan : plans.Plan) (number : _) → IsOf linked.now plan.modules
+    ensures { (plan : plans.Plan) (number : _) → resolved_as.IsOf resolved.now plan
         → IfOk result (λ wrong. wrong
         ≡ wrong_leaf_list plan (planned_view number planned.now)
         (option_map (λ t. t.now) value_type.entry)) }
 {
     match value_type {
-        Some(value_type) => are_wrong_defaults(alloc, linked, value_type, planned),
+        Some(value_type) => are_wrong_defaults(alloc, resolved, value_type, planned),
         None => Ok(false),
     }
 }
@@ -213,22 +229,22 @@ fn is_wrong_choice<'a, 't>(plan: &Plan<'a, 't>, number: u32, planned: &Planned<'
 pub(crate) fn has_wrong_default<'a, 't>(
     alloc: Global,
     plan: &Plan<'a, 't>,
-    linked: &Linked<'t>,
-    number: u32,
-    planned: &Planned<'a, 't>,
+    resolved: &Resolved<'_, 't>,
+    node: PlanNode<'a, 't>,
     is_key: bool,
     value_type: Option<&YType>,
 ) -> Result<bool, AllocError>
-    requires named { IsOf linked.now (view plan.now).modules }
-    ensures { let p = planned_view number planned.now in
+    requires of_plan { resolved_as.IsOf resolved.now (view plan.now) }
+    ensures { let p = node_view node.entry in
         is_key ≡ spec.is_key (view plan.now) p → option_map (λ t. t.now) value_type.entry
         ≡ type_of (view plan.now) p
         → IfOk result (λ wrong. wrong ≡ breaks.is_default_wrong (view plan.now) p) }
 {
+    let planned = &node.planned;
     match planned.keyword() {
-        Keyword::Leaf => is_wrong_leaf(alloc, linked, planned, is_key, value_type),
-        Keyword::LeafList => is_wrong_leaf_list(alloc, linked, planned, value_type),
-        Keyword::Choice => Ok(is_wrong_choice(plan, number, planned)),
+        Keyword::Leaf => is_wrong_leaf(alloc, resolved, planned, is_key, value_type),
+        Keyword::LeafList => is_wrong_leaf_list(alloc, resolved, planned, value_type),
+        Keyword::Choice => Ok(is_wrong_choice(plan, node.number, planned)),
         _ => Ok(false),
     }
 }

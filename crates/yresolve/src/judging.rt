@@ -44,9 +44,7 @@ fn broken_own_rule<'a, 't>(
         resolved.is_key(node.number),
         resolved.value_type(node.number),
     );
-    let linked = resolved.linked;
-    let number = node.number;
-    let default = has_wrong_default(alloc, plan, linked, number, planned, is_key, value_type)?;
+    let default = has_wrong_default(alloc, plan, resolved, node, is_key, value_type)?;
     let told = least_when(default, told, planned.broken(CompileCode::C11));
     Ok(least_addition(plan, node, told))
 }

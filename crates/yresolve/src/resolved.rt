@@ -2,6 +2,7 @@
 
 ghost use Rattle.yspec.specs.linking.Planned as spec;
 
+use crate::modules::ModuleTable;
 use crate::tuples::keys;
 use crate::types::{Types, types_of};
 use std::alloc::{AllocError, Global};
@@ -9,11 +10,13 @@ use ylink::Linked;
 use yplan::Plan;
 use ytype::YType;
 
-/// The types of a plan's nodes, to what leafrefs refer, which leafs are keys, and the statements, linked.
+/// The types of a plan's nodes, to what leafrefs refer, which leafs are keys, what modules are called, and the statements,
+/// linked.
 #[derive(Drop)]
 pub struct Resolved<'l, 't> {
     pub(crate) types: Types<'l, 't>,
     keys: Vec<bool>,
+    pub(crate) modules: ModuleTable<'t>,
     pub(crate) linked: &'l Linked<'t>,
 }
 
@@ -34,14 +37,16 @@ impl<'l, 't> Resolved<'l, 't> {
         requires named { linked_as.IsOf linked.now (view plan.now).modules }
         ensures { IfOk result (λ resolved. IsOf resolved (view plan.now)) }
     {
+        let modules = ModuleTable::of(alloc, linked)?;
         Ok(Resolved {
-            types: types_of(alloc, plan, linked)?,
+            types: types_of(alloc, plan, linked, &modules)?,
             keys: keys(alloc, plan)?,
+            modules,
             linked,
         })
     }
 
-    /// The type of the node of a number; a leafref has its target's, and none where it leads nowhere.
+    /// The type of the node of a number, in its module; a leafref has its target's, and none where it leads nowhere.
     pub fn value_type(&self, number: u32) -> Option<&YType>
         ensures { (plan : spec.Plan) (p : spec.Planned) → IsOf self.now plan
             → slice_get (spec.nodes_of plan) number ≡ Some p

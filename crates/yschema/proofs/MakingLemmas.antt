@@ -7,10 +7,10 @@ use Rattle.std.proofs.lemmas.List.{map-append, at_drop_more, at_drop_all, append
 use Rattle.yspec.specs.Forest.{Forest, node, end, size, relabelled}
 use Rattle.yspec.specs.text.Text.{Text}
 use Rattle.yspec.specs.types.Types.{YangType, Val}
-use Rattle.yspec.specs.types.Values.{value_of_text}
 use Rattle.yspec.specs.schema.Schema.{SchemaNode, LeafType, Status, Kind, case, Absence, key, mandatory}
+use Rattle.yspec.specs.linking.Source.{Stated}
 use Rattle.yspec.specs.linking.Planned as spec
-use Rattle.yspec.specs.linking.SchemaNodes.{schema_node, schema_nodes, kind_by, absent_by, first_value}
+use Rattle.yspec.specs.linking.SchemaNodes.{schema_node, schema_nodes, kind_by, absent_by, first_value, value_stated}
 use Rattle.yspec.proofs.LinkingProofs.LinkedLemmas.{relabelled-size}
 use Rattle.yword.specs.KeywordView.{keyword_view}
 use Rattle.yword.specs.declared.keyword.Keyword.{Keyword}
@@ -37,12 +37,12 @@ use Rattle.ymodel.proofs.LayoutLemmas.{laid_push}
 -- ---- defaults
 
 -- what a type that may not be there makes of texts
-abbrev pub made_by : Option YangType → List Text → List Val
-made_by type texts = filter_map (λ text. option_and_then (λ t. value_of_text t text) type) texts
+abbrev pub made_by : spec.Plan → Option YangType → List Stated → List Val
+made_by plan type texts = filter_map (λ text. option_and_then (λ t. value_stated plan t text) type) texts
 
-pub nothing_made : (texts : List Text) → [] ≡ made_by None texts
-nothing_made [] = refl
-nothing_made (t ∷ ts) = nothing_made ts
+pub nothing_made : (plan : spec.Plan) (texts : List Stated) → [] ≡ made_by plan None texts
+nothing_made plan [] = refl
+nothing_made plan (t ∷ ts) = nothing_made plan ts
 
 -- what it means that a leaf isn't stored, by whether it is a key, whether it is mandatory, and its defaults
 abbrev pub absent_as : Bool → Bool → List Val → Absence
@@ -102,6 +102,8 @@ other_kind plan p words.OrderedBy a b c d e = refl
 other_kind plan p words.Status a b c d e = refl
 other_kind plan p words.Key a b c d e = refl
 other_kind plan p words.Unique a b c d e = refl
+other_kind plan p words.Identity a b c d e = refl
+other_kind plan p words.Base a b c d e = refl
 
 -- a schema node, from what is known of it
 abbrev pub node_by : ℕ → ℕ → Bool → Text → Status → Kind → SchemaNode

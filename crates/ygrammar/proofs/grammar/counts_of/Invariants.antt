@@ -7,7 +7,7 @@ use Rattle.ygrammar.proofs.grammar.counts_of.Given as goal
 
 abbrev pub invariant-loop-statement : goal.invariant-loop-statement
 invariant-loop-statement l = record {
-  long : length l.counts ≡ 46;
+  long : length l.counts ≡ 48;
   counted : (k : Keyword) → count_at l.counts k + occurrences k (row_view (drop l.statement-index l.statements)) ≡ occurrences k (row_view l.statements);
   few : (k : Keyword) → count_at l.counts k ≤ l.statement-index;
 }

@@ -29,3 +29,9 @@ order_of-requires-clause-straight c =
     let meant = c.in_ok-found-2.ensures (c.deref.ensures.value ∙ c.in_ok-holders.ensures)
     (c.deref-2.ensures.value ∙ c.in_ok-meanings.ensures c.in_ok-prefixes.ensures) in
     no_circles (statements.view c.args.sources) (sym (ap seen c.in_default-2.is) ∙ meant)
+
+pub of-requires-2-clause-straight : goal.of-requires-2-clause-straight
+of-requires-2-clause-straight c =
+    let meant = c.in_ok-found-2.ensures (c.deref.ensures.value ∙ c.in_ok-holders.ensures)
+    (c.deref-2.ensures.value ∙ c.in_ok-meanings.ensures c.in_ok-prefixes.ensures) in
+    no_circles (statements.view c.args.sources) (sym (ap seen c.in_default-2.is) ∙ meant)

@@ -1,7 +1,7 @@
 use Rattle.std.proofs.Common.{◌≡◌, ◌≤◌, ◌++◌, List, map}
 use Rattle.yspec.specs.Forest.{Forest, size}
 use Rattle.yspec.specs.linking.Circles.{referring}
-use Rattle.yspec.specs.linking.Keyword.{typedef_word, grouping_word}
+use Rattle.yspec.specs.linking.Keyword.{typedef_word, grouping_word, identity_word}
 use Rattle.yspec.specs.linking.Source.{Source}
 use Rattle.yspec.specs.linking.Scopes.{placed}
 use Rattle.ypreorder.specs.View.{row_by, row_view}
@@ -19,6 +19,7 @@ invariant-loop-statement l = record {
   ends : (goal.iterator-loop-statement).is_finite l.statement-iterator;
   smaller : size (row_view l.statement-iterator) ≤ size (row_view l.fn.statements);
   made : (ancestors : List (Source × Forest Source)) → l.typedef ≡ innermost_of typedef_word ancestors → l.grouping ≡ innermost_of grouping_word ancestors
+      → l.identity ≡ innermost_of identity_word ancestors
       → l.made.items ++ map referring (placed ancestors (row_by source_view l.statement-iterator))
       ≡ l.fn.made.items ++ map referring (placed ancestors (row_by source_view l.fn.statements));
 }

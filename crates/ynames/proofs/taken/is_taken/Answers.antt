@@ -2,7 +2,7 @@ use Rattle.std.proofs.Common.{sym, ap}
 use Rattle.yword.specs.KeywordView.{keyword_view}
 use Rattle.ygrammar.specs.SourceView.{source_view}
 use Rattle.ynames.specs.ScopeView.{placed_at}
-use Rattle.ynames.proofs.ScopeLemmas.{taken_held, taken_built_in, taken_grouping}
+use Rattle.ynames.proofs.ScopeLemmas.{taken_held, taken_built_in, taken_grouping, taken_identity}
 use Rattle.ynames.proofs.taken.is_taken.Goals as goal
 
 pub returns-then-is_held : goal.returns-then-is_held
@@ -22,3 +22,9 @@ returns-in-Grouping c ancestors below around =
     let is = ap keyword_view c.in-Grouping.is in
     taken_grouping (placed_at (source_view c.args.number c.args.statement.now) below ancestors) c.is_held-in-Grouping.result is
     (c.is_held-in-Grouping.ensures ancestors below around (sym is))
+
+pub returns-in-Identity : goal.returns-in-Identity
+returns-in-Identity c ancestors below around =
+    let is = ap keyword_view c.in-Identity.is in
+    taken_identity (placed_at (source_view c.args.number c.args.statement.now) below ancestors) c.is_held-in-Identity.result is
+    (c.is_held-in-Identity.ensures ancestors below around (sym is))

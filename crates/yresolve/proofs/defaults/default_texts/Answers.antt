@@ -1,8 +1,9 @@
-use Rattle.std.proofs.Common.{◌≡◌, eqb, length, map, Some, None, Bor, arith, sym, ap, ◌∙◌}
+use Rattle.std.proofs.Common.{◌≡◌, eqb, length, map, Some, None, arith, sym, ap, ◌∙◌}
 use Rattle.std.specs.Prelude.{◌==◌, option_map, vec_len}
 use Rattle.std.specs.Global.{Vec}
 use Rattle.std.proofs.lemmas.List.{append-nil}
-use Rattle.yspec.specs.text.Text.{Text}
+use Rattle.ygrammar.specs.SourceView.{stated_view}
+use Rattle.ygrammar.specs.declared.source.Stated.{Stated}
 use Rattle.yplan.specs.PlannedView.{planned_view}
 use Rattle.yresolve.proofs.DefaultLemmas.{own_texts, texts_of_type}
 use Rattle.yresolve.proofs.defaults.default_texts.Goals as goal
@@ -19,13 +20,13 @@ returns c = λ plan number named.
     elim c.if-is_empty.branch [
       | then-is_empty+in-Some+in_ok-push w ↦
           texts_of_type plan p own more (Some w.in-Some.text) (sym emptied ∙ w.if-is_empty.true) are
-          (ap (option_map (λ t. t.now)) (sym w.in-Some.is) ∙ w.type_default.ensures plan number named)
-          (ap (λ (v : Vec (Bor Text)). v.items) w.texts-is ∙ w.in_ok-push.ensures.items)
+          (ap (option_map stated_view) (sym w.in-Some.is) ∙ w.type_default.ensures plan number named)
+          (ap (λ (v : Vec Stated). v.items) w.texts-is ∙ w.in_ok-push.ensures.items)
       | then-is_empty+in_default w ↦
           texts_of_type plan p own more None (sym emptied ∙ w.if-is_empty.true) are
-          (ap (option_map (λ t. t.now)) (sym w.in_default.is) ∙ w.type_default.ensures plan number named)
-          (ap (λ (v : Vec (Bor Text)). v.items) w.texts-is ∙ sym (append-nil own))
+          (ap (option_map stated_view) (sym w.in_default.is) ∙ w.type_default.ensures plan number named)
+          (ap (λ (v : Vec Stated). v.items) w.texts-is ∙ sym (append-nil own))
       | else-is_empty w ↦
-          ap (λ (v : Vec (Bor Text)). map (λ t. t.now) v.items) w.texts-is
+          ap (λ (v : Vec Stated). map stated_view v.items) w.texts-is
           ∙ own_texts plan p own (sym emptied ∙ w.if-is_empty.false) are
     ]

@@ -6,6 +6,6 @@ use Rattle.yresolve.specs.Values.{wrong_leaf}
 use Rattle.yresolve.proofs.defaults.is_wrong_leaf.Goals as goal
 
 pub returns-else-is_key : goal.returns-else-is_key
-returns-else-is_key c = λ plan number named.
+returns-else-is_key c = λ plan number of_plan.
     IfOk-weaker c.is_wrong_default.result _ _ (λ wrong so. so ∙ ap₂ (wrong_leaf plan (planned_view number c.args.planned.now)) (sym c.if-is_key.false)
-    (ap (option_map (λ t. t.now)) (sym c.in-Some.is))) (c.is_wrong_default.ensures plan number named)
+    (ap (option_map (λ t. t.now)) (sym c.in-Some.is))) (c.is_wrong_default.ensures plan number of_plan)

@@ -6,6 +6,6 @@ use Rattle.yresolve.specs.Values.{wrong_leaf_list}
 use Rattle.yresolve.proofs.defaults.is_wrong_leaf_list.Goals as goal
 
 pub returns-in-Some : goal.returns-in-Some
-returns-in-Some c = λ plan number named.
+returns-in-Some c = λ plan number of_plan.
     IfOk-weaker c.are_wrong_defaults.result _ _ (λ wrong so. so ∙ ap (wrong_leaf_list plan (planned_view number c.args.planned.now))
-    (ap (option_map (λ t. t.now)) (sym c.in-Some.is))) (c.are_wrong_defaults.ensures plan number named)
+    (ap (option_map (λ t. t.now)) (sym c.in-Some.is))) (c.are_wrong_defaults.ensures plan number of_plan)

@@ -1,7 +1,11 @@
-use Rattle.std.proofs.Common.{◌≡◌, ◌++◌, drop}
-use Rattle.yresolve.specs.TypesView.{meants_view, types_told}
+use Rattle.std.proofs.Common.{◌≡◌, ◌++◌, map}
+use Rattle.yspec.specs.linking.Planned.{nodes_of}
+use Rattle.yplan.specs.NodesView.{left}
+use Rattle.yplan.specs.PlanView.{view}
+use Rattle.yresolve.specs.TypesView.{meants_view, type_at}
 use Rattle.yresolve.proofs.types.all_types.Given as goal
 
-abbrev pub invariant-loop-number : goal.invariant-loop-number
-invariant-loop-number l =
-    l.types.items ++ types_told (meants_view l.meant) l.number (drop l.number l.chains) ≡ types_told (meants_view l.meant) 0 l.chains
+abbrev pub invariant-loop-node : goal.invariant-loop-node
+invariant-loop-node l =
+    let made = type_at l.modules (meants_view l.meant) l.chains in
+    l.types.items ++ map made (left l.node-iterator) ≡ map made (nodes_of (view l.plan))

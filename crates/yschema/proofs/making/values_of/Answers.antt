@@ -8,12 +8,14 @@ use Rattle.yschema.proofs.making.values_of.Goals as goal
 
 pub returns-in-Some : goal.returns-in-Some
 returns-in-Some c =
+    let plan = view c.args.plan.now in
     let p = node_view c.args.node in
-    let type = c.in-Some.ensures (view c.args.plan.now) p c.requires.of_plan c.requires.stands in
-    IfOk-weaker c.default_values.result _ _ (λ values so. so ∙ ap (λ t. made_by t (default_texts (view c.args.plan.now) p)) type) (c.default_values.ensures (view c.args.plan.now) c.args.node.number c.requires.of_plan)
+    let type = c.in-Some.ensures plan p c.requires.of_plan c.requires.stands in
+    IfOk-weaker c.default_values.result _ _ (λ values so. so ∙ ap (λ t. made_by plan t (default_texts plan p)) type) (c.default_values.ensures plan c.args.node.number c.requires.of_plan)
 
 pub returns-in-None : goal.returns-in-None
 returns-in-None c =
+    let plan = view c.args.plan.now in
     let p = node_view c.args.node in
-    let type = c.in-None.ensures (view c.args.plan.now) p c.requires.of_plan c.requires.stands in
-    c.new.ensures.items ∙ (nothing_made (default_texts (view c.args.plan.now) p) ∙ ap (λ t. made_by t (default_texts (view c.args.plan.now) p)) type)
+    let type = c.in-None.ensures plan p c.requires.of_plan c.requires.stands in
+    c.new.ensures.items ∙ (nothing_made plan (default_texts plan p) ∙ ap (λ t. made_by plan t (default_texts plan p)) type)

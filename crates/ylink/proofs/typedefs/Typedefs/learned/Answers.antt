@@ -1,4 +1,4 @@
-use Rattle.std.proofs.Common.{◌≡◌, ◌<◌, ◌≤◌, rules, length, get_or, sym, ap, ap₂, ◌∙◌, arith}
+use Rattle.std.proofs.Common.{◌≡◌, ◌<◌, ◌≤◌, rules, length, get_or, sym, ap, ap₂, subst, ◌∙◌, arith}
 use Rattle.std.specs.Prelude.{◌==◌, option_map, option_and_then, slice_get, if◌then◌else◌}
 use Rattle.std.specs.Option.{option_map_or}
 use mathlib.Core.Path.{fun_ext}
@@ -7,6 +7,8 @@ use Rattle.ypreorder.specs.View.{forest_in, row_by}
 use Rattle.ygrammar.specs.LinkView.{view}
 use Rattle.ygrammar.specs.SourceView.{source_view}
 use Rattle.ynames.proofs.PlacedLemmas.{number_named_at}
+use Rattle.ynames.specs.MeaningView.{meaning_at}
+use Rattle.ylink.specs.IdentityView as identity
 use Rattle.ylink.specs.TypedefView.{known_at, names_in}
 use Rattle.ylink.proofs.OrderLemmas.{learned_next, learned_all, rows_count}
 use Rattle.ylink.proofs.RowLemmas.{row_found}
@@ -17,6 +19,7 @@ loop-number-init c =
     let f = forest_in c.args.sources.now.table in
     record {
       meant = c.requires.meant;
+      rests = record { named = number_named_at f c.args.meanings.items c.requires.meant; identities = c.requires.identities };
       count = c.in_ok-known.ensures ∙ (c.len.ensures ∙ (c.in_ok-rows.rows.ok.0 ∙ rows_count f c.in_ok-rows.rows.items c.in_ok-rows.ensures));
       known = λ j before within. absurd (omega (arith, before));
     }
@@ -40,11 +43,21 @@ loop-number-preserved c =
     let below = c.requires.ordered.within i within in let long = c.loop-number.invariant.count in omega (arith, below, long) in
     record {
       meant = ap (λ v. v.items) c.in_ok-learn.ensures.meanings ∙ c.loop-number.invariant.meant;
+      rests = record {
+        named = λ n. c.loop-number.invariant.rests.named n ∙ sym (ap (λ v. meaning_at v.items n) c.in_ok-learn.ensures.meanings);
+        identities = subst (λ i. identity.IsOf i set) (sym c.in_ok-learn.ensures.identities) c.loop-number.invariant.rests.identities;
+      };
       count = c.in_ok-learn.ensures.count ∙ c.loop-number.invariant.count;
       known = learned_next f nodes c.requires.ordered table (known_at c.learn.new.self.known.items) i c.loop-number.invariant.known within
           (λ e. c.in_ok-learn.ensures.known e inside
           ∙ ap₂ (λ ns r. if e == number then option_map_or (known_in_row set ns) r unknown else table e) names row);
     }
+
+pub learn-requires : goal.learn-requires
+learn-requires c = c.loop-number.invariant.rests
+
+pub returns-clause-rests : goal.returns-clause-rests
+returns-clause-rests c = c.loop-number.invariant.rests
 
 pub returns-clause-meanings : goal.returns-clause-meanings
 returns-clause-meanings c = c.loop-number.invariant.meant

@@ -3,13 +3,14 @@ use Rattle.yspec.specs.Forest.{size}
 use Rattle.ypreorder.specs.View.{forest_in}
 use Rattle.ynames.specs.MeaningView.{AreMeanings}
 use Rattle.ygrammar.specs.LinkView.{view}
-use Rattle.ylink.specs.TypedefView.{known_at}
+use Rattle.ylink.specs.TypedefView.{known_at, RestsOn}
 use Rattle.ylink.proofs.OrderLemmas.{IsLearned}
 use Rattle.ylink.proofs.typedefs.Typedefs.learned.Given as goal
 
 abbrev pub invariant-loop-number : goal.invariant-loop-number
 invariant-loop-number l = record {
   meant : AreMeanings l.typedefs.meanings.items (view l.sources);
+  rests : RestsOn l.typedefs (view l.sources);
   count : length l.typedefs.known.items ≡ size (view l.sources);
   known : IsLearned (forest_in l.sources.table) l.order (known_at l.typedefs.known.items) l.number-index;
 }

@@ -16,3 +16,9 @@ returns-then-is_empty-clause-known c number =
     let none : length nodes ≡ 0 = first_of (search rules, omega arith) in
     ap (λ o. option_map_or table o unknown) (sym (number_named_at f c.args.meanings.items c.requires.meant number))
     ∙ learned_all f nodes c.requires.ordered table (λ j before inside. absurd (omega (arith, inside, none))) number
+
+pub returns-then-is_empty-clause-rests : goal.returns-then-is_empty-clause-rests
+returns-then-is_empty-clause-rests c = record {
+  named = number_named_at (forest_in c.args.sources.now.table) c.args.meanings.items c.requires.meant;
+  identities = c.requires.identities;
+}

@@ -1,0 +1,13 @@
+use Rattle.std.proofs.Common.{◌≡◌}
+use Rattle.ypreorder.specs.View.{row_by}
+use Rattle.ygrammar.specs.LinkView.{view}
+use Rattle.ygrammar.specs.SourceView.{source_view}
+use Rattle.ylink.specs.ModuleView.{module_in}
+use Rattle.ylink.proofs.modules.module_at.Given as goal
+
+abbrev pub invariant-loop-top : goal.invariant-loop-top
+invariant-loop-top l = record {
+  more : (goal.iterator-loop-top).can_next l.top-iterator;
+  ends : (goal.iterator-loop-top).is_finite l.top-iterator;
+  rest : module_in (row_by source_view l.top-iterator) l.left ≡ module_in (view l.sources) l.number;
+}
