@@ -13,16 +13,33 @@ const FRONT: &str = "module t {
   typedef port { type uint16 { range \"1..100\"; } }
   typedef host { type union { type port; type string { length \"1..8\"; } } }
   typedef percent { type uint8 { range \"0..100\" { error-message 'A part of \"100\".'; } } }
+  identity shape; identity odd; identity round { base shape; } identity square { base shape; }
+  identity any;
+  identity a01 { base any; } identity a02 { base any; } identity a03 { base any; } identity a04 { base any; }
+  identity a05 { base any; } identity a06 { base any; } identity a07 { base any; } identity a08 { base any; }
+  identity a09 { base any; } identity a10 { base any; } identity a11 { base any; } identity a12 { base any; }
+  identity a13 { base any; } identity a14 { base any; } identity a15 { base any; } identity a16 { base any; }
+  identity a17 { base any; } identity a18 { base any; } identity a19 { base any; } identity a20 { base any; }
+  identity twenty { base a20; } identity more { base twenty; base a01; }
   leaf target { type int8 { range \"-5..5\"; } }
   leaf v { type ";
 
 const BACK: &str = " }\n}\n";
+
+// A module with other identities.
+const OTHER: &str = "module u {
+  yang-version 1.1; namespace \"urn:u\"; prefix u;
+  import t { prefix of; }
+  identity long { base of:shape; } identity only; identity round { base of:odd; }
+}
+";
 
 // The schema with a leaf of this type.
 fn schema_of(alloc: Global, type_text: &str) -> Option<Schema> {
     let text = [FRONT, type_text, BACK].concat(alloc).ok()?;
     let mut modules = Vec::new(alloc);
     modules.push(parse(alloc, text.as_bytes()).ok()?).ok()?;
+    modules.push(parse(alloc, OTHER.as_bytes()).ok()?).ok()?;
     compile(alloc, &modules).ok()
 }
 
@@ -72,6 +89,24 @@ port { range "20..30" { error-message "The outer one."; } } => 40 => 40 isn't a 
 percent { range "20..30" { error-message "The outer one."; } } => 200 => 200 isn't a value of percent: it takes an integer without quotes in 20..30. Its module says: A part of "100".
 percent { range "20..30"; } => 40 => 40 isn't a value of percent: it takes an integer without quotes in 20..30.
 union { type percent; type empty; } => 200 => 200 isn't a value of union: it takes an integer without quotes in 0..100 or [null].
+identityref { base shape; } => "rund" => "rund" isn't a value of identityref: it takes the name of an identity in quotes, one of "round", "square", "u:long"; near it: "round".
+identityref { base shape; } => "t:sqare" => "t:sqare" isn't a value of identityref: it takes the name of an identity in quotes, one of "round", "square", "u:long".
+identityref { base t:shape; } => "u:lng" => "u:lng" isn't a value of identityref: it takes the name of an identity in quotes, one of "round", "square", "u:long"; near it: "u:long".
+identityref { base shape; } => "triangle" => "triangle" isn't a value of identityref: it takes the name of an identity in quotes, one of "round", "square", "u:long".
+identityref { base shape; } => "" => "" isn't a value of identityref: it takes the name of an identity in quotes, one of "round", "square", "u:long".
+identityref { base shape; } => 5 => 5 isn't a value of identityref: it takes the name of an identity in quotes, one of "round", "square", "u:long".
+identityref { base shape; } => "long" => "long" isn't a value of identityref: it takes the name of an identity in quotes, one of "round", "square", "u:long"; "long" is an identity of u: write "u:long".
+identityref { base shape; } => "of:square" => "of:square" isn't a value of identityref: it takes the name of an identity in quotes, one of "round", "square", "u:long"; "square" is an identity of t: write "t:square".
+identityref { base shape; } => "shape" => "shape" isn't a value of identityref: it takes the name of an identity in quotes, one of "round", "square", "u:long"; it is an identity, but doesn't derive from each base of the type.
+identityref { base shape; } => "t:odd" => "t:odd" isn't a value of identityref: it takes the name of an identity in quotes, one of "round", "square", "u:long"; it is an identity, but doesn't derive from each base of the type.
+identityref { base shape; } => "u:round" => "u:round" isn't a value of identityref: it takes the name of an identity in quotes, one of "round", "square", "u:long"; it is an identity, but doesn't derive from each base of the type.
+identityref { base shape; } => "only" => "only" isn't a value of identityref: it takes the name of an identity in quotes, one of "round", "square", "u:long".
+identityref { base odd; } => "round" => "round" isn't a value of identityref: it takes the name of an identity in quotes, one of "u:round"; it is an identity, but doesn't derive from each base of the type.
+identityref { base shape; base odd; } => "round" => "round" isn't a value of identityref: it takes the name of an identity in quotes, and no identity fits; it is an identity, but doesn't derive from each base of the type.
+identityref { base any; base a01; } => "a" => "a" isn't a value of identityref: it takes the name of an identity in quotes, one of "more".
+identityref { base any; } => "a23" => "a23" isn't a value of identityref: it takes the name of an identity in quotes, one of "a01", "a02", "a03", "a04", "a05", "a06", "a07", "a08", "a09", "a10", "a11", "a12", "a13", "a14", "a15", "a16", "a17", "a18", "a19", "a20" and 2 more; near it: "a03".
+identityref { base any; } => "mroe" => "mroe" isn't a value of identityref: it takes the name of an identity in quotes, one of "a01", "a02", "a03", "a04", "a05", "a06", "a07", "a08", "a09", "a10", "a11", "a12", "a13", "a14", "a15", "a16", "a17", "a18", "a19", "a20" and 2 more; near it: "more".
+union { type uint8; type identityref { base shape; } type identityref { base odd; } } => "rund" => "rund" isn't a value of union: it takes an integer without quotes in 0..255 or the name of an identity in quotes, one of "round", "square", "u:long" or the name of an identity in quotes, one of "u:round"; near it: "round".
 "#;
 
 #[test]

@@ -103,16 +103,18 @@ patern|pattern
 uss|uses
 keys|key
 submodul|submodule
+base|base
+bas|base
+identity|identity
+idendity|identity
 action
 anydata
 anyxml
 argument
-base
 belongs-to
 deviate
 deviation
 feature
-identity
 if-feature
 include
 input
@@ -138,7 +140,11 @@ const MODULE: &str = "module m {
   interface d;
   leaf e { type string; }
   x:y z;
-  type identityref; leef f;
+  type instance-identifier; leef f;
+  leaf g { type identityref; }
+  leaf h { type instance-identifier; }
+  identity i;
+  bases j;
 }
 ";
 
@@ -162,7 +168,11 @@ fn sentences(rt: HostRuntime) {
 8|x:y can't stand here.
 9|no statement is called leef; near it: leaf.
 10|
-11|";
+11|the type instance-identifier is YANG 1.1, and this program doesn't read it.
+12|identity can't stand here.
+13|no statement is called bases; near it: base.
+14|
+15|";
     for row in rows.lines() {
         assert!(rt; is_said(rt.alloc(), row) == Some(true), "{row}");
     }

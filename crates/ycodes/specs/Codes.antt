@@ -50,14 +50,14 @@ of_modules =
     (codes "the import") (codes "Give the module too, or the revision; take the revision-date out where any does.") (codes "RFC 7950, 5.1 and 7.1.5") ∷
     said (codes "C6") (codes "A prefix is given twice, or no import of the module declares it.")
     (codes "the later prefix, or the statement that uses it") (codes "Name each prefix once, and import the module that it stands for.") (codes "RFC 7950, 5.1 and 7.1.4") ∷
-    said (codes "C7") (codes "Two modules, two typedefs or two groupings have one name where both are seen, or a typedef has the name of a built-in type.")
+    said (codes "C7") (codes "Two modules, two typedefs, two groupings or two identities have one name where both are seen, or a typedef has the name of a built-in type.")
     (codes "the later one, or the inner one") (codes "Rename one of them.") (codes "RFC 7950, 5.5 and 6.2.1") ∷
-    said (codes "C8") (codes "A type or a grouping of that name isn't found.")
-    (codes "the type or uses statement") (codes "Define it around the statement or at the top of the module that the prefix names, or correct the name.") (codes "RFC 7950, 5.5") ∷
-    said (codes "C9") (codes "Imports, typedefs or groupings lead back to themselves.")
-    (codes "an import, type or uses statement on the way") (codes "Take one of them out.") (codes "RFC 7950, 5.1, 7.3 and 7.12") ∷
+    said (codes "C8") (codes "A type, a grouping or an identity of that name isn't found.")
+    (codes "the type, uses or base statement") (codes "Define it around the statement or at the top of the module that the prefix names, or correct the name.") (codes "RFC 7950, 5.5 and 7.18.2") ∷
+    said (codes "C9") (codes "Imports, typedefs, groupings or identities lead back to themselves.")
+    (codes "an import, type, uses or base statement on the way") (codes "Take one of them out.") (codes "RFC 7950, 5.1, 7.3, 7.12 and 7.18.2") ∷
     said (codes "C10") (codes "A restriction of a type is wrong or out of place, or what a built-in type needs is missing.")
-    (codes "the type statement") (codes "Stay within the type's own range, in ascending parts; give fraction-digits, enums, bits, a path or member types where the type needs them.") (codes "RFC 7950, 9") ∷
+    (codes "the type statement") (codes "Stay within the type's own range, in ascending parts; give fraction-digits, enums, bits, a path, bases or member types where the type needs them.") (codes "RFC 7950, 9") ∷
     said (codes "C11") (codes "A default isn't taken by the type, may not stand there, or stands twice.")
     (codes "the node") (codes "Give a value of the type; take the default out where the node is mandatory or has min-elements; name a case that the choice has.") (codes "RFC 7950, 7.6.1, 7.7.2 and 7.9.3") ∷
     said (codes "C12") (codes "The key or a unique of a list names no fitting leaf.")
@@ -101,7 +101,7 @@ of_documents =
 abbrev pub of_faults : List Explanation
 of_faults =
     said (codes "V1") (codes "A value isn't one that its type takes.")
-    (codes "the leaf or item") (codes "Look at the type's range, length and names; 64-bit integers and decimal64 are strings.") (codes "RFC 7950, 8.1 and 9; RFC 7951, 6") ∷
+    (codes "the leaf or item") (codes "Look at the type's range, length and names; 64-bit integers and decimal64 are strings, and identities of other modules are module:name.") (codes "RFC 7950, 8.1 and 9; RFC 7951, 6") ∷
     said (codes "V2") (codes "An entry of a list lacks a leaf of its key.")
     (codes "the leaf that is missing") (codes "Add it.") (codes "RFC 7950, 7.8.2") ∷
     said (codes "V3") (codes "A leaf that must be there is missing.")

@@ -1,5 +1,5 @@
 -- The leaf to which a path leads.
-use Rattle.std.proofs.Common.{◌≡◌, ℕ, List, [], ◌∷◌, Option, None, refl}
+use Rattle.std.proofs.Common.{◌≡◌, ℕ, [], ◌∷◌, Option, None, refl}
 use Rattle.yspec.specs.types.Types.{Raw}
 use Rattle.yspec.specs.schema.Schema.{LeafPath}
 use Rattle.yspec.specs.document.Document.{Tree, step_to}

@@ -2,6 +2,8 @@ pub mod Places
 pub mod Values
 pub mod KeyedPath
 pub mod Joining
+pub mod NearWords
+pub mod IdentityWords
 pub mod TakenWords
 pub mod TupleWords
 pub mod Fellows

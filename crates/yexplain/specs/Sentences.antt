@@ -1,8 +1,6 @@
 -- What is said of a fault of a document: a path, and what is there or is missing.
 use Rattle.std.specs.Prelude.{ℕ, ◌++◌, ◌==◌, List, [], ◌∷◌, codes, decimal, map, Option, Some, None, option_and_then, unwrap_or, if◌then◌else◌}
 use Rattle.std.specs.Option.{option_map_or}
-use Rattle.serde_json.specs.Data.{string}
-use Rattle.serde_json.specs.Written.{compact_text}
 use Rattle.yspec.specs.Forest.{Forest, end, node}
 use Rattle.yspec.specs.text.Text.{Text}
 use Rattle.yspec.specs.types.Types.{Raw, text}
@@ -17,6 +15,8 @@ use Rattle.yexplain.specs.Values.{value_text}
 use Rattle.yexplain.specs.KeyedPath.{keyed_path}
 use Rattle.yexplain.specs.Fellows.{fellow_entry, fellow_item, fellow_text}
 use Rattle.yexplain.specs.Cases.{stored_case_names}
+use Rattle.yexplain.specs.NearWords.{near_words}
+use Rattle.yexplain.specs.IdentityWords.{hint_words}
 use Rattle.yexplain.specs.TakenWords.{taken_words}
 use Rattle.yexplain.specs.Messages.{type_at, message_at, message_words}
 use Rattle.yexplain.specs.TupleWords.{keys_at, keys_said, unique_at, leafs_said}
@@ -30,6 +30,10 @@ type_name schema number = option_map_or (λ t. t.name) (type_at schema number) [
 -- what that type takes
 abbrev pub taken_at : Schema → ℕ → Text
 taken_at schema number = option_map_or (λ t. taken_words t.type) (type_at schema number) []
+
+-- what is said behind that of a value which it doesn't take
+abbrev pub hint_at : Schema → ℕ → Option Raw → Text
+hint_at schema number value = option_map_or (λ t. hint_words t.type value) (type_at schema number) (codes ".")
 
 abbrev pub amount_in : Kind → Option Amount
 amount_in (list tuples amount) = Some amount
@@ -70,10 +74,6 @@ nearest_target schema tree (Some target) (Some (text t)) =
     nearest t (texts_on (steps_of (data_way_to schema target)) tree)
 nearest_target schema tree _ _ = None
 
-abbrev pub near_words : Option Text → Text
-near_words None = codes "."
-near_words (Some t) = codes "; near it: " ++ (compact_text (string t) ++ codes ".")
-
 -- ---- where nodes may stand
 
 -- the nodes that may stand at the place to which steps lead
@@ -95,7 +95,7 @@ message_to schema row step = message_at schema step.schema_number (value_to row 
 abbrev pub not_taken : Schema → Tree → Step → Text
 not_taken schema row step = value_text (value_to row step)
     ++ (codes " isn't a value of " ++ (type_name schema step.schema_number
-    ++ (codes ": it takes " ++ (taken_at schema step.schema_number ++ codes "."))))
+    ++ (codes ": it takes " ++ (taken_at schema step.schema_number ++ hint_at schema step.schema_number (value_to row step)))))
 
 -- V1
 abbrev pub wrong_value : Schema → Tree → Step → Text

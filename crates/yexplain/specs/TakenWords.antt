@@ -9,8 +9,9 @@ use Rattle.yspec.specs.types.Names.{Assigned}
 use Rattle.yspec.specs.types.Numerals.{integer_text, decimal_text}
 use Rattle.yspec.specs.types.Ranges.{Part}
 use Rattle.yspec.specs.types.Restriction.{lengths, left_by, members_of}
-use Rattle.yspec.specs.types.Types.{Integer, numbers_of, int64, is_written_as_text, Base, integer_base, decimal_base, string_base, boolean_base, empty_base, enumeration_base, bits_base, SimpleType, YangType}
+use Rattle.yspec.specs.types.Types.{Integer, numbers_of, int64, is_written_as_text, Base, integer_base, decimal_base, string_base, boolean_base, empty_base, enumeration_base, bits_base, identity_base, SimpleType, YangType}
 use Rattle.yexplain.specs.Joining.{joined}
+use Rattle.yexplain.specs.IdentityWords.{names_taken, identity_words}
 
 -- ---- the numbers that restrictions leave
 
@@ -74,6 +75,7 @@ base_words boolean_base type = codes "true or false without quotes"
 base_words empty_base type = codes "[null]"
 base_words (enumeration_base names) type = enum_words names
 base_words (bits_base names) type = bits_words names
+base_words (identity_base home identities numbers) type = identity_words (names_taken (identity_base home identities numbers))
 
 abbrev pub simple_words : SimpleType → Text
 simple_words type = base_words type.base type

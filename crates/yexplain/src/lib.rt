@@ -5,6 +5,7 @@ mod cases;
 mod explanation;
 mod fault;
 mod fellows;
+mod identities;
 mod joining;
 mod laws;
 mod messages;

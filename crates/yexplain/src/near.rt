@@ -7,6 +7,7 @@ ghost use Rattle.ytype.specs.View as held;
 ghost use Rattle.ymodel.specs.Layout.{number_of};
 ghost use Rattle.ymodel.specs.View as schema_view;
 ghost use Rattle.ytree.specs.View as document_view;
+ghost use Rattle.yexplain.specs.NearWords.{near_words};
 ghost use Rattle.yexplain.specs.Sentences as spec;
 
 use crate::target::add_steps_to;
@@ -88,9 +89,10 @@ fn nearest_instance<'a>(
     Ok(nearest(text, &texts))
 }
 
-fn said_of(alloc: Global, near: Option<&str>) -> Result<String, AllocError>
+/// What is said of a text that is near to another one, if any is, at the end of a sentence.
+pub(crate) fn said_of(alloc: Global, near: Option<&str>) -> Result<String, AllocError>
     ensures { IfOk result (λ text. string_bytes text
-        ≡ spec.near_words (option_map (λ t. t.now) near.entry)) }
+        ≡ near_words (option_map (λ t. t.now) near.entry)) }
 {
     match near {
         Some(text) => {
@@ -110,7 +112,7 @@ pub(crate) fn near_words(
     raw: Option<&Raw>,
 ) -> Result<String, AllocError>
     ensures { let s = schema_view.view schema.now in
-        IfOk result (λ text. string_bytes text ≡ spec.near_words (spec.nearest_target s
+        IfOk result (λ text. string_bytes text ≡ near_words (spec.nearest_target s
         (document_view.tree_view tree.now) (number_of target)
         (option_map (λ r. held.raw_of r.now) raw.entry))) }
 {

@@ -14,6 +14,7 @@ ghost use Rattle.yexplain.specs.Sentences as spec;
 
 use crate::cases::stored_case_names;
 use crate::fellows::{fellow_entry, fellow_item, fellow_text};
+use crate::identities::hint_words;
 use crate::messages::{message_at, message_words, type_at};
 use crate::near::near_words;
 use crate::path::module_at;
@@ -48,6 +49,23 @@ fn taken_at(alloc: Global, schema: &Schema, id: SchemaId) -> Result<String, Allo
     match type_at(schema, id) {
         Some(leaf_type) => taken_words(alloc, &leaf_type.value_type),
         None => Ok(String::new(alloc)),
+    }
+}
+
+/// What is said behind that of a value which it doesn't take.
+fn hint_at(
+    alloc: Global,
+    schema: &Schema,
+    id: SchemaId,
+    raw: Option<&Raw>,
+) -> Result<String, AllocError>
+    ensures { IfOk result (λ text. string_bytes text
+        ≡ spec.hint_at (schema_view.view schema.now) id.0
+        (option_map (λ r. held.raw_of r.now) raw.entry)) }
+{
+    match type_at(schema, id) {
+        Some(leaf_type) => hint_words(alloc, &leaf_type.value_type, raw),
+        None => String::from_str(alloc, "."),
     }
 }
 
@@ -160,13 +178,14 @@ fn not_taken(
 {
     let value = value_to(alloc, row, step)?;
     let taken = taken_at(alloc, schema, step.id)?;
+    let hint = hint_at(alloc, schema, step.id, raw_to(row, step))?;
     [
         value.as_str(),
         " isn't a value of ",
         type_name(schema, step.id),
         ": it takes ",
         taken.as_str(),
-        ".",
+        hint.as_str(),
     ]
     .concat(alloc)
 }

@@ -8,6 +8,7 @@ ghost use Rattle.yspec.specs.types.Types.{decimal_base, string_base};
 ghost use Rattle.ytype.specs.View.{base_of, integer_of};
 ghost use Rattle.yexplain.specs.TakenWords as spec;
 
+use crate::identities::taken_identities;
 use crate::joining::joined;
 use crate::values::json_text;
 use itoa::Buffer;
@@ -221,6 +222,7 @@ fn simple_words(alloc: Global, simple: &SimpleType) -> Result<String, AllocError
         Base::Empty => String::from_str(alloc, "[null]"),
         Base::Enumeration(names) => enum_words(alloc, names),
         Base::Bits(names) => bits_words(alloc, names),
+        Base::Identity(identities) => taken_identities(alloc, identities),
     }
 }
 

@@ -6,8 +6,8 @@ use Rattle.yspec.specs.linking.Keyword.{keyword_text, keywords}
 
 -- keywords that are YANG's, and aren't read
 abbrev pub unread_words : List Text
-unread_words = codes "action" ∷ codes "anydata" ∷ codes "anyxml" ∷ codes "argument" ∷ codes "base" ∷ codes "belongs-to"
-    ∷ codes "deviate" ∷ codes "deviation" ∷ codes "feature" ∷ codes "identity" ∷ codes "if-feature" ∷ codes "include"
+unread_words = codes "action" ∷ codes "anydata" ∷ codes "anyxml" ∷ codes "argument" ∷ codes "belongs-to"
+    ∷ codes "deviate" ∷ codes "deviation" ∷ codes "feature" ∷ codes "if-feature" ∷ codes "include"
     ∷ codes "input" ∷ codes "modifier" ∷ codes "must" ∷ codes "notification" ∷ codes "output" ∷ codes "pattern"
     ∷ codes "rpc" ∷ codes "submodule" ∷ codes "when" ∷ codes "yin-element" ∷ []
 

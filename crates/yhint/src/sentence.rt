@@ -80,7 +80,7 @@ fn has_foreign_name(statement: &Stmt) -> bool
 {
     matches!(
         statement.argument(),
-        Some("binary") | Some("identityref") | Some("instance-identifier")
+        Some("binary") | Some("instance-identifier")
     )
 }
 
