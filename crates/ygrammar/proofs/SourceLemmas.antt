@@ -7,6 +7,7 @@ use Rattle.yspec.specs.text.Statement.{Statement}
 use Rattle.yspec.specs.linking.Keyword.{Keyword}
 use Rattle.yspec.specs.linking.Source as spec
 use Rattle.yspec.specs.linking.Source.{first_with, found_with, is_source_of, kept, kept_at, kept_keyword, numbered, sources_from, sources_of}
+use Rattle.yspec.proofs.LinkingProofs.NumberedLemmas.{size-numbered}
 use Rattle.ytext.specs.View.{view, row_view, modules_view}
 use Rattle.ytext.specs.declared.statement.Stmt.{Stmt}
 use Rattle.ytext.specs.declared.statement.Module.{Module}
@@ -34,12 +35,6 @@ pub kept-some : (s : Statement) (below : Forest Statement) (k : Keyword) → kep
     → kept (node s below end) ≡ node (k, s) (kept below) end
 unfolding kept
 kept-some s below k some = ap (λ k. kept_at k s (kept below) end) some
-
-pub size-numbered : (h k : ℕ) (f : Forest (Keyword × Statement)) → size (numbered h k f) ≡ size f
-unfolding numbered
-size-numbered h k end = refl
-size-numbered h k (node (w, s) below after) =
-    ap₂ (λ a b. suc (a + b)) (size-numbered h (k + 1) below) (size-numbered h (k + suc (size below)) after)
 
 pub numbered-join : (h k : ℕ) (f g : Forest (Keyword × Statement)) → numbered h k (join f g) ≡ join (numbered h k f) (numbered h (k + size f) g)
 unfolding numbered

@@ -1,5 +1,5 @@
 -- The type of a planned node is found within as many leafrefs as there are nodes, or in no number of them.
-use Rattle.std.proofs.Common.{◌≡◌, ℕ, zero, suc, ◌+◌, Bool, true, false, cond, List, [], ◌∷◌, length, Option, Some, None, refl, sym, ap, ap₂, ◌∙◌, arith, subst, length-append}
+use Rattle.std.proofs.Common.{◌≡◌, ℕ, zero, suc, ◌+◌, Bool, true, false, cond, List, [], ◌∷◌, length, Option, Some, None, refl, sym, ap, ap₂, ◌∙◌, arith, subst}
 use Rattle.std.specs.Prelude.{◌&&◌, map, option_map, option_and_then, slice_get}
 use Rattle.std.specs.List.{Contains, filter_map}
 use Rattle.std.specs.Option.{option_map_or}
@@ -16,6 +16,7 @@ use Rattle.yspec.specs.linking.Compiling.{plan_of}
 use Rattle.yspec.specs.linking.Planned.{at_top}
 use Rattle.yspec.specs.linking.Augments.{augmented}
 use Rattle.yspec.specs.linking.Prefixes.{node_name}
+use Rattle.yspec.proofs.ForestLemmas.{length-preorder}
 use Rattle.yspec.proofs.LinkingProofs.LinkedLemmas.{planned-size}
 use Rattle.ygraph.specs.Reaching.{HasEdge, Reaches, here, along}
 use Rattle.ygraph.proofs.ReachingLaws.{circle_leads}
@@ -25,11 +26,6 @@ use Rattle.ylaws.proofs.ListLemmas.{edge_from, found_inside, no_more, passing_in
 use Rattle.ylaws.proofs.RankLemmas.{rank_most, settled, IsStraight}
 
 -- ---- numbers
-
-length-preorder : {X : Type 0} (f : Forest X) → length (preorder f) ≡ size f
-length-preorder end = refl
-length-preorder (node l below after) =
-    ap suc (length-append (preorder below) (preorder after) ∙ ap₂ (λ m n. m + n) (length-preorder below) (length-preorder after))
 
 abbrev number_of : Planned → ℕ
 number_of p = p.number

@@ -13,6 +13,7 @@ use Rattle.yspec.specs.linking.Graph.{Edge}
 use Rattle.yspec.specs.linking.Circles.{definition_circles, definition_edge, definition_edges, referring}
 use Rattle.yspec.specs.linking.DerivedTypes.{unknown, named, known_in_row, known_within, typedef_row}
 use Rattle.yspec.proofs.LinkingProofs.KeywordLemmas.{same_is}
+use Rattle.yspec.proofs.LinkingProofs.NumberedLemmas.{size-numbered}
 use Rattle.ygraph.specs.Reaching.{HasEdge}
 use Rattle.ypreorder.proofs.NumberLemmas.{AreFrom, from_append, found_among}
 use Rattle.ynames.proofs.PlacedLemmas.{number_of}
@@ -39,12 +40,6 @@ placed_join ancestors (node s below after) g =
     ap (λ ps. record { source = s; below = below; ancestors = ancestors } ∷ (under ++ ps)) (placed_join ancestors after g)
     ∙ ap (λ ps. record { source = s; below = below; ancestors = ancestors } ∷ ps) (sym (append_assoc under (placed ancestors after) (placed ancestors g)))
 
-size_numbered : (home k : ℕ) (f : Forest (Keyword × Statement)) → size (numbered home k f) ≡ size f
-unfolding numbered
-size_numbered home k end = refl
-size_numbered home k (node (word, s) below after) =
-    ap₂ (λ a b. suc (a + b)) (size_numbered home (k + 1) below) (size_numbered home (k + suc (size below)) after)
-
 numbered_from : (ancestors : List (Source × Forest Source)) (home k : ℕ) (f : Forest (Keyword × Statement))
     → AreFrom number_of k (placed ancestors (numbered home k f))
 unfolding placed numbered
@@ -55,7 +50,7 @@ numbered_from ancestors home k (node (word, s) below after) =
     let under = placed ((source, inner) ∷ ancestors) inner in
     let behind = placed ancestors (numbered home (k + suc (size below)) after) in
     let count = length_placed ((source, inner) ∷ ancestors) inner in
-    let few = size_numbered home (k + 1) below in
+    let few = size-numbered home (k + 1) below in
     let same : k + suc (size below) ≡ (k + 1) + length under = omega (arith, count, few) in (
       refl,
       from_append number_of (k + 1) under behind (numbered_from ((source, inner) ∷ ancestors) home (k + 1) below)
@@ -70,7 +65,7 @@ sources_numbered home k (node s below after) =
     let own = placed [] (numbered home k row) in
     let behind = placed [] (sources_from (home + 1) (k + size row) after) in
     let count = length_placed [] (numbered home k row) in
-    let few = size_numbered home k row in
+    let few = size-numbered home k row in
     let same : k + size row ≡ k + length own = omega (arith, count, few) in
     subst (λ ps. AreFrom number_of k ps) (sym (placed_join [] (numbered home k row) (sources_from (home + 1) (k + size row) after)))
     (from_append number_of k own behind (numbered_from [] home k row)

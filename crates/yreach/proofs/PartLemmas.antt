@@ -9,9 +9,9 @@ use Rattle.yspec.specs.schema.Schema.{Schema, SchemaNode, keys_in, node_at, chil
 use Rattle.yspec.specs.document.Document.{Tree, instances_in}
 use Rattle.yspec.specs.document.Reading.{Named, child, other_form, unknown, named, first_wrong, instance_visits, json_of}
 use Rattle.yspec.specs.edit.Edit.{instance_index}
-use Rattle.yspec.specs.edit.EditText.{Path, Predicate, unsaid, at_position, with_keys, Edit, create, replace, remove}
-use Rattle.yspec.specs.edit.Editing.{EditRefusal, BoundStep, Target, bound_named, bound_steps, is_spelled, are_in_place, bound, the_one, positions_where, fits_keys, instance_meant, row_at, target, target_of, branch_of, is_there, last_meant, applied}
-use Rattle.yreach.specs.Parts.{comes, goes, gives_way, exchange_of, tree_with, tree_within}
+use Rattle.yspec.specs.edit.EditText.{Path, Predicate, unsaid, at_position, with_keys, Edit, create, replace, remove, move_to}
+use Rattle.yspec.specs.edit.Editing.{EditRefusal, BoundStep, Target, bound_named, bound_steps, is_spelled, are_in_place, bound, the_one, positions_where, fits_keys, instance_meant, row_at, target, target_of, bound_to_move, movable, ends_in_many, target_to_move, moved, branch_of, is_there, last_meant, applied}
+use Rattle.yreach.specs.Parts.{comes, goes, gives_way, stays, exchange_of, tree_with, tree_within}
 
 -- ---- the document after an edit
 
@@ -43,6 +43,13 @@ module _ (schema : Schema) (tree : Tree) where
   unfolding applied exchange_of
   removed_by_parts path = bound_both (target_of schema tree false path) _ _ _ (λ t.
       bound_both (last_meant schema t) _ (λ step. Ok (goes t step)) _ (λ step. refl))
+
+  pub moved_by_parts : (path : Path) (position : ℕ)
+      → applied schema tree (move_to path position) ≡ tree_with tree (exchange_of schema tree (move_to path position))
+  unfolding applied exchange_of
+  moved_by_parts path position = bound_both (target_to_move schema tree path position) _ _ _ (λ t.
+      bound_both (last_meant schema t) _ _ _ (λ step. cond_both (ltb (instances_in t.row t.last.schema_node.number) position) _ _
+      (Ok (stays t step position)) _ refl))
 
 -- ---- what refuses an edit
 
@@ -107,6 +114,11 @@ module _ (schema : Schema) where
   other_place : (tree : Tree) (is_create : Bool) (path : Path) → IsOther (target_of schema tree is_create path)
   other_place tree is_create path = other_bound (bound schema is_create path) _ (other_path is_create path) (other_target tree)
 
+  other_to_move : (tree : Tree) (path : Path) (position : ℕ) → IsOther (target_to_move schema tree path position)
+  other_to_move tree path position = other_bound (bound_to_move schema path position) _ (other_cond (position == 0) _ _ refl
+      (other_bound (bound schema false path) movable (other_path false path) (λ steps. other_cond (ends_in_many steps) _ _ tt refl)))
+      (other_target tree)
+
   other_last : (t : Target) → IsOther (last_meant schema t)
   other_last t = other_meant 7 t.row t.last.schema_node t.last.predicate refl
 
@@ -120,6 +132,9 @@ module _ (schema : Schema) where
       (other_branch t.last.schema_node.number text) (λ b. tt)))
   other_edit tree (remove path) = other_bound (target_of schema tree false path) _ (other_place tree false path) (λ t.
       other_bound (last_meant schema t) _ (other_last t) (λ step. tt))
+  other_edit tree (move_to path position) = other_bound (target_to_move schema tree path position) _ (other_to_move tree path position) (λ t.
+      other_bound (last_meant schema t) _ (other_last t) (λ step.
+      other_cond (ltb (instances_in t.row t.last.schema_node.number) position) _ _ refl tt))
 
   pub refused_otherwise : (tree : Tree) (edit : Edit) (refusal : EditRefusal) → exchange_of schema tree edit ≡ Err refusal
       → (refusal.code == 11) ≡ false

@@ -1,13 +1,14 @@
 -- What stands outside the parts of an edit, and what it takes away, are what was there.
-use Rattle.std.proofs.Common.{◌≡◌, ℕ, zero, suc, ◌+◌, Bool, true, false, cond, List, [], ◌∷◌, Ok, refl, sym, ap, ◌∙◌, subst, arith}
+use Rattle.std.proofs.Common.{◌≡◌, ℕ, zero, suc, ◌+◌, Bool, true, false, cond, ltb, List, [], ◌∷◌, Ok, refl, sym, ap, ◌∙◌, subst, arith}
 use Rattle.yspec.specs.Forest as forest
 use Rattle.yspec.specs.Forest.{end, node, weigh, change_nth}
 use Rattle.yspec.specs.schema.Schema.{Schema}
-use Rattle.yspec.specs.document.Document.{Stored, Tree, Step}
+use Rattle.yspec.specs.document.Document.{Stored, Tree, Step, instances_in}
 use Rattle.yspec.specs.edit.Edit.{edit_at, is_of, instance_index}
-use Rattle.yspec.specs.edit.EditText.{Edit, create, replace, remove}
-use Rattle.yspec.specs.edit.Editing.{BoundStep, Target, bound, row_at, instance_meant, target, target_of, is_there, last_meant, branch_of, without}
+use Rattle.yspec.specs.edit.EditText.{Edit, create, replace, remove, move_to}
+use Rattle.yspec.specs.edit.Editing.{refused, BoundStep, Target, bound, row_at, instance_meant, target, target_of, target_to_move, is_there, last_meant, branch_of, without}
 use Rattle.yspec.proofs.EditProofs.AnswerLemmas.{If, if_then, anyway, if_cond}
+use Rattle.yreach.specs.Parts as parts
 use Rattle.yreach.specs.Parts.{Exchange, instance_alone, meant_alone, exchange_of, outside}
 
 -- ---- the row of a target
@@ -111,6 +112,9 @@ module _ (w : Stored → ℕ) where
         anyway IsParted (last_meant schema t) _ (λ step. anyway IsParted (branch_of schema t.last.schema_node.number text) _ (λ b. goes_from t step is)))
     exchange_parted (remove path) = if_then (IsAlong tree) IsParted (target_of schema tree false path) _ (found false path) (λ t is.
         anyway IsParted (last_meant schema t) _ (λ step. goes_from t step is))
+    exchange_parted (move_to path position) = anyway IsParted (target_to_move schema tree path position) _ (λ t.
+        anyway IsParted (last_meant schema t) _ (λ step.
+        if_cond IsParted (ltb (instances_in t.row t.last.schema_node.number) position) (refused 5) (Ok (parts.stays t step position)) tt (stays t)))
 
     pub parts_of_before : (edit : Edit) (x : Exchange) → exchange_of schema tree edit ≡ Ok x
         → weigh w tree ≡ weigh w (outside x tree) + weigh w x.old

@@ -1,12 +1,12 @@
 -- What an edit takes away from a document, and what it puts in.
-use Rattle.std.specs.Prelude.{ℕ, zero, suc, true, false, Result, Ok, if◌then◌else◌}
+use Rattle.std.specs.Prelude.{ℕ, zero, suc, true, false, Result, Ok, if◌then◌else◌, nat_lt}
 use Rattle.yspec.specs.Forest.{end, node}
 use Rattle.yspec.specs.Results.{◌>>=◌}
 use Rattle.yspec.specs.schema.Schema.{Schema}
-use Rattle.yspec.specs.document.Document.{Tree, Step}
+use Rattle.yspec.specs.document.Document.{Tree, Step, instances_in}
 use Rattle.yspec.specs.edit.Edit.{edit_at, is_of, instance_index}
-use Rattle.yspec.specs.edit.EditText.{Edit, create, replace, remove}
-use Rattle.yspec.specs.edit.Editing.{EditRefusal, refused, Target, target_of, is_there, last_meant, Branch, branch_of, with_branch, with_instead, without, within_limit}
+use Rattle.yspec.specs.edit.EditText.{Edit, create, replace, remove, move_to}
+use Rattle.yspec.specs.edit.Editing.{EditRefusal, refused, Target, target_of, target_to_move, is_there, last_meant, Branch, branch_of, with_branch, with_instead, with_moved, without, within_limit}
 
 -- An edit in the row in which it stands: the old part, which it takes away, and the new part, which it puts in, each a row
 -- of one branch or of none; and the row without the old part, and with the new one instead.
@@ -59,6 +59,16 @@ gives_way t step b = record {
   with_new = with_instead step b;
 }
 
+-- nothing is taken away or put in: a node of the row stands elsewhere in it
+abbrev pub stays : Target → Step → ℕ → Exchange
+stays t step position = record {
+  target = t;
+  old = end;
+  new = end;
+  without_old = λ row. row;
+  with_new = with_moved step position;
+}
+
 -- The parts of an edit, or why it is refused. How many nodes a document may have isn't asked: an edit that E11 refuses has
 -- its parts, as if it were accepted.
 unfoldable pub exchange_of : Schema → Tree → Edit → Result Exchange EditRefusal
@@ -68,10 +78,13 @@ exchange_of schema tree (replace path text) = target_of schema tree false path >
     branch_of schema t.last.schema_node.number text >>= (λ b. Ok (gives_way t step b))))
 exchange_of schema tree (remove path) =
     target_of schema tree false path >>= (λ t. last_meant schema t >>= (λ step. Ok (goes t step)))
+exchange_of schema tree (move_to path position) = target_to_move schema tree path position >>= (λ t. last_meant schema t >>= (λ step.
+    if nat_lt (instances_in t.row t.last.schema_node.number) position then refused 5 else Ok (stays t step position)))
 
 -- ---- the trees
 
--- what stands outside the parts, which is the tree before without the old part, and the tree after without the new one
+-- what stands outside the parts, which is the tree before without the old part, and the tree after without the new one; of a
+-- node that is moved the places it doesn't tell
 abbrev pub outside : Exchange → Tree → Tree
 outside x tree = edit_at x.target.above x.without_old tree
 

@@ -6,7 +6,7 @@ ghost use Rattle.yspec.specs.Forest.{weigh};
 ghost use Rattle.yspec.specs.text.Text.{Text};
 ghost use Rattle.yspec.specs.schema.Schema.{Schema};
 ghost use Rattle.yspec.specs.document.Document.{Stored, Tree};
-ghost use Rattle.yspec.specs.edit.EditText.{Edit, Path, create, replace, remove};
+ghost use Rattle.yspec.specs.edit.EditText.{Edit, Path, create, replace, remove, move_to};
 ghost use Rattle.yspec.specs.edit.Editing.{EditRefusal, applied};
 ghost use Rattle.yreach.specs.Parts.{Exchange, exchange_of, outside, tree_with, tree_within};
 ghost use Rattle.yreach.specs.Referring.{Reference, are_distinct, referring};
@@ -23,6 +23,9 @@ pub fn edits_by_parts()
     ensures removed { (schema : Schema) (tree : Tree) (path : Path)
         → applied schema tree (remove path)
         ≡ tree_with tree (exchange_of schema tree (remove path)) }
+    ensures moved { (schema : Schema) (tree : Tree) (path : Path) (position : ℕ)
+        → applied schema tree (move_to path position)
+        ≡ tree_with tree (exchange_of schema tree (move_to path position)) }
 {}
 
 /// Where an edit has no parts, that isn't for the number of nodes.

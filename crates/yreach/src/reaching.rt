@@ -90,3 +90,11 @@ pub fn refused()
     ensures above { reaches_under module_k (codes "{\"k:want\":[3,3,4]}")
         (codes "create /k:slow/rate 3" ∷ codes "replace /k:slow {}" ∷ []) ≡ Some 896 ∷ Some 896 ∷ [] }
 {}
+
+/// A node that is moved is no part: what counts is the schema, and the entries with the tuples of the one nearest above it.
+pub fn moves()
+    ensures items { reaches_under module_h (codes "{\"h:x\":7,\"h:r\":[5,5,7]}")
+        (codes "move /h:r[1] 3" ∷ codes "move /h:r[3] 3" ∷ codes "move /h:r[4] 1" ∷ []) ≡ Some 192 ∷ Some 192 ∷ Some 192 ∷ [] }
+    ensures entries { reaches_under module_e entries (codes "move /e:e[1] 3" ∷ codes "move /e:e[1]/in/f[3] 1" ∷ [])
+        ≡ Some 960 ∷ Some 1248 ∷ [] }
+{}

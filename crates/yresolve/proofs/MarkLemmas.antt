@@ -4,12 +4,12 @@ use Rattle.std.specs.Prelude.{◌==◌, find, option_map, option_and_then, slice
 use Rattle.std.specs.List.{cons_option, filter_map, list_any}
 use Rattle.std.specs.Option.{option_map_or}
 use Rattle.std.proofs.lemmas.Bool.{cases_eq, or_cases, or_left, or_right, and_parts, eqb-true, eq-eqb, ne_eqb}
-use Rattle.std.proofs.lemmas.List.{length-append}
 use Rattle.std.proofs.lemmas.Option.{slice_get-map}
 use Rattle.yspec.specs.Forest.{Forest, end, node, size, preorder}
 use Rattle.yspec.specs.linking.Keyword.{list_word}
 use Rattle.yspec.specs.linking.Planned.{Planned, nodes_of, node_of, child_called, same_number, is_called, is_a}
 use Rattle.yspec.specs.linking.Prefixes.{NodeName}
+use Rattle.yspec.proofs.ForestLemmas.{length-preorder}
 use Rattle.yspec.specs.linking.SchemaNodes.{is_key, is_among, key_names, key_numbers, number_in}
 use Rattle.yplan.specs.PlanView.{view}
 use Rattle.yplan.specs.declared.plan.Plan.{Plan}
@@ -76,11 +76,6 @@ same_by_get [] [] same = refl
 same_by_get [] (y ∷ ys) same = let e : None ≡ Some y = same 0 in absurd cc
 same_by_get (x ∷ xs) [] same = let e : Some x ≡ None = same 0 in absurd cc
 same_by_get (x ∷ xs) (y ∷ ys) same = ap₂ (λ z zs. z ∷ zs) (some_same x y (same 0)) (same_by_get xs ys (λ i. same (suc i)))
-
-length-preorder : {X : Type 0} (f : Forest X) → length (preorder f) ≡ size f
-length-preorder end = refl
-length-preorder (node x below after) =
-    ap suc (length-append (preorder below) (preorder after) ∙ ap₂ (λ m n. m + n) (length-preorder below) (length-preorder after))
 
 none_set : {X : Type 0} (xs : List X) (i : ℕ) → slice_get (replicate (length xs) false) i ≡ option_map (λ x. false) (slice_get xs i)
 none_set [] i = refl

@@ -3,3 +3,4 @@ pub mod SortedEditLemmas
 pub mod LimitLemmas
 pub mod BoundLemmas
 pub mod FittingEditLemmas
+pub mod MoveLemmas

@@ -16,3 +16,4 @@ pub mod RightAugmentedLemmas
 pub mod StepLemmas
 pub mod RefineLemmas
 pub mod GroupingLemmas
+pub mod NumberedLemmas

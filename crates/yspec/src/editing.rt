@@ -8,9 +8,9 @@ ghost use Rattle.yspec.specs.document.FaultCode.{V1, V3};
 ghost use Rattle.yspec.specs.document.Fitting.{IsNumbered, Fits};
 ghost use Rattle.yspec.specs.document.Sorting.{IsSorted};
 ghost use Rattle.yspec.specs.document.Writing.{NamesDiffer, IsDocument};
-ghost use Rattle.yspec.specs.edit.Editing.{after};
-ghost use Rattle.yspec.specs.edit.EditText.{Edit, unsaid, at_position, with_keys, path_of, edit_of, create, replace, remove};
-ghost use Rattle.yspec.specs.edit.Examples.{accepted, at_id, checked_as, checked_lines, edited, module_p, module_text, refused_as, value_refused_as};
+ghost use Rattle.yspec.specs.edit.Editing.{after, applied};
+ghost use Rattle.yspec.specs.edit.EditText.{Edit, Path, unsaid, at_position, with_keys, path_of, edit_of, create, replace, remove, move_to};
+ghost use Rattle.yspec.specs.edit.Examples.{accepted, at_id, checked_as, checked_lines, edited, edited_under, module_p, module_rows, module_text, refused_as, rows_edited, rows_refused, three_rows, value_refused_as};
 ghost use Rattle.yspec.specs.edit.Live.{of_document, of_modules};
 
 /// A document that fits its schema fits it after any edits.
@@ -82,7 +82,17 @@ pub fn texts_of_edits()
     ensures a_value_too_many { edit_of (codes "remove /p:c {}") ≡ None }
     ensures indented { edit_of (codes " remove /p:c") ≡ None }
     ensures tab { edit_of (codes "remove\t/p:c") ≡ None }
-    ensures other_verb { edit_of (codes "move /p:c 1") ≡ None }
+    ensures other_verb { edit_of (codes "merge /p:c 1") ≡ None }
+    ensures position_to_move_to { edit_of (codes "move /p:t[2]  3  ")
+        ≡ Some (move_to (record { name = codes "p:t"; predicate = at_position 2 } ∷ []) 3) }
+    ensures far_position_to_move_to { edit_of (codes "move /p:t[2] 99999999999")
+        ≡ Some (move_to (record { name = codes "p:t"; predicate = at_position 2 } ∷ []) 4294967295) }
+    ensures no_position_to_move_to { edit_of (codes "move /p:t[2] ") ≡ None }
+    ensures position_zero_to_move_to { edit_of (codes "move /p:t[2] 0") ≡ None }
+    ensures leading_zero_to_move_to { edit_of (codes "move /p:t[2] 01") ≡ None }
+    ensures two_positions_to_move_to { edit_of (codes "move /p:t[2] 1 1") ≡ None }
+    ensures sign_to_move_to { edit_of (codes "move /p:t[2] +1") ≡ None }
+    ensures quoted_to_move_to { edit_of (codes "move /p:t[2] \"1\"") ≡ None }
 {}
 
 /// A leaf and a container replaced, and why they can't be.
@@ -132,6 +142,35 @@ pub fn creations_and_removals()
     ensures one_after_the_other { edited (codes "{}") (codes "create /p:c {}"
         ∷ codes "create /p:c/id 7" ∷ codes "remove /p:c" ∷ [])
         ≡ Some (None ∷ None ∷ None ∷ [], codes "{}") }
+{}
+
+/// Entries and items moved up and down, or to where they are, the others in their order; and why they can't be.
+pub fn moves()
+    ensures up { rows_edited (codes "move /p:l[3] 1" ∷ []) ≡ accepted (three_rows (codes "c") (codes "a") (codes "b")) }
+    ensures down { rows_edited (codes "move /p:l[1] 3" ∷ []) ≡ accepted (three_rows (codes "b") (codes "c") (codes "a")) }
+    ensures one_down { rows_edited (codes "move /p:l[1] 2" ∷ []) ≡ accepted (three_rows (codes "b") (codes "a") (codes "c")) }
+    ensures by_key { rows_edited (codes "move /p:l[k='b'] 1" ∷ []) ≡ accepted (three_rows (codes "b") (codes "a") (codes "c")) }
+    ensures where_it_is { rows_edited (codes "move /p:l[2] 2" ∷ []) ≡ accepted (three_rows (codes "a") (codes "b") (codes "c")) }
+    ensures item { edited_under module_rows (codes "{\"p:t\":[\"x\",\"y\",\"x\"]}") (codes "move /p:t[2] 3" ∷ [])
+        ≡ accepted (codes "{\"p:t\":[\"x\",\"x\",\"y\"]}") }
+    ensures within_an_entry { edited_under module_rows (codes "{\"p:l\":[{\"k\":\"a\",\"m\":[1,2]}],\"p:t\":[\"x\"]}")
+        (codes "move /p:l[1]/m[2] 1" ∷ [])
+        ≡ accepted (codes "{\"p:l\":[{\"k\":\"a\",\"m\":[2,1]}],\"p:t\":[\"x\"]}") }
+    ensures past_the_end { rows_edited (codes "move /p:l[k='a'] 4" ∷ []) ≡ rows_refused 5 }
+    ensures from_past_the_end { rows_edited (codes "move /p:l[4] 1" ∷ []) ≡ rows_refused 5 }
+    ensures no_such_key { rows_edited (codes "move /p:l[k='z'] 1" ∷ []) ≡ rows_refused 7 }
+    ensures no_such_key_first { rows_edited (codes "move /p:l[k='z'] 9" ∷ []) ≡ rows_refused 7 }
+    ensures two_such_keys { edited_under module_rows (three_rows (codes "a") (codes "b") (codes "a")) (codes "move /p:l[k='a'] 2" ∷ [])
+        ≡ refused_as 6 (three_rows (codes "a") (codes "b") (codes "a")) }
+    ensures no_predicate { rows_edited (codes "move /p:l 1" ∷ []) ≡ rows_refused 3 }
+    ensures container { rows_edited (codes "move /p:c 1" ∷ []) ≡ rows_refused 3 }
+    ensures leaf { rows_edited (codes "move /p:l[1]/k 1" ∷ []) ≡ rows_refused 3 }
+    ensures leaf_of_no_entry { rows_edited (codes "move /p:l[9]/k 1" ∷ []) ≡ rows_refused 3 }
+    ensures unknown { rows_edited (codes "move /p:zz 1" ∷ []) ≡ rows_refused 2 }
+    ensures absent_list { rows_edited (codes "move /p:t[1] 1" ∷ []) ≡ rows_refused 5 }
+    ensures above_nothing { rows_edited (codes "move /p:l[k='z']/m[1] 1" ∷ []) ≡ rows_refused 4 }
+    ensures position_zero { (schema : Schema) (tree : Tree) (path : Path) → applied schema tree (move_to path 0)
+        ≡ Err (record { code = 1; document_code = None }) }
 {}
 
 /// What comes of edits of a document, and its faults after them; and a document and a module that are refused.

@@ -1,5 +1,5 @@
 -- An accepted edit keeps a document's fit, in its values too.
-use Rattle.std.proofs.Common.{◌≡◌, ℕ, zero, suc, ◌≤◌, Bool, true, false, cond, not, ◌&&◌, eqb, ltb, List, [], ◌∷◌, Option, Some, None, Result, Ok, refl, sym, ap, ◌∙◌, subst, arith}
+use Rattle.std.proofs.Common.{◌≡◌, ℕ, zero, suc, ◌-◌, ◌≤◌, Bool, true, false, cond, not, ◌&&◌, eqb, ltb, List, [], ◌∷◌, Option, Some, None, Result, Ok, refl, sym, ap, ◌∙◌, subst, arith}
 use Rattle.std.proofs.lemmas.Bool.{eqb-true, eqb-false, ltb-true, ltb-false}
 use Rattle.std.specs.Prelude.{unwrap_or}
 use Rattle.std.specs.Option.{option_map_or}
@@ -14,9 +14,9 @@ use Rattle.yspec.specs.document.Reading.{Refusal, first_wrong, instance_visits, 
 use Rattle.yspec.specs.document.Fitting.{IsNumbered, next_after, FitsBy, Fits}
 use Rattle.yspec.specs.document.Writing.{AllDiffer, NamesDiffer, HasForm, IsDocument}
 use Rattle.yspec.specs.edit.Edit.{is_of, instance_index, edit_at}
-use Rattle.yspec.specs.edit.EditText.{Path, Edit, create, replace, remove}
+use Rattle.yspec.specs.edit.EditText.{Path, Edit, create, replace, remove, move_to}
 use Rattle.yspec.specs.Results.{◌>>=◌}
-use Rattle.yspec.specs.edit.Editing.{EditRefusal, refused, value_refused, BoundStep, Target, target, lower, row_at, Branch, fitting_branch, branch_at, branch_of, with_branch, with_instead, without, within_limit, is_there, created, replaced, removed, last_meant, instance_meant, target_of, bound, applied, after}
+use Rattle.yspec.specs.edit.Editing.{EditRefusal, refused, value_refused, BoundStep, Target, target, lower, row_at, Branch, fitting_branch, branch_at, branch_of, with_branch, with_instead, without, within_limit, is_there, created, replaced, removed, moved, with_moved, instance_branch, goes_before, with_branch_behind, last_meant, instance_meant, target_of, bound, bound_to_move, target_to_move, applied, after}
 use Rattle.yspec.proofs.DocumentProofs.FittingLemmas.{first_is_other, none_of_others}
 use Rattle.yspec.proofs.DocumentProofs.SortingLemmas.{child_number, not_before}
 use Rattle.yspec.proofs.DocumentProofs.HeldNodeLemmas.{schema_has_all}
@@ -25,6 +25,7 @@ use Rattle.yspec.proofs.DocumentProofs.FittingReadLemmas.{row_fits, ever_held}
 use Rattle.yspec.proofs.DocumentProofs.ReadWholeLemmas.{instance_held, right_rows}
 use Rattle.yspec.proofs.DocumentProofs.JsonValueLemmas.{AreTexts, json_of_texts}
 use Rattle.yspec.proofs.DocumentProofs.ReadTextLemmas.{HoldsText, members_texts, rows_hold, value_held}
+use Rattle.yspec.proofs.EditProofs.MoveLemmas.{OnSome, either_branch, goes_low, stays_behind, IsMany, EndsInMany, to_move, target_many, if_both}
 use Rattle.yspec.proofs.EditProofs.AnswerLemmas.{If, if_then, if_cond, IsOf, meant_of, edits_keep}
 use Rattle.yspec.proofs.EditProofs.BoundLemmas.{InRow, first, later, Stands, stands_below, is_child, is_at, BoundIn, path_bound}
 
@@ -197,6 +198,69 @@ module _ (Held : SchemaNode → Option Raw → Type 0) where
         (changed_fits (instance_index step) least (λ s below after. after) t
         (λ s below after least e lower rest. sooner f after least (next_after n) (omega (arith, lower, not_before n)) rest) fits)
 
+    -- ---- a node moved, of which there may be several
+
+    module _ (many : is_many n.kind ≡ true) where
+      next_many : next_after n ≡ n.number
+      next_many = ap (λ b. cond b n.number (suc n.number)) many
+
+      instance_fits : (place least : ℕ) (t : Tree) → FitsBy Held f least t → OnSome FitsNode (instance_branch n.number place t)
+      instance_fits place least end fits = tt
+      instance_fits zero least (node s below after) fits =
+          by (eqb s.schema_number n.number) refl (instance_fits zero (next_after fits.0.0) after fits.5)
+        where
+          by : (c : Bool) → eqb s.schema_number n.number ≡ c → OnSome FitsNode (instance_branch n.number zero after)
+              → OnSome FitsNode (cond c (Some (record { label = s; below = below })) (instance_branch n.number zero after))
+          by true same rest = (
+            eqb-true s.schema_number n.number same,
+            subst (λ (x : Found). Held x.0 s.value) (is_instance s fits.0 same fits.1) fits.3,
+            subst (λ (x : Found). FitsBy Held x.1 0 below) (is_instance s fits.0 same fits.1) fits.4,
+          )
+          by false other rest = rest
+      instance_fits (suc place) least (node s below after) fits =
+          either_branch FitsNode (eqb s.schema_number n.number) (instance_branch n.number place after) (instance_branch n.number (suc place) after)
+          (instance_fits place (next_after fits.0.0) after fits.5) (instance_fits (suc place) (next_after fits.0.0) after fits.5)
+
+      no_lower : (s : Stored) (x : Found) → child_in (data_row f) s.schema_number ≡ Some x → s.schema_number ≤ n.number → next_after x.0 ≤ n.number
+      no_lower s x found low = by (eqb s.schema_number n.number) refl
+        where
+          by : (c : Bool) → eqb s.schema_number n.number ≡ c → next_after x.0 ≤ n.number
+          by true same = subst (λ (y : Found). next_after y.0 ≤ n.number) (sym (is_instance s x same found)) (omega (arith, next_many))
+          by false other =
+              let most = next_at_most x.0 in let number = child_number (data_row f) s.schema_number x found in
+              let differ = eqb-false s.schema_number n.number other in omega (arith, most, number, low, differ)
+
+      behind_fits : (b : Branch) (count least : ℕ) (t : Tree) → FitsNode b → least ≤ n.number → FitsBy Held f least t
+          → FitsBy Held f least (with_branch_behind b count t)
+      behind_fits b count least end fitting low fits = branch_first b least end fitting low tt
+      behind_fits b count least (node s below after) fitting low fits =
+          by (goes_before b.label.schema_number count s) refl
+          (λ less. behind_fits b (cond (is_of b.label.schema_number s) (count - 1) count) (next_after fits.0.0) after fitting less fits.5)
+        where
+          more : Tree
+          more = with_branch_behind b (cond (is_of b.label.schema_number s) (count - 1) count) after
+
+          by : (c : Bool) → goes_before b.label.schema_number count s ≡ c
+              → (next_after fits.0.0 ≤ n.number → FitsBy Held f (next_after fits.0.0) more)
+              → FitsBy Held f least (cond c (node b.label b.below (node s below after)) (node s below more))
+          by true here rest =
+              let lower_is = goes_low b.label.schema_number count s here in
+              branch_first b least (node s below after) fitting low
+              (fits.0, fits.1, omega (arith, lower_is, fitting.0, next_many), fits.3, fits.4, fits.5)
+          by false behind rest =
+              let from = stays_behind b.label.schema_number count s behind in
+              (fits.0, fits.1, fits.2, fits.3, fits.4, rest (no_lower s fits.0 fits.1 (omega (arith, from, fitting.0))))
+
+      with_moved_fits : (step : Step) (position : ℕ) (t : Tree) → step.schema_number ≡ n.number → FitsBy Held f 0 t
+          → FitsBy Held f 0 (with_moved step position t)
+      with_moved_fits step position t of fits = by (instance_branch step.schema_number (instance_index step) t)
+          (subst (λ k. OnSome FitsNode (instance_branch k (instance_index step) t)) (sym of) (instance_fits (instance_index step) 0 t fits))
+        where
+          by : (o : Option Branch) → OnSome FitsNode o
+              → FitsBy Held f 0 (option_map_or (λ b. with_branch_behind b (position - 1) (without step t)) o t)
+          by None so = fits
+          by (Some b) so = behind_fits b (position - 1) 0 (without step t) so (omega arith) (without_fits step 0 t of fits)
+
 -- ---- edits
 
 -- `Held` says which values a node may have; `Extra` is what is asked of a row of the schema, besides that it stands in it;
@@ -313,6 +377,21 @@ module _ (s : Schema) (Held : SchemaNode → Option Raw → Type 0) (Extra : For
         (λ step of. at.keeps (without step)
         (without_fits Held at.row t.last.schema_node at.below (is_child s at.row t.last.schema_node at.below at.stands at.there) step 0 t.row of at.fits))
 
+    moved_fits : (position : ℕ) (t : Target) → TargetFits s.nodes tree t → IsMany t → If (FitsBy Held s.nodes 0) (moved s tree position t)
+    moved_fits position t at many =
+        if_then (IsOf t.last.schema_node.number) (FitsBy Held s.nodes 0) (last_meant s t) _ (meant_of s 7 t.row t.last.schema_node t.last.predicate)
+        (λ step of. if_cond (FitsBy Held s.nodes 0) (ltb _ position) (refused 5) (Ok (edit_at t.above (with_moved step position) tree)) tt
+        (at.keeps (with_moved step position)
+        (with_moved_fits Held at.row t.last.schema_node at.below (is_child s at.row t.last.schema_node at.below at.stands at.there) many step position t.row of at.fits)))
+
+    found_to_move : (path : Path) (position : ℕ) → IsNumbered 0 s.nodes → Extra s.nodes → FitsBy Held s.nodes 0 tree
+        → If (λ t. TargetFits s.nodes tree t × IsMany t) (target_to_move s tree path position)
+    found_to_move path position numbered extra fits =
+        if_then (λ bs. BoundIn s.nodes bs × EndsInMany bs) (λ t. TargetFits s.nodes tree t × IsMany t) (bound_to_move s path position) _
+        (to_move (BoundIn s.nodes) s path position (path_bound s false path))
+        (λ bs inner. if_both (TargetFits s.nodes tree) IsMany (target s tree bs)
+        (target_fits s.nodes tree bs sound ((0, numbered), schema_has_all s numbered) extra inner.0 fits) (target_many s tree bs inner.1))
+
     found_target : (is_create : Bool) (path : Path) → IsNumbered 0 s.nodes → Extra s.nodes → FitsBy Held s.nodes 0 tree
         → If (TargetFits s.nodes tree) (target_of s tree is_create path)
     found_target is_create path numbered extra fits =
@@ -327,6 +406,9 @@ module _ (s : Schema) (Held : SchemaNode → Option Raw → Type 0) (Extra : For
         if_then (TargetFits s.nodes tree) (FitsBy Held s.nodes 0) (target_of s tree false path) _ (found_target false path numbered extra fits) (replaced_fits text)
     applied_fits (remove path) numbered extra fits =
         if_then (TargetFits s.nodes tree) (FitsBy Held s.nodes 0) (target_of s tree false path) _ (found_target false path numbered extra fits) removed_fits
+    applied_fits (move_to path position) numbered extra fits =
+        if_then (λ t. TargetFits s.nodes tree t × IsMany t) (FitsBy Held s.nodes 0) (target_to_move s tree path position) _
+        (found_to_move path position numbered extra fits) (λ t so. moved_fits position t so.0 so.1)
 
 -- ---- the laws
 

@@ -6,9 +6,10 @@ use Rattle.yspec.specs.text.Text.{Text}
 use Rattle.yspec.specs.schema.Schema.{Schema}
 use Rattle.yspec.specs.document.Document.{Stored, Tree, Step, document_limit}
 use Rattle.yspec.specs.edit.Edit.{edit_at, is_of, instance_index}
-use Rattle.yspec.specs.edit.EditText.{Edit, create, replace, remove}
-use Rattle.yspec.specs.edit.Editing.{refused, Target, branch_of, with_branch, with_instead, without, within_limit, is_there, created, replaced, removed, last_meant, target_of, applied, after}
+use Rattle.yspec.specs.edit.EditText.{Edit, create, replace, remove, move_to}
+use Rattle.yspec.specs.edit.Editing.{refused, Target, branch_of, with_branch, with_instead, without, within_limit, is_there, created, replaced, removed, moved, with_moved, last_meant, target_of, target_to_move, applied, after}
 use Rattle.yspec.proofs.EditProofs.AnswerLemmas.{If, anyway, if_cond, edits_keep}
+use Rattle.yspec.proofs.EditProofs.MoveLemmas.{moved_size}
 
 abbrev IsWithin : Tree → Type 0
 IsWithin t = size t ≤ document_limit
@@ -60,11 +61,17 @@ module _ (schema : Schema) (tree : Tree) (within : IsWithin tree) where
       shrunk (is_of step.schema_number) (instance_index step) (λ s below after. after) u (λ s below after. omega arith)) in
       omega (arith, less, within))
 
+  moved_within : (position : ℕ) (t : Target) → If IsWithin (moved schema tree position t)
+  moved_within position t = anyway IsWithin (last_meant schema t) _ (λ step.
+      let less = shrunk_at t.above (with_moved step position) tree (λ u. let same = moved_size step position u in omega (arith, same)) in
+      if_cond IsWithin (ltb _ position) (refused 5) (Ok (edit_at t.above (with_moved step position) tree)) tt (omega (arith, less, within)))
+
   applied_within : (e : Edit) → If IsWithin (applied schema tree e)
   unfolding applied
   applied_within (create path text) = anyway IsWithin (target_of schema tree true path) _ (created_within text)
   applied_within (replace path text) = anyway IsWithin (target_of schema tree false path) _ (replaced_within text)
   applied_within (remove path) = anyway IsWithin (target_of schema tree false path) _ removed_within
+  applied_within (move_to path position) = anyway IsWithin (target_to_move schema tree path position) _ (moved_within position)
 
 pub edit_within : (schema : Schema) (tree : Tree) (e : Edit) → IsWithin tree → If IsWithin (applied schema tree e)
 edit_within schema tree e within = applied_within schema tree within e

@@ -1,5 +1,5 @@
 -- Edits keep rows in order, and documents within the limit.
-use Rattle.std.proofs.Common.{◌≡◌, ℕ, zero, suc, ◌+◌, ◌≤◌, Bool, true, false, cond, eqb, ltb, List, [], ◌∷◌, Option, Some, None, Ok, refl, arith}
+use Rattle.std.proofs.Common.{◌≡◌, ℕ, zero, suc, ◌+◌, ◌-◌, ◌≤◌, Bool, true, false, cond, eqb, ltb, List, [], ◌∷◌, Option, Some, None, Ok, refl, arith}
 use Rattle.std.proofs.lemmas.Bool.{eqb-true, ltb-true, ltb-false}
 use Rattle.std.specs.Prelude.{unwrap_or}
 use Rattle.std.specs.Option.{option_map_or}
@@ -12,11 +12,12 @@ use Rattle.yspec.specs.document.Reading.{Refusal, members_of, json_of, first_wro
 use Rattle.yspec.specs.document.Sorting.{StartsAt, IsSorted}
 use Rattle.yspec.specs.document.Fitting.{IsNumbered}
 use Rattle.yspec.specs.edit.Edit.{is_of, instance_index, edit_at}
-use Rattle.yspec.specs.edit.EditText.{Edit, create, replace, remove}
-use Rattle.yspec.specs.edit.Editing.{EditRefusal, refused, value_refused, Target, Branch, branch, fitting_branch, branch_at, branch_of, with_branch, with_instead, without, within_limit, is_there, created, replaced, removed, last_meant, target_of, applied, after}
+use Rattle.yspec.specs.edit.EditText.{Edit, create, replace, remove, move_to}
+use Rattle.yspec.specs.edit.Editing.{EditRefusal, refused, value_refused, Target, Branch, branch, fitting_branch, branch_at, branch_of, with_branch, with_instead, without, within_limit, is_there, created, replaced, removed, moved, with_moved, instance_branch, goes_before, with_branch_behind, last_meant, target_of, target_to_move, applied, after}
 use Rattle.yspec.proofs.SchemaProofs.NumberLemmas.{number_at}
 use Rattle.yspec.proofs.DocumentProofs.SortingLemmas.{fits_sorted}
 use Rattle.yspec.proofs.DocumentProofs.FittingReadLemmas.{row_fits, ever_held}
+use Rattle.yspec.proofs.EditProofs.MoveLemmas.{OnSome, either_branch, goes_low, stays_behind}
 use Rattle.yspec.proofs.EditProofs.AnswerLemmas.{If, if_then, anyway, if_cond, IsOf, meant_of, edits_keep}
 
 starts_lower : (t : Tree) (k m : ℕ) → StartsAt k t → m ≤ k → StartsAt m t
@@ -123,6 +124,48 @@ changed_in_order number (suc place) change (node s below after) fills sorted = e
     (past s below after (change_nth (is_of number) place change after) sorted (changed_in_order number place change after fills sorted.2))
     (past s below after (change_nth (is_of number) (suc place) change after) sorted (changed_in_order number (suc place) change after fills sorted.2))
 
+-- ---- a node moved
+
+instance_in_order : (number place : ℕ) (t : Tree) → IsSorted t → OnSome (IsBranch number) (instance_branch number place t)
+instance_in_order number place end sorted = tt
+instance_in_order number zero (node s below after) sorted = by (eqb s.schema_number number) refl (instance_in_order number zero after sorted.2)
+  where
+    by : (c : Bool) → eqb s.schema_number number ≡ c → OnSome (IsBranch number) (instance_branch number zero after)
+        → OnSome (IsBranch number) (cond c (Some (record { label = s; below = below })) (instance_branch number zero after))
+    by true e rest = (eqb-true s.schema_number number e, sorted.1)
+    by false e rest = rest
+instance_in_order number (suc place) (node s below after) sorted =
+    either_branch (IsBranch number) (eqb s.schema_number number) (instance_branch number place after) (instance_branch number (suc place) after)
+    (instance_in_order number place after sorted.2) (instance_in_order number (suc place) after sorted.2)
+
+put_behind : (b : Branch) (count : ℕ) (s : Stored) (below after more : Tree) (c : Bool) → goes_before b.label.schema_number count s ≡ c → IsSorted b.below → IsSorted (node s below after)
+    → (IsSorted more × ((k : ℕ) → k ≤ b.label.schema_number → StartsAt k after → StartsAt k more))
+    → IsSorted (cond c (node b.label b.below (node s below after)) (node s below more))
+    × ((k : ℕ) → k ≤ b.label.schema_number → k ≤ s.schema_number → StartsAt k (cond c (node b.label b.below (node s below after)) (node s below more)))
+put_behind b count s below after more true e inner sorted rest = ((goes_low b.label.schema_number count s e, inner, sorted), λ k lower starts. lower)
+put_behind b count s below after more false e inner sorted rest =
+    ((rest.1 s.schema_number (stays_behind b.label.schema_number count s e) sorted.0, sorted.1, rest.0), λ k lower starts. starts)
+
+behind_in_order : (b : Branch) (count : ℕ) (t : Tree) → IsSorted b.below → IsSorted t
+    → IsSorted (with_branch_behind b count t) × ((k : ℕ) → k ≤ b.label.schema_number → StartsAt k t → StartsAt k (with_branch_behind b count t))
+behind_in_order b count end inner sorted = ((tt, inner, tt), λ k lower starts. lower)
+behind_in_order b count (node s below after) inner sorted =
+    put_behind b count s below after _ (goes_before b.label.schema_number count s) refl inner sorted
+    (behind_in_order b (cond (is_of b.label.schema_number s) (count - 1) count) after inner sorted.2)
+
+without_in_order : (step : Step) (u : Tree) → IsSorted u → IsSorted (without step u)
+without_in_order step u sorted = (changed_in_order step.schema_number (instance_index step) (λ s below after. after) u
+    (λ s below after e old. (old.2, starts_lower after s.schema_number step.schema_number old.0 (omega (arith, e)))) sorted).0
+
+moved_row_in_order : (step : Step) (position : ℕ) (u : Tree) → IsSorted u → IsSorted (with_moved step position u)
+moved_row_in_order step position u sorted =
+    by (instance_branch step.schema_number (instance_index step) u) (instance_in_order step.schema_number (instance_index step) u sorted)
+  where
+    by : (o : Option Branch) → OnSome (IsBranch step.schema_number) o
+        → IsSorted (option_map_or (λ b. with_branch_behind b (position - 1) (without step u)) o u)
+    by None so = sorted
+    by (Some b) so = (behind_in_order b (position - 1) (without step u) so.1 (without_in_order step u sorted)).0
+
 -- ---- changes of a tree
 
 abbrev Sorts : (Tree → Tree) → Type 0
@@ -161,11 +204,17 @@ module _ (schema : Schema) (numbered : IsNumbered 0 schema.nodes) (tree : Tree) 
       (changed_in_order step.schema_number (instance_index step) (λ s below after. after) u
       (λ s below after e old. (old.2, starts_lower after s.schema_number step.schema_number old.0 (omega (arith, e)))) u_sorted).0) tree sorted)
 
+  moved_in_order : (position : ℕ) (t : Target) → If IsSorted (moved schema tree position t)
+  moved_in_order position t = anyway IsSorted (last_meant schema t) _ (λ step.
+      if_cond IsSorted (ltb _ position) (refused 5) (Ok (edit_at t.above (with_moved step position) tree)) tt
+      (edit_at_in_order t.above (with_moved step position) (moved_row_in_order step position) tree sorted))
+
   applied_in_order : (e : Edit) → If IsSorted (applied schema tree e)
   unfolding applied
   applied_in_order (create path text) = anyway IsSorted (target_of schema tree true path) _ (created_in_order text)
   applied_in_order (replace path text) = anyway IsSorted (target_of schema tree false path) _ (replaced_in_order text)
   applied_in_order (remove path) = anyway IsSorted (target_of schema tree false path) _ removed_in_order
+  applied_in_order (move_to path position) = anyway IsSorted (target_to_move schema tree path position) _ (moved_in_order position)
 
 pub edits_in_order : (schema : Schema) (tree : Tree) (edits : List Edit) → IsNumbered 0 schema.nodes → IsSorted tree → IsSorted (after schema tree edits)
 edits_in_order schema tree edits numbered sorted =

@@ -30,6 +30,8 @@ pub data Edit : Type 0 where
   create : Path → Text → Edit
   replace : Path → Text → Edit
   remove : Path → Edit
+  -- to a position among the entries or items of its list
+  move_to : Path → ℕ → Edit
 
 -- ---- cutting texts
 
@@ -163,11 +165,16 @@ has_line_feed t = is_some (position (λ x. x == line_feed) t)
 abbrev pub operands : Text → Text × Text
 operands t = option_map_or (λ o. (o.0, after_spaces o.1)) (cut_at space None (after_spaces t)) (after_spaces t, [])
 
--- what a verb does at a path, with a value or without
+-- a position, behind which only spaces stand
+abbrev pub position_alone : Text → Option ℕ
+position_alone t = position_before (operands t)
+
+-- what a verb does at a path, with a value or a position or without
 abbrev pub done_by : Text → Text → Path → Option Edit
 done_by verb [] path = if is_text verb (codes "remove") then Some (remove path) else None
 done_by verb (x ∷ xs) path = if is_text verb (codes "create") then Some (create path (x ∷ xs))
-    else (if is_text verb (codes "replace") then Some (replace path (x ∷ xs)) else None)
+    else (if is_text verb (codes "replace") then Some (replace path (x ∷ xs))
+    else (if is_text verb (codes "move") then option_map (move_to path) (position_alone (x ∷ xs)) else None))
 
 abbrev pub edit_with : Text × Text → Option Edit
 edit_with (verb, rest) = let o = operands rest in option_and_then (done_by verb o.1) (path_of o.0)

@@ -1,5 +1,5 @@
 -- What an edit does to a document, or why it is refused.
-use Rattle.std.specs.Prelude.{⊤, ℕ, zero, suc, ◌+◌, ◌==◌, ◌++◌, ◌&&◌, not, Bool, true, false, List, [], ◌∷◌, length, find, Option, Some, None, option_map, option_and_then, Result, Ok, Err, if◌then◌else◌, nat_lt}
+use Rattle.std.specs.Prelude.{⊤, ℕ, zero, suc, ◌+◌, ◌-◌, ◌==◌, ◌||◌, ◌++◌, ◌&&◌, not, Bool, true, false, List, [], ◌∷◌, length, find, Option, Some, None, option_map, option_and_then, Result, Ok, Err, if◌then◌else◌, nat_lt}
 use Rattle.std.specs.List.{list_all, list_any}
 use Rattle.std.specs.Option.{option_map_or}
 use Rattle.serde_json.specs.Data.{Data}
@@ -12,7 +12,7 @@ use Rattle.yspec.specs.document.Document.{Stored, Tree, Step, step_to, step_at, 
 use Rattle.yspec.specs.document.Reading.{Named, child, other_form, unknown, named, instance_visits, first_wrong, json_of, stored_node, stored_rows, members_of}
 use Rattle.yspec.specs.document.Instances.{value_of}
 use Rattle.yspec.specs.edit.Edit.{edit_at, is_of, instance_index}
-use Rattle.yspec.specs.edit.EditText.{Key, Predicate, unsaid, at_position, with_keys, Path, Edit, create, replace, remove, path_of, asked_by}
+use Rattle.yspec.specs.edit.EditText.{Key, Predicate, unsaid, at_position, with_keys, Path, Edit, create, replace, remove, move_to, path_of, asked_by}
 
 -- why an edit is refused: the number behind the `E`, and of a value that doesn't fit the one behind the `J`
 pub record EditRefusal : Type 0 where
@@ -106,6 +106,19 @@ is_spelled (s ∷ steps) = not (has_zero (s ∷ steps))
 abbrev pub bound : Schema → Bool → Path → Result (List BoundStep) EditRefusal
 bound schema is_create path = if is_spelled path
     then bound_steps schema None schema.nodes path >>= in_place schema is_create else refused 1
+
+-- E3: only an entry or an item is moved
+abbrev pub ends_in_many : List BoundStep → Bool
+ends_in_many [] = false
+ends_in_many (b ∷ []) = is_many b.schema_node.kind
+ends_in_many (b ∷ c ∷ bs) = ends_in_many (c ∷ bs)
+
+abbrev pub movable : List BoundStep → Result (List BoundStep) EditRefusal
+movable steps = if ends_in_many steps then Ok steps else refused 3
+
+-- and no text spells the position 0
+abbrev pub bound_to_move : Schema → Path → ℕ → Result (List BoundStep) EditRefusal
+bound_to_move schema path position = if position == 0 then refused 1 else bound schema false path >>= movable
 
 -- ---- which stored node a step means
 
@@ -212,6 +225,34 @@ with_instead step b row =
 abbrev pub without : Step → Tree → Tree
 without step row = change_nth (is_of step.schema_number) (instance_index step) (λ s below after. after) row
 
+-- the instance of a schema node that has an index among those of that node, from 0
+abbrev pub instance_branch : ℕ → ℕ → Tree → Option Branch
+instance_branch number place end = None
+instance_branch number zero (node s below after) =
+    if is_of number s then Some (record { label = s; below = below }) else instance_branch number zero after
+instance_branch number (suc place) (node s below after) =
+    if is_of number s then instance_branch number place after else instance_branch number (suc place) after
+
+-- whether a branch of a number, with so many more of that number to stand before it, goes in front of a node
+abbrev pub goes_before : ℕ → ℕ → Stored → Bool
+goes_before number count s = nat_lt number s.schema_number || (is_of number s && count == 0)
+
+-- with a branch that has so many of its number before it, or all of them
+abbrev pub with_branch_behind : Branch → ℕ → Tree → Tree
+with_branch_behind b count end = node b.label b.below end
+with_branch_behind b count (node s below after) = if goes_before b.label.schema_number count s
+    then node b.label b.below (node s below after)
+    else node s below (with_branch_behind b (if is_of b.label.schema_number s then count - 1 else count) after)
+
+abbrev pub moved_branch : Step → ℕ → Tree → Branch → Tree
+moved_branch step position row b = with_branch_behind b (position - 1) (without step row)
+
+-- with the node that a step means taken out, and put in so that it has a position among those of its number; the others keep
+-- their order
+abbrev pub with_moved : Step → ℕ → Tree → Tree
+with_moved step position row =
+    option_map_or (moved_branch step position row) (instance_branch step.schema_number (instance_index step) row) row
+
 -- ---- edits
 
 -- E11
@@ -237,6 +278,15 @@ replaced schema tree text t = last_meant schema t >>= (λ step. branch_of schema
 abbrev pub removed : Schema → Tree → Target → Result Tree EditRefusal
 removed schema tree t = last_meant schema t >>= (λ step. Ok (edit_at t.above (without step) tree))
 
+-- E5: there are no so many
+abbrev pub moved : Schema → Tree → ℕ → Target → Result Tree EditRefusal
+moved schema tree position t = last_meant schema t >>= (λ step.
+    if nat_lt (instances_in t.row t.last.schema_node.number) position then refused 5
+    else Ok (edit_at t.above (with_moved step position) tree))
+
+abbrev pub target_to_move : Schema → Tree → Path → ℕ → Result Target EditRefusal
+target_to_move schema tree path position = bound_to_move schema path position >>= target schema tree
+
 abbrev pub target_of : Schema → Tree → Bool → Path → Result Target EditRefusal
 target_of schema tree is_create path = bound schema is_create path >>= target schema tree
 
@@ -246,6 +296,7 @@ unfoldable pub applied : Schema → Tree → Edit → Result Tree EditRefusal
 applied schema tree (create path text) = target_of schema tree true path >>= created schema tree text
 applied schema tree (replace path text) = target_of schema tree false path >>= replaced schema tree text
 applied schema tree (remove path) = target_of schema tree false path >>= removed schema tree
+applied schema tree (move_to path position) = target_to_move schema tree path position >>= moved schema tree position
 
 -- ---- lists of edits
 

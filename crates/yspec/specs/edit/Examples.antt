@@ -69,3 +69,20 @@ checked_as decisions faults = Some (Ok (record { decisions = decisions; faults =
 -- a fault of module p's number
 abbrev pub at_id : FaultCode → Fault
 at_id code = plain_fault code (step_to 0 ∷ step_to 1 ∷ [])
+
+-- ---- a module of a list with a key and numbers, a leaf-list and a container, and edits of three of its entries
+
+abbrev pub module_rows : Text
+module_rows = module_text (codes "p") (codes "  list l {\n    key k;\n    leaf k { type string; }\n    leaf-list m { type uint8; }\n  }\n  leaf-list t { type string; }\n  container c { }\n")
+
+abbrev one_row : Text → Text
+one_row k = codes "{\"k\":\"" ++ (k ++ codes "\"}")
+
+abbrev pub three_rows : Text → Text → Text → Text
+three_rows a b c = codes "{\"p:l\":[" ++ (one_row a ++ (codes "," ++ (one_row b ++ (codes "," ++ (one_row c ++ codes "]}")))))
+
+abbrev pub rows_edited : List Text → Edited
+rows_edited lines = edited_under module_rows (three_rows (codes "a") (codes "b") (codes "c")) lines
+
+abbrev pub rows_refused : ℕ → Edited
+rows_refused code = refused_as code (three_rows (codes "a") (codes "b") (codes "c"))

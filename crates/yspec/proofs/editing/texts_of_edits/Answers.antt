@@ -14,4 +14,12 @@ returns c = record {
   indented = refl;
   tab = refl;
   other_verb = refl;
+  position_to_move_to = refl;
+  far_position_to_move_to = refl;
+  no_position_to_move_to = refl;
+  position_zero_to_move_to = refl;
+  leading_zero_to_move_to = refl;
+  two_positions_to_move_to = refl;
+  sign_to_move_to = refl;
+  quoted_to_move_to = refl;
 }
