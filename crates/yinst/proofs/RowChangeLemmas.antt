@@ -1,15 +1,15 @@
 -- A change of a row is made behind the nodes before its place.
-use Rattle.std.proofs.Common.{◌≡◌, ℕ, zero, suc, ◌+◌, ◌==◌, ◌<◌, Bool, true, false, cond, List, [], ◌∷◌, ◌++◌, length, take, drop, slice_index_or, Result, Ok, Err, IfOk, refl, sym, ap, ap₂, ◌∙◌, arith}
-use Rattle.std.specs.Prelude.{nat_lt}
+use Rattle.std.proofs.Common.{◌≡◌, ℕ, zero, suc, ◌+◌, ◌-◌, ◌==◌, ◌<◌, Bool, true, false, cond, List, [], ◌∷◌, ◌++◌, length, take, drop, slice_index_or, Result, Ok, Err, IfOk, refl, sym, ap, ap₂, ◌∙◌, arith}
+use Rattle.std.specs.Prelude.{nat_lt, insert}
 use Rattle.std.proofs.lemmas.List.{at_drop_more}
 use Rattle.yspec.specs.Forest.{end, node, join, size, change_nth}
 use Rattle.yspec.specs.document.Document as document
 use Rattle.yspec.specs.document.Document.{Tree}
 use Rattle.yspec.specs.edit.Edit.{is_of, change_below}
-use Rattle.yspec.specs.edit.Editing.{Branch, with_branch}
+use Rattle.yspec.specs.edit.Editing.{Branch, with_branch, goes_before, with_branch_behind}
 use Rattle.ytree.specs.View.{Labelled, view, row_view}
 use Rattle.ytree.specs.Walk.{before_first, from_first}
-use Rattle.yinst.specs.Rows.{number_of, is_behind, nth_index, change_first, behind_first, branch_view}
+use Rattle.yinst.specs.Rows.{number_of, is_behind, nth_index, index_among, change_first, behind_first, branch_view}
 use Rattle.ytree.specs.declared.tree.Stored.{Stored}
 use Rattle.yspec.proofs.ForestLemmas.{join_end}
 use Rattle.ytree.proofs.RowLemmas.{join_last}
@@ -121,3 +121,18 @@ node_taken n k row before from nodes after before_is from_is nodes_are after_is 
     same : (t : Tree) → behind_first t ≡ change_first (λ l below later. later) t
     same end = refl
     same (node l below later) = refl
+
+-- ---- nodes that are moved
+
+-- a node that is put in at the index behind so many of its schema node
+pub put_among : (x : Stored) (k : ℕ) (xs : List Stored)
+    → row_view (insert xs (index_among (number_of x) k xs) x) ≡ with_branch_behind (branch_view x) k (row_view xs)
+put_among x k [] = refl
+put_among x k (y ∷ ys) = by (goes_before (number_of x) k (view y).0) (cond (number_of y == number_of x) (k - 1) k) (λ left. put_among x left ys)
+  where
+    by : (b : Bool) (left : ℕ) → ((k : ℕ) → row_view (insert ys (index_among (number_of x) k ys) x) ≡ with_branch_behind (branch_view x) k (row_view ys))
+        → row_view (insert (y ∷ ys) (cond b 0 (1 + index_among (number_of x) left ys)) x)
+        ≡ cond b (node (view x).0 (view x).1 (row_view (y ∷ ys))) (node (view y).0 (view y).1 (with_branch_behind (branch_view x) left (row_view ys)))
+    by true left h = refl
+    by false left h = let next : 1 + index_among (number_of x) left ys ≡ suc (index_among (number_of x) left ys) = omega arith in
+        ap (λ m. row_view (insert (y ∷ ys) m x)) next ∙ ap (node (view y).0 (view y).1) (h left)

@@ -21,11 +21,11 @@ use crate::locating::{Located, Spot, count_of, instance_meant, locate};
 use crate::rows::{Change, changed_row, is_over};
 use std::alloc::{AllocError, Global};
 use ymodel::{Schema, SchemaId};
-use ypath::{Edit, EditCode, EditFault, Path, bind_path, refused};
+use ypath::{Edit, EditCode, EditFault, Path, bind_path, bind_to_move, refused};
 use ytree::{DOCUMENT_LIMIT, Stored, Tree};
 
-/// The document after an edit, or the first refusal: of the path's steps E1, of its names E2 and its predicates E3, of
-/// where it stands E4 to E8, of its value E9 and E10, and E11. The document that is given stays as it is.
+/// The document after an edit, or the first refusal: of the path's steps and the position to move to E1, of the path's
+/// names E2 and its predicates E3, of where it stands E4 to E8, of its value E9 and E10, and E11. The document that is given stays as it is.
 pub fn apply(alloc: Global, schema: &Schema, tree: &Tree, edit: &Edit) -> Result<Tree, EditFault>
     ensures answer { Gives tree_view told_by result
         (spec.applied (schema_view.view schema.now) (tree_view tree.now) (edit_view edit.now)) }
@@ -57,6 +57,12 @@ fn edited_tree(alloc: Global, schema: &Schema, tree: &Tree, edit: &Edit) -> Resu
             Ok(target) => remove(alloc, schema, tree, &target),
             Err(fault) => Err(fault),
         },
+        Edit::Move { path, position } => {
+            match target_to_move(alloc, schema, tree, path, *position) {
+                Ok(target) => move_node(alloc, schema, tree, &target, *position),
+                Err(fault) => Err(fault),
+            }
+        }
     }
 }
 
@@ -73,6 +79,24 @@ fn target_of<'t, 'e>(
         (spec.target_of s (tree_view tree.entry.now) is_create (path_view path.entry.now)) }
 {
     match bind_path(alloc, schema, is_create, path) {
+        Ok(bound) => locate(alloc, schema, tree.roots(), bound.steps.as_slice()),
+        Err(fault) => Err(fault),
+    }
+}
+
+/// Where the path of a node that is moved leads.
+fn target_to_move<'t, 'e>(
+    alloc: Global,
+    schema: &Schema,
+    tree: &'t Tree,
+    path: &'e Path,
+    position: u32,
+) -> Result<Located<'t, 'e>, EditFault>
+    ensures { let s = schema_view.view schema.now in
+        Gives (located_view s) told_by result
+        (spec.target_to_move s (tree_view tree.entry.now) (path_view path.entry.now) position) }
+{
+    match bind_to_move(alloc, schema, path, position) {
         Ok(bound) => locate(alloc, schema, tree.roots(), bound.steps.as_slice()),
         Err(fault) => Err(fault),
     }
@@ -173,6 +197,39 @@ fn remove(
         }
         Err(fault) => Err(fault),
     }
+}
+
+/// E5 of a position past the end.
+fn move_node(
+    alloc: Global,
+    schema: &Schema,
+    tree: &Tree,
+    target: &Located<'_, '_>,
+    position: u32,
+) -> Result<Tree, EditFault>
+    ensures { let s = schema_view.view schema.now in
+        Gives tree_view told_by result
+        (spec.moved s (tree_view tree.now) position (located_view s target.now)) }
+{
+    match last_meant(alloc, schema, target) {
+        Ok(spot) => {
+            if are_fewer(schema, target.row, target.last.id, position) {
+                return Err(refused(EditCode::E5));
+            }
+            let change = Change::Move(spot, (position as usize).saturating_sub(1));
+            Ok(with_row(alloc, tree, &target.above, change)?)
+        }
+        Err(fault) => Err(fault),
+    }
+}
+
+/// Whether a row has fewer instances of a schema node than this.
+fn are_fewer(schema: &Schema, row: &[Stored], id: SchemaId, position: u32) -> bool
+    ensures { result ≡ nat_lt
+        (instances_in (row_view row.now) (node_of (schema_view.view schema.now) id.0).number)
+        position }
+{
+    count_of(row, id) < position as usize
 }
 
 /// The node that the last step means: E5 to E7.

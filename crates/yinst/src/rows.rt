@@ -1,6 +1,6 @@
 //! Changes of rows, on copies.
 
-ghost use Rattle.std.specs.Prelude.{◌≡◌, ◌+◌, ◌<◌, ◌≤◌, MatchOption, length, take, drop, position, nat_lt, IfOk, IfSome, OnOk};
+ghost use Rattle.std.specs.Prelude.{◌≡◌, ◌+◌, ◌<◌, ◌≤◌, MatchOption, length, take, drop, position, nat_lt, option_map, IfOk, IfSome, OnOk};
 ghost use Rattle.yspec.specs.Forest.{node, join, size};
 ghost use Rattle.yspec.specs.edit.Edit.{change_below, edit_at};
 ghost use Rattle.yspec.specs.edit.Edit as edits;
@@ -25,6 +25,8 @@ pub(crate) enum Change {
     Put(Spot, Stored),
     /// A node is taken away.
     TakeAway(Spot),
+    /// A node is taken out, and put in where so many of its schema node stand before it then.
+    Move(Spot, usize),
 }
 
 /// The nodes of a row before the one that a spot means, and those from it on.
@@ -135,6 +137,7 @@ fn changed_here(alloc: Global, row: &[Stored], change: Change) -> Result<Vec<Sto
         Change::Add(branch) => with_branch(alloc, row, branch),
         Change::Put(spot, branch) => with_instead(alloc, row, spot, branch),
         Change::TakeAway(spot) => without(alloc, row, spot),
+        Change::Move(spot, count) => with_moved(alloc, row, spot, count),
     }
 }
 
@@ -172,6 +175,80 @@ fn without(alloc: Global, row: &[Stored], spot: Spot) -> Result<Vec<Stored>, All
     let mut nodes = copies_of(alloc, before)?;
     push_copies(&mut nodes, behind_first(from))?;
     Ok(nodes)
+}
+
+/// A node is taken out, and put in behind so many of its schema node.
+fn with_moved(
+    alloc: Global,
+    row: &[Stored],
+    spot: Spot,
+    count: usize,
+) -> Result<Vec<Stored>, AllocError>
+    ensures { IfOk result (λ nodes. row_view nodes.items
+        ≡ rows.with_moved (spot_view spot) count (row_view row.now)) }
+{
+    match instance_at(row, spot) {
+        Some(stored) => with_branch_behind(without(alloc, row, spot)?, stored.clone()?, count),
+        None => copies_of(alloc, row),
+    }
+}
+
+/// The node of a row that a spot means.
+fn instance_at(row: &[Stored], spot: Spot) -> Option<&Stored>
+    ensures { option_map (λ stored. branch_view stored.now) result
+        ≡ spec.instance_branch spot.id.0 (edits.instance_index (spot_view spot))
+        (row_view row.entry.now) }
+{
+    let mut left = instance_index(spot);
+    for stored in row {
+        if stored.id() == spot.id {
+            if left == 0 {
+                return Some(stored);
+            }
+            left -= 1;
+        }
+    }
+    None
+}
+
+/// A node among others: behind so many of its schema node, or all of them.
+fn with_branch_behind(
+    mut nodes: Vec<Stored>,
+    branch: Stored,
+    count: usize,
+) -> Result<Vec<Stored>, AllocError>
+    ensures { IfOk result (λ all. row_view all.items
+        ≡ spec.with_branch_behind (branch_view branch) count (row_view nodes.items)) }
+{
+    let at = index_among(nodes.as_slice(), branch.id(), count);
+    nodes.insert(at, branch)?;
+    Ok(nodes)
+}
+
+/// The index in a row behind so many nodes of a schema node, or all of them.
+fn index_among(row: &[Stored], id: SchemaId, count: usize) -> usize
+    ensures place { result ≡ rows.index_among id.0 count row.now }
+    ensures within { result ≤ length row.now }
+{
+    let mut left = count;
+    let mut at = 0;
+    for stored in row {
+        if goes_before(id, left, stored) {
+            return at;
+        }
+        if stored.id() == id {
+            left = left.saturating_sub(1);
+        }
+        at += 1;
+    }
+    at
+}
+
+/// Whether a node of a schema node, with so many more of it to stand before, goes in front of a node.
+fn goes_before(id: SchemaId, count: usize, stored: &Stored) -> bool
+    ensures { result ≡ spec.goes_before id.0 count (view stored.now).0 }
+{
+    id < stored.id() || (stored.id() == id && count == 0)
 }
 
 /// The nodes of a row behind its first.

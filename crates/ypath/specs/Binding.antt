@@ -4,22 +4,12 @@ use Rattle.std.specs.Option.{option_map_or}
 use Rattle.std.specs.List.{list_all, list_any}
 use Rattle.yspec.specs.schema.Schema.{Schema, SchemaNode, case, current, node_at, child_written}
 use Rattle.yspec.specs.edit.EditText as text
-use Rattle.yspec.specs.edit.EditText.{Predicate, Path, Edit, create, replace, remove}
+use Rattle.yspec.specs.edit.EditText.{Predicate, Path, Edit, create, replace, remove, move_to}
 use Rattle.yspec.specs.edit.Editing as spec
 use Rattle.yspec.specs.edit.Editing.{EditRefusal, refused}
 use Rattle.ypath.specs.EditView.{predicate_view}
 use Rattle.ypath.specs.declared.binding.BoundStep.{BoundStep}
 use Rattle.ypath.specs.declared.binding.Bound.{Bound}
-
-abbrev pub is_create : Edit → Bool
-is_create (create path text) = true
-is_create (replace path text) = false
-is_create (remove path) = false
-
-abbrev pub path_in : Edit → Path
-path_in (create path text) = path
-path_in (replace path text) = path
-path_in (remove path) = path
 
 -- what a number means that no node has: what stands in no document
 abbrev pub no_node : ℕ → SchemaNode
@@ -59,3 +49,10 @@ is_named schema number keys = list_any (λ (k : text.Key). spec.has_name schema 
 
 abbrev pub are_named : Schema → List text.Key → List ℕ → Bool
 are_named schema keys numbers = list_all (λ number. is_named schema number keys) numbers
+
+-- what an edit's path means
+abbrev pub bound_of : Schema → Edit → Result (List spec.BoundStep) EditRefusal
+bound_of schema (create path text) = spec.bound schema true path
+bound_of schema (replace path text) = spec.bound schema false path
+bound_of schema (remove path) = spec.bound schema false path
+bound_of schema (move_to path position) = spec.bound_to_move schema path position

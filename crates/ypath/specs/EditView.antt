@@ -9,7 +9,7 @@ use Rattle.ypath.specs.declared.edit.Predicate.TheVariants.{Unsaid, Position, Ke
 use Rattle.ypath.specs.declared.edit.NamedStep.{NamedStep}
 use Rattle.ypath.specs.declared.edit.Path.{Path}
 use Rattle.ypath.specs.declared.edit.Edit.{Edit}
-use Rattle.ypath.specs.declared.edit.Edit.TheVariants.{Create, Replace, Remove}
+use Rattle.ypath.specs.declared.edit.Edit.TheVariants.{Create, Replace, Remove, Move}
 
 -- the two parts of a text that was cut
 abbrev pub sides : Bor (List ℕ) × Bor (List ℕ) → Text × Text
@@ -39,3 +39,4 @@ abbrev pub edit_view : Edit → spec.Edit
 edit_view (Create path value) = spec.create (path_view path) (string_bytes value)
 edit_view (Replace path value) = spec.replace (path_view path) (string_bytes value)
 edit_view (Remove path) = spec.remove (path_view path)
+edit_view (Move path position) = spec.move_to (path_view path) position

@@ -1,6 +1,7 @@
 //! What the steps of a path mean, and whether their predicates are in place.
 
 ghost use Rattle.std.specs.Prelude.{◌≡◌, not, None, [], ◌∷◌};
+ghost use Rattle.yspec.specs.schema.Schema as schemas;
 ghost use Rattle.yspec.specs.edit.Editing as spec;
 ghost use Rattle.ymodel.specs.Layout.{kind_view, numbers_of};
 ghost use Rattle.ymodel.specs.View as schema_view;
@@ -33,18 +34,20 @@ impl Edit {
     ghost use Rattle.ymodel.specs.View as schema_view;
     ghost use Rattle.yspec.specs.Results.{Gives};
     ghost use Rattle.ypath.specs.Applying.{told_by};
-    ghost use Rattle.ypath.specs.Binding.{bound_view, is_create, path_in};
+    ghost use Rattle.ypath.specs.Binding.{bound_view, bound_of};
     ghost use Rattle.ypath.specs.EditView.{edit_view};
 
-    /// What its path means: E1 of a path that no text spells, E2 of its names, E3 of its predicates.
+    /// What its path means: E1 of a path or a position that no text spells, E2 of its names, E3 of its predicates, and of
+    /// a node to be moved that is no entry and no item.
     pub fn bind(&self, alloc: Global, schema: &Schema) -> Result<Bound<'_>, EditFault>
-        ensures { let s = schema_view.view schema.now in let e = edit_view self.now in
-            Gives (bound_view s) told_by result (spec.bound s (is_create e) (path_in e)) }
+        ensures { let s = schema_view.view schema.now in
+            Gives (bound_view s) told_by result (bound_of s (edit_view self.now)) }
     {
         match self {
             Edit::Create { path, .. } => bind_path(alloc, schema, true, path),
             Edit::Replace { path, .. } => bind_path(alloc, schema, false, path),
             Edit::Remove { path } => bind_path(alloc, schema, false, path),
+            Edit::Move { path, position } => bind_to_move(alloc, schema, path, *position),
         }
     }
 }
@@ -65,6 +68,59 @@ pub fn bind_path<'e>(
     match named_steps(alloc, schema, path.steps.as_slice()) {
         Ok(bound) => in_place(schema, is_create, bound),
         Err(fault) => Err(fault),
+    }
+}
+
+/// What the path of a node that is moved means: E1 of a position 0 too, and E3 also of a node that is no entry and no
+/// item.
+pub fn bind_to_move<'e>(
+    alloc: Global,
+    schema: &Schema,
+    path: &'e Path,
+    position: u32,
+) -> Result<Bound<'e>, EditFault>
+    ensures { let s = schema_view.view schema.now in
+        Gives (bound_view s) told_by result (spec.bound_to_move s (path_view path.now) position) }
+{
+    if position == 0 {
+        return Err(refused(EditCode::E1));
+    }
+    match bind_path(alloc, schema, false, path) {
+        Ok(bound) => movable(schema, bound),
+        Err(fault) => Err(fault),
+    }
+}
+
+/// E3 of a last step that names no list and no leaf-list.
+fn movable<'e>(schema: &Schema, bound: Bound<'e>) -> Result<Bound<'e>, EditFault>
+    ensures { let s = schema_view.view schema.now in
+        Gives (bound_view s) told_by result (spec.movable (bound_view s bound.entry)) }
+{
+    if ends_in_many(schema, bound.steps.as_slice()) {
+        Ok(bound)
+    } else {
+        Err(refused(EditCode::E3))
+    }
+}
+
+/// Whether the last step names a list or a leaf-list.
+fn ends_in_many(schema: &Schema, steps: &[BoundStep<'_>]) -> bool
+    ensures { let s = schema_view.view schema.now in
+        result ≡ spec.ends_in_many (binding.steps_view s steps.now) }
+{
+    match steps.last() {
+        Some(step) => is_many(schema, step.id),
+        None => false,
+    }
+}
+
+/// Whether a schema node is a list or a leaf-list.
+fn is_many(schema: &Schema, id: SchemaId) -> bool
+    ensures { result ≡ schemas.is_many (node_of (schema_view.view schema.now) id.0).kind }
+{
+    match schema.kind(id) {
+        Some(node) => node.kind.is_many(),
+        None => false,
     }
 }
 

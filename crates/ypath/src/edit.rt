@@ -42,25 +42,27 @@ pub enum Edit {
     Create { path: Path, value: String },
     Replace { path: Path, value: String },
     Remove { path: Path },
+    /// To a position among the entries or items of its list, from 1.
+    Move { path: Path, position: u32 },
 }
 
 /// Why an edit isn't done, the first cause in this order.
 #[derive(Clone, Copy, Debug, PartialEq, Eq)]
 pub enum EditCode {
-    /// The text is no edit's, or no path's.
+    /// The text is no edit's, or no path's; positions to move to count from 1, as those in paths do.
     E1 = 1,
     /// A step's name isn't there, or has its module's name in front where none is due, or lacks it where it is.
     E2 = 2,
     /// A step says which of several instances it means where its node has but one, or doesn't say it as its node is to be
-    /// told.
+    /// told. Of nodes to be moved also one that is no entry and no item.
     E3 = 3,
     /// A node before the last step isn't stored.
     E4 = 4,
-    /// A position is past the last instance.
+    /// A position is past the last instance, in a path or to move to.
     E5 = 5,
     /// Several entries have these keys.
     E6 = 6,
-    /// What is to be replaced or removed isn't stored.
+    /// What is to be replaced, removed or moved isn't stored.
     E7 = 7,
     /// What is to be created is stored.
     E8 = 8,

@@ -6,7 +6,7 @@ mod cutting;
 mod edit;
 mod paths;
 
-pub use binding::{Bound, BoundStep, bind_path, fits_node, has_name, refused};
+pub use binding::{Bound, BoundStep, bind_path, bind_to_move, fits_node, has_name, refused};
 pub use cutting::{after_spaces, behind, cut};
 pub use edit::{Edit, EditCode, EditFault, Key, NamedStep, Path, Predicate};
-pub use paths::{is_step, name_and_predicate, operands};
+pub use paths::{is_step, name_and_predicate, operands, position_alone};

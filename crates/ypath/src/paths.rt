@@ -237,7 +237,19 @@ pub fn operands(text: &str) -> (&str, &str)
     }
 }
 
-/// What a verb does at a path, with a value or without.
+/// A position, behind which only spaces stand.
+pub fn position_alone(text: &str) -> Option<u32>
+    ensures { result ≡ spec.position_alone text.now }
+{
+    let (digits, rest) = operands(text);
+    if rest.is_empty() {
+        position_of(digits)
+    } else {
+        None
+    }
+}
+
+/// What a verb does at a path, with a value or a position or without.
 fn done_by(alloc: Global, verb: &str, value: &str, path: Path) -> Result<Option<Edit>, AllocError>
     ensures { IfOk result (λ edit. option_map edit_view edit
         ≡ spec.done_by verb.now value.now (path_view path)) }
@@ -255,6 +267,11 @@ fn done_by(alloc: Global, verb: &str, value: &str, path: Path) -> Result<Option<
     } else if verb == "replace" {
         let value = String::from_str(alloc, value)?;
         Ok(Some(Edit::Replace { path, value }))
+    } else if verb == "move" {
+        match position_alone(value) {
+            Some(position) => Ok(Some(Edit::Move { path, position })),
+            None => Ok(None),
+        }
     } else {
         Ok(None)
     }
