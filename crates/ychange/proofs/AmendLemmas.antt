@@ -1,25 +1,29 @@
 -- Edits of a document in a store come to what the definition gives.
-use Rattle.std.proofs.Common.{◌≡◌, ℕ, Bool, false, List, [], sym, ap, subst, ◌∙◌, ltb, arith}
+use Rattle.std.proofs.Common.{◌≡◌, ℕ, Bool, false, List, [], length, refl, sym, ap, subst, ◌∙◌, ltb, arith}
 use Rattle.std.specs.Prelude.{◌≤◌, not, ◌&&◌, Option, Some, None, Result, Ok, Err, nat_lt, if◌then◌else◌}
 use Rattle.yspec.specs.Forest.{end, node, join, size}
 use Rattle.yspec.specs.text.Text.{Text}
 use Rattle.yspec.specs.schema.Schema.{Schema}
 use Rattle.yspec.specs.edit.Edit.{edit_at, instance_index}
 use Rattle.yspec.specs.Results.{Fails, ◌>>=◌}
-use Rattle.yspec.specs.document.Document.{Step, Tree}
+use Rattle.yspec.specs.document.Document.{Step, Tree, instances_in}
 use Rattle.yspec.specs.edit.Editing as spec
 use Rattle.ypath.specs.Applying.{told_by}
+use Rattle.ypath.specs.Binding.{node_of}
 use Rattle.ypath.specs.declared.edit.EditFault.{EditFault}
 use Rattle.ypath.specs.declared.edit.EditFault.TheVariants.{Refused, Memory}
 use Rattle.ystore.specs.declared.row.Row.{Row}
 use Rattle.ystore.specs.declared.row.Row.TheVariants.{Top}
 use Rattle.ystore.specs.declared.nodes.Nodes.{Nodes}
 use Rattle.ymodel.specs.declared.node.SchemaId.{SchemaId}
-use Rattle.ystore.specs.Store.{node_count}
+use Rattle.yinst.proofs.LocatingLemmas.{number_is}
+use Rattle.ystore.specs.Rows.{of_schema}
+use Rattle.ystore.specs.Store.{children_at, node_count}
 use Rattle.ystore.specs.declared.row.NodeId.{NodeId}
-use Rattle.yshape.specs.Hanging.{Branches, Numbered, Stands}
+use Rattle.yshape.specs.Hanging.{Branches, Hangs, Numbered, Stands, tree_of}
 use Rattle.yshape.specs.Copies.{ids_of}
 use Rattle.yshape.specs.Parts.{OnlyReads}
+use Rattle.yshape.proofs.FoundLemmas.{counted_at}
 use Rattle.yshape.proofs.FrameLemmas.{keeps_same}
 use Rattle.yshape.proofs.HangingLemmas.{stands_second, weigh_join, weigh_around, size_weigh}
 use Rattle.yshape.specs.Ways.{Found, around}
@@ -101,6 +105,10 @@ part_at s nodes tree steps above f step schema id numbers at found same listed =
     let there = found_there s nodes tree steps above f step schema id at found in
     record { found = found; is_schema = same; are_numbers = listed above found.frame.label found.below found.is_id there.0 there.1 }
 
+pub part_of : (step : Step) (schema : SchemaId) (id : NodeId) (f : Branches) → (found : Found schema (instance_index step) id f) → schema.0 ≡ step.schema_number
+    → IsPart step schema id (ids_of (node found.frame.label found.below end)) f
+part_of step schema id f found same = record { found = found; is_schema = same; are_numbers = refl }
+
 -- where a path leads there is a row
 pub somewhere_placed : (s : Schema) (nodes : Nodes) (tree : Tree) (answer : Result spec.Target spec.EditRefusal) (place : Place) → Locates s tree [] answer nodes (Ok place)
     → IsSomewhere s nodes place.above
@@ -128,3 +136,19 @@ created_is s tree text t b none value =
     ap (λ (there : Bool). if there then spec.refused 8 else (spec.branch_of s t.last.schema_node.number text
     >>= (λ (c : spec.Branch). spec.within_limit (edit_at t.above (spec.with_branch c) tree)))) none
     ∙ ap (λ (a : Result spec.Branch spec.EditRefusal). a >>= (λ (c : spec.Branch). spec.within_limit (edit_at t.above (spec.with_branch c) tree))) value
+
+-- the nodes of a row that a position counts are those of its schema node
+pub past_is : (s : Schema) (nodes : Nodes) (above : Row) (f : Branches) (id : SchemaId) (count position : ℕ) (past : Bool) → Hangs nodes above f
+    → count ≡ length (of_schema id (children_at nodes above)) → ltb count position ≡ past
+    → nat_lt (instances_in (tree_of f) (node_of s id.0).number) position ≡ past
+past_is s nodes above f id count position past hangs counted is =
+    ap (λ (k : ℕ). ltb k position) (ap (instances_in (tree_of f)) (number_is s id.0) ∙ (sym (counted_at nodes above f id hangs) ∙ sym counted)) ∙ is
+
+-- what is moved goes to a position of its list, if it is one
+pub moved_is : (s : Schema) (tree : Tree) (position : ℕ) (t : spec.Target) (step : Step) (past : Bool) → spec.last_meant s t ≡ Ok step
+    → nat_lt (instances_in t.row t.last.schema_node.number) position ≡ past
+    → spec.moved s tree position t ≡ (if past then spec.refused 5 else Ok (edit_at t.above (spec.with_moved step position) tree))
+moved_is s tree position t step past meant is =
+    ap (λ (a : Result Step spec.EditRefusal). a >>= (λ (st : Step). if nat_lt (instances_in t.row t.last.schema_node.number) position then spec.refused {A = Tree} 5
+    else Ok (edit_at t.above (spec.with_moved st position) tree))) meant
+    ∙ ap (λ (b : Bool). if b then spec.refused {A = Tree} 5 else Ok (edit_at t.above (spec.with_moved step position) tree)) is

@@ -8,12 +8,12 @@ use Rattle.yspec.specs.schema.Schema.{Schema, row_at}
 use Rattle.yspec.specs.document.Document.{Stored, Tree, Step, instances_in}
 use Rattle.yspec.specs.document.Instances.{times_at, times_below}
 use Rattle.yspec.specs.edit.Edit.{edit_at, instance_index}
-use Rattle.yspec.specs.edit.Editing.{Branch, BoundStep, Target, with_branch, with_instead, without}
+use Rattle.yspec.specs.edit.Editing.{Branch, BoundStep, Target, with_branch, with_instead, with_moved, without}
 use Rattle.ystore.specs.declared.row.Row.{Row}
 use Rattle.ystore.specs.declared.row.NodeId.{NodeId}
 use Rattle.ystore.specs.declared.nodes.Nodes.{Nodes}
 use Rattle.ymodel.specs.declared.node.SchemaId.{SchemaId}
-use Rattle.yreach.specs.Parts.{Exchange, comes, gives_way, goes, instance_alone, meant_alone, outside}
+use Rattle.yreach.specs.Parts.{Exchange, comes, gives_way, goes, stays, instance_alone, meant_alone, outside}
 use Rattle.yreach.specs.Referring.{Reference}
 use Rattle.yreach.specs.Shared.{is_shared_value, value_pairs}
 use Rattle.yreach.specs.Sizes.{breadth, levels, part_size}
@@ -157,6 +157,12 @@ module _ (schema : Schema) (steps : List Step) (way : Way) (f : Branches) (tree 
       → row_reads schema loose end (moved_pairs schema way f loose g end) ≡ exchange_reads schema tree (comes at b)
   comes_reads loose g b is_new is_after =
       same_reads schema way f loose g end (comes at b) tree is_tree refl (sym is_after) refl is_new (above_is None steps way led)
+      (stays_parted steps way f tree is_tree led)
+
+  pub stays_reads : (step : Step) (position : ℕ) (g : Branches) → with_moved step position (tree_of f) ≡ tree_of g
+      → row_reads schema end end (moved_pairs schema way f end g end) ≡ exchange_reads schema tree (stays at step position)
+  stays_reads step position g is_after =
+      same_reads schema way f end g end (stays at step position) tree is_tree refl (sym is_after) refl refl (above_is None steps way led)
       (stays_parted steps way f tree is_tree led)
 
   module _ (step : Step) (before after : Branches) (n : Numbered) (below : Branches) (is_row : f ≡ join before (node n below after)) (same : n.schema.0 ≡ step.schema_number)

@@ -11,10 +11,12 @@ use Rattle.yspec.specs.document.Reading.{Refusal, Named, child, other_form, unkn
 use Rattle.yspec.specs.document.Sorting.{IsSorted}
 use Rattle.yspec.specs.document.Fitting.{IsNumbered}
 use Rattle.yspec.specs.edit.EditText.{NamedStep, Path}
-use Rattle.yspec.specs.edit.Editing.{BoundStep, Branch, EditRefusal, are_in_place, bound, bound_named, bound_steps, branch, branch_at, branch_of, fitting_branch, has_zero, in_place, is_spelled, is_zero, refused, value_refused}
+use Rattle.yspec.specs.edit.Editing.{BoundStep, Branch, EditRefusal, are_in_place, bound, bound_to_move, bound_named, bound_steps, branch, branch_at, branch_of, fitting_branch, has_zero, in_place, is_spelled, is_zero, refused, value_refused}
 use Rattle.yspec.proofs.SchemaProofs.NumberLemmas.{number_at}
 use Rattle.yspec.proofs.DocumentProofs.SortingLemmas.{fits_sorted}
 use Rattle.yspec.proofs.DocumentProofs.FittingReadLemmas.{row_fits, ever_held}
+use Rattle.yspec.proofs.EditProofs.AnswerLemmas.{If}
+use Rattle.yspec.proofs.EditProofs.MoveLemmas.{EndsInMany, to_move}
 use Rattle.ychange.specs.Locating.{CountFromOne}
 
 -- ---- values
@@ -128,3 +130,13 @@ bound_counts schema is_create path true e =
 pub bound_from_one : (schema : Schema) (is_create : Bool) (path : Path) (steps : List BoundStep) → bound schema is_create path ≡ Ok steps → CountFromOne steps
 unfolding FromOne
 bound_from_one schema is_create path steps is = subst FromOne is (bound_counts schema is_create path (is_spelled path) refl)
+
+counts_if : (r : Result (List BoundStep) EditRefusal) → FromOne r → If CountFromOne r
+unfolding FromOne
+counts_if (Ok steps) counts = counts
+counts_if (Err e) counts = tt
+
+pub moved_from_one : (schema : Schema) (path : Path) (position : ℕ) (steps : List BoundStep) → bound_to_move schema path position ≡ Ok steps → CountFromOne steps
+moved_from_one schema path position steps is =
+    (subst (If (λ bs. CountFromOne bs × EndsInMany bs)) is
+    (to_move CountFromOne schema path position (counts_if (bound schema false path) (bound_counts schema false path (is_spelled path) refl)))).0

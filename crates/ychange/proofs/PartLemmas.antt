@@ -1,6 +1,6 @@
 -- Parts of a document in its store: put into a row, in the place of another, and taken out, with all that is told of it.
 use Rattle.std.proofs.Common.{◌≡◌, List, [], ◌∷◌, option_map, refl, sym, ap, ap₂, ◌∙◌, arith, subst, true, false}
-use Rattle.std.specs.Prelude.{Bool, ◌+◌, ◌^◌, ◌<◌, ◌≤◌, ℕ, None, Result, Ok, Err, IfOk, IsErrAnd, OnErr, OnOk, length}
+use Rattle.std.specs.Prelude.{Bool, ◌+◌, ◌-◌, ◌^◌, min, ◌<◌, ◌≤◌, ℕ, None, Result, Ok, Err, IfOk, IsErrAnd, OnErr, OnOk, length}
 use Rattle.std.proofs.lemmas.Bool.{lt-ltb, le-ltb}
 use Rattle.std.proofs.lemmas.List.{append-nil}
 use Rattle.yspec.specs.Forest.{end, node, join, size}
@@ -9,7 +9,7 @@ use Rattle.yspec.specs.document.Document.{Stored, Tree, Step, instances_in, docu
 use Rattle.yspec.proofs.LinkingProofs.LinkedLemmas.{relabelled-size}
 use Rattle.yspec.specs.document.Sorting.{IsSorted}
 use Rattle.yspec.specs.edit.Edit.{edit_at, instance_index}
-use Rattle.yspec.specs.edit.Editing.{Branch, EditRefusal, with_branch, with_instead, within_limit, without}
+use Rattle.yspec.specs.edit.Editing.{Branch, EditRefusal, with_branch, with_instead, with_moved, within_limit, without}
 use Rattle.ymodel.specs.declared.node.SchemaId.{SchemaId}
 use Rattle.ystore.specs.Rows as rows
 use Rattle.ystore.specs.Store.{node_count, MakesRoom, Stays}
@@ -23,11 +23,11 @@ use Rattle.ystore.specs.declared.row.Row.TheVariants.{Top}
 use Rattle.ystore.specs.declared.nodes.Nodes.{Nodes}
 use Rattle.yshape.specs.Hanging.{Numbered, Branches, stored_of, tree_of, children_of, Keeps}
 use Rattle.yshape.specs.Ways.{Way, Goes, around, end_of}
-use Rattle.yshape.specs.Changes.{with_node, SameShapes}
+use Rattle.yshape.specs.Changes.{with_node, with_node_at, SameShapes}
 use Rattle.yshape.specs.Copies.{laid, ids_of}
 use Rattle.yshape.specs.Growing.{Grows, Inserts, Removes, Freshens}
 use Rattle.yshape.specs.declared.swapping.Swap.{Swap}
-use Rattle.yshape.specs.declared.swapping.Change.TheVariants.{Add, Put, Take}
+use Rattle.yshape.specs.declared.swapping.Change.TheVariants.{Add, Put, Take, Move}
 use Rattle.yshape.proofs.FrameLemmas.{room_same, keeps_same}
 use Rattle.yshape.proofs.OpenLemmas.{hangs_on, keeps_inserted, laid_sorted}
 use Rattle.yshape.proofs.HangingLemmas.{weigh_join, weigh_around, weigh_put, size_weigh}
@@ -357,6 +357,65 @@ module _ (s : Schema) (before : Nodes) (tree : Tree) (steps : List Step) (above 
       ∙ document.taken step part.found.frame.before part.found.frame.after part.found.frame.label part.found.below
       (ap (λ (i : SchemaId). i.0) part.found.is_schema ∙ part.is_schema) (ap (λ k. instances_in (tree_of part.found.frame.before) k) (sym part.is_schema) ∙ part.found.is_index))
       keeps told
+
+  -- ---- at another place of it
+
+  abbrev pub elsewhere : ℕ → Branches
+  elsewhere to = with_node_at to part.found.frame.label part.found.below less
+
+  abbrev pub moving : (from to : ℕ) → instance_index step ≡ from → Swapping (record { above = above; schema = of; change = Move old from to }) before [] []
+  moving from to is =
+      record {
+        way = at.way;
+        f = f;
+        loose = end;
+        g = elsewhere to;
+        left = end;
+        at = at.ends;
+        swaps = record {
+          before = part.found.frame.before;
+          label = part.found.frame.label;
+          under = part.found.below;
+          after = part.found.frame.after;
+          is_id = part.found.is_id;
+          is_schema = part.found.is_schema;
+          is_from = part.found.is_index ∙ is;
+          was = part.found.is_row;
+          none = refl;
+          row = refl;
+          none_left = refl;
+        };
+        sorted = sorted_end at.way f at.sorted;
+        keeps = at_row before (around at.way f) above at.keeps;
+        are_old = refl;
+        are_new = refl;
+      }
+
+  pub elsewhere_size : (to : ℕ) → size (around at.way (elsewhere to)) ≤ 2 ^ 28
+  elsewhere_size to =
+      let place = rows.first_place part.found.frame.label.schema (children_of less) + min to (length (rows.of_schema part.found.frame.label.schema (children_of less))) in
+      let change = size_around at.way f (elsewhere to) in
+      let put = weigh_put (λ _. 1) place part.found.frame.label part.found.below less in
+      let now = weigh_join (λ _. 1) part.found.frame.before part.found.frame.after in
+      let was = weigh_join (λ _. 1) part.found.frame.before (node part.found.frame.label part.found.below part.found.frame.after) in
+      let row : size f ≡ size (join part.found.frame.before (node part.found.frame.label part.found.below part.found.frame.after)) = ap size part.found.is_row in
+      let w1 = size_weigh (elsewhere to) in
+      let w2 = size_weigh (join part.found.frame.before (node part.found.frame.label part.found.below part.found.frame.after)) in
+      let few = at.told.totals.small.few in
+      omega (arith, change, put, now, was, row, w1, w2, few)
+
+  pub elsewhere_is : (to position : ℕ) → position - 1 ≡ to → with_moved step position (tree_of f) ≡ tree_of (elsewhere to)
+  elsewhere_is to position is =
+      ap (λ h. with_moved step position (tree_of h)) part.found.is_row
+      ∙ (document.moved step position part.found.frame.before part.found.frame.after part.found.frame.label part.found.below
+      (subst (λ h. IsSorted (tree_of h)) part.found.is_row (sorted_end at.way f at.sorted))
+      (ap (λ (i : SchemaId). i.0) part.found.is_schema ∙ part.is_schema) (ap (λ k. instances_in (tree_of part.found.frame.before) k) (sym part.is_schema) ∙ part.found.is_index)
+      ∙ ap (λ k. tree_of (elsewhere k)) is)
+
+  pub moved : (to position : ℕ) → position - 1 ≡ to → (after : Nodes) → Keeps after (around at.way (elsewhere to)) above end → IsTold s after (around at.way (elsewhere to))
+      → HoldsTold s after (edit_at steps (with_moved step position) tree)
+  moved to position is after keeps told =
+      held s after tree steps at.way (with_moved step position) f (elsewhere to) above at.goes at.is_tree (elsewhere_is to position is) keeps told
 
 -- ---- a row with room
 

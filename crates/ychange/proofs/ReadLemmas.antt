@@ -1,18 +1,18 @@
 -- How an edit of a document in a store stays within so many reads.
 use Rattle.std.proofs.Common.{◌≡◌, ℕ, ◌+◌, ◌*◌, ◌≤◌, Bool, false, List, [], ◌∷◌, refl, sym, ap, ◌∙◌, arith, subst}
-use Rattle.std.specs.Prelude.{Result, Ok, Err, IfOk, IsErrAnd, OnOk, if◌then◌else◌}
+use Rattle.std.specs.Prelude.{Result, Ok, Err, IfOk, IsErrAnd, OnOk, if◌then◌else◌, nat_lt}
 use Rattle.yspec.specs.Forest.{end, node, levels, size}
 use Rattle.yspec.specs.Results.{◌>>=◌}
 use Rattle.yspec.specs.text.Text.{Text}
 use Rattle.yspec.specs.schema.Schema.{Schema}
-use Rattle.yspec.specs.document.Document.{Step, Tree, document_limit}
+use Rattle.yspec.specs.document.Document.{Step, Tree, document_limit, instances_in}
 use Rattle.yspec.specs.document.Fitting.{Fits, IsNumbered}
 use Rattle.yspec.specs.edit.Edit.{edit_at}
 use Rattle.yspec.specs.edit.Editing.{Branch, EditRefusal, Target, branch_of, is_there, last_meant, refused, within_limit}
 use Rattle.yspec.proofs.DocumentProofs.HeldNodeLemmas.{schema_has_all}
 use Rattle.yspec.proofs.EditProofs.AnswerLemmas.{If}
 use Rattle.yspec.proofs.LinkingProofs.LinkedLemmas.{relabelled-size}
-use Rattle.yreach.specs.Parts.{Exchange, comes, gives_way, goes, meant_alone}
+use Rattle.yreach.specs.Parts.{Exchange, comes, gives_way, goes, stays, meant_alone}
 use Rattle.yreach.specs.Sizes.{part_size, weight}
 use Rattle.ypath.specs.declared.edit.EditFault.{EditFault}
 use Rattle.ypath.specs.declared.edit.EditFault.TheVariants.{Refused, Memory}
@@ -26,7 +26,7 @@ use Rattle.yshape.proofs.DocumentLemmas as document
 use Rattle.ytold.specs.Reads.{IsNarrow}
 use Rattle.ytold.proofs.BreadthLemmas.{fitting_levels}
 use Rattle.ytold.proofs.NarrowLemmas.{way_breadth}
-use Rattle.ychange.specs.Reads.{ReadsWithin, created_parts, exchange_reads, parts_reads, removed_parts, replaced_parts}
+use Rattle.ychange.specs.Reads.{ReadsWithin, created_parts, exchange_reads, moved_parts, parts_reads, removed_parts, replaced_parts}
 use Rattle.ychange.proofs.PartLemmas.{within}
 
 pub ok_then : {T E P Q : Type 0} (r : Result T E) → (P → Q) → OnOk r P → OnOk r Q
@@ -54,10 +54,10 @@ spent_before first mid n k l some few = omega (arith, some, few)
 pub spent_numbers : (first mid last n count weight k l : ℕ) → mid ≤ first + n → last ≤ mid + 4 * count → count ≤ weight → 4 * weight + k ≡ l → last + k ≤ first + (n + l)
 spent_numbers first mid last n count weight k l some more light is = omega (arith, some, more, light, is)
 
-pub spent_place : (first mid deep n k l : ℕ) → mid ≤ first + 2 * deep → n ≤ 3 → k ≡ l → mid + (n + k) ≤ first + (2 * deep + 3 + l)
+pub spent_place : (first mid deep n k l : ℕ) → mid ≤ first + 2 * deep → n ≤ 4 → k ≡ l → mid + (n + k) ≤ first + (2 * deep + 4 + l)
 spent_place first mid deep n k l way few is = omega (arith, way, few, is)
 
-pub spent_refused : (first mid deep l : ℕ) → mid ≤ first + 2 * deep → mid ≤ first + (2 * deep + 3 + l)
+pub spent_refused : (first mid deep l : ℕ) → mid ≤ first + 2 * deep → mid ≤ first + (2 * deep + 4 + l)
 spent_refused first mid deep l way = omega (arith, way)
 
 -- ---- within a bound
@@ -132,6 +132,12 @@ replaced_parts_are s text t step b meant value =
 
 pub removed_parts_are : (s : Schema) (t : Target) (step : Step) → last_meant s t ≡ Ok step → removed_parts s t ≡ Ok (goes t step)
 removed_parts_are s t step meant = ap (λ (a : Result Step EditRefusal). a >>= (λ (st : Step). Ok (goes t st))) meant
+
+pub moved_parts_are : (s : Schema) (position : ℕ) (t : Target) (step : Step) → last_meant s t ≡ Ok step
+    → nat_lt (instances_in t.row t.last.schema_node.number) position ≡ false → moved_parts s position t ≡ Ok (stays t step position)
+moved_parts_are s position t step meant is =
+    ap (λ (a : Result Step EditRefusal). a >>= (λ (st : Step). if nat_lt (instances_in t.row t.last.schema_node.number) position then refused {A = Exchange} 5 else Ok (stays t st position))) meant
+    ∙ ap (λ (past : Bool). if past then refused {A = Exchange} 5 else Ok (stays t step position)) is
 
 more_of : (a b : ℕ) → b ≤ a + b
 more_of a b = omega arith

@@ -1,11 +1,11 @@
 -- How many reading calls an edit of a document in a store makes, at most.
-use Rattle.std.specs.Prelude.{ℕ, ◌+◌, ◌*◌, ◌≤◌, List, Result, Ok, Err, if◌then◌else◌}
+use Rattle.std.specs.Prelude.{ℕ, ◌+◌, ◌*◌, ◌≤◌, List, Result, Ok, Err, if◌then◌else◌, nat_lt}
 use Rattle.yspec.specs.Results.{◌>>=◌}
 use Rattle.yspec.specs.text.Text.{Text}
 use Rattle.yspec.specs.schema.Schema.{Schema}
-use Rattle.yspec.specs.document.Document.{Step, Tree}
+use Rattle.yspec.specs.document.Document.{Step, Tree, instances_in}
 use Rattle.yspec.specs.edit.Editing.{BoundStep, EditRefusal, Target, branch_of, is_there, last_meant, refused}
-use Rattle.yreach.specs.Parts.{Exchange, comes, gives_way, goes}
+use Rattle.yreach.specs.Parts.{Exchange, comes, gives_way, goes, stays}
 use Rattle.yreach.specs.Shared.{value_pairs}
 use Rattle.yreach.specs.Sizes.{breadth, levels, part_size}
 use Rattle.ypath.specs.declared.edit.EditFault.{EditFault}
@@ -46,3 +46,7 @@ replaced_parts schema text t = last_meant schema t >>= (λ step.
 
 abbrev pub removed_parts : Schema → Target → Result Exchange EditRefusal
 removed_parts schema t = last_meant schema t >>= (λ step. Ok (goes t step))
+
+abbrev pub moved_parts : Schema → ℕ → Target → Result Exchange EditRefusal
+moved_parts schema position t = last_meant schema t >>= (λ step.
+    if nat_lt (instances_in t.row t.last.schema_node.number) position then refused 5 else Ok (stays t step position))

@@ -20,15 +20,15 @@ ghost use Rattle.yshape.specs.Copies.{ids_of};
 ghost use Rattle.yshape.specs.Parts.{OnlyReads};
 ghost use Rattle.ychange.specs.Places.{Amends, HoldsSorted, HoldsTold, IsAt, IsSomewhere};
 ghost use Rattle.ychange.specs.Locating.{Locates, target_at};
-ghost use Rattle.ychange.specs.Reads.{ReadsWithin, created_parts, parts_reads, removed_parts, replaced_parts};
+ghost use Rattle.ychange.specs.Reads.{ReadsWithin, created_parts, moved_parts, parts_reads, removed_parts, replaced_parts};
 
 use crate::instances::instance_meant;
 use crate::locating::{Place, locate};
-use crate::parts::{add_part, put_part, take_part};
+use crate::parts::{add_part, put_part, shift_part, take_part};
 use std::alloc::AllocError;
 use yinst::part;
 use ymodel::{Schema, SchemaId};
-use ypath::{Edit, EditCode, EditFault, Path, bind_path, refused};
+use ypath::{Edit, EditCode, EditFault, Path, bind_path, bind_to_move, refused};
 use yshape::copy_part;
 use ystore::{Counted, NodeId};
 
@@ -42,7 +42,7 @@ pub fn amend(counted: &mut Counted<'_>, schema: &Schema, edit: &Edit) -> Result<
         → Amends s tree (spec.applied s tree (edit_view edit.now)) (store_of counted.new) result }
     ensures reads { let s = schema_view.view schema.now in
         (tree : document.Tree) → HoldsTold s (store_of counted.old) tree → IsSorted tree → Fits s tree
-        → ReadsWithin (2 * levels s.nodes + 3 + parts_reads s tree (exchange_of s tree (edit_view edit.now)))
+        → ReadsWithin (2 * levels s.nodes + 4 + parts_reads s tree (exchange_of s tree (edit_view edit.now)))
         (store_of counted.old) (store_of counted.new) result }
     ensures same_reference { lent counted.new ≡ lent counted.old }
 {
@@ -57,6 +57,10 @@ pub fn amend(counted: &mut Counted<'_>, schema: &Schema, edit: &Edit) -> Result<
         },
         Edit::Remove { path } => match place_of(counted, schema, false, path) {
             Ok(place) => remove(counted, schema, place),
+            Err(fault) => Err(fault),
+        },
+        Edit::Move { path, position } => match place_to_move(counted, schema, path, *position) {
+            Ok(place) => move_node(counted, schema, place, *position),
             Err(fault) => Err(fault),
         },
     }
@@ -81,6 +85,30 @@ fn place_of<'e>(
     ensures same_reference { lent counted.new ≡ lent counted.old }
 {
     match bind_path(counted.alloc(), schema, is_create, path) {
+        Ok(bound) => locate(counted, schema, bound.steps.as_slice()),
+        Err(fault) => Err(fault),
+    }
+}
+
+/// The same of an edit that moves what a path leads to; E3 also where that is no entry or item.
+fn place_to_move<'e>(
+    counted: &mut Counted<'_>,
+    schema: &Schema,
+    path: &'e Path,
+    position: u32,
+) -> Result<Place<'e>, EditFault>
+    ensures place { let s = schema_view.view schema.now in
+        (tree : document.Tree) → HoldsTold s (store_of counted.old) tree → IsSorted tree
+        → Locates s tree [] (spec.target_to_move s tree (path_view path.entry.now) position)
+        (store_of counted.new) result }
+    ensures from_one { IfOk result (λ place. spec.is_zero (predicate_view place.last.predicate.now)
+        ≡ false) }
+    ensures reads { reads (store_of counted.new)
+        ≤ reads (store_of counted.old) + 2 * levels (schema_view.view schema.now).nodes }
+    ensures kept { OnlyReads (store_of counted.old) (store_of counted.new) }
+    ensures same_reference { lent counted.new ≡ lent counted.old }
+{
+    match bind_to_move(counted.alloc(), schema, path, position) {
         Ok(bound) => locate(counted, schema, bound.steps.as_slice()),
         Err(fault) => Err(fault),
     }
@@ -202,6 +230,42 @@ fn remove(counted: &mut Counted<'_>, schema: &Schema, place: Place<'_>) -> Resul
                 node,
                 &numbers,
             )?;
+            Ok(())
+        }
+        Err(fault) => Err(fault),
+    }
+}
+
+/// E5 to E7, and E5 of the position.
+fn move_node(
+    counted: &mut Counted<'_>,
+    schema: &Schema,
+    place: Place<'_>,
+    position: u32,
+) -> Result<(), EditFault>
+    requires from_one { spec.is_zero (predicate_view place.last.predicate.now) ≡ false }
+    requires at { IsSomewhere (schema_view.view schema.now) (store_of counted.old) place.above }
+    ensures amends { let s = schema_view.view schema.now in
+        (tree : document.Tree) (above : List Step) (f : Branches)
+        → IsAt s (store_of counted.old) tree above place.entry.above f
+        → Amends s tree (spec.moved s tree position (target_at s above f place.entry.last))
+        (store_of counted.new) result }
+    ensures reads { let s = schema_view.view schema.now in
+        (tree : document.Tree) (above : List Step) (f : Branches)
+        → IsAt s (store_of counted.old) tree above place.entry.above f → Fits s tree
+        → IfOk (spec.moved s tree position (target_at s above f place.entry.last)) (Fits s)
+        → ReadsWithin (4 + parts_reads s tree (moved_parts s position (target_at s above f place.entry.last)))
+        (store_of counted.old) (store_of counted.new) result }
+    ensures same_reference { lent counted.new ≡ lent counted.old }
+{
+    match instance_meant(counted, schema, EditCode::E7, place.above, place.last) {
+        Ok(node) => {
+            if counted.count_of(place.above, place.last.id) < position as usize {
+                return Err(refused(EditCode::E5));
+            }
+            let from = counted.place_of(place.above, place.last.id, node);
+            let to = (position as usize).saturating_sub(1);
+            shift_part(counted, schema, place.above, place.last.id, node, from, to)?;
             Ok(())
         }
         Err(fault) => Err(fault),

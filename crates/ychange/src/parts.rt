@@ -1,14 +1,14 @@
-//! A part of a document: put into a row, in the place of another, or taken out.
+//! A part of a document: put into a row, in the place of another, taken out, or moved within it.
 
-ghost use Rattle.std.specs.Prelude.{◌≡◌, ◌+◌, ◌≤◌, ◌^◌, ℕ, List, IfOk, OnErr, OnOk};
+ghost use Rattle.std.specs.Prelude.{◌≡◌, ◌+◌, ◌-◌, ◌≤◌, ◌^◌, ℕ, List, IfOk, OnErr, OnOk};
 ghost use Rattle.yspec.specs.Forest.{end, size};
 ghost use Rattle.yspec.specs.document.Document as document;
 ghost use Rattle.yspec.specs.document.Document.{Step};
 ghost use Rattle.yspec.specs.document.Fitting.{Fits};
 ghost use Rattle.yspec.specs.document.Sorting.{IsSorted};
 ghost use Rattle.yspec.specs.edit.Edit.{edit_at, instance_index};
-ghost use Rattle.yspec.specs.edit.Editing.{BoundStep, with_branch, with_instead, within_limit, without};
-ghost use Rattle.yreach.specs.Parts.{comes, gives_way, goes};
+ghost use Rattle.yspec.specs.edit.Editing.{BoundStep, with_branch, with_instead, with_moved, within_limit, without};
+ghost use Rattle.yreach.specs.Parts.{comes, gives_way, goes, stays};
 ghost use Rattle.ymodel.specs.View as schema_view;
 ghost use Rattle.ytree.specs.View.{view};
 ghost use Rattle.ystore.specs.Store.{reads};
@@ -181,6 +181,44 @@ pub fn take_part(
         change: Change::Take { old, place },
     };
     change_row(counted, schema, swap, old_numbers, &[])
+}
+
+/// Moves a node of a row, which has so many of its schema node before it, to a place among the others of them. Where memory runs
+/// out the document stays as it was.
+pub fn shift_part(
+    counted: &mut Counted<'_>,
+    schema: &Schema,
+    above: Row,
+    of: SchemaId,
+    node: NodeId,
+    from: usize,
+    to: usize,
+) -> Result<(), AllocError>
+    requires { (numbers : List NodeId) × IsPartThere (schema_view.view schema.now) (store_of counted.old) above of.0 from node
+        numbers }
+    ensures shifted { let s = schema_view.view schema.now in
+        (tree : document.Tree) (steps : List Step) (f : Branches) (step : Step) (numbers : List NodeId) (position : ℕ)
+        → IsAt s (store_of counted.old) tree steps above f → IsPart step of node numbers f
+        → instance_index step ≡ from → position - 1 ≡ to
+        → OnOk result (HoldsTold s (store_of counted.new) (edit_at steps (with_moved step position) tree)) }
+    ensures shows { let s = schema_view.view schema.now in (tree : document.Tree) (steps : List Step) (f : Branches)
+        → IsAt s (store_of counted.old) tree steps above f
+        → OnErr result (Shows (store_of counted.new) tree) }
+    ensures reads { let s = schema_view.view schema.now in
+        (tree : document.Tree) (steps : List Step) (f : Branches) (last : BoundStep) (step : Step) (numbers : List NodeId) (position : ℕ)
+        → IsAt s (store_of counted.old) tree steps above f → IsPart step of node numbers f
+        → instance_index step ≡ from → position - 1 ≡ to
+        → Fits s tree → Fits s (edit_at steps (with_moved step position) tree)
+        → OnOk result (reads (store_of counted.new) ≤ reads (store_of counted.old)
+        + exchange_reads s tree (stays (row_target steps f last) step position)) }
+    ensures same_reference { lent counted.new ≡ lent counted.old }
+{
+    let swap = Swap {
+        above,
+        schema: of,
+        change: Change::Move { node, from, to },
+    };
+    change_row(counted, schema, swap, &[], &[])
 }
 
 /// Changes a row of a document, given the numbers of the nodes that go and of those that come, and all that is told of it. Where

@@ -21,11 +21,11 @@ use Rattle.yshape.specs.Changes.{put_at, with_node_at}
 use Rattle.yshape.specs.Parts.{OnlyReads}
 use Rattle.yshape.specs.Swaps.{Swaps, swapped, swapped_back, makes_room}
 use Rattle.yshape.specs.declared.swapping.Change.{Change}
-use Rattle.yshape.specs.declared.swapping.Change.TheVariants.{Add, Put, Take}
+use Rattle.yshape.specs.declared.swapping.Change.TheVariants.{Add, Put, Take, Move}
 use Rattle.yshape.proofs.HangingLemmas.{weigh_join, weigh_around, is_itself, children_join, at_end}
 use Rattle.yshape.proofs.FrameLemmas.{same_rows}
 use Rattle.yshape.proofs.FoundLemmas.{counted, instances-cons}
-use Rattle.yshape.proofs.ChangeLemmas.{children_put, list_taken, list_put, list_moved, added, put, taken}
+use Rattle.yshape.proofs.ChangeLemmas.{children_put, list_taken, list_put, list_moved, added, put, taken, moved}
 
 -- ---- a node that is put into a row parts it
 
@@ -70,7 +70,7 @@ up_to end rest m under x b sorted = sorted.0
 up_to (node y c after) rest m under x b sorted =
     let first = sorted.0 in let later = up_to after rest m under y c sorted.2 in omega (arith, first, later)
 
-none_less : (s : SchemaId) (f : Branches) (k : ℕ) → s.0 ≤ k → (b : Branches) (x : Numbered) → x.schema.0 ≡ k → IsSorted (tree_of (node x b f)) → rows.first_place s (children_of f) ≡ 0
+pub none_less : (s : SchemaId) (f : Branches) (k : ℕ) → s.0 ≤ k → (b : Branches) (x : Numbered) → x.schema.0 ≡ k → IsSorted (tree_of (node x b f)) → rows.first_place s (children_of f) ≡ 0
 none_less s end k less b x is sorted = refl
 none_less s (node y c after) k less b x is sorted = by (ltb y.schema.0 s.0) refl
   where
@@ -139,18 +139,37 @@ same_place first rest m under sorted =
     omega (arith, place, least))
     ∙ put_between first rest m under
 
+-- a node that was put anywhere among the others is brought back to its place
+brought_back : (at : ℕ) (first rest : Branches) (m : Numbered) (under : Branches) → IsSorted (tree_of (join first (node m under rest))) → times m.id.0 (join first rest) ≡ 0
+    → rows.moved (child_of m) (instances_in (tree_of first) m.schema.0) (children_of (put_at at m under (join first rest)))
+    ≡ children_of (join first (node m under rest))
+brought_back at first rest m under sorted none =
+    let place = instances_in (tree_of first) m.schema.0 in
+    let p = parted at m under (join first rest) in
+    ap (λ f. rows.moved (child_of m) place (children_of f)) p.now
+    ∙ (list_moved p.before p.after m under (none_first m.id.0 p.before p.after (ap (times m.id.0) (sym p.was) ∙ none)) place
+    ∙ (ap (λ f. children_of (with_node_at place m under f)) (sym p.was)
+    ∙ ap children_of (same_place first rest m under sorted)))
+
 pub taken_back : (first rest : Branches) (m : Numbered) (under : Branches) → IsSorted (tree_of (join first (node m under rest))) → times m.id.0 (join first rest) ≡ 0
     → times m.id.0 first ≡ 0
     → rows.moved (child_of m) (instances_in (tree_of first) m.schema.0) (rows.added (child_of m) (rows.taken (child_of m) (children_of (join first (node m under rest)))))
     ≡ children_of (join first (node m under rest))
 taken_back first rest m under sorted none before =
     let place = instances_in (tree_of first) m.schema.0 in
-    let p = parted (rows.end_place m.schema (children_of (join first rest))) m under (join first rest) in
+    let at = rows.end_place m.schema (children_of (join first rest)) in
     ap (λ cs. rows.moved (child_of m) place (rows.added (child_of m) cs)) (list_taken first rest m under before)
-    ∙ (ap (rows.moved (child_of m) place) (sym (children_put (rows.end_place m.schema (children_of (join first rest))) m under (join first rest)) ∙ ap children_of p.now)
-    ∙ (list_moved p.before p.after m under (none_first m.id.0 p.before p.after (ap (times m.id.0) (sym p.was) ∙ none)) place
-    ∙ (ap (λ f. children_of (with_node_at place m under f)) (sym p.was)
-    ∙ ap children_of (same_place first rest m under sorted))))
+    ∙ (ap (rows.moved (child_of m) place) (sym (children_put at m under (join first rest)))
+    ∙ brought_back at first rest m under sorted none)
+
+pub moved_back : (to : ℕ) (first rest : Branches) (m : Numbered) (under : Branches) → IsSorted (tree_of (join first (node m under rest))) → times m.id.0 (join first rest) ≡ 0
+    → times m.id.0 first ≡ 0
+    → rows.moved (child_of m) (instances_in (tree_of first) m.schema.0) (rows.moved (child_of m) to (children_of (join first (node m under rest))))
+    ≡ children_of (join first (node m under rest))
+moved_back to first rest m under sorted none before =
+    let at = rows.first_place m.schema (children_of (join first rest)) + min to (length (rows.of_schema m.schema (children_of (join first rest)))) in
+    ap (rows.moved (child_of m) (instances_in (tree_of first) m.schema.0)) (list_moved first rest m under before to)
+    ∙ brought_back at first rest m under sorted none
 
 -- ---- a change is the definition's, and is undone
 
@@ -199,6 +218,15 @@ module _ (above : Row) (way : Way) (at : end_of Top way ≡ above) where
       (subst (λ (h : Branches). Keeps before (around way h) (end_of Top way) loose) t.was (keeps_there before f loose keeps)))
       (subst (λ (c : Child). ChangesRow (end_of Top way) (option_map (with_children (rows.taken c))) before after) (sym (child_is t.from schema old t.is_schema t.is_old))
       (changes_there (rows.taken (schema, old)) before after changes)))))
+  made before after f loose g left schema (Move id from to) m keeps changes =
+      keeps_here after g left
+      (subst (λ (l : Branches). Keeps after (around way g) (end_of Top way) l) (sym m.none_left)
+      (subst (λ (h : Branches). Keeps after (around way h) (end_of Top way) end) (sym m.row)
+      (moved before after way m.before m.after m.label m.under to end
+      (subst (λ (l : Branches). Keeps before (around way (join m.before (node m.label m.under m.after))) (end_of Top way) l) m.none
+      (subst (λ (h : Branches). Keeps before (around way h) (end_of Top way) loose) m.was (keeps_there before f loose keeps)))
+      (subst (λ (c : Child). ChangesRow (end_of Top way) (option_map (with_children (rows.moved c to))) before after) (sym (child_is m.label schema id m.is_schema m.is_id))
+      (changes_there (rows.moved (schema, id) to) before after changes)))))
 
   -- how often a number stands in the row and beside the tree
   once_there : (nodes : Nodes) (f loose : Branches) → Keeps nodes (around way f) above loose → (k : ℕ) → times k f + times k loose ≤ 1
@@ -249,6 +277,20 @@ module _ (above : Row) (way : Way) (at : end_of Top way ≡ above) where
       (child_is t.from schema old t.is_schema t.is_old)
       (subst (λ (k : ℕ). rows.moved (child_of t.from) k (rows.added (child_of t.from) (rows.taken (child_of t.from) (children_of (join t.before (node t.from t.under t.after))))) ≡ children_of (join t.before (node t.from t.under t.after)))
       place_is back))
+  restored nodes f loose g left schema (Move id from to) m sorted keeps =
+      let parts = weigh_join (is_number m.label.id.0) m.before (node m.label m.under m.after) in
+      let both = weigh_join (is_number m.label.id.0) m.before m.after in
+      let was = ap (times m.label.id.0) m.was in
+      let most = once_there nodes f loose keeps m.label.id.0 in
+      let here = is_itself m.label in
+      let back = moved_back to m.before m.after m.label m.under (subst (λ (h : Branches). IsSorted (tree_of h)) m.was sorted)
+      (omega (arith, parts, both, was, most, here)) (omega (arith, parts, was, most, here)) in
+      let place_is : instances_in (tree_of m.before) m.label.schema.0 ≡ from = ap (λ (s : SchemaId). instances_in (tree_of m.before) s.0) m.is_schema ∙ m.is_from in
+      subst (λ (cs : List Child). rows.moved (schema, id) from (rows.moved (schema, id) to cs) ≡ cs) (ap children_of (sym m.was))
+      (subst (λ (c : Child). rows.moved c from (rows.moved c to (children_of (join m.before (node m.label m.under m.after)))) ≡ children_of (join m.before (node m.label m.under m.after)))
+      (child_is m.label schema id m.is_schema m.is_id)
+      (subst (λ (k : ℕ). rows.moved (child_of m.label) k (rows.moved (child_of m.label) to (children_of (join m.before (node m.label m.under m.after)))) ≡ children_of (join m.before (node m.label m.under m.after)))
+      place_is back))
 
   module _ (f loose g left : Branches) (schema : SchemaId) (change : Change) (swaps : Swaps schema change f loose g left) (before changed read : Nodes)
       (keeps : Keeps before (around way f) above loose)
@@ -295,6 +337,7 @@ module _ (above : Row) (way : Way) (at : end_of Top way ≡ above) where
         by : (c : Change) → Swaps schema c f loose g left → ChangesRow above (option_map (with_children (swapped schema c))) before changed → makes_room c (has_room read above)
         by (Add new) a changes = tt
         by (Put old new) p changes = tt
+        by (Move id from to) m changes = tt
         by (Take old place) t changes =
             subst (λ (o : Option Held). IfSome o (λ held. length held.shape.children < held.room)) (sym (reads.held above ∙ changes.changed)) (shorter (held_at before above) (listed before f loose keeps) room)
           where

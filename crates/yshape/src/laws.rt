@@ -1,11 +1,11 @@
 //! Laws of what hangs in a store.
 
-ghost use Rattle.std.specs.Prelude.{◌≡◌, ◌<◌, ◌++◌, ◌∷◌, [], length, slice_get, ℕ, List, Option, Some, None, option_map};
+ghost use Rattle.std.specs.Prelude.{◌≡◌, ◌<◌, ◌-◌, ◌++◌, ◌∷◌, [], length, slice_get, ℕ, List, Option, Some, None, option_map};
 ghost use Rattle.yspec.specs.Forest.{end, node, join};
 ghost use Rattle.yspec.specs.document.Document.{Stored, Tree, Step, instances_in};
 ghost use Rattle.yspec.specs.document.Sorting.{IsSorted};
 ghost use Rattle.yspec.specs.edit.Edit.{edit_at, instance_index};
-ghost use Rattle.yspec.specs.edit.Editing.{with_branch, with_instead, without};
+ghost use Rattle.yspec.specs.edit.Editing.{with_branch, with_instead, with_moved, without};
 ghost use Rattle.ymodel.specs.declared.node.SchemaId.{SchemaId};
 ghost use Rattle.ystore.specs.Rows.{added, put, taken, moved, of_schema};
 ghost use Rattle.ystore.specs.Held.{Label, Told, new_held, with_children, with_told, with_total, with_room};
@@ -82,7 +82,7 @@ pub fn nodes_beside_trees()
 {}
 
 /// What a change of a numbered row is to documents: a branch behind those of its schema node and earlier ones, or at a place
-/// of a row.
+/// of a row; or a node of a row at another place among those of its schema node.
 pub fn changed_documents()
     ensures added { (n : Numbered) (below f : Branches) → tree_of (with_node n below f)
         ≡ with_branch (record { label = stored_of n; below = tree_of below }) (tree_of f) }
@@ -94,6 +94,11 @@ pub fn changed_documents()
     ensures taken { (step : Step) (first rest : Branches) (m : Numbered) (under : Branches)
         → m.schema.0 ≡ step.schema_number → instances_in (tree_of first) step.schema_number ≡ instance_index step
         → without step (tree_of (join first (node m under rest))) ≡ tree_of (join first rest) }
+    ensures moved { (step : Step) (position : ℕ) (first rest : Branches) (m : Numbered) (under : Branches)
+        → IsSorted (tree_of (join first (node m under rest)))
+        → m.schema.0 ≡ step.schema_number → instances_in (tree_of first) step.schema_number ≡ instance_index step
+        → with_moved step position (tree_of (join first (node m under rest)))
+        ≡ tree_of (with_node_at (position - 1) m under (join first rest)) }
     ensures along { (steps : List Step) (way : Way) (change : Tree → Tree) (f g : Branches) → Goes steps way
         → change (tree_of f) ≡ tree_of g → edit_at steps change (tree_of (around way f)) ≡ tree_of (around way g) }
 {}

@@ -19,11 +19,25 @@ use ystore::{Counted, NodeId, Row};
 #[derive(Clone, Copy, Debug)]
 pub enum Change {
     /// A node is added behind those of its schema node.
-    Add { new: NodeId },
+    Add {
+        new: NodeId,
+    },
     /// One is put in the place of another.
-    Put { old: NodeId, new: NodeId },
+    Put {
+        old: NodeId,
+        new: NodeId,
+    },
     /// One is taken out, which has so many of its schema node before it.
-    Take { old: NodeId, place: usize },
+    Take {
+        old: NodeId,
+        place: usize,
+    },
+    /// One is moved, from a place among those of its schema node to another.
+    Move {
+        node: NodeId,
+        from: usize,
+        to: usize,
+    },
 }
 
 /// A change of a row by one branch, of nodes of one schema node.
@@ -59,6 +73,7 @@ impl Swap {
             Change::Add { new } => counted.add_child(self.above, self.schema, new),
             Change::Put { old, new } => counted.put_child(self.above, self.schema, old, new),
             Change::Take { old, .. } => counted.take_child(self.above, self.schema, old),
+            Change::Move { node, to, .. } => counted.move_child(self.above, self.schema, node, to),
         }
     }
 
@@ -75,6 +90,9 @@ impl Swap {
             Change::Take { old, place } => {
                 counted.add_child(self.above, self.schema, old);
                 counted.move_child(self.above, self.schema, old, place);
+            }
+            Change::Move { node, from, .. } => {
+                counted.move_child(self.above, self.schema, node, from)
             }
         }
     }

@@ -21,7 +21,7 @@ use Rattle.yshape.specs.Parts.{OnlyReads}
 use Rattle.yshape.specs.Swaps.{Swaps}
 use Rattle.yshape.specs.Ways.{Way, around, end_of}
 use Rattle.yshape.specs.declared.swapping.Change.{Change}
-use Rattle.yshape.specs.declared.swapping.Change.TheVariants.{Add, Put, Take}
+use Rattle.yshape.specs.declared.swapping.Change.TheVariants.{Add, Put, Take, Move}
 use Rattle.yshape.proofs.HangingLemmas.{weigh_join, weigh_around, outside, is_itself}
 use Rattle.yshape.proofs.FrameLemmas.{same_rows, keeps_same}
 use Rattle.yshape.proofs.RemoveLemmas.{others_stay, given_back, count_of, count_ids}
@@ -31,6 +31,7 @@ use Rattle.ytell.proofs.LawLemmas.{children_faults, held_faults, faults_on, clim
 use Rattle.ytell.proofs.TotalLemmas.{are_same, totals_same, below_outside}
 use Rattle.ytold.specs.Changed.{gone_of, total_of}
 use Rattle.ytold.proofs.AccountLemmas.{top_not, below_same}
+use Rattle.ytold.proofs.PlacedLemmas.{placed}
 use Rattle.ytold.proofs.PlanLemmas.{keeps_read}
 use Rattle.ytold.proofs.RowLemmas.{above_in, above_there}
 
@@ -187,6 +188,11 @@ module _ (way : Way) (f loose g left : Branches) (of : SchemaId) (change : Chang
             subst (λ (h : Branches). Totals climbed (around way h)) (sym t.row)
             (taken read climbed way t.before t.after t.from t.under less (subst (λ (h : Branches). Totals read (around way h)) t.was totals_read)
             (subst (λ (h : Branches). IsTree read (around way h)) t.was tree_read) (gone_total t.from old t.is_old (ap gone_of e)) climbs_read)
+        by (Move id from to) m e =
+            subst (λ (h : Branches). Totals climbed (around way h)) (sym m.row)
+            (placed read climbed way m.before m.after m.label m.under to (subst (λ (h : Branches). Totals read (around way h)) m.was totals_read)
+            (subst (λ (h : Branches). IsTree read (around way h)) m.was tree_read)
+            (subst (λ (l : ℕ). Climbs way 0 l read climbed) (is_less ∙ ap (λ (h : Change). total_of start (gone_of h)) e) climbs_read))
 
     tree_climbed : IsTree climbed (around way g)
     tree_climbed = tree_kept climbed (around way g) above left (keeps_same made climbed (faults_shapes made climbed only) (around way g) above left keeps_then)

@@ -1,6 +1,6 @@
 -- The keys of a document whose row at the end of a way is changed: the nodes that go and those on the way leave theirs, and
 -- then those that come and those on the way join theirs.
-use Rattle.std.proofs.Common.{◌≡◌, ℕ, zero, suc, ◌+◌, ◌<◌, ◌≤◌, Bool, true, false, List, [], ◌∷◌, ◌++◌, Option, Some, None, refl, sym, ap, ap₂, ◌∙◌, arith, subst, cond}
+use Rattle.std.proofs.Common.{◌≡◌, ℕ, zero, suc, ◌+◌, ◌<◌, ◌≤◌, Bool, true, false, List, [], ◌∷◌, ◌++◌, length, min, Option, Some, None, refl, sym, ap, ap₂, ◌∙◌, arith, subst, cond}
 use Rattle.std.specs.Option.{option_or}
 use Rattle.std.specs.List.{flat_map}
 use Rattle.yspec.specs.Forest.{end, node, join}
@@ -14,7 +14,7 @@ use Rattle.yshape.specs.Changes.{put_at}
 use Rattle.yshape.specs.Swaps.{Swaps}
 use Rattle.yshape.specs.Ways.{Way, around, end_of}
 use Rattle.yshape.specs.declared.swapping.Change.{Change}
-use Rattle.yshape.specs.declared.swapping.Change.TheVariants.{Add, Put, Take}
+use Rattle.yshape.specs.declared.swapping.Change.TheVariants.{Add, Put, Take, Move}
 use Rattle.yshape.proofs.HangingLemmas.{weigh_join, weigh_around}
 use Rattle.yfacts.specs.Keys.{Key, key_at}
 use Rattle.ytold.specs.Assigned.{Assignment, has_at, key_in}
@@ -71,6 +71,13 @@ module _ (Q R : Row → Numbered → Branches → Type 0) (above : Row) (f loose
       (fresh.0, fresh.1, each_second R above p.before p.after others))
   each_swapped schema (Take old place) t =
       subst (λ (h : Branches). Each R above h) (sym t.row) (without t.before t.from t.under t.after t.was t.goes)
+  each_swapped schema (Move id from to) m =
+      let whole = join m.before m.after in
+      let same = subst (λ (h : Branches). Each R above h) m.was (each_other Q R above f (λ r n b more. so r n b more (ap (times n.id.0) m.none_left)) all) in
+      let there = each_second R above m.before (node m.label m.under m.after) same in
+      subst (λ (h : Branches). Each R above h) (sym m.row)
+      (each_put R above (rows.first_place m.label.schema (children_of whole) + min to (length (rows.of_schema m.label.schema (children_of whole)))) m.label m.under whole there.0 there.1
+      (each_join R above m.before m.after (each_first R above m.before (node m.label m.under m.after) same) there.2))
 
 -- ---- keys
 

@@ -19,6 +19,7 @@ pub mod KeyLemmas
 pub mod NarrowLemmas
 pub mod NewsLemmas
 pub mod OwnKeptLemmas
+pub mod PlacedLemmas
 pub mod PlanLemmas
 pub mod ReadLemmas
 pub mod RowLemmas

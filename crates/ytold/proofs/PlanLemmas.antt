@@ -26,7 +26,7 @@ use Rattle.ytold.specs.Plans.{IsReady, row_schema}
 use Rattle.ytold.specs.declared.account.Account.{Account}
 use Rattle.yshape.specs.Swaps.{Swaps}
 use Rattle.yshape.specs.declared.swapping.Change.{Change}
-use Rattle.yshape.specs.declared.swapping.Change.TheVariants.{Add, Put, Take}
+use Rattle.yshape.specs.declared.swapping.Change.TheVariants.{Add, Put, Take, Move}
 use Rattle.ymodel.specs.declared.node.SchemaId.{SchemaId}
 use Rattle.yfacts.specs.Given.{given_view}
 use Rattle.ytold.specs.Standing.{Standing, keys_held}
@@ -120,3 +120,4 @@ left_stands nodes above f loose g left schema (Put old id) p stands =
 left_stands nodes above f loose g left schema (Take old place) t stands =
     let second = stands_second nodes above t.before (node t.from t.under t.after) (subst (λ (h : Branches). Stands nodes above h) t.was stands) in
     subst (λ (h : Branches). Stands nodes above h) (sym t.goes) (second.0, second.1, tt)
+left_stands nodes above f loose g left schema (Move id from to) m stands = subst (λ (h : Branches). Stands nodes above h) (sym m.none_left) tt

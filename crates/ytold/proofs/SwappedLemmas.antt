@@ -1,5 +1,5 @@
 -- Which nodes stand in a row that is changed by one branch, and what goes.
-use Rattle.std.proofs.Common.{◌≡◌, ℕ, ◌+◌, ◌≤◌, Bool, true, false, List, [], ◌∷◌, refl, sym, ap, arith, subst, cond}
+use Rattle.std.proofs.Common.{◌≡◌, ℕ, ◌+◌, ◌≤◌, Bool, true, false, List, [], ◌∷◌, length, min, refl, sym, ap, arith, subst, cond}
 use Rattle.std.specs.List.{flat_map}
 use Rattle.yspec.specs.Forest.{end, node, join, size, weigh}
 use Rattle.yspec.specs.schema.Schema.{Schema}
@@ -7,10 +7,11 @@ use Rattle.ymodel.specs.declared.node.SchemaId.{SchemaId}
 use Rattle.ystore.specs.Rows as rows
 use Rattle.ystore.specs.declared.row.Row.{Row}
 use Rattle.yshape.specs.Hanging.{Numbered, Branches, children_of, is_number, times}
+use Rattle.yshape.specs.Changes.{with_node_at}
 use Rattle.yshape.specs.Swaps.{Swaps}
 use Rattle.yshape.specs.Ways.{Way, around}
 use Rattle.yshape.specs.declared.swapping.Change.{Change}
-use Rattle.yshape.specs.declared.swapping.Change.TheVariants.{Add, Put, Take}
+use Rattle.yshape.specs.declared.swapping.Change.TheVariants.{Add, Put, Take, Move}
 use Rattle.yshape.proofs.HangingLemmas.{size_weigh, weigh_around, weigh_join, weigh_put}
 use Rattle.yplay.specs.Absences.{Default}
 use Rattle.yfacts.specs.Given.{is_referred, own_values, referred}
@@ -19,6 +20,16 @@ use Rattle.ytold.specs.Standing.{Standing, Every, values_given}
 use Rattle.ytold.proofs.EachLemmas.{each_second, every_join}
 
 -- ---- sums
+
+-- a row in which a node is put in at another place
+pub weigh_moved : (w : Numbered → ℕ) (to : ℕ) (before : Branches) (label : Numbered) (under after : Branches)
+    → weigh w (with_node_at to label under (join before after)) ≡ weigh w (join before (node label under after))
+weigh_moved w to before label under after =
+    let whole = join before after in
+    let put = weigh_put w (rows.first_place label.schema (children_of whole) + min to (length (rows.of_schema label.schema (children_of whole)))) label under whole in
+    let both = weigh_join w before after in
+    let parts = weigh_join w before (node label under after) in
+    omega (arith, put, both, parts)
 
 pub weigh_swapped : (w : Numbered → ℕ) (schema : SchemaId) (change : Change) (f loose g left : Branches) → Swaps schema change f loose g left
     → weigh w g + weigh w left ≡ weigh w f + weigh w loose
@@ -44,6 +55,13 @@ weigh_swapped w schema (Take old place) f loose g left t =
     let first = weigh_join w t.before t.after in
     let second = weigh_join w t.before (node t.from t.under t.after) in
     omega (arith, row, was, goes, none, first, second)
+weigh_swapped w schema (Move id from to) f loose g left m =
+    let row = ap (weigh w) m.row in
+    let was = ap (weigh w) m.was in
+    let none = ap (weigh w) m.none in
+    let none_left = ap (weigh w) m.none_left in
+    let same = weigh_moved w to m.before m.label m.under m.after in
+    omega (arith, row, was, none, none_left, same)
 
 -- what goes stood in the row
 pub weigh_gone : (w : Numbered → ℕ) (schema : SchemaId) (change : Change) (f loose g left : Branches) → Swaps schema change f loose g left → weigh w left ≤ weigh w f
@@ -58,6 +76,7 @@ weigh_gone w schema (Take old place) f loose g left t =
     let goes = ap (weigh w) t.goes in
     let second = weigh_join w t.before (node t.from t.under t.after) in
     omega (arith, was, goes, second)
+weigh_gone w schema (Move id from to) f loose g left m = let none = ap (weigh w) m.none_left in omega (arith, none)
 
 -- numbers
 pub times_swapped : (k : ℕ) (schema : SchemaId) (change : Change) (f loose g left : Branches) → Swaps schema change f loose g left
@@ -88,6 +107,7 @@ module _ (Q : Row → Numbered → Branches → Type 0) (above : Row) where
   each_gone schema (Add id) f loose g left a all = subst (λ (h : Branches). Each Q above h) (sym a.none) tt
   each_gone schema (Put old id) f loose g left p all = one_gone p.before p.from p.under p.after f left p.was p.goes all
   each_gone schema (Take old place) f loose g left t all = one_gone t.before t.from t.under t.after f left t.was t.goes all
+  each_gone schema (Move id from to) f loose g left m all = subst (λ (h : Branches). Each Q above h) (sym m.none_left) tt
 
 -- ---- values
 

@@ -1,5 +1,5 @@
 -- What is in play of a row where a branch comes or goes: it changes at one child of the schema row alone.
-use Rattle.std.proofs.Common.{◌≡◌, ℕ, zero, suc, ◌+◌, Bool, true, false, cond, eqb, eqb-true, eq-eqb, List, [], ◌∷◌, ◌++◌, length, Option, Some, None, refl, sym, ap, ◌∙◌, arith}
+use Rattle.std.proofs.Common.{◌≡◌, ℕ, zero, suc, ◌+◌, Bool, true, false, cond, eqb, eqb-true, eq-eqb, List, [], ◌∷◌, ◌++◌, length, min, Option, Some, None, refl, sym, ap, ◌∙◌, arith}
 use Rattle.std.specs.Prelude.{count_by, option_map}
 use Rattle.std.specs.Option.{option_map_or}
 use Rattle.std.proofs.lemmas.Bool.{false≢true}
@@ -20,7 +20,7 @@ use Rattle.yshape.specs.Changes.{put_at}
 use Rattle.yshape.specs.Swaps.{Swaps}
 use Rattle.yshape.specs.Ways.{Way, around, end_of}
 use Rattle.yshape.specs.declared.swapping.Change.{Change}
-use Rattle.yshape.specs.declared.swapping.Change.TheVariants.{Add, Put, Take}
+use Rattle.yshape.specs.declared.swapping.Change.TheVariants.{Add, Put, Take, Move}
 use Rattle.yshape.proofs.GrowLemmas.{tree_join}
 use Rattle.yplay.specs.Absences.{Default, defaults_in}
 use Rattle.yplay.specs.Over.{AlikeBut, child_over, number_over, told_instead}
@@ -100,6 +100,15 @@ module _ (m : ℕ) where
       let third = there_first t.from t.under t.after in
       let none = other_node of t.from t.is_schema other in
       omega (arith, was, now, first, second, third, none)
+  there_swapped of (Move id from to) f loose g left m other =
+      let whole = join m.before m.after in
+      let was = ap there m.was in
+      let now = ap there m.row in
+      let put = there_put (rows.first_place m.label.schema (children_of whole) + min to (length (rows.of_schema m.label.schema (children_of whole)))) m.label m.under whole in
+      let first = there_joined m.before (node m.label m.under m.after) in
+      let second = there_joined m.before m.after in
+      let third = there_first m.label m.under m.after in
+      omega (arith, was, now, put, first, second, third)
 
 -- ---- what is in play
 

@@ -1,5 +1,5 @@
 -- How many instances of a schema node have a value in a document whose row at the end of a way is changed.
-use Rattle.std.proofs.Common.{◌≡◌, ℕ, zero, suc, ◌+◌, ◌≤◌, true, List, [], ◌∷◌, ◌++◌, Option, Some, None, refl, sym, ap, ◌∙◌, arith, cond, eqb}
+use Rattle.std.proofs.Common.{◌≡◌, ℕ, zero, suc, ◌+◌, ◌≤◌, true, List, [], ◌∷◌, ◌++◌, length, min, Option, Some, None, refl, sym, ap, ◌∙◌, arith, cond, eqb}
 use Rattle.std.specs.Prelude.{count_by}
 use Rattle.std.specs.List.{flat_map}
 use Rattle.std.proofs.lemmas.List.Sums.{sum_by-append}
@@ -17,7 +17,7 @@ use Rattle.yshape.specs.Changes.{put_at}
 use Rattle.yshape.specs.Swaps.{Swaps}
 use Rattle.yshape.specs.Ways.{Way, around, end_of}
 use Rattle.yshape.specs.declared.swapping.Change.{Change}
-use Rattle.yshape.specs.declared.swapping.Change.TheVariants.{Add, Put, Take}
+use Rattle.yshape.specs.declared.swapping.Change.TheVariants.{Add, Put, Take, Move}
 use Rattle.yshape.proofs.GrowLemmas.{tree_join}
 use Rattle.yplay.specs.Absences.{Default, is_default}
 use Rattle.yplay.specs.Over.{AlikeBut}
@@ -66,6 +66,16 @@ module _ (w : Stored → Tree → ℕ) where
       let first = sum_joined t.before t.after in
       let second = sum_joined t.before (node t.from t.under t.after) in
       omega (arith, row, was, goes, none, first, second)
+  sum_swapped schema (Move id from to) f loose g left m =
+      let whole = join m.before m.after in
+      let row = ap (λ h. weigh_nodes w (tree_of h)) m.row in
+      let was = ap (λ h. weigh_nodes w (tree_of h)) m.was in
+      let none = ap (λ h. weigh_nodes w (tree_of h)) m.none in
+      let none_left = ap (λ h. weigh_nodes w (tree_of h)) m.none_left in
+      let put = sum_put (rows.first_place m.label.schema (children_of whole) + min to (length (rows.of_schema m.label.schema (children_of whole)))) m.label m.under whole in
+      let first = sum_joined m.before m.after in
+      let second = sum_joined m.before (node m.label m.under m.after) in
+      omega (arith, row, was, none, none_left, put, first, second)
 
 -- ---- what is given
 

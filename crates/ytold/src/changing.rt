@@ -54,7 +54,7 @@ fn total_of_gone(counted: &mut Counted<'_>, change: Change) -> usize
     ensures same_reference { lent counted.new ≡ lent counted.old }
 {
     match change {
-        Change::Add { .. } => 0,
+        Change::Add { .. } | Change::Move { .. } => 0,
         Change::Put { old, .. } | Change::Take { old, .. } => counted.total(Row::Below(old)),
     }
 }

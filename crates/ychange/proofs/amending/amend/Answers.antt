@@ -15,7 +15,7 @@ use Rattle.yspec.proofs.EditProofs.AnswerLemmas.{If}
 use Rattle.yspec.proofs.EditProofs.FittingEditLemmas.{edit_fits}
 use Rattle.ymodel.proofs.CallerLemmas.{numbered}
 use Rattle.yreach.specs.Parts.{exchange_of}
-use Rattle.ychange.specs.Reads.{created_parts, parts_reads, removed_parts, replaced_parts}
+use Rattle.ychange.specs.Reads.{created_parts, moved_parts, parts_reads, removed_parts, replaced_parts}
 use Rattle.ychange.proofs.ReadLemmas.{if_ok, refused_within, spent_place, spent_refused, within_more}
 use Rattle.ychange.proofs.amending.amend.Goals as goal
 
@@ -144,3 +144,45 @@ returns-in-Err-place_of-clause-reads c = λ tree holds sorted fits.
 pub returns-in-Err-place_of-2-clause-reads : goal.returns-in-Err-place_of-2-clause-reads
 returns-in-Err-place_of-2-clause-reads c = λ tree holds sorted fits.
     refused_within (Unit {0}) c.in-Err-place_of-2.fault _ (store_of c.args.counted.now) (store_of c.place_of-in-Remove.new.counted) (spent_refused _ _ _ _ c.in-Err-place_of-2.ensures.reads)
+
+pub returns-in-Ok-place_to_move-clause-amends : goal.returns-in-Ok-place_to_move-clause-amends
+unfolding applied
+returns-in-Ok-place_to_move-clause-amends c = λ tree holds sorted.
+    let s = schema_view.view c.args.schema.now in
+    let after = store_of c.move_node.new.counted in
+    let placed = c.in-Ok-place_to_move.ensures.place tree holds sorted in
+    subst (λ e. Amends s tree (applied s tree (edit_view e)) after c.move_node.result) (sym c.in-Move.is)
+    (subst (λ a. Amends s tree a after c.move_node.result) (sym (ap (λ a. a >>= spec.moved s tree c.in-Move.position) placed.3))
+    (c.move_node.ensures.amends tree placed.0 placed.1 placed.2))
+
+pub returns-in-Err-place_to_move-clause-amends : goal.returns-in-Err-place_to_move-clause-amends
+unfolding applied
+returns-in-Err-place_to_move-clause-amends c = λ tree holds sorted.
+    let s = schema_view.view c.args.schema.now in
+    let after = store_of c.place_to_move.new.counted in
+    let position = c.in-Move.position in
+    subst (λ e. Amends {X = Unit {0}} s tree (applied s tree (edit_view e)) after (Err c.in-Err-place_to_move.fault)) (sym c.in-Move.is)
+    (amends_unplaced (Unit {0}) s after tree (spec.target_to_move s tree (path_view c.in-Move.path) position) (spec.moved s tree position) c.in-Err-place_to_move.fault (c.in-Err-place_to_move.ensures.place tree holds sorted)
+    (holds_read s (store_of c.args.counted.now) after tree c.in-Err-place_to_move.ensures.kept holds))
+
+pub move_node-requires-clause-at : goal.move_node-requires-clause-at
+move_node-requires-clause-at c =
+    somewhere_placed (schema_view.view c.args.schema.now) _ c.requires.tree _ c.in-Ok-place_to_move.place (c.in-Ok-place_to_move.ensures.place c.requires.tree c.requires.holds c.requires.sorted)
+
+pub returns-in-Ok-place_to_move-clause-reads : goal.returns-in-Ok-place_to_move-clause-reads
+unfolding applied exchange_of
+returns-in-Ok-place_to_move-clause-reads c = λ tree holds sorted fits.
+    let s = schema_view.view c.args.schema.now in
+    let position = c.in-Move.position in
+    let placed = c.in-Ok-place_to_move.ensures.place tree holds sorted in
+    let t = target_at s placed.0 placed.1 c.in-Ok-place_to_move.place.last in
+    let given = subst (If (Fits s)) (ap (λ a. a >>= spec.moved s tree position) placed.3)
+    (subst (λ e. If (Fits s) (applied s tree (edit_view e))) c.in-Move.is (edit_fits s tree (edit_view c.args.edit.now) (numbered c.args.schema.now) fits)) in
+    let parts = ap (λ e. exchange_of s tree (edit_view e)) c.in-Move.is ∙ ap (λ a. a >>= moved_parts s position) placed.3 in
+    within_more c.move_node.result (4 + parts_reads s tree (moved_parts s position t)) _ (store_of c.args.counted.now) (store_of c.place_to_move.new.counted) (store_of c.move_node.new.counted)
+    (spent_place _ _ (levels s.nodes) 4 _ _ c.in-Ok-place_to_move.ensures.reads (omega arith) (sym (ap (parts_reads s tree) parts)))
+    (c.move_node.ensures.reads tree placed.0 placed.1 placed.2 fits (if_ok (Fits s) (spec.moved s tree position t) given))
+
+pub returns-in-Err-place_to_move-clause-reads : goal.returns-in-Err-place_to_move-clause-reads
+returns-in-Err-place_to_move-clause-reads c = λ tree holds sorted fits.
+    refused_within (Unit {0}) c.in-Err-place_to_move.fault _ (store_of c.args.counted.now) (store_of c.place_to_move.new.counted) (spent_refused _ _ _ _ c.in-Err-place_to_move.ensures.reads)
