@@ -57,6 +57,19 @@ remove /net:link[1]/state[1]/up => state is a container: no predicate stands beh
 remove /net:link[id='1']/state/up => 
 create /net:link {} => 
 create /net:host/server "x" => 
+move /net:link 2 => net:link is a list: write net:link[id='..'] or net:link[1].
+move /net:link[name='x'] 2 => net:link is a list: write net:link[id='..'] or net:link[1].
+move /net:note 2 => net:note is a list without keys: write net:note[1].
+move /net:host/server 2 => server is a leaf-list: write server[1].
+move /net:host[1]/server[1] 2 => net:host is a container: no predicate stands behind it.
+move /net:host 1 => only an entry of a list or leaf-list is moved.
+move /net:host[1] 1 => only an entry of a list or leaf-list is moved.
+move /net:host/name 2 => only an entry of a list or leaf-list is moved.
+move /net:link[1]/mtu 2 => only an entry of a list or leaf-list is moved.
+move /net:link/state 2 => only an entry of a list or leaf-list is moved.
+move /net:link[9]/state/up 2 => only an entry of a list or leaf-list is moved.
+move /net:link[id='1'] 2 => 
+move /net:host/server[2] 1 => 
 "#;
 
 #[test]
@@ -73,6 +86,7 @@ create /net:host [ => [ isn't JSON.
 create /net:host/name "a => "a isn't JSON.
 create /net:host/name xxxxxxxxxxxxxxxxxxxxxxxxxxxxxxxxxxxxxxxxxxxxxxxxxxxxxxxxxxxxxxxxxxxxxxxxxxxxxxxxxxxxxxxxxxxxxxxxxxxxx => xxxxxxxxxxxxxxxxxxxxxxxxxxxxxxxxxxxxxxxxxxxxxxxxxxxxxxxxxxxxxxxxxxxxxxxxxxxxxxxxxxxxxxxxxxxxxxxxxxxx .. isn't JSON; a text stands in double quotes.
 remove /net:host/name => 
+move /net:host/server[1] 2 => 
 "#;
 
 #[test]
@@ -91,6 +105,7 @@ create /net:host [] => an array stands where an object is due.
 create /net:host/name ["a"] => an array stands where a leaf's value is due.
 create /net:host {"server":"a"} => a text stands where an array is due.
 create /net:link {"id":1,"state":[]} => an array stands where an object is due.
+move /net:link[1] 2 => 
 "#;
 
 #[test]
@@ -99,13 +114,13 @@ fn values_explained(rt: HostRuntime) {
 }
 
 const SPELLINGS: &str =
-    r#"add /net:host {} => no edit is called "add": write create, replace or remove.
+    r#"add /net:host {} => no edit is called "add": write create, replace, remove or move.
 creat /net:host {} => no edit is called "creat"; near it: create.
 Remove /net:host => no edit is called "Remove"; near it: remove.
-delete /net:host => no edit is called "delete": write create, replace or remove.
- remove /net:host => a line begins with create, replace or remove.
-/net:host => no edit is called "/net:host": write create, replace or remove.
-remove/net:host => no edit is called "remove/net:host": write create, replace or remove.
+delete /net:host => no edit is called "delete": write create, replace, remove or move.
+ remove /net:host => a line begins with create, replace, remove or move.
+/net:host => no edit is called "/net:host": write create, replace, remove or move.
+remove/net:host => no edit is called "remove/net:host": write create, replace, remove or move.
 remove => a path begins with /.
 create net:host {} => a path begins with /.
 remove / => a name stands behind each / of a path.
@@ -121,6 +136,21 @@ remove /1 => "1" is no step of a path: a step is a name, and behind it perhaps [
 create /net:host => create has a value behind its path.
 replace /net:link[id='a b'] => replace has a value behind its path.
 remove /net:host {} => remove has no value behind its path.
+mov /net:link[1] 2 => no edit is called "mov"; near it: move.
+Move /net:link[1] 2 => no edit is called "Move"; near it: move.
+remov /net:link[1] => no edit is called "remov"; near it: remove.
+move => a path begins with /.
+move 2 /net:link[1] => a path begins with /.
+move /net:link[0] 2 => "net:link[0]" is no step of a path: positions count from 1.
+move /net:link[1] => move has a position behind its path.
+move /net:link[1]  => move has a position behind its path.
+move /net:link[1] 0 => move has one position behind its path, as in move PATH 2.
+move /net:link[1] 02 => move has one position behind its path, as in move PATH 2.
+move /net:link[1] -1 => move has one position behind its path, as in move PATH 2.
+move /net:link[1] [2] => move has one position behind its path, as in move PATH 2.
+move /net:link[1] 2 3 => move has one position behind its path, as in move PATH 2.
+move /net:link[1] last => move has one position behind its path, as in move PATH 2.
+move /net:link[1] /net:link[2] => move has one position behind its path, as in move PATH 2.
 "#;
 
 #[test]

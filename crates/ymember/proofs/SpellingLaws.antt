@@ -5,7 +5,7 @@ use Rattle.std.specs.List.{list_any}
 use Rattle.std.specs.Option.{option_map_or}
 use Rattle.std.specs.Str.{is_utf8}
 use Rattle.yspec.specs.text.Text.{Text, is_text, slash, space}
-use Rattle.yspec.specs.edit.EditText.{Edit, create, replace, remove, NamedStep, Path, all_or_none, behind, cut_at, done_by, edit_of, edit_with, has_line_feed, operands, parts_at, path_of, step_of}
+use Rattle.yspec.specs.edit.EditText.{Edit, create, replace, remove, move_to, NamedStep, Path, all_or_none, behind, cut_at, done_by, edit_of, edit_with, has_line_feed, operands, parts_at, path_of, position_alone, step_of}
 use Rattle.std.proofs.lemmas.Slice.Eq.{bytes_eq-Decides}
 use Rattle.yspec.proofs.LiteralLemmas.{yspec_on_literals}
 use Rattle.yhint.specs.Near.{nearest}
@@ -37,32 +37,51 @@ behind_text [] said is = is
 behind_text (x ∷ verb) said is = tt
 
 no_value_said : (verb : Text) (path : Path) → Says (done_by verb [] path) (spec.of_value verb [])
-no_value_said verb path = by (is_text verb (codes "remove"))
+no_value_said verb path = by (is_text verb (codes "remove")) (is_text verb (codes "move"))
   where
-    by : (b : Bool) → Says (cond b (Some (remove path)) None) (cond b [] (verb ++ codes " has a value behind its path."))
-    by true = refl
-    by false = behind_text verb (codes " has a value behind its path.") tt
+    by : (removes moves : Bool) → Says (cond removes (Some (remove path)) None)
+        (cond removes [] (cond moves (codes "move has a position behind its path.") (verb ++ codes " has a value behind its path.")))
+    by true moves = refl
+    by false true = tt
+    by false false = behind_text verb (codes " has a value behind its path.") tt
 
-remove_alone : (verb : Text) → is_text verb (codes "remove") ≡ true → (is_text verb (codes "create") ≡ false) × (is_text verb (codes "replace") ≡ false)
+remove_alone : (verb : Text) → is_text verb (codes "remove") ≡ true
+    → (is_text verb (codes "create") ≡ false) × ((is_text verb (codes "replace") ≡ false) × (is_text verb (codes "move") ≡ false))
 unfolding yspec_on_literals
-remove_alone verb is = subst (λ (v : Text). (is_text v (codes "create") ≡ false) × (is_text v (codes "replace") ≡ false))
-    (sym ((bytes_eq-Decides verb (codes "remove")).0 is)) (refl, refl)
+remove_alone verb is = subst (λ (v : Text). (is_text v (codes "create") ≡ false) × ((is_text v (codes "replace") ≡ false) × (is_text v (codes "move") ≡ false)))
+    (sym ((bytes_eq-Decides verb (codes "remove")).0 is)) (refl, (refl, refl))
+
+move_alone : (verb : Text) → is_text verb (codes "move") ≡ true → (is_text verb (codes "create") ≡ false) × (is_text verb (codes "replace") ≡ false)
+unfolding yspec_on_literals
+move_alone verb is = subst (λ (v : Text). (is_text v (codes "create") ≡ false) × (is_text v (codes "replace") ≡ false))
+    (sym ((bytes_eq-Decides verb (codes "move")).0 is)) (refl, refl)
+
+position_said : (path : Path) (o : Option ℕ)
+    → Says (option_map (move_to path) o) (cond (is_some o) [] (codes "move has one position behind its path, as in move PATH 2."))
+position_said path None = tt
+position_said path (Some position) = refl
 
 some_value_said : (verb value : Text) (x : ℕ) (path : Path) → list_any (is_text verb) spec.verbs ≡ true
     → Says (done_by verb (x ∷ value) path) (spec.of_value verb (x ∷ value))
 some_value_said verb value x path known =
-    by (is_text verb (codes "create")) (is_text verb (codes "replace")) (is_text verb (codes "remove")) known (remove_alone verb)
+    by (is_text verb (codes "create")) (is_text verb (codes "replace")) (is_text verb (codes "remove")) (is_text verb (codes "move")) known
+    (remove_alone verb) (move_alone verb)
   where
-    by : (creates replaces is_remove : Bool) → (creates || (replaces || (is_remove || false))) ≡ true
-        → (is_remove ≡ true → (creates ≡ false) × (replaces ≡ false))
-        → Says (cond creates (Some (create path (x ∷ value))) (cond replaces (Some (replace path (x ∷ value))) None))
-        (cond is_remove (codes "remove has no value behind its path.") [])
-    by true replaces false one alone = refl
-    by true replaces true one alone = absurd (let no = (alone refl).0 in cc)
-    by false true false one alone = refl
-    by false true true one alone = absurd (let no = (alone refl).1 in cc)
-    by false false true one alone = tt
-    by false false false one alone = absurd cc
+    by : (creates replaces removes moves : Bool) → (creates || (replaces || (removes || (moves || false)))) ≡ true
+        → (removes ≡ true → (creates ≡ false) × ((replaces ≡ false) × (moves ≡ false))) → (moves ≡ true → (creates ≡ false) × (replaces ≡ false))
+        → Says (cond creates (Some (create path (x ∷ value)))
+        (cond replaces (Some (replace path (x ∷ value))) (cond moves (option_map (move_to path) (position_alone (x ∷ value))) None)))
+        (cond removes (codes "remove has no value behind its path.") (cond moves (spec.of_position (x ∷ value)) []))
+    by true replaces true moves one removed moved = absurd (let no = (removed refl).0 in cc)
+    by false true true moves one removed moved = absurd (let no = (removed refl).1.0 in cc)
+    by false false true true one removed moved = absurd (let no = (removed refl).1.1 in cc)
+    by false false true false one removed moved = tt
+    by true replaces false true one removed moved = absurd (let no = (moved refl).0 in cc)
+    by false true false true one removed moved = absurd (let no = (moved refl).1 in cc)
+    by false false false true one removed moved = position_said path (position_alone (x ∷ value))
+    by true replaces false false one removed moved = refl
+    by false true false false one removed moved = refl
+    by false false false false one removed moved = absurd cc
 
 value_said : (verb value : Text) (path : Path) → list_any (is_text verb) spec.verbs ≡ true → Says (done_by verb value path) (spec.of_value verb value)
 value_said verb [] path known = no_value_said verb path
@@ -105,19 +124,22 @@ operands_said verb path value known = by (behind slash path)
 -- ---- all
 
 -- no other verb does anything
-no_verb_does : (creates replaces removes : Bool) (c r d : Edit) → (creates || (replaces || (removes || false))) ≡ false
-    → (cond creates (Some c) (cond replaces (Some r) None) ≡ None) × (cond removes (Some d) None ≡ None)
-no_verb_does true replaces removes c r d is = absurd cc
-no_verb_does false true removes c r d is = absurd cc
-no_verb_does false false true c r d is = absurd cc
-no_verb_does false false false c r d is = (refl, refl)
+no_verb_does : (creates replaces removes moves : Bool) (c r d : Edit) (m : Option Edit) → (creates || (replaces || (removes || (moves || false)))) ≡ false
+    → (cond creates (Some c) (cond replaces (Some r) (cond moves m None)) ≡ None) × (cond removes (Some d) None ≡ None)
+no_verb_does true replaces removes moves c r d m is = absurd cc
+no_verb_does false true removes moves c r d m is = absurd cc
+no_verb_does false false true moves c r d m is = absurd cc
+no_verb_does false false false true c r d m is = absurd cc
+no_verb_does false false false false c r d m is = (refl, refl)
 
 other_does_nothing : (verb value : Text) (o : Option Path) → list_any (is_text verb) spec.verbs ≡ false → option_and_then (done_by verb value) o ≡ None
 other_does_nothing verb value None other = refl
-other_does_nothing verb [] (Some path) other = (no_verb_does (is_text verb (codes "create")) (is_text verb (codes "replace")) (is_text verb (codes "remove"))
-    (remove path) (remove path) (remove path) other).1
-other_does_nothing verb (x ∷ value) (Some path) other = (no_verb_does (is_text verb (codes "create")) (is_text verb (codes "replace")) (is_text verb (codes "remove"))
-    (create path (x ∷ value)) (replace path (x ∷ value)) (remove path) other).0
+other_does_nothing verb [] (Some path) other =
+    (no_verb_does (is_text verb (codes "create")) (is_text verb (codes "replace")) (is_text verb (codes "remove")) (is_text verb (codes "move"))
+    (remove path) (remove path) (remove path) None other).1
+other_does_nothing verb (x ∷ value) (Some path) other =
+    (no_verb_does (is_text verb (codes "create")) (is_text verb (codes "replace")) (is_text verb (codes "remove")) (is_text verb (codes "move"))
+    (create path (x ∷ value)) (replace path (x ∷ value)) (remove path) (option_map (move_to path) (position_alone (x ∷ value))) other).0
 
 words_said : (verb rest : Text) → Says (edit_with (verb, rest)) (spec.of_words verb rest)
 words_said verb rest = by (list_any (is_text verb) spec.verbs) refl

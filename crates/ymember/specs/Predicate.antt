@@ -4,7 +4,7 @@ use Rattle.std.specs.List.{flat_map}
 use Rattle.std.specs.Option.{option_map_or}
 use Rattle.yspec.specs.text.Text.{Text}
 use Rattle.yspec.specs.schema.Schema.{Schema, Kind, container, leaf, leaf_list, list, child_written, has_value, is_many, node_at}
-use Rattle.yspec.specs.edit.EditText.{Edit, Path, Predicate, create, replace, remove}
+use Rattle.yspec.specs.edit.EditText.{Edit, Path, Predicate, create, replace, remove, move_to}
 use Rattle.yspec.specs.edit.Editing.{fits_kind, says_nothing}
 
 -- ---- what is due behind a name
@@ -68,3 +68,4 @@ abbrev pub said_of_predicates : Schema → Edit → Text
 said_of_predicates schema (create path text) = of_predicates schema true None path
 said_of_predicates schema (replace path text) = of_predicates schema false None path
 said_of_predicates schema (remove path) = of_predicates schema false None path
+said_of_predicates schema (move_to path position) = of_predicates schema false None path

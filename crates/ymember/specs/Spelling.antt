@@ -1,28 +1,28 @@
--- What is said of a line that spells no edit (E1): of its verb, of its path, or of the value behind that.
+-- What is said of a line that spells no edit (E1): of its verb, of its path, or of the value or position behind that.
 use Rattle.std.specs.Prelude.{◌||◌, ◌++◌, not, List, [], ◌∷◌, codes, find, is_some, Option, Some, None, option_and_then, if◌then◌else◌}
 use Rattle.std.specs.List.{list_any}
 use Rattle.std.specs.Option.{option_map_or}
 use Rattle.std.specs.Str.{is_utf8}
 use Rattle.yspec.specs.text.Text.{Text, begins, double_quote, is_identifier, is_text, single_quote, slash, space}
-use Rattle.yspec.specs.edit.EditText.{behind, cut_at, equals_sign, name_and_predicate, open_bracket, operands, parts_at, step_of}
+use Rattle.yspec.specs.edit.EditText.{behind, cut_at, equals_sign, name_and_predicate, open_bracket, operands, parts_at, position_alone, step_of}
 use Rattle.yhint.specs.Line.{shown}
 use Rattle.yhint.specs.Near.{nearest}
 
 -- ---- the verb
 
 abbrev pub verbs : List Text
-verbs = codes "create" ∷ codes "replace" ∷ codes "remove" ∷ []
+verbs = codes "create" ∷ codes "replace" ∷ codes "remove" ∷ codes "move" ∷ []
 
 -- the first word of a line, and what stands behind it
 abbrev pub verb_and_rest : Text → Text × Text
 verb_and_rest line = option_map_or (λ parts. parts) (cut_at space None line) (line, [])
 
 abbrev pub other_verb : Text → Option Text → Text
-other_verb verb None = codes "no edit is called \"" ++ (shown verb ++ codes "\": write create, replace or remove.")
+other_verb verb None = codes "no edit is called \"" ++ (shown verb ++ codes "\": write create, replace, remove or move.")
 other_verb verb (Some near) = codes "no edit is called \"" ++ (shown verb ++ (codes "\"; near it: " ++ (near ++ codes ".")))
 
 abbrev pub of_verb : Text → Text
-of_verb [] = codes "a line begins with create, replace or remove."
+of_verb [] = codes "a line begins with create, replace, remove or move."
 of_verb (x ∷ verb) = other_verb (x ∷ verb) (nearest (x ∷ verb) verbs)
 
 -- ---- the path
@@ -56,17 +56,22 @@ of_no_step (x ∷ part) = other_step (x ∷ part)
 abbrev pub no_step_in : Text → Option Text
 no_step_in steps = find (λ part. not (is_some (step_of part))) (parts_at slash None steps)
 
--- ---- the value
+-- ---- the value, or the position
 
 abbrev pub of_no_value : Text → Text
-of_no_value verb = if is_text verb (codes "remove") then [] else verb ++ codes " has a value behind its path."
+of_no_value verb = if is_text verb (codes "remove") then [] else (if is_text verb (codes "move") then codes "move has a position behind its path."
+    else verb ++ codes " has a value behind its path.")
 
-abbrev pub of_some_value : Text → Text
-of_some_value verb = if is_text verb (codes "remove") then codes "remove has no value behind its path." else []
+abbrev pub of_position : Text → Text
+of_position text = if is_some (position_alone text) then [] else codes "move has one position behind its path, as in move PATH 2."
+
+abbrev pub of_some_value : Text → Text → Text
+of_some_value verb value = if is_text verb (codes "remove") then codes "remove has no value behind its path."
+    else (if is_text verb (codes "move") then of_position value else [])
 
 abbrev pub of_value : Text → Text → Text
 of_value verb [] = of_no_value verb
-of_value verb (x ∷ value) = of_some_value verb
+of_value verb (x ∷ value) = of_some_value verb (x ∷ value)
 
 -- ---- all
 

@@ -87,16 +87,23 @@ pub fn predicates()
     ensures below_an_entry { edit_under 3 (codes "create /p:host/port/speed 1")
         ≡ codes "port is a list: write port[id='..'] or port[1]." }
     ensures in_place { edit_under 3 (codes "remove /p:host/port[id='1']/speed") ≡ [] }
+    ensures of_moved_list { edit_under 3 (codes "move /p:host/port 2")
+        ≡ codes "port is a list: write port[id='..'] or port[1]." }
+    ensures of_moved_leaf { edit_under 3 (codes "move /p:host/port[1]/speed 2")
+        ≡ codes "only an entry of a list or leaf-list is moved." }
+    ensures of_moved_container { edit_under 3 (codes "move /p:host[1] 2")
+        ≡ codes "only an entry of a list or leaf-list is moved." }
+    ensures of_moved_item { edit_under 3 (codes "move /p:host/tag[1] 2") ≡ [] }
 {}
 
 /// Lines that spell no edit (E1).
 pub fn spellings()
     ensures other_verb { said_of_line (codes "add /p:host {}")
-        ≡ codes "no edit is called \"add\": write create, replace or remove." }
+        ≡ codes "no edit is called \"add\": write create, replace, remove or move." }
     ensures near_verb { said_of_line (codes "creat /p:host {}")
         ≡ codes "no edit is called \"creat\"; near it: create." }
     ensures no_verb { said_of_line (codes " remove /p:host")
-        ≡ codes "a line begins with create, replace or remove." }
+        ≡ codes "a line begins with create, replace, remove or move." }
     ensures no_path { said_of_line (codes "remove") ≡ codes "a path begins with /." }
     ensures no_slash { said_of_line (codes "remove p:host") ≡ codes "a path begins with /." }
     ensures no_name { said_of_line (codes "remove /p:host/")
@@ -114,6 +121,13 @@ pub fn spellings()
     ensures no_text { said_of_line (codes "remove /" ++ (255 ∷ []))
         ≡ codes "the line isn't UTF-8." }
     ensures right { said_of_line (codes "create /p:host {}") ≡ [] }
+    ensures moved_nowhere { said_of_line (codes "move /p:host/tag[1]")
+        ≡ codes "move has a position behind its path." }
+    ensures moved_to_zero { said_of_line (codes "move /p:host/tag[1] 0")
+        ≡ codes "move has one position behind its path, as in move PATH 2." }
+    ensures moved_to_two { said_of_line (codes "move /p:host/tag[1] 2 3")
+        ≡ codes "move has one position behind its path, as in move PATH 2." }
+    ensures moved { said_of_line (codes "move /p:host/tag[1] 2 ") ≡ [] }
 {}
 
 /// Edits whose values are no JSON (E9) or don't fit (E10), and refusals of which nothing is said.
@@ -139,4 +153,6 @@ pub fn parts()
         ≡ codes "eth0 isn't JSON; a text stands in double quotes." }
     ensures no_json { edit_under 9 (codes "create /p:host/name {") ≡ codes "{ isn't JSON." }
     ensures is_read { edit_under 8 (codes "create /p:host/name \"a\"") ≡ [] }
+    ensures moved { edit_under 10 (codes "move /p:host/tag[1] 2") ≡ [] }
+    ensures no_value { edit_under 9 (codes "move /p:host/tag[1] 2") ≡ [] }
 {}

@@ -214,7 +214,7 @@ fn said_of_part(alloc: Global, schema: &Schema, edit: &Edit) -> Result<String, A
     match edit {
         Edit::Create { path, value } => of_part(alloc, schema, path, value.as_str()),
         Edit::Replace { path, value } => of_part(alloc, schema, path, value.as_str()),
-        Edit::Remove { .. } => Ok(String::new(alloc)),
+        Edit::Remove { .. } | Edit::Move { .. } => Ok(String::new(alloc)),
     }
 }
 
@@ -224,7 +224,7 @@ fn said_of_no_json(alloc: Global, edit: &Edit) -> Result<String, AllocError>
     match edit {
         Edit::Create { value, .. } => of_no_json(alloc, value.as_str()),
         Edit::Replace { value, .. } => of_no_json(alloc, value.as_str()),
-        Edit::Remove { .. } => Ok(String::new(alloc)),
+        Edit::Remove { .. } | Edit::Move { .. } => Ok(String::new(alloc)),
     }
 }
 
@@ -235,11 +235,44 @@ fn path_in(edit: &Edit) -> &Path
         Edit::Create { path, .. } => path,
         Edit::Replace { path, .. } => path,
         Edit::Remove { path } => path,
+        Edit::Move { path, .. } => path,
+    }
+}
+
+/// Whether the last step names a list or a leaf-list.
+fn ends_in_many(schema: &Schema, path: &Path) -> bool
+    ensures { result ≡ spec.ends_in_many (view schema.now) (path_view path.now) }
+{
+    match node_below(schema, path.steps.as_slice()) {
+        Some(id) => is_many_at(schema, id),
+        None => false,
+    }
+}
+
+/// Whether an edit moves what is no entry and no item.
+fn moves_other(schema: &Schema, edit: &Edit) -> bool
+    ensures { result ≡ spec.moves_other (view schema.now) (edit_view edit.now) }
+{
+    match edit {
+        Edit::Create { .. } | Edit::Replace { .. } | Edit::Remove { .. } => false,
+        Edit::Move { path, .. } => !ends_in_many(schema, path),
+    }
+}
+
+/// Of a predicate that isn't in place, or of what can't be moved.
+fn said_of_misplaced(alloc: Global, schema: &Schema, edit: &Edit) -> Result<String, AllocError>
+    ensures { IfOk result (λ said. string_bytes said
+        ≡ spec.said_of_misplaced (view schema.now) (edit_view edit.now)) }
+{
+    if moves_other(schema, edit) {
+        String::from_str(alloc, "only an entry of a list or leaf-list is moved.")
+    } else {
+        said_of_predicates(alloc, schema, edit)
     }
 }
 
 /// What is said of an edit that is refused: of the first name of its path that isn't there, or is in the form that isn't due
-/// (E2), or behind which another predicate is due (E3); and of its value where that is no JSON (E9), or doesn't fit (E10), as
+/// (E2), or behind which another predicate is due, or that what it moves is no entry and no item (E3); and of its value where that is no JSON (E9), or doesn't fit (E10), as
 /// of a document; an empty text of all else.
 pub fn said_of_edit(
     alloc: Global,
@@ -252,7 +285,7 @@ pub fn said_of_edit(
 {
     match code {
         EditCode::E2 => said_of_path(alloc, schema, path_in(edit)),
-        EditCode::E3 => said_of_predicates(alloc, schema, edit),
+        EditCode::E3 => said_of_misplaced(alloc, schema, edit),
         EditCode::E9 => said_of_no_json(alloc, edit),
         EditCode::E10 => said_of_part(alloc, schema, edit),
         EditCode::E1

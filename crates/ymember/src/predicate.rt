@@ -216,5 +216,6 @@ pub(crate) fn said_of_predicates(
         Edit::Create { path, .. } => of_predicates(alloc, schema, true, path.steps.as_slice()),
         Edit::Replace { path, .. } => of_predicates(alloc, schema, false, path.steps.as_slice()),
         Edit::Remove { path } => of_predicates(alloc, schema, false, path.steps.as_slice()),
+        Edit::Move { path, .. } => of_predicates(alloc, schema, false, path.steps.as_slice()),
     }
 }

@@ -1,4 +1,4 @@
-//! What is said of a line that spells no edit (E1): of its verb, of its path, or of the value behind that.
+//! What is said of a line that spells no edit (E1): of its verb, of its path, or of the value or position behind that.
 
 ghost use Rattle.std.specs.Prelude.{◌≡◌, codes, IfOk, None, Some, option_map, string_bytes};
 ghost use Rattle.std.specs.List.{list_any};
@@ -9,7 +9,7 @@ ghost use Rattle.ymember.specs.Spelling as spec;
 
 use std::alloc::{AllocError, Global};
 use yhint::{nearest, shown};
-use ypath::{behind, cut, is_step, name_and_predicate, operands};
+use ypath::{behind, cut, is_step, name_and_predicate, operands, position_alone};
 use ytext::is_identifier;
 
 pub(crate) fn begins(byte: u8, text: &str) -> bool
@@ -26,13 +26,13 @@ pub(crate) fn begins(byte: u8, text: &str) -> bool
 fn is_verb(word: &str) -> bool
     ensures { result ≡ list_any (is_text word.now) spec.verbs }
 {
-    matches!(word, "create" | "replace" | "remove")
+    matches!(word, "create" | "replace" | "remove" | "move")
 }
 
 fn near_verb(word: &str) -> Option<&'static str>
     ensures { option_map (λ n. n.now) result ≡ near.nearest word.now spec.verbs }
 {
-    nearest(word, &["create", "replace", "remove"])
+    nearest(word, &["create", "replace", "remove", "move"])
 }
 
 /// The first word of a line, and what stands behind it.
@@ -64,7 +64,7 @@ fn other_verb(alloc: Global, verb: &str, near: Option<&str>) -> Result<String, A
             [
                 "no edit is called \"",
                 text.as_str(),
-                "\": write create, replace or remove.",
+                "\": write create, replace, remove or move.",
             ]
             .concat(alloc)
         }
@@ -75,7 +75,7 @@ fn of_verb(alloc: Global, verb: &str) -> Result<String, AllocError>
     ensures { IfOk result (λ text. string_bytes text ≡ spec.of_verb verb.now) }
 {
     if verb.is_empty() {
-        String::from_str(alloc, "a line begins with create, replace or remove.")
+        String::from_str(alloc, "a line begins with create, replace, remove or move.")
     } else {
         other_verb(alloc, verb, near_verb(verb))
     }
@@ -170,23 +170,41 @@ fn no_step_in(alloc: Global, steps: &str) -> Result<Option<&str>, AllocError>
     }
 }
 
-// ---- the value
+// ---- the value, or the position
 
 fn of_no_value(alloc: Global, verb: &str) -> Result<String, AllocError>
     ensures { IfOk result (λ text. string_bytes text ≡ spec.of_no_value verb.now) }
 {
     if verb == "remove" {
         Ok(String::new(alloc))
+    } else if verb == "move" {
+        String::from_str(alloc, "move has a position behind its path.")
     } else {
         [verb, " has a value behind its path."].concat(alloc)
     }
 }
 
-fn of_some_value(alloc: Global, verb: &str) -> Result<String, AllocError>
-    ensures { IfOk result (λ text. string_bytes text ≡ spec.of_some_value verb.now) }
+/// Of what is to be a position.
+fn of_position(alloc: Global, text: &str) -> Result<String, AllocError>
+    ensures { IfOk result (λ said. string_bytes said ≡ spec.of_position text.now) }
+{
+    if position_alone(text).is_some() {
+        Ok(String::new(alloc))
+    } else {
+        String::from_str(
+            alloc,
+            "move has one position behind its path, as in move PATH 2.",
+        )
+    }
+}
+
+fn of_some_value(alloc: Global, verb: &str, value: &str) -> Result<String, AllocError>
+    ensures { IfOk result (λ text. string_bytes text ≡ spec.of_some_value verb.now value.now) }
 {
     if verb == "remove" {
         String::from_str(alloc, "remove has no value behind its path.")
+    } else if verb == "move" {
+        of_position(alloc, value)
     } else {
         Ok(String::new(alloc))
     }
@@ -198,7 +216,7 @@ fn of_value(alloc: Global, verb: &str, value: &str) -> Result<String, AllocError
     if value.is_empty() {
         of_no_value(alloc, verb)
     } else {
-        of_some_value(alloc, verb)
+        of_some_value(alloc, verb, value)
     }
 }
 
@@ -249,8 +267,8 @@ fn no_text(alloc: Global) -> Result<String, AllocError>
     String::from_str(alloc, "the line isn't UTF-8.")
 }
 
-/// What is said of a line that spells no edit (E1): that it is no text, or that its verb, a step of its path or the value
-/// behind that isn't right; an empty text where all are.
+/// What is said of a line that spells no edit (E1): that it is no text, or that its verb, a step of its path, or the value
+/// or position behind that isn't right; an empty text where all are.
 pub fn said_of_line(alloc: Global, line: &[u8]) -> Result<String, AllocError>
     ensures { IfOk result (λ text. string_bytes text ≡ spec.said_of_line line.now) }
 {

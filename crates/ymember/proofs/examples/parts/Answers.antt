@@ -18,4 +18,6 @@ returns c = record {
   no_text = refl;
   no_json = refl;
   is_read = refl;
+  moved = refl;
+  no_value = refl;
 }

@@ -16,4 +16,8 @@ returns c = record {
   of_added_leaf = refl;
   below_an_entry = refl;
   in_place = refl;
+  of_moved_list = refl;
+  of_moved_leaf = refl;
+  of_moved_container = refl;
+  of_moved_item = refl;
 }

@@ -19,4 +19,8 @@ returns c = record {
   value = refl;
   no_text = refl;
   right = refl;
+  moved_nowhere = refl;
+  moved_to_zero = refl;
+  moved_to_two = refl;
+  moved = refl;
 }
