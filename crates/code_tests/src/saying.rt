@@ -88,7 +88,8 @@ fn are_found(alloc: Global, row: &str) -> Option<bool> {
     let count = count.parse::<usize>().ok()?;
     let words: Vec<&str> = words.split(' ').collect(alloc).ok()?;
     let found = explanations(alloc, &words).ok()?;
-    Some(found.len() == count && first_unknown(&words).unwrap_or("-") == unknown)
+    let first = first_unknown(alloc, &words).ok()?;
+    Some(found.len() == count && first.unwrap_or("-") == unknown)
 }
 
 #[test]
@@ -96,7 +97,9 @@ fn several(rt: HostRuntime) {
     assert!(rt; are_all(rt.alloc(), 59, "L1", "E13") == Some(true));
     let rows = "C1/1/-
 C1 V3 C1/3/-
-C1 V12 V13 x/2/V13";
+C1 V12 V13 x/2/V13
+c1 v3 e10 J8/4/-
+c1 c0 v12/2/c0";
     for row in rows.lines() {
         assert!(rt; are_found(rt.alloc(), row) == Some(true), "{row:?}");
     }

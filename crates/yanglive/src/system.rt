@@ -22,6 +22,16 @@ fn cause_of(kind: ErrorKind) -> Unreadable {
     }
 }
 
+/// Why a file can't be written.
+fn unsaved_by(kind: ErrorKind) -> Unsaved {
+    match kind {
+        ErrorKind::NotFound | ErrorKind::NotADirectory => Unsaved::NoFolder,
+        ErrorKind::PermissionDenied => Unsaved::NoPermission,
+        ErrorKind::IsADirectory => Unsaved::NoRegularFile,
+        _ => Unsaved::Other,
+    }
+}
+
 /// What stands behind the name of a file that isn't in its place yet.
 const BESIDE: &str = ".part";
 
@@ -32,6 +42,7 @@ pub struct FileSystem<'a, R> {
     reads: CallCount,
     count: CallCount,
     unsaved: CallCount,
+    cause: Option<Unsaved>,
 }
 
 impl<'a, R> FileSystem<'a, R> {
@@ -42,6 +53,7 @@ impl<'a, R> FileSystem<'a, R> {
             reads: CallCount::new(),
             count: CallCount::new(),
             unsaved: CallCount::new(),
+            cause: None,
         }
     }
 }
@@ -49,39 +61,65 @@ impl<'a, R> FileSystem<'a, R> {
 impl<R: rt::Files + AllocGlobal> FileSystem<'_, R> {
     /// Writes a file into its place: where that is a link, into the place of its target, and with the permissions of the
     /// file that is there. What is there and is no regular file stays as it is.
-    fn put(&self, file: &SavedFile) -> io::Result<()> {
+    fn put(&self, file: &SavedFile) -> Result<(), Unsaved> {
         let name = file.name.as_str();
         let bytes = file.text.as_bytes();
         match fs::metadata(self.runtime, name) {
-            Ok(found) if found.is_file() => {
-                let place = fs::canonicalize(self.runtime, name)?;
-                self.put_at(place.path_text(), bytes, Some(found.permissions()))
-            }
-            Ok(_) => Err(io::Error::from(ErrorKind::InvalidInput)),
+            Ok(found) if found.is_file() => self.put_over(name, bytes, found.permissions()),
+            Ok(_) => Err(Unsaved::NoRegularFile),
             Err(error) if error.kind() == ErrorKind::NotFound => self.put_new(name, bytes),
-            Err(error) => Err(error),
+            Err(error) => Err(unsaved_by(error.kind())),
+        }
+    }
+
+    /// The same where a file is there.
+    fn put_over(&self, name: &str, bytes: &[u8], like: Permissions) -> Result<(), Unsaved> {
+        let put = match fs::canonicalize(self.runtime, name) {
+            Ok(place) => self.put_at(place.path_text(), bytes, Some(like)),
+            Err(error) => Err(unsaved_by(error.kind())),
+        };
+        match put {
+            Err(Unsaved::PartThere) if self.is_link(name) => Err(Unsaved::TargetPartThere),
+            put => put,
+        }
+    }
+
+    fn is_link(&self, name: &str) -> bool {
+        match fs::symlink_metadata(self.runtime, name) {
+            Ok(found) => found.is_symlink(),
+            Err(_) => false,
         }
     }
 
     /// The same where no file is there. A link that leads nowhere stays as it is.
-    fn put_new(&self, name: &str, bytes: &[u8]) -> io::Result<()> {
+    fn put_new(&self, name: &str, bytes: &[u8]) -> Result<(), Unsaved> {
         match fs::symlink_metadata(self.runtime, name) {
-            Ok(_) => Err(io::Error::from(ErrorKind::InvalidInput)),
+            Ok(_) => Err(Unsaved::NoRegularFile),
             Err(_) => self.put_at(name, bytes, None),
         }
     }
 
     /// Writes a file beside its place, under a name that nothing has, and then puts it there.
-    fn put_at(&self, place: &str, bytes: &[u8], like: Option<Permissions>) -> io::Result<()> {
-        let beside = [place, BESIDE].concat(self.runtime.alloc())?;
-        let part = File::create_new(self.runtime, beside.as_str())?;
+    fn put_at(&self, place: &str, bytes: &[u8], like: Option<Permissions>) -> Result<(), Unsaved> {
+        let Ok(beside) = [place, BESIDE].concat(self.runtime.alloc()) else {
+            return Err(Unsaved::Other);
+        };
+        let part = match File::create_new(self.runtime, beside.as_str()) {
+            Ok(part) => part,
+            Err(error) if error.kind() == ErrorKind::AlreadyExists => {
+                return Err(Unsaved::PartThere);
+            }
+            Err(error) => return Err(unsaved_by(error.kind())),
+        };
         let written = fill(part, bytes, like);
-        let put = written.and_then(|()| fs::rename(self.runtime, beside.as_str(), place));
-        if put.is_err() {
-            // What was written of it isn't needed; whether it goes away changes nothing.
-            let _ = fs::remove_file(self.runtime, beside.as_str());
+        match written.and_then(|()| fs::rename(self.runtime, beside.as_str(), place)) {
+            Ok(()) => Ok(()),
+            Err(error) => {
+                // What was written of it isn't needed; whether it goes away changes nothing.
+                let _ = fs::remove_file(self.runtime, beside.as_str());
+                Err(unsaved_by(error.kind()))
+            }
         }
-        put
     }
 }
 
@@ -103,12 +141,18 @@ impl<R: rt::Files + AllocGlobal> Shelf for FileSystem<'_, R> {
 
     ghost failures = { λ s. s.unsaved.calls };
 
+    ghost cause = { λ s. s.cause };
+
     fn save(&mut self, file: &SavedFile) -> Result<(), Unsaved> {
         match self.put(file) {
-            Ok(()) => Ok(()),
-            Err(_) => {
+            Ok(()) => {
+                self.cause = None;
+                Ok(())
+            }
+            Err(cause) => {
                 self.unsaved.rise();
-                Err(Unsaved)
+                self.cause = Some(cause);
+                Err(cause)
             }
         }
     }

@@ -72,6 +72,7 @@ nothing_due with_reasons (Ok (reports.Edited e)) other = absurd other
 nothing_due with_reasons (Ok (reports.Explanations explanations)) other = tt
 nothing_due with_reasons (Ok (reports.Nodes count)) other = tt
 nothing_due with_reasons (Ok (reports.Diagram schema shown)) other = tt
+nothing_due with_reasons (Ok (reports.Diagrams schema)) other = tt
 nothing_due with_reasons (Err failure) other = tt
 
 -- ---- what is printed of a document

@@ -4,3 +4,4 @@ pub mod ScriptLemmas
 pub mod DocumentLemmas
 pub mod ExplainedLemmas
 pub mod HintLemmas
+pub mod DiagramLemmas

@@ -74,6 +74,7 @@ report_aside : (r : Report) → (reported r).aside ≡ nothing
 report_aside (reports.Explanations explanations) = refl
 report_aside (reports.Nodes count) = refl
 report_aside (reports.Diagram schema shown) = refl
+report_aside (reports.Diagrams schema) = refl
 report_aside (reports.Document r) = refl
 report_aside (reports.Edited e) = refl
 

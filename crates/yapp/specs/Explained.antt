@@ -30,6 +30,7 @@ HasNoDocument (reports.Edited e) = ⊥
 HasNoDocument (reports.Explanations explanations) = Unit {0}
 HasNoDocument (reports.Nodes count) = Unit {0}
 HasNoDocument (reports.Diagram schema shown) = Unit {0}
+HasNoDocument (reports.Diagrams schema) = Unit {0}
 
 -- where the reasons and the faults are wanted, a report has what is said of these; of a live document's nothing is said
 abbrev pub IsExplained : Bool → Report → Type 0
@@ -39,6 +40,7 @@ IsExplained with_reasons (reports.Edited e) = with_reasons ≡ false
 IsExplained with_reasons (reports.Explanations explanations) = Unit {0}
 IsExplained with_reasons (reports.Nodes count) = Unit {0}
 IsExplained with_reasons (reports.Diagram schema shown) = Unit {0}
+IsExplained with_reasons (reports.Diagrams schema) = Unit {0}
 
 -- ---- lines
 

@@ -9,7 +9,7 @@ use Rattle.ytree.specs.Told as document
 use Rattle.ytree.specs.View.{place_view, tree_view}
 use Rattle.ycheck.specs.View.{views}
 use Rattle.yspec.specs.schema.Diagram.{diagram}
-use Rattle.yprogram.specs.Output.{Besides, Outcome, another_cause, failed, failed_with, found, left, nothing, plainly, refusal_part, refused_document, report, unread}
+use Rattle.yprogram.specs.Output.{Besides, Outcome, all_diagrams, another_cause, failed, failed_with, found, left, nothing, plainly, refusal_part, refused_document, report, unread}
 use Rattle.yprogram.specs.Hint.{hinted}
 use Rattle.yprogram.specs.Part.{Part, plain}
 use Rattle.ycodes.specs.Codes.{explained}
@@ -53,6 +53,7 @@ reported (reports.Explanations explanations) =
     found 0 (flat_map explained (map (λ e. explanation_view e.now) explanations.items))
 reported (reports.Nodes count) = found 0 (decimal count ++ codes " nodes\n")
 reported (reports.Diagram schema shown) = found 0 (diagram (schema_view.view schema) shown)
+reported (reports.Diagrams schema) = found 0 (all_diagrams (schema_view.view schema))
 reported (reports.Document r) = record {
   output = document_parts r;
   errors = refused_parts r.refused.items;

@@ -2,7 +2,7 @@
 
 ghost use Rattle.std.specs.Prelude.{IfOk, map, position};
 ghost use Rattle.yspec.specs.text.Text.{is_text};
-ghost use Rattle.yprogram.specs.Output.{compilation, drawing, drawn, edition, explanation, performed, validation};
+ghost use Rattle.yprogram.specs.Output.{compilation, drawing, drawing_all, drawn, edition, explanation, performed, validation};
 ghost use Rattle.ymodel.specs.View as schema_view;
 ghost use Rattle.ycommand.specs.Command.{options_view, view};
 ghost use Rattle.yapp.specs.Explained.{HasNoDocument, IsExplained};
@@ -25,7 +25,7 @@ fn explain<'a>(alloc: Global, codes: &[&'a str]) -> Result<Report, Failure<'a>>
     ensures leads { LeadsTo (explanation (map (λ c. c.now) codes.now)) reported result }
     ensures faultless { IfOk result HasNoDocument }
 {
-    if let Some(word) = first_unknown(codes) {
+    if let Some(word) = first_unknown(alloc, codes)? {
         return Err(Failure::NoCode { word });
     }
     let explanations = if codes.is_empty() {
@@ -78,6 +78,22 @@ fn draw<'a>(
 {
     match compile_contents(alloc, modules, contents) {
         Ok(compiled) => diagram_of(compiled.value, name),
+        Err(failure) => Err(failure),
+    }
+}
+
+/// The diagrams of all modules, by the contents of their files.
+fn draw_all<'a>(
+    alloc: Global,
+    modules: &[&'a str],
+    contents: &[Vec<u8>],
+) -> Result<Report, Failure<'a>>
+    ensures leads { LeadsTo (drawing_all (map (λ n. n.now) modules.now)
+        (map (λ c. c.items) contents.now)) reported result }
+    ensures faultless { IfOk result HasNoDocument }
+{
+    match compile_contents(alloc, modules, contents) {
+        Ok(compiled) => Ok(Report::Diagrams(compiled.value)),
         Err(failure) => Err(failure),
     }
 }
@@ -135,6 +151,7 @@ fn perform<'a>(
         Request::Explain { codes } => explain(alloc, codes),
         Request::Compile { modules } => count_nodes(alloc, modules, contents),
         Request::Tree { name, modules } => draw(alloc, *name, modules, contents),
+        Request::Trees { modules } => draw_all(alloc, modules, contents),
         Request::Validate {
             options,
             document,

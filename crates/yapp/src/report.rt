@@ -4,7 +4,7 @@ ghost use Rattle.std.specs.Prelude.{◌≡◌, ◌++◌, codes, decimal, is_some
 ghost use Rattle.std.specs.List.{flat_map};
 ghost use Rattle.yspec.specs.schema.Diagram.{diagram};
 ghost use Rattle.yspec.specs.document.Faults.{line_of};
-ghost use Rattle.yprogram.specs.Output.{printed};
+ghost use Rattle.yprogram.specs.Output.{all_diagrams, before_diagram, placed_diagram, printed};
 ghost use Rattle.yprogram.specs.Part.{count_part, spelled, spelled_part};
 ghost use Rattle.ycodes.specs.Codes.{explained};
 ghost use Rattle.ycodes.specs.View.{explanation_view};
@@ -42,6 +42,8 @@ pub enum Report {
     Nodes(usize),
     /// The diagram of a module, which is given by its number in the set.
     Diagram { schema: Schema, module: usize },
+    /// The diagrams of all modules.
+    Diagrams(Schema),
     Document(DocumentReport),
     /// A document after the lines of a script, of whose faults nothing is said.
     Edited(EditedDocument),
@@ -68,7 +70,10 @@ impl Report {
         ensures { result ≡ (reported self.now).status }
     {
         match self {
-            Report::Explanations(_) | Report::Nodes(_) | Report::Diagram { .. } => GOOD,
+            Report::Explanations(_)
+            | Report::Nodes(_)
+            | Report::Diagram { .. }
+            | Report::Diagrams(_) => GOOD,
             Report::Document(report) => report.status(),
             Report::Edited(document) => document.status(),
         }
@@ -83,6 +88,7 @@ impl Report {
             Report::Explanations(_)
             | Report::Nodes(_)
             | Report::Diagram { .. }
+            | Report::Diagrams(_)
             | Report::Edited(_) => None,
         }
     }
@@ -104,6 +110,7 @@ impl Report {
             Report::Explanations(explanations) => write_explanations(explanations, output),
             Report::Nodes(count) => write_count(*count, " nodes\n", output),
             Report::Diagram { schema, module } => write_diagram(schema, *module, output),
+            Report::Diagrams(schema) => write_diagrams(schema, output),
             Report::Document(report) => {
                 write_refused(&report.refused, with_reasons, errors)?;
                 report.write_document(with_reasons, output)
@@ -211,6 +218,42 @@ fn write_diagram<S: Sink>(schema: &Schema, module: usize, sink: &mut S) -> Resul
     match ydiagram::write(schema, module, sink) {
         Ok(()) => Ok(()),
         Err(_) => Err(SinkFault),
+    }
+}
+
+/// Writes the diagrams of all modules.
+fn write_diagrams<S: Sink>(schema: &Schema, sink: &mut S) -> Result<(), SinkFault>
+    ensures { Writes (side S.taken S.failures sink.old) (side S.taken S.failures sink.new)
+        (all_diagrams (schema_view.view schema.now)) result }
+{
+    for module in 0..schema.modules() {
+        write_placed_diagram(schema, module, sink)?;
+    }
+    Ok(())
+}
+
+/// Writes the diagram of a module behind those of the modules before it.
+fn write_placed_diagram<S: Sink>(
+    schema: &Schema,
+    module: usize,
+    sink: &mut S,
+) -> Result<(), SinkFault>
+    ensures { Writes (side S.taken S.failures sink.old) (side S.taken S.failures sink.new)
+        (placed_diagram (schema_view.view schema.now) «module») result }
+{
+    write_gap(module, sink)?;
+    write_diagram(schema, module, sink)
+}
+
+/// Writes the empty line before the diagram of a module, but for the first.
+fn write_gap<S: Sink>(module: usize, sink: &mut S) -> Result<(), SinkFault>
+    ensures { Writes (side S.taken S.failures sink.old) (side S.taken S.failures sink.new)
+        (before_diagram «module») result }
+{
+    if 0 < module {
+        write_texts(sink, &["\n"])
+    } else {
+        Ok(())
     }
 }
 

@@ -2,10 +2,10 @@
 
 ghost use Rattle.std.specs.Prelude.{◌≡◌, ℕ, ◌+◌, List, Option, IfOk, OnErr, None, false, true, is_ok, option_map, if◌then◌else◌};
 ghost use Rattle.yprogram.specs.Output as spec;
-ghost use Rattle.youtput.specs.Writing.{side};
+ghost use Rattle.youtput.specs.Writing.{Writes, side};
 ghost use Rattle.ycommand.specs.Running.{Ends, broken, ended};
 ghost use Rattle.yapp.specs.Saving as view;
-ghost use Rattle.yapp.specs.Saving.{Saves, end_of, saved_view, unsaved_line, unwritten_line};
+ghost use Rattle.yapp.specs.Saving.{Saves, cause_line, end_of, saved_view, unsaved_text, unwritten_line};
 
 use crate::status::FAILED;
 use thiserror::Error;
@@ -27,14 +27,70 @@ pub struct Ended {
     pub with_reasons: bool,
 }
 
-/// A file wasn't written.
+/// Why a file wasn't written.
 #[derive(Clone, Copy, Debug, PartialEq, Eq, Error)]
-#[error("cannot write")]
-pub struct Unsaved;
+pub enum Unsaved {
+    /// What is written first, beside it, is there already.
+    #[error("a part is there already")]
+    PartThere,
+    /// The same beside the file to which its name leads.
+    #[error("a part of its target is there already")]
+    TargetPartThere,
+    /// Its folder isn't there.
+    #[error("no such folder")]
+    NoFolder,
+    /// The program may not write it.
+    #[error("permission is denied")]
+    NoPermission,
+    /// What has its name is no regular file.
+    #[error("it is no regular file")]
+    NoRegularFile,
+    /// The system says another cause.
+    #[error("the system can't write it")]
+    Other,
+}
+
+impl Unsaved {
+    ghost use Rattle.std.specs.Prelude.{◌≡◌};
+    ghost use Rattle.yapp.specs.Saving.{subject_of, words_of};
+
+    /// The cause in words, behind what they are said of.
+    pub fn words<'a>(self) -> &'a str
+        ensures { result.now ≡ words_of self }
+    {
+        match self {
+            Unsaved::PartThere => {
+                ".part is there already: another run may be writing it; remove it if none is"
+            }
+            Unsaved::TargetPartThere => {
+                "a .part is there already beside the file to which it leads: another run may be writing it; remove it if none is"
+            }
+            Unsaved::NoFolder => "no such folder",
+            Unsaved::NoPermission => "permission is denied",
+            Unsaved::NoRegularFile => "it is no regular file",
+            Unsaved::Other => "the system can't write it",
+        }
+    }
+
+    /// What they are said of, where it is named: a file that wasn't written has the name.
+    fn subject<'a>(self, name: &'a str) -> &'a str
+        ensures { result.now ≡ subject_of self name.entry.now }
+    {
+        match self {
+            Unsaved::PartThere => name,
+            Unsaved::TargetPartThere
+            | Unsaved::NoFolder
+            | Unsaved::NoPermission
+            | Unsaved::NoRegularFile
+            | Unsaved::Other => "",
+        }
+    }
+}
 
 /// Keeps files.
 pub trait Shelf {
-    ghost use Rattle.yapp.specs.Saving.{followed_by, saved_view};
+    ghost use Rattle.yapp.specs.Saving.{cause_in, followed_by, saved_view};
+    ghost use Rattle.yapp.specs.declared.saving.Unsaved as declared;
 
     /// The files that were written so far, where it tells them.
     ghost written: { Self → Option (List spec.SavedFile) };
@@ -42,11 +98,15 @@ pub trait Shelf {
     /// How many of its calls failed.
     ghost failures: { Self → ℕ };
 
+    /// Why its last call failed, if it did.
+    ghost cause: { Self → Option declared.Unsaved };
+
     /// Writes a file whole, in place of the one of its name; or not at all.
     fn save(&mut self, file: &SavedFile) -> Result<(), Unsaved>
         ensures ok { IfOk result (λ _. written self.new ≡ followed_by (written self.old) (saved_view file.now)) }
         ensures err { OnErr result (written self.new ≡ written self.old) }
-        ensures counted { failures self.new ≡ failures self.old + (if is_ok result then 0 else 1) };
+        ensures counted { failures self.new ≡ failures self.old + (if is_ok result then 0 else 1) }
+        ensures cause { cause self.new ≡ cause_in result };
 }
 
 impl Ended {
@@ -122,28 +182,54 @@ fn tell_failure<E: Sink>(errors: &mut E) -> u8
 }
 
 /// Writes the file that is due at the end of a run, once its output is out, and answers the exit status. Where it can't be
-/// written a line says so.
+/// written a line says so, and, where reasons are wanted, one below it why.
 pub fn save<S: Shelf, E: Sink>(ended: &Ended, shelf: &mut S, errors: &mut E) -> u8
-    ensures { Saves (end_of ended.now).saved ended.now.status (view.shelf S.written S.failures shelf.old)
-        (view.shelf S.written S.failures shelf.new) (side E.taken E.failures errors.old)
-        (side E.taken E.failures errors.new) result }
+    ensures { Saves ended.now.with_reasons (end_of ended.now).saved ended.now.status
+        (view.shelf S.written S.failures S.cause shelf.old) (view.shelf S.written S.failures S.cause shelf.new)
+        (side E.taken E.failures errors.old) (side E.taken E.failures errors.new) result }
 {
     match &ended.saved {
         None => ended.status,
         Some(file) => match shelf.save(file) {
             Ok(()) => ended.status,
-            Err(Unsaved) => tell_unsaved(file, errors),
+            Err(cause) => tell_unsaved(file.name.as_str(), cause, ended.with_reasons, errors),
         },
     }
 }
 
-/// Says that a file wasn't written.
-fn tell_unsaved<E: Sink>(file: &SavedFile, errors: &mut E) -> u8
+/// Says that the file of a name wasn't written, and answers the exit status.
+fn tell_unsaved<E: Sink>(name: &str, cause: Unsaved, with_reasons: bool, errors: &mut E) -> u8
     ensures { Ends (side E.taken E.failures errors.old) (side E.taken E.failures errors.new)
-        (unsaved_line (saved_view file.now)) 4 result }
+        (unsaved_text with_reasons cause name.now) 4 result }
 {
-    // The status is the same where the line can't be written either.
-    match write_texts(errors, &["cannot write ", file.name.as_str(), "\n"]) {
+    // The status is the same where the lines can't be written either.
+    match write_unsaved(name, cause, with_reasons, errors) {
         Ok(()) | Err(SinkFault) => FAILED,
     }
+}
+
+/// Writes the line of a file that wasn't written, and, where reasons are wanted, the one below it.
+fn write_unsaved<S: Sink>(
+    name: &str,
+    cause: Unsaved,
+    with_reasons: bool,
+    sink: &mut S,
+) -> Result<(), SinkFault>
+    ensures { Writes (side S.taken S.failures sink.old) (side S.taken S.failures sink.new)
+        (unsaved_text with_reasons cause name.now) result }
+{
+    write_texts(sink, &["cannot write ", name, "\n"])?;
+    if with_reasons {
+        write_cause(name, cause, sink)
+    } else {
+        Ok(())
+    }
+}
+
+/// Writes why the file of a name wasn't written.
+fn write_cause<S: Sink>(name: &str, cause: Unsaved, sink: &mut S) -> Result<(), SinkFault>
+    ensures { Writes (side S.taken S.failures sink.old) (side S.taken S.failures sink.new)
+        (cause_line cause name.now) result }
+{
+    write_texts(sink, &["  ", cause.subject(name), cause.words(), ".\n"])
 }

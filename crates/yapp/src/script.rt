@@ -341,7 +341,7 @@ fn gives_twice(alloc: Global, edit: &Edit) -> Result<bool, AllocError>
     match edit {
         Edit::Create { value, .. } => has_repeated(alloc, value),
         Edit::Replace { value, .. } => has_repeated(alloc, value),
-        Edit::Remove { .. } => Ok(false),
+        Edit::Remove { .. } | Edit::Move { .. } => Ok(false),
     }
 }
 

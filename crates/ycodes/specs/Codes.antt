@@ -1,5 +1,6 @@
 -- The codes that the program prints, by the cause of each: which line or place is told, what to do, and where the rule stands.
-use Rattle.std.specs.Prelude.{List, [], ◌∷◌, ◌++◌, codes, Option, Some, None, is_none, find}
+use Rattle.std.specs.Prelude.{List, [], ◌∷◌, ◌++◌, codes, map, Option, Some, None, is_none, find}
+use Rattle.std.specs.Char.{to_ascii_uppercase}
 use Rattle.yspec.specs.Forest.{first_of}
 use Rattle.yspec.specs.text.Text.{Text, is_text}
 
@@ -130,18 +131,18 @@ of_faults =
 abbrev pub of_edits : List Explanation
 of_edits =
     said (codes "E1") (codes "The line isn't an edit.")
-    (codes "the line of the script") (codes "Write create PATH VALUE, replace PATH VALUE or remove PATH.") (codes "README, edits") ∷
+    (codes "the line of the script") (codes "Write create PATH VALUE, replace PATH VALUE, remove PATH or move PATH N.") (codes "README, edits") ∷
     said (codes "E2") (codes "A step of the path names no node there, or in the wrong form.")
     (codes "the line of the script") (codes "Write /module:name at the top and where the module changes, and /name elsewhere.") (codes "RFC 7951, 6.11") ∷
-    said (codes "E3") (codes "A predicate is missing, out of place or of another kind than its node wants.")
-    (codes "the line of the script") (codes "Give a list entry [position] or a [key='value'] for each key, an item [position], and nothing to others, nor to the last step of create.") (codes "RFC 7951, 6.11") ∷
+    said (codes "E3") (codes "A predicate is missing, out of place or of another kind than its node wants; or what is moved is no entry or item.")
+    (codes "the line of the script") (codes "Give a list entry [position] or a [key='value'] for each key, an item [position], and nothing to others, nor to the last step of create. Move entries and items alone.") (codes "RFC 7951, 6.11") ∷
     said (codes "E4") (codes "A node above the one that is meant isn't stored.")
     (codes "the line of the script") (codes "Create the container or the entry first.") (codes "README, edits") ∷
     said (codes "E5") (codes "There is no entry or item at that position.")
     (codes "the line of the script") (codes "Count from 1; take a position that is there.") (codes "README, edits") ∷
     said (codes "E6") (codes "Several entries have these keys.")
     (codes "the line of the script") (codes "Name the entry by its position.") (codes "README, edits") ∷
-    said (codes "E7") (codes "What is to be replaced or removed isn't stored.")
+    said (codes "E7") (codes "What is to be replaced, removed or moved isn't stored.")
     (codes "the line of the script") (codes "Create it, or leave the line out.") (codes "README, edits") ∷
     said (codes "E8") (codes "What is to be created is stored.")
     (codes "the line of the script") (codes "Use replace.") (codes "README, edits") ∷
@@ -188,11 +189,15 @@ abbrev pub known_among : Option Explanation → List Explanation → List Explan
 known_among None others = others
 known_among (Some e) others = e ∷ others
 
--- what is said of those that are codes
+-- what is said of the code that a word names, in letters of either case
+abbrev pub explanation_for : Text → Option Explanation
+explanation_for word = explanation_of (map to_ascii_uppercase word)
+
+-- what is said of those that name codes
 abbrev pub explanations_of : List Text → List Explanation
 explanations_of [] = []
-explanations_of (code ∷ others) = known_among (explanation_of code) (explanations_of others)
+explanations_of (word ∷ others) = known_among (explanation_for word) (explanations_of others)
 
--- the first that is no code
+-- the first that names no code
 abbrev pub unknown_among : List Text → Option Text
-unknown_among names = find (λ name. is_none (explanation_of name)) names
+unknown_among words = find (λ word. is_none (explanation_for word)) words

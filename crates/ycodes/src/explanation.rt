@@ -70,26 +70,36 @@ pub fn explain(code: &str) -> Option<&'static Explanation>
     explain_spelled(code, "")
 }
 
-/// The first of some words that is no code.
-pub fn first_unknown<'a>(words: &[&'a str]) -> Option<&'a str>
-    ensures { option_map (λ w. w.now) result ≡ spec.unknown_among (map (λ w. w.now) words.now) }
+/// What is said of the code that a word names, in letters of either case; nothing where it names none.
+fn explain_word(alloc: Global, word: &str) -> Result<Option<&'static Explanation>, AllocError>
+    ensures { IfOk result (λ found. option_map (λ e. explanation_view e.now) found
+        ≡ spec.explanation_for word.now) }
 {
-    for word in words {
-        if explain(*word).is_none() {
-            return Some(*word);
-        }
-    }
-    None
+    let code = word.to_ascii_uppercase(alloc)?;
+    Ok(explain(code.as_str()))
 }
 
-/// What is said of those of some words that are codes, in their order.
+/// The first of some words that names no code.
+pub fn first_unknown<'a>(alloc: Global, words: &[&'a str]) -> Result<Option<&'a str>, AllocError>
+    ensures { IfOk result (λ found. option_map (λ w. w.now) found
+        ≡ spec.unknown_among (map (λ w. w.now) words.now)) }
+{
+    for word in words {
+        if explain_word(alloc, *word)?.is_none() {
+            return Ok(Some(*word));
+        }
+    }
+    Ok(None)
+}
+
+/// What is said of those of some words that name codes, in their order.
 pub fn explanations(alloc: Global, words: &[&str]) -> Result<Vec<&'static Explanation>, AllocError>
     ensures { IfOk result (λ said. map (λ e. explanation_view e.now) said.items
         ≡ spec.explanations_of (map (λ w. w.now) words.now)) }
 {
     let mut said = Vec::new(alloc);
     for word in words {
-        if let Some(explanation) = explain(*word) {
+        if let Some(explanation) = explain_word(alloc, *word)? {
             said.push(explanation)?;
         }
     }

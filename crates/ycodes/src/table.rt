@@ -345,7 +345,7 @@ const OF_EDITS: &[Explanation] = &[
         code: "E1",
         cause: "The line isn't an edit.",
         place: "the line of the script",
-        remedy: "Write create PATH VALUE, replace PATH VALUE or remove PATH.",
+        remedy: "Write create PATH VALUE, replace PATH VALUE, remove PATH or move PATH N.",
         source: "README, edits",
     },
     Explanation {
@@ -357,9 +357,9 @@ const OF_EDITS: &[Explanation] = &[
     },
     Explanation {
         code: "E3",
-        cause: "A predicate is missing, out of place or of another kind than its node wants.",
+        cause: "A predicate is missing, out of place or of another kind than its node wants; or what is moved is no entry or item.",
         place: "the line of the script",
-        remedy: "Give a list entry [position] or a [key='value'] for each key, an item [position], and nothing to others, nor to the last step of create.",
+        remedy: "Give a list entry [position] or a [key='value'] for each key, an item [position], and nothing to others, nor to the last step of create. Move entries and items alone.",
         source: "RFC 7951, 6.11",
     },
     Explanation {
@@ -385,7 +385,7 @@ const OF_EDITS: &[Explanation] = &[
     },
     Explanation {
         code: "E7",
-        cause: "What is to be replaced or removed isn't stored.",
+        cause: "What is to be replaced, removed or moved isn't stored.",
         place: "the line of the script",
         remedy: "Create it, or leave the line out.",
         source: "README, edits",

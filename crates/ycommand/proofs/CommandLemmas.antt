@@ -16,7 +16,7 @@ use Rattle.clap.specs.declared.parser.matches.Found.{Found}
 use Rattle.clap.proofs.WalkLemmas.{first_value-rows}
 use Rattle.clap.proofs.OnLiterals.{clap_on_literals}
 use Rattle.ycommand.specs.Application.{IsArgument, IsCommand, yanglive}
-use Rattle.ycommand.specs.Command.{Declines, Explains, Takes, TakesFormat, asked_by, asked_of, asks_help, explained_by, faults_of, format_fault, format_of, is_help, refused_format, unknown_format, value_of, view}
+use Rattle.ycommand.specs.Command.{Declines, Explains, Takes, TakesFit, asked_by, asked_of, asks_help, drawing_by, explained_by, faults_of, is_help, misuse_fault, named_stream, reads_input_twice, refused_twice, refused_value, unknown_format, value_of, view}
 use Rattle.ycommand.specs.Running.{refused, shown, with_text}
 use Rattle.ycommand.specs.declared.command.CommandLine.{CommandLine}
 use Rattle.ycommand.specs.declared.command.NoRequest.{NoRequest}
@@ -79,6 +79,9 @@ edit_same d e a b s t ms ns options documents scripts modules =
 pub validate_same : (d e : spec.Options) (a b : Text) (ms ns : List Text) → d ≡ e → a ≡ b → ms ≡ ns → validate d a ms ≡ validate e b ns
 validate_same d e a b ms ns options documents modules = ap₂ (λ f n. validate f n ms) options documents ∙ ap (validate e b) modules
 
+pub drawing_same : (a b : Bool) (n m : Text) (xs ys : List Text) → a ≡ b → n ≡ m → xs ≡ ys → drawing_by a n xs ≡ drawing_by b m ys
+drawing_same a b n m xs ys all names modules = ap₂ (λ c k. drawing_by c k xs) all names ∙ ap (drawing_by b m) modules
+
 -- the text of an option, if it is given
 pub given_first : (found : Found) (name : Text) (o : Option (Bor Text)) → option_map (λ s. s.now) o ≡ first_value found name
     → option_map (λ s. s.now) o ≡ first_of name (rows_of found)
@@ -118,22 +121,28 @@ declined_first [] others (none.Refused text) is = absurd (is.0 refl)
 declined_first [] others none.Memory is = tt
 declined_first (kind ∷ kinds) others a is = is
 
-format_refused : (o : Option Text) (text : _) → (o ≡ None → ⊥) → Declines (refused_format o) (none.Refused text)
-format_refused None text is = absurd (is refl)
-format_refused (Some name) text is = ((λ e. cc), refl)
+-- what is misused is refused by none of the causes that are help
+misused : (format stream : Option Text) (is_twice : Bool) (text : _)
+    → (or_else (refused_value format) (or_else (refused_value stream) (refused_twice is_twice)) ≡ [] → ⊥)
+    → Declines (or_else (refused_value format) (or_else (refused_value stream) (refused_twice is_twice))) (none.Refused text)
+misused None None false text is = absurd (is refl)
+misused None None true text is = ((λ e. cc), refl)
+misused None (Some name) is_twice text is = ((λ e. cc), refl)
+misused (Some name) stream is_twice text is = ((λ e. cc), refl)
 
--- what clap takes is taken, but for a format that isn't known
-pub taken_in_format : (words : List Text) (command : Option (Text × List Row)) (r : Result CommandLine NoRequest)
-    → fault_of yanglive words ≡ [] → subcommand_of yanglive words ≡ command → TakesFormat command r → Takes words r
-taken_in_format words command (Ok line) none named takes = (
-  ap₂ or_else none (ap format_fault named ∙ ap refused_format takes.0),
+-- what clap takes is taken, but for what is misused
+pub taken_fit : (words : List Text) (command : Option (Text × List Row)) (r : Result CommandLine NoRequest)
+    → fault_of yanglive words ≡ [] → subcommand_of yanglive words ≡ command → TakesFit command r → Takes words r
+taken_fit words command (Ok line) none named takes = (
+  ap₂ or_else none (ap misuse_fault named ∙ takes.0),
   takes.1 ∙ sym (ap asked_by named),
   takes.2 ∙ sym (ap explained_by named),
 )
-taken_in_format words command (Err (none.Help text)) none named takes = absurd takes
-taken_in_format words command (Err (none.Refused text)) none_wrong named takes =
-    subst (λ kinds. Declines kinds (none.Refused text)) (sym (ap₂ or_else none_wrong (ap format_fault named))) (format_refused (unknown_format command) text takes)
-taken_in_format words command (Err none.Memory) none_wrong named takes = tt
+taken_fit words command (Err (none.Help text)) none named takes = absurd takes
+taken_fit words command (Err (none.Refused text)) none_wrong named takes =
+    subst (λ kinds. Declines kinds (none.Refused text)) (sym (ap₂ or_else none_wrong (ap misuse_fault named)))
+    (misused (unknown_format command) (named_stream command) (reads_input_twice command) text takes)
+taken_fit words command (Err none.Memory) none_wrong named takes = tt
 
 pub declined_by_memory : (words : List Text) (r : Result CommandLine NoRequest) → IsErrAnd r (λ e. e ≡ none.Memory) → Takes words r
 declined_by_memory words (Ok x) e = absurd e

@@ -22,11 +22,13 @@ use Rattle.clap.specs.declared.builder.action.ArgAction.{ArgAction}
 use Rattle.clap.specs.declared.builder.action.ArgAction.TheVariants.{Set, Append, SetTrue, SetFalse, Count, Help, HelpShort, HelpLong, Version}
 use Rattle.clap.specs.declared.builder.value_parser.ValueParser.{ValueParser}
 use Rattle.clap.specs.declared.error.kind.ErrorKind.{ErrorKind}
+use Rattle.clap.specs.declared.error.kind.ErrorKind.TheVariants.{InvalidSubcommand}
 use Rattle.clap.proofs.OnLiterals.{clap_on_literals}
 use Rattle.ycommand.specs.Application.{yanglive}
-use Rattle.ycommand.specs.Command.{Takes, Understands, asks_help, commands, is_command, is_help}
+use Rattle.ycommand.specs.Command.{Declines, IsRefusal, Takes, Understands, asks_help, commands, faults_of, is_command, is_help, refusals}
 use Rattle.ycommand.specs.declared.command.CommandLine.{CommandLine}
 use Rattle.ycommand.specs.declared.command.NoRequest.{NoRequest}
+use Rattle.ycommand.specs.declared.command.NoRequest.TheVariants as none_of
 
 -- these causes are help too where this one is, and else none of them is
 AllLike : ErrorKind → Kinds → Type 0
@@ -309,3 +311,29 @@ many_taken (program ∷ []) r many takes = takes
 many_taken (program ∷ word ∷ []) r many takes = absurd (many (omega arith))
 many_taken (program ∷ word ∷ name ∷ []) r many takes = absurd (many (omega arith))
 many_taken (program ∷ word ∷ name ∷ other ∷ words) r many takes = takes
+
+-- `help` for a command comes to what that command's help comes to
+pub helped : (program word name : Text) (r : NoRequest) → bytes_eq word (codes "help") ≡ true → is_command name ≡ true
+    → Declines (faults_of (program ∷ name ∷ codes "--help" ∷ [])) r → Declines (refusals (program ∷ word ∷ name ∷ [])) r
+helped program word name r asks known told = by (bytes_eq word (codes "help")) (is_command name) asks known
+  where
+    by : (asks known : Bool) → asks ≡ true → known ≡ true
+        → Declines (if asks && not known then InvalidSubcommand ∷ [] else faults_of (if asks && known
+        then program ∷ name ∷ codes "--help" ∷ [] else program ∷ word ∷ name ∷ [])) r
+    by true true a k = told
+    by true false a k = absurd cc
+    by false known a k = absurd cc
+
+-- for a word that no command has it is refused
+pub helpless : (program word name : Text) (r : NoRequest) → bytes_eq word (codes "help") ≡ true → is_command name ≡ false
+    → IsRefusal r → Declines (refusals (program ∷ word ∷ name ∷ [])) r
+helpless program word name r asks unknown is = by (bytes_eq word (codes "help")) (is_command name) asks unknown r is
+  where
+    by : (asks known : Bool) → asks ≡ true → known ≡ false → (r : NoRequest) → IsRefusal r
+        → Declines (if asks && not known then InvalidSubcommand ∷ [] else faults_of (if asks && known
+        then program ∷ name ∷ codes "--help" ∷ [] else program ∷ word ∷ name ∷ [])) r
+    by true false a u (none_of.Help text) is = absurd is
+    by true false a u (none_of.Refused text) is = ((λ e. cc), refl)
+    by true false a u none_of.Memory is = tt
+    by true true a u r is = absurd cc
+    by false known a u r is = absurd cc

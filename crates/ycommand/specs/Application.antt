@@ -36,9 +36,9 @@ over_files name = with_rule (new_app name) (flag (codes "explain"))
 abbrev pub compile_app : App
 compile_app = with_rule (over_files (codes "compile")) (wanted_all (codes "MODULE"))
 
--- `tree [--explain] NAME MODULE..`
+-- `tree [--explain] [--all] NAME [MODULE..]`
 abbrev pub tree_app : App
-tree_app = with_rule (with_rule (over_files (codes "tree")) (wanted (codes "NAME"))) (wanted_all (codes "MODULE"))
+tree_app = with_rule (with_rule (with_rule (over_files (codes "tree")) (flag (codes "all"))) (wanted (codes "NAME"))) (any_number (codes "MODULE"))
 
 -- a command over a document, of which each takes `--strict`, `--config` and `--format`
 abbrev pub over_document : Text → App

@@ -1,13 +1,13 @@
 -- What the words of a command line ask for, by clap's own definition of what it takes.
-use Rattle.std.specs.Prelude.{◌≡◌, ◌&&◌, ◌||◌, Bool, true, false, List, [], ◌∷◌, map, codes, Option, Some, None, option_map, unwrap_or, Result, Ok, Err, if◌then◌else◌}
+use Rattle.std.specs.Prelude.{◌≡◌, ◌&&◌, ◌||◌, not, Bool, true, false, List, [], ◌∷◌, map, codes, Option, Some, None, option_map, unwrap_or, Result, Ok, Err, if◌then◌else◌}
 use Rattle.std.specs.List.{list_any}
 use Rattle.std.specs.Str.{bytes_eq}
 use Rattle.yprogram.specs.Output as spec
-use Rattle.yprogram.specs.Output.{explain, compile, draw, validate, edit}
+use Rattle.yprogram.specs.Output.{explain, compile, draw, draw_all, validate, edit}
 use Rattle.clap.specs.Kinds.{or_else}
 use Rattle.clap.specs.Words.{Kinds, Row, Text, all_of, fault_of, first_of, subcommand_of}
 use Rattle.clap.specs.declared.error.kind.ErrorKind.{ErrorKind}
-use Rattle.clap.specs.declared.error.kind.ErrorKind.TheVariants.{DisplayHelp, DisplayVersion, InvalidValue, OutOfMemory}
+use Rattle.clap.specs.declared.error.kind.ErrorKind.TheVariants.{ArgumentConflict, DisplayHelp, DisplayVersion, InvalidSubcommand, InvalidValue, OutOfMemory}
 use Rattle.ycommand.specs.Application.{yanglive}
 use Rattle.ycommand.specs.declared.command.Options.{Options}
 use Rattle.ycommand.specs.declared.command.Request.{Request}
@@ -32,6 +32,11 @@ meant (program ∷ word ∷ name ∷ []) = if bytes_eq word (codes "help") && is
     then program ∷ name ∷ codes "--help" ∷ [] else program ∷ word ∷ name ∷ []
 meant words = words
 
+-- `help` for a word that is no command's
+abbrev pub helps_nothing : List Text → Bool
+helps_nothing (program ∷ word ∷ name ∷ []) = bytes_eq word (codes "help") && not (is_command name)
+helps_nothing words = false
+
 abbrev pub value_of : Text → List Row → Text
 value_of name rows = unwrap_or (first_of name rows) []
 
@@ -55,21 +60,47 @@ abbrev pub unknown_format : Option (Text × List Row) → Option Text
 unknown_format None = None
 unknown_format (Some command) = let name = format_of command.1 in if is_format name then None else Some name
 
--- it is refused as clap refuses a value that isn't among those that it knows
-abbrev pub refused_format : Option Text → Kinds
-refused_format None = []
-refused_format (Some name) = InvalidValue ∷ []
+-- what is no file, so no document can be put in its place
+abbrev pub streams : List Text
+streams = codes "-" ∷ codes "/dev/stdout" ∷ codes "/dev/stderr" ∷ []
 
-abbrev pub format_fault : Option (Text × List Row) → Kinds
-format_fault command = refused_format (unknown_format command)
+abbrev pub stream_in : Option Text → Option Text
+stream_in None = None
+stream_in (Some name) = if list_any (bytes_eq name) streams then Some name else None
+
+-- such a stream, where a command's arguments name one for the edited document
+abbrev pub named_stream : Option (Text × List Row) → Option Text
+named_stream None = None
+named_stream (Some command) = stream_in (first_of (codes "output") command.1)
+
+abbrev pub is_input : Text → Bool
+is_input name = bytes_eq name (codes "-")
+
+-- whether standard input is named for the document and for the script
+abbrev pub reads_input_twice : Option (Text × List Row) → Bool
+reads_input_twice None = false
+reads_input_twice (Some command) =
+    is_input (value_of (codes "DATA") command.1) && is_input (value_of (codes "SCRIPT") command.1)
+
+-- they are refused as clap refuses a value that isn't among those that it knows, and arguments that don't go together
+abbrev pub refused_value : Option Text → Kinds
+refused_value None = []
+refused_value (Some name) = InvalidValue ∷ []
+
+abbrev pub refused_twice : Bool → Kinds
+refused_twice is_twice = if is_twice then ArgumentConflict ∷ [] else []
+
+abbrev pub misuse_fault : Option (Text × List Row) → Kinds
+misuse_fault command = or_else (refused_value (unknown_format command))
+    (or_else (refused_value (named_stream command)) (refused_twice (reads_input_twice command)))
 
 -- why words are refused as they stand, or answered with a text in their place: empty where they are taken
 abbrev pub faults_of : List Text → Kinds
-faults_of words = or_else (fault_of yanglive words) (format_fault (subcommand_of yanglive words))
+faults_of words = or_else (fault_of yanglive words) (misuse_fault (subcommand_of yanglive words))
 
 -- the same of what words mean
 abbrev pub refusals : List Text → Kinds
-refusals words = faults_of (meant words)
+refusals words = if helps_nothing words then InvalidSubcommand ∷ [] else faults_of (meant words)
 
 -- ---- what they ask for
 
@@ -90,8 +121,14 @@ explanation_of rows = explain (unwrap_or (all_of (codes "CODE") rows) [])
 abbrev pub compilation_of : List Row → spec.Request
 compilation_of rows = compile (modules_of rows)
 
+-- a word alone is the file of the module to draw
+abbrev pub drawing_by : Bool → Text → List Text → spec.Request
+drawing_by true name modules = draw_all (name ∷ modules)
+drawing_by false name [] = draw_all (name ∷ [])
+drawing_by false name (first ∷ others) = draw name (first ∷ others)
+
 abbrev pub drawing_of : List Row → spec.Request
-drawing_of rows = draw (value_of (codes "NAME") rows) (modules_of rows)
+drawing_of rows = drawing_by (is_given (codes "all") rows) (value_of (codes "NAME") rows) (modules_of rows)
 
 abbrev pub validation_of : List Row → spec.Request
 validation_of rows = validate (options_of rows) (value_of (codes "DATA") rows) (modules_of rows)
@@ -139,6 +176,7 @@ abbrev pub view : Request → spec.Request
 view (requests.Explain names) = explain (map (λ name. name.now) names.items)
 view (requests.Compile modules) = compile (map (λ name. name.now) modules.items)
 view (requests.Tree name modules) = draw name.now (map (λ name. name.now) modules.items)
+view (requests.Trees modules) = draw_all (map (λ name. name.now) modules.items)
 view (requests.Validate options document modules) = validate (options_view options) document.now (map (λ name. name.now) modules.items)
 view (requests.Edit options document script modules) =
     edit (options_view options) document.now script.now (map (λ name. name.now) modules.items)
@@ -169,26 +207,30 @@ Declines kinds (none.Refused text) = (kinds ≡ [] → ⊥) × (asks_help kinds 
 Declines kinds none.Memory = Unit {0}
 
 -- words are taken exactly where nothing is wrong with them, and then their request is the definition's
-abbrev pub Takes : List Text → Result CommandLine NoRequest → Type 0
-Takes words (Ok line) = (faults_of words ≡ [])
+abbrev pub Answers : Kinds → List Text → Result CommandLine NoRequest → Type 0
+Answers kinds words (Ok line) = (kinds ≡ [])
     × (view line.request ≡ asked_by (subcommand_of yanglive words))
     × (line.with_reasons ≡ explained_by (subcommand_of yanglive words))
-Takes words (Err answer) = Declines (faults_of words) answer
+Answers kinds words (Err answer) = Declines kinds answer
 
--- what a format that isn't known comes to
-abbrev pub RefusesFormat : NoRequest → Type 0
-RefusesFormat (none.Help text) = ⊥
-RefusesFormat (none.Refused text) = Unit {0}
-RefusesFormat none.Memory = Unit {0}
+-- words as they stand
+abbrev pub Takes : List Text → Result CommandLine NoRequest → Type 0
+Takes words result = Answers (faults_of words) words result
 
--- of what clap takes, a format that isn't known is refused
-abbrev pub TakesFormat : Option (Text × List Row) → Result CommandLine NoRequest → Type 0
-TakesFormat command (Ok line) = (unknown_format command ≡ None) × (view line.request ≡ asked_by command)
+-- what words come to that are refused though clap takes them
+abbrev pub IsRefusal : NoRequest → Type 0
+IsRefusal (none.Help text) = ⊥
+IsRefusal (none.Refused text) = Unit {0}
+IsRefusal none.Memory = Unit {0}
+
+-- of what clap takes, what is misused is refused
+abbrev pub TakesFit : Option (Text × List Row) → Result CommandLine NoRequest → Type 0
+TakesFit command (Ok line) = (misuse_fault command ≡ []) × (view line.request ≡ asked_by command)
     × (line.with_reasons ≡ explained_by command)
-TakesFormat command (Err (none.Help text)) = ⊥
-TakesFormat command (Err (none.Refused text)) = unknown_format command ≡ None → ⊥
-TakesFormat command (Err none.Memory) = Unit {0}
+TakesFit command (Err (none.Help text)) = ⊥
+TakesFit command (Err (none.Refused text)) = misuse_fault command ≡ [] → ⊥
+TakesFit command (Err none.Memory) = Unit {0}
 
--- so for what words mean
+-- words by what they mean
 abbrev pub Understands : List Text → Result CommandLine NoRequest → Type 0
-Understands words result = Takes (meant words) result
+Understands words result = Answers (refusals words) (meant words) result

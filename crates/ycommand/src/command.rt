@@ -1,10 +1,11 @@
 //! What the words of a command line ask for.
 
-ghost use Rattle.std.specs.Prelude.{◌≡◌, codes, map, string_bytes, true, IfOk, option_map};
+ghost use Rattle.std.specs.Prelude.{◌≡◌, [], ◌∷◌, codes, map, string_bytes, true, IfOk, option_map};
+ghost use Rattle.std.specs.Str.{bytes_eq};
 ghost use Rattle.clap.specs.Words.{app_of, fault_of, first_of, found_of, kind_of, rows_of, subcommand_rows_of};
 ghost use Rattle.ycommand.specs.Application.{IsArgument, IsCommand, any_number, compile_app, edit_app, explain_app, flag, option, over_document, over_files, tree_app, validate_app, wanted, wanted_all, yanglive};
 ghost use Rattle.ycommand.specs.Command as spec;
-ghost use Rattle.ycommand.specs.Command.{Declines, Explains, RefusesFormat, Takes, TakesFormat, Understands, asks_help, asked_by, asked_of, compilation_of, drawing_of, edition_of, explained_by, explanation_of, format_of, is_given, modules_of, options_of, options_view, validation_of, view};
+ghost use Rattle.ycommand.specs.Command.{Declines, Explains, IsRefusal, Takes, TakesFit, Understands, asks_help, asked_by, asked_of, compilation_of, drawing_of, edition_of, explained_by, explanation_of, format_of, is_given, modules_of, options_of, options_view, validation_of, value_of, view};
 ghost use Rattle.ycommand.specs.declared.command.NoRequest.TheVariants.{Memory};
 
 use clap::error::ErrorKind;
@@ -48,6 +49,10 @@ pub enum Request<'a> {
     /// The tree diagram of the module of a name.
     Tree {
         name: &'a str,
+        modules: Vec<&'a str>,
+    },
+    /// Those of all modules.
+    Trees {
         modules: Vec<&'a str>,
     },
     /// The faults of a document under modules.
@@ -102,7 +107,8 @@ Exit status:
 Example: yanglive compile net.yang";
 
 /// What `tree` says at the end of its help.
-const TREE_HELP: &str = "Prints the tree diagram (RFC 8340) of the module NAME, one of the modules.
+const TREE_HELP: &str =
+    "Prints the tree diagram (RFC 8340) of the module NAME, one of the modules. A word alone is the file of a module, which is drawn; with --all each word is, and all modules are drawn, an empty line between two.
 
 Exit status:
   0  The diagram is printed
@@ -134,8 +140,10 @@ An edit stands on a line of its own; empty lines and those that begin with # are
   create PATH VALUE
   replace PATH VALUE
   remove PATH
+  move PATH N
 PATH is a step or more: /module:name at the top and where the module changes, /name elsewhere, without choices and cases. Behind the name of an entry stands [N], its position from 1, or [key='text'] for each of its keys; behind that of an item [N]. The last step of create has none: an entry or item comes last.
 VALUE is JSON, up to the end of the line: an object for a container or an entry, as the document has it.
+N is the position of an entry or item once it is moved, from 1; the others keep their order.
 A refused edit changes nothing, and the others are applied. Its line and why it is refused stand on the error side, as `line 4: E7`; `yanglive explain E7` says what it means.
 With --output the edited document is written to a file beside FILE, which takes its place once all else is out; where something failed before, FILE stays as it is.
 
@@ -270,16 +278,35 @@ fn compile_command<'a>(alloc: Global) -> Result<Command<'a>, AllocError>
     .arg(modules_argument(alloc))
 }
 
+/// `--all`
+fn all_argument<'a>(alloc: Global) -> Arg<'a>
+    ensures { IsArgument (flag (codes "all")) result }
+{
+    Arg::new(alloc, "all")
+        .long("all")
+        .action(ArgAction::SetTrue)
+        .help("Draws all modules: each word is the file of one")
+}
+
 /// The name of a module.
 fn name_argument<'a>(alloc: Global) -> Arg<'a>
     ensures { IsArgument (wanted (codes "NAME")) result }
 {
     Arg::new(alloc, "NAME")
-        .help("The name of the module to draw")
+        .help("The name of the module to draw; a word alone is its file")
         .required(true)
 }
 
-/// `tree [--explain] NAME MODULE..`
+/// The modules behind a name, if there are any.
+fn other_modules_argument<'a>(alloc: Global) -> Arg<'a>
+    ensures { IsArgument (any_number (codes "MODULE")) result }
+{
+    Arg::new(alloc, "MODULE")
+        .help("The files of the modules, in YANG 1.1")
+        .num_args(0..)
+}
+
+/// `tree [--explain] [--all] NAME [MODULE..]`
 fn tree_command<'a>(alloc: Global) -> Result<Command<'a>, AllocError>
     ensures { IfOk result (IsCommand tree_app) }
 {
@@ -289,8 +316,9 @@ fn tree_command<'a>(alloc: Global) -> Result<Command<'a>, AllocError>
         "Prints the tree diagram of a module",
         TREE_HELP,
     )?
+    .arg(all_argument(alloc))?
     .arg(name_argument(alloc))?
-    .arg(modules_argument(alloc))
+    .arg(other_modules_argument(alloc))
 }
 
 /// `validate [--explain] [--strict] [--config] [--format FORMAT] DATA MODULE..`
@@ -449,13 +477,28 @@ fn compilation_in<'a>(alloc: Global, found: &ArgMatches<'a>) -> Result<Request<'
     Ok(Request::Compile { modules })
 }
 
+/// What is drawn: all modules where that is asked for, or where a word stands alone, which is a module's file then.
+fn drawing_by<'a>(
+    of_all: bool,
+    name: &'a str,
+    mut modules: Vec<&'a str>,
+) -> Result<Request<'a>, AllocError>
+    ensures { IfOk result (λ r. view r ≡ spec.drawing_by of_all name.entry.now (map (λ n. n.now) modules.entry.items)) }
+{
+    if of_all || modules.is_empty() {
+        modules.insert(0, name)?;
+        return Ok(Request::Trees { modules });
+    }
+    Ok(Request::Tree { name, modules })
+}
+
 /// What the arguments of `tree` ask for.
 fn drawing_in<'a>(alloc: Global, found: &ArgMatches<'a>) -> Result<Request<'a>, AllocError>
     ensures { IfOk result (λ r. view r ≡ drawing_of (rows_of (found_of found.now))) }
 {
     let name = found.get_str("NAME").unwrap_or("");
     let modules = modules_in(alloc, found)?;
-    Ok(Request::Tree { name, modules })
+    drawing_by(has_flag(found, "all"), name, modules)
 }
 
 /// What the arguments of `validate` ask for.
@@ -550,16 +593,87 @@ fn is_format(name: &str) -> bool
     name == "text" || name == "json"
 }
 
-/// The refusal of a format that isn't known.
-fn format_refusal(alloc: Global, format: &str) -> NoRequest
-    ensures { RefusesFormat result }
+/// A stream that is named for the edited document.
+fn named_stream<'a>(matches: &ArgMatches<'a>) -> Option<&'a str>
+    ensures { option_map (λ name. name.now) result ≡ spec.named_stream (subcommand_rows_of matches.now) }
 {
-    match format!(in alloc;
-        "error: invalid value '{format}' for '--format <FORMAT>'\n  [possible values: text, json]\n\nFor more information, try '--help'.\n"
-    ) {
+    match matches.subcommand() {
+        Some((_, found)) => stream_in(output_in(found)),
+        None => None,
+    }
+}
+
+/// The name of a stream, where a name is one.
+fn stream_in(name: Option<&str>) -> Option<&str>
+    ensures { option_map (λ name. name.now) result ≡ spec.stream_in (option_map (λ name. name.now) name.entry) }
+{
+    match name {
+        Some(name) if matches!(name, "-" | "/dev/stdout" | "/dev/stderr") => Some(name),
+        _ => None,
+    }
+}
+
+/// Whether standard input is named for the document and for the script.
+fn reads_input_twice(matches: &ArgMatches<'_>) -> bool
+    ensures { result ≡ spec.reads_input_twice (subcommand_rows_of matches.now) }
+{
+    match matches.subcommand() {
+        Some((_, found)) => is_input(found, "DATA") && is_input(found, "SCRIPT"),
+        None => false,
+    }
+}
+
+/// Whether an argument names standard input.
+fn is_input(found: &ArgMatches<'_>, argument: &str) -> bool
+    ensures { result ≡ spec.is_input (value_of argument.now (rows_of (found_of found.now))) }
+{
+    found.get_str(argument).unwrap_or("") == "-"
+}
+
+/// A refusal with a sentence, if there is memory for it.
+fn refusal(text: Result<String, AllocError>) -> NoRequest
+    ensures { IsRefusal result }
+{
+    match text {
         Ok(text) => NoRequest::Refused(text),
         Err(_) => NoRequest::Memory,
     }
+}
+
+/// The refusal of a format that isn't known.
+fn format_refusal(alloc: Global, format: &str) -> NoRequest
+    ensures { IsRefusal result }
+{
+    refusal(format!(in alloc;
+        "error: invalid value '{format}' for '--format <FORMAT>'\n  [possible values: text, json]\n\nFor more information, try '--help'.\n"
+    ))
+}
+
+/// The refusal of a stream for the edited document.
+fn stream_refusal(alloc: Global, name: &str) -> NoRequest
+    ensures { IsRefusal result }
+{
+    refusal(format!(in alloc;
+        "error: '--output {name}' names no file: --dump prints the edited document\n\nFor more information, try '--help'.\n"
+    ))
+}
+
+/// The refusal of standard input for two files.
+fn input_refusal(alloc: Global) -> NoRequest
+    ensures { IsRefusal result }
+{
+    refusal(format!(in alloc;
+        "error: DATA and SCRIPT can't both be -: standard input is read once\n\nFor more information, try '--help'.\n"
+    ))
+}
+
+/// The refusal of help for a word that is no command's.
+fn command_refusal(alloc: Global, name: &str) -> NoRequest
+    ensures { IsRefusal result }
+{
+    refusal(format!(in alloc;
+        "error: no command is called '{name}'; the commands are compile, tree, validate, edit and explain\n\nFor more information, try '--help'.\n"
+    ))
 }
 
 /// What words ask for that clap takes.
@@ -567,12 +681,18 @@ fn line_or_refusal<'a>(
     alloc: Global,
     matches: &ArgMatches<'a>,
 ) -> Result<CommandLine<'a>, NoRequest>
-    ensures { TakesFormat (subcommand_rows_of matches.now) result }
+    ensures { TakesFit (subcommand_rows_of matches.now) result }
 {
-    match unknown_format(matches) {
-        Some(format) => Err(format_refusal(alloc, format)),
-        None => Ok(line_in(alloc, matches)?),
+    if let Some(format) = unknown_format(matches) {
+        return Err(format_refusal(alloc, format));
     }
+    if let Some(name) = named_stream(matches) {
+        return Err(stream_refusal(alloc, name));
+    }
+    if reads_input_twice(matches) {
+        return Err(input_refusal(alloc));
+    }
+    Ok(line_in(alloc, matches)?)
 }
 
 /// What clap's error comes to.
@@ -621,6 +741,18 @@ fn is_command(name: &str) -> bool
     matches!(name, "explain" | "compile" | "tree" | "validate" | "edit")
 }
 
+/// The help for a word behind `help`: that of a command, or a refusal where no command has that name.
+fn help_about(alloc: Global, program: &str, help: &str, name: &str) -> NoRequest
+    requires { bytes_eq help.now (codes "help") ≡ true }
+    ensures { Declines (spec.refusals (program.now ∷ help.now ∷ name.now ∷ [])) result }
+{
+    if is_command(name) {
+        help_for(alloc, &[program, name, "--help"])
+    } else {
+        command_refusal(alloc, name)
+    }
+}
+
 /// What a command line asks for. Its first word is the program's name; `help` stands for `--help`.
 pub fn read_words<'a>(alloc: Global, words: &'a [String]) -> Result<CommandLine<'a>, NoRequest>
     ensures { Understands (map string_bytes words.entry.now) result }
@@ -634,8 +766,8 @@ pub fn read_words<'a>(alloc: Global, words: &'a [String]) -> Result<CommandLine<
             }
         }
         [program, word, name] => {
-            if word.as_str() == "help" && is_command(name.as_str()) {
-                Err(help_for(alloc, &[program.as_str(), name.as_str(), "--help"]))
+            if word.as_str() == "help" {
+                Err(help_about(alloc, program.as_str(), word.as_str(), name.as_str()))
             } else {
                 taken_words(alloc, words)
             }

@@ -1,5 +1,5 @@
 -- What a run of the program prints, as a function of the files that it asks for and of what they contain.
-use Rattle.std.specs.Prelude.{ℕ, ◌++◌, ◌&&◌, Bool, true, false, List, [], ◌∷◌, length, map, codes, decimal, Option, Some, None, Result, Ok, Err, if◌then◌else◌, ◌==◌, option_map, position, slice_get, unwrap_or}
+use Rattle.std.specs.Prelude.{ℕ, zero, suc, ◌++◌, ◌&&◌, Bool, true, false, List, [], ◌∷◌, length, map, codes, decimal, Option, Some, None, Result, Ok, Err, if◌then◌else◌, ◌==◌, option_map, position, slice_get, unwrap_or}
 use Rattle.std.specs.List.{flat_map}
 use Rattle.std.specs.Option.{option_map_or}
 use Rattle.ycodes.specs.Codes.{all_explanations, explained, explanations_of, reason_of, unknown_among}
@@ -55,6 +55,8 @@ pub data Request : Type 0 where
   compile : List Text → Request
   -- the tree diagram of the module of a name
   draw : Text → List Text → Request
+  -- those of all modules
+  draw_all : List Text → Request
   -- the faults of a document under modules
   validate : Options → Text → List Text → Request
   -- the same after the edits of a script
@@ -146,6 +148,7 @@ abbrev pub files_of : Request → List Text
 files_of (explain names) = []
 files_of (compile modules) = modules
 files_of (draw name modules) = modules
+files_of (draw_all modules) = modules
 files_of (validate options document modules) = modules ++ document ∷ []
 files_of (edit options document script modules) = modules ++ document ∷ script ∷ []
 
@@ -256,6 +259,22 @@ abbrev pub drawn : Schema → Text → Option ℕ → Outcome
 drawn schema name None = failed 2 (name ++ codes ": no such module")
 drawn schema name (Some shown) = found 0 (diagram schema shown)
 
+-- a diagram behind those of the modules before its own, with an empty line between
+abbrev pub before_diagram : ℕ → Text
+before_diagram zero = []
+before_diagram (suc number) = codes "\n"
+
+abbrev pub placed_diagram : Schema → ℕ → Text
+placed_diagram schema number = before_diagram number ++ diagram schema number
+
+-- those of so many modules from the one of a number on
+abbrev pub diagrams_from : Schema → ℕ → ℕ → Text
+diagrams_from schema number zero = []
+diagrams_from schema number (suc count) = placed_diagram schema number ++ diagrams_from schema (suc number) count
+
+abbrev pub all_diagrams : Schema → Text
+all_diagrams schema = diagrams_from schema 0 (length schema.modules)
+
 -- a fault's line; of it is said what stands at its place, and then why its code is told
 abbrev pub fault_part : Schema → Tree → Fault → Part
 fault_part schema tree f = record {
@@ -309,6 +328,9 @@ abbrev pub drawing : Text → List Text → List (List ℕ) → Outcome
 drawing name names contents = with_schema names contents (λ schema files.
     drawn schema name (position (λ m. is_text m.name name) schema.modules))
 
+abbrev pub drawing_all : List Text → List (List ℕ) → Outcome
+drawing_all names contents = with_schema names contents (λ schema files. found 0 (all_diagrams schema))
+
 -- as an edit by a script without lines
 abbrev pub validation : Options → Text → List Text → List (List ℕ) → Outcome
 validation options document names contents =
@@ -331,6 +353,7 @@ abbrev pub performed : Request → List (List ℕ) → Outcome
 performed (explain names) contents = explanation names
 performed (compile names) contents = compilation names contents
 performed (draw name names) contents = drawing name names contents
+performed (draw_all names) contents = drawing_all names contents
 performed (validate options document names) contents = validation options document names contents
 performed (edit options document script names) contents = edition options document names contents
 

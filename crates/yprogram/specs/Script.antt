@@ -7,7 +7,7 @@ use Rattle.yspec.specs.Results.{◌>>=◌}
 use Rattle.yspec.specs.text.Text.{Text, line_feed, carriage_return}
 use Rattle.yspec.specs.schema.Schema.{Schema}
 use Rattle.yspec.specs.document.Document.{Tree}
-use Rattle.yspec.specs.edit.EditText.{Edit, create, replace, remove, is_passed_over}
+use Rattle.yspec.specs.edit.EditText.{Edit, create, replace, remove, move_to, is_passed_over}
 use Rattle.yspec.specs.edit.Editing.{EditRefusal, applied, edit_asked, refused, tree_or, value_refused}
 use Rattle.yrepeated.specs.Repeated.{has_repeated}
 use Rattle.yprogram.specs.Hint.{hinted, script_hint}
@@ -42,6 +42,7 @@ abbrev pub gives_twice : Edit → Bool
 gives_twice (create path value) = has_repeated value
 gives_twice (replace path value) = has_repeated value
 gives_twice (remove path) = false
+gives_twice (move_to path position) = false
 
 -- what is asked for, where such a value doesn't fit (E10 with J8)
 abbrev pub unless_twice : Bool → Option Edit → Result (Option Edit) EditRefusal

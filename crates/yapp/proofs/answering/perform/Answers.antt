@@ -16,6 +16,9 @@ returns-in-Compile-clause-explained c = nothing_due c.args.with_reasons c.count_
 pub returns-in-Tree-clause-explained : goal.returns-in-Tree-clause-explained
 returns-in-Tree-clause-explained c = nothing_due c.args.with_reasons c.draw.result c.draw.ensures.faultless
 
+pub returns-in-Trees-clause-explained : goal.returns-in-Trees-clause-explained
+returns-in-Trees-clause-explained c = nothing_due c.args.with_reasons c.draw_all.result c.draw_all.ensures.faultless
+
 pub returns-in-Edit-clause-leads : goal.returns-in-Edit-clause-leads
 returns-in-Edit-clause-leads c =
     let contents = map (λ t. t.items) c.args.contents.now in

@@ -1,7 +1,7 @@
 use Rattle.std.proofs.Common.{map, ap, sym, ◌∙◌}
 use Rattle.clap.specs.Words.{App, fault_of, is_simple_and_free, subcommand_of}
 use Rattle.ycommand.specs.Application.{yanglive}
-use Rattle.ycommand.specs.Command.{format_fault}
+use Rattle.ycommand.specs.Command.{misuse_fault}
 use Rattle.ycommand.proofs.CommandLemmas.{asked_help, declined, declined_first, is_free}
 use Rattle.ycommand.proofs.HelpLemmas.{refusals_alike}
 use Rattle.ycommand.proofs.command.help_for.Goals as goal
@@ -17,6 +17,6 @@ pub returns-in-Err-try_get_matches_from : goal.returns-in-Err-try_get_matches_fr
 returns-in-Err-try_get_matches_from c =
     let app = c.in-Ok.ensures in
     let words = map (λ word. word.now) c.args.words.now in
-    declined_first (fault_of yanglive words) (format_fault (subcommand_of yanglive words)) c.without_request.result
+    declined_first (fault_of yanglive words) (misuse_fault (subcommand_of yanglive words)) c.without_request.result
     (declined (fault_of yanglive words) _ c.without_request.result (refusals_alike words)
     (rw (← ap (λ (a : App). fault_of a words) app) (c.in-Err-try_get_matches_from.ensures.kinds (ap is_simple_and_free app ∙ is_free))) c.without_request.ensures)

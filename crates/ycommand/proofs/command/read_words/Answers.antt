@@ -1,13 +1,10 @@
 use Rattle.std.proofs.Common.{rules}
-use Rattle.ycommand.proofs.HelpLemmas.{all_help, command_help, few_taken, many_taken}
+use Rattle.ycommand.proofs.HelpLemmas.{all_help, few_taken, many_taken}
 use Rattle.ycommand.proofs.command.read_words.Goals as goal
 use Rattle.ycommand.proofs.command.read_words.Goals.{in_default-via-then-words-lt2, in_default-via-else-words-lt2+else-words-lt3+else-words-lt4}
 
 pub help_for-requires : goal.help_for-requires
 help_for-requires c = all_help c.as_str-then-eq.result.now
-
-pub help_for-requires-then-is_command : goal.help_for-requires-then-is_command
-help_for-requires-then-is_command c = command_help c.as_str-then-is_command-2.result.now (search rules) c.as_str-then-is_command.result.now
 
 pub returns-in_default : goal.returns-in_default
 returns-in_default c = elim c.in_default.branch [

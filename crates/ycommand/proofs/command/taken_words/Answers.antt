@@ -1,8 +1,8 @@
 use Rattle.std.proofs.Common.{map, string_bytes, ap, sym, ◌∙◌}
 use Rattle.clap.specs.Words.{App, fault_of, is_simple, is_simple_and_free, subcommand_of}
 use Rattle.ycommand.specs.Application.{yanglive}
-use Rattle.ycommand.specs.Command.{format_fault}
-use Rattle.ycommand.proofs.CommandLemmas.{declined, declined_by_memory, declined_first, is_free, is_plain, taken_in_format}
+use Rattle.ycommand.specs.Command.{misuse_fault}
+use Rattle.ycommand.proofs.CommandLemmas.{declined, declined_by_memory, declined_first, is_free, is_plain, taken_fit}
 use Rattle.ycommand.proofs.HelpLemmas.{refusals_alike}
 use Rattle.ycommand.proofs.command.taken_words.Goals as goal
 
@@ -15,12 +15,12 @@ returns-in-Ok c =
     let words = map string_bytes c.args.words.now in
     let named = (c.in-Ok.ensures.matches (ap is_simple app ∙ is_plain)).1 ∙ ap (λ (a : App). subcommand_of a words) app in
     let none = sym (ap (λ (a : App). fault_of a words) app) ∙ c.in-Ok.ensures.kinds (ap is_simple_and_free app ∙ is_free) in
-    taken_in_format words _ c.line_or_refusal.result none (sym named) c.line_or_refusal.ensures
+    taken_fit words _ c.line_or_refusal.result none (sym named) c.line_or_refusal.ensures
 
 pub returns-in-Err : goal.returns-in-Err
 returns-in-Err c =
     let app = c.in_ok-application.ensures in
     let words = map string_bytes c.args.words.now in
-    declined_first (fault_of yanglive words) (format_fault (subcommand_of yanglive words)) c.without_request.result
+    declined_first (fault_of yanglive words) (misuse_fault (subcommand_of yanglive words)) c.without_request.result
     (declined (fault_of yanglive words) _ c.without_request.result (refusals_alike words)
     (rw (← ap (λ (a : App). fault_of a words) app) (c.in-Err.ensures.kinds (ap is_simple_and_free app ∙ is_free))) c.without_request.ensures)

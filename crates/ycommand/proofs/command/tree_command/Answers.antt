@@ -1,11 +1,12 @@
 use Rattle.std.proofs.Common.{codes}
 use Rattle.std.proofs.lemmas.Result.{IfOk-weaker}
-use Rattle.ycommand.specs.Application.{wanted, wanted_all}
+use Rattle.ycommand.specs.Application.{any_number, flag, wanted}
 use Rattle.ycommand.proofs.CommandLemmas.{with_argument}
 use Rattle.ycommand.proofs.command.tree_command.Goals as goal
 
 pub returns : goal.returns
 returns c =
     let bare = c.in_ok-command_over_files.ensures in
-    let named = with_argument _ (wanted (codes "NAME")) _ _ _ bare c.name_argument.ensures c.in_ok-arg.ensures in
-    IfOk-weaker c.arg-2.result _ _ (λ r added. with_argument _ (wanted_all (codes "MODULE")) _ r _ named c.modules_argument.ensures added) c.arg-2.ensures
+    let all = with_argument _ (flag (codes "all")) _ _ _ bare c.all_argument.ensures c.in_ok-arg.ensures in
+    let name = with_argument _ (wanted (codes "NAME")) _ _ _ all c.name_argument.ensures c.in_ok-arg-2.ensures in
+    IfOk-weaker c.arg-3.result _ _ (λ r added. with_argument _ (any_number (codes "MODULE")) _ r _ name c.other_modules_argument.ensures added) c.arg-3.ensures
