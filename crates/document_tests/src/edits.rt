@@ -18,14 +18,21 @@ fn push_keys(text: &mut String, keys: &[Key]) -> Result<(), AllocError> {
     Ok(())
 }
 
+// Some positions by a word each.
+fn position_word(position: u32) -> &'static str {
+    match position {
+        1 => "first",
+        12 => "twelfth",
+        u32::MAX => "far",
+        _ => "other",
+    }
+}
+
 fn push_step(text: &mut String, step: &NamedStep) -> Result<(), AllocError> {
     push_all(text, &["/", step.name.as_str()])?;
     match &step.predicate {
         Predicate::Unsaid => Ok(()),
-        Predicate::Position(1) => text.push_str("[first]"),
-        Predicate::Position(12) => text.push_str("[twelfth]"),
-        Predicate::Position(u32::MAX) => text.push_str("[far]"),
-        Predicate::Position(_) => text.push_str("[other]"),
+        Predicate::Position(position) => push_all(text, &["[", position_word(*position), "]"]),
         Predicate::Keys(keys) => push_keys(text, keys),
     }
 }
@@ -49,6 +56,7 @@ fn edit_text(alloc: Global, edit: &Edit) -> Result<String, AllocError> {
         Edit::Create { path, value } => ("create ", path, value.as_str()),
         Edit::Replace { path, value } => ("replace ", path, value.as_str()),
         Edit::Remove { path } => ("remove ", path, ""),
+        Edit::Move { path, position } => ("move ", path, position_word(*position)),
     };
     let mut text = String::from_str(alloc, verb)?;
     push_path(&mut text, path)?;
@@ -94,7 +102,7 @@ p:c => E1
     }
 }
 
-// `text => told`: the edit once more with its value in brackets, `passed over`, or the code of its refusal.
+// `text => told`: the edit once more with its value or position in brackets, `passed over`, or the code of its refusal.
 fn is_edit(alloc: Global, row: &str) -> Option<bool> {
     let (text, told) = row.split_once(" => ")?;
     match Edit::parse(alloc, text) {
@@ -116,7 +124,19 @@ remove /p:c {} => E1
  remove /p:c => E1
 remove\t/p:c => E1
 remove => E1
-move /p:c 1 => E1
+move /p:l[2] 1 => move /p:l[other] (first)
+move  /p:l[a='x y']  12  => move /p:l<a|x y> (twelfth)
+move /p:c 4294967295 => move /p:c (far)
+move /p:c 4294967296 => move /p:c (far)
+move /p:c => E1
+move /p:c  => E1
+move /p:c 0 => E1
+move /p:c 01 => E1
+move /p:c +1 => E1
+move /p:c [1] => E1
+move /p:c 1 2 => E1
+move /p:l[0] 1 => E1
+Move /p:c 1 => E1
 Remove /p:c => E1
  => passed over
 # => passed over

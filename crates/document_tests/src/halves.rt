@@ -3,7 +3,7 @@
 use crate::building::schema_of;
 use crate::telling::{is_refusal, is_text, number_of};
 use std::alloc::{AllocError, Global};
-use test_modules::MODULE;
+use test_modules::{MODULE, NETWORK};
 use yinst::{Bound, Edit, part};
 use ymodel::{Schema, SchemaId};
 
@@ -27,8 +27,8 @@ fn is_bound(alloc: Global, schema: &Schema, row: &str) -> Option<bool> {
     }
 }
 
-fn binds(alloc: Global, row: &str) -> Option<bool> {
-    let schema = schema_of(alloc, &[MODULE])?;
+fn binds(alloc: Global, module: &str, row: &str) -> Option<bool> {
+    let schema = schema_of(alloc, &[module])?;
     is_bound(alloc, &schema, row)
 }
 
@@ -43,9 +43,27 @@ remove /p:c/p:id => E2
 remove /p:c[1] => E3
 create /p:c/id[1] 7 => E3
 remove /p:c[id='7']/note => E3
-remove /p:c[1]/zz => E2";
+remove /p:c[1]/zz => E2
+move /p:c/note 1 => E3
+move /p:c 1 => E3
+move /p:c[1] 1 => E3
+move /p:c[1]/zz 1 => E2";
     for row in rows.lines() {
-        assert!(rt; binds(rt.alloc(), row) == Some(true), "{row:?}");
+        assert!(rt; binds(rt.alloc(), MODULE, row) == Some(true), "{row:?}");
+    }
+}
+
+#[test]
+fn meanings_of_moves(rt: HostRuntime) {
+    let rows = "move /ex-net:net/host[3] 1 => /0/1
+move /ex-net:net/host[name='a'] 9 => /0/1
+move /ex-net:net/host 1 => E3
+move /ex-net:net/host[addr='a'] 1 => E3
+move /ex-net:net/host[9]/name 1 => E3
+move /ex-net:net/host/name 1 => E3
+move /ex-net:net 1 => E3";
+    for row in rows.lines() {
+        assert!(rt; binds(rt.alloc(), NETWORK, row) == Some(true), "{row:?}");
     }
 }
 

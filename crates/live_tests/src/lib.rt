@@ -14,4 +14,6 @@ mod many;
 #[cfg(test)]
 mod memory;
 #[cfg(test)]
+mod moves;
+#[cfg(test)]
 mod telling;

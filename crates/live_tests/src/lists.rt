@@ -4,9 +4,13 @@ use crate::lives::{are_checked_under, first_wrong, runs_under};
 use std::alloc::Global;
 use test_modules::{DEFAULT_CASE, ENTRIES, NETWORK, STATE};
 
-// The first of some histories that doesn't go as it says, or its first row that doesn't. A history is a document and the
-// rows of its edits; lines `==` stand between them.
-fn first_wrong_history<'a>(alloc: Global, module: &str, histories: &'a str) -> Option<&'a str> {
+/// The first of some histories that doesn't go as it says, or its first row that doesn't. A history is a document and the
+/// rows of its edits; lines `==` stand between them.
+pub(crate) fn first_wrong_history<'a>(
+    alloc: Global,
+    module: &str,
+    histories: &'a str,
+) -> Option<&'a str> {
     for history in histories.split("\n==\n") {
         let wrong = match history.split_once('\n') {
             Some((document, rows)) => first_wrong(alloc, module, document, rows),

@@ -171,6 +171,36 @@ module: p
   +--rw c
      +--rw id      uint8
      +--rw note?   string
+==
+yanglive tree p.yang
+0
+--
+module: p
+  +--rw c
+     +--rw id      uint8
+     +--rw note?   string
+==
+yanglive tree --all p.yang net.yang
+0
+--
+module: p
+  +--rw c
+     +--rw id      uint8
+     +--rw note?   string
+
+module: ex-net
+  +--rw net
+     +--rw host* [name]
+        +--rw name        string
+        +--rw addr?       string
+        +--rw port?       uint16
+        +--rw uplink?     -> /net/host/name
+        +--rw use-port?   -> /net/host/port
+        +--rw (mode)
+           +--:(auto)
+           |  +--rw auto?   empty
+           +--:(fixed)
+              +--rw speed?   uint32
 ";
     for row in rows.split("==\n") {
         assert!(rt; is_drawn(rt.alloc(), NETWORK, row) == Some(true), "{row}");

@@ -129,9 +129,16 @@ L8: A keyword isn't formed as one: letters, digits, _, - and ., perhaps behind a
   To do: Correct the keyword; an argument with such signs stands behind its keyword.
   Source: RFC 7950, 6.1.2 and 6.2.
 ==
-yanglive explain C1 c1 V12
+yanglive explain v3
+0 0
+V3: A leaf that must be there is missing.
+  Told: the leaf.
+  To do: Add it, or take the node out around which it must be there.
+  Source: RFC 7950, 7.6.5.
+==
+yanglive explain C1 c0 V12
 2 1
-c1: no such code
+c0: no such code
 ==
 yanglive --version
 0 0
@@ -235,7 +242,7 @@ line 4: E2
   A step of the path names no node there, or in the wrong form. Write /module:name at the top and where the module changes, and /name elsewhere.
 line 5: E7
   | replace /p:c/note 5 6
-  What is to be replaced or removed isn't stored. Create it, or leave the line out.
+  What is to be replaced, removed or moved isn't stored. Create it, or leave the line out.
 line 6: E10 J3
   | replace /p:c {\"speed\":1}
   nothing called \"speed\" may stand here.
@@ -253,7 +260,7 @@ line 4: E2
   A step of the path names no node there, or in the wrong form. Write /module:name at the top and where the module changes, and /name elsewhere.
 line 5: E7
   | replace /p:c/note 5 6
-  What is to be replaced or removed isn't stored. Create it, or leave the line out.
+  What is to be replaced, removed or moved isn't stored. Create it, or leave the line out.
 line 6: E10 J3
   | replace /p:c {\"speed\":1}
   nothing called \"speed\" may stand here.
@@ -357,24 +364,24 @@ const LINES: &str = "yanglive edit --dump --explain good refused n.yang
 1 32
 line 1: E1
   | add /net:host {}
-  no edit is called \"add\": write create, replace or remove.
-  The line isn't an edit. Write create PATH VALUE, replace PATH VALUE or remove PATH.
+  no edit is called \"add\": write create, replace, remove or move.
+  The line isn't an edit. Write create PATH VALUE, replace PATH VALUE, remove PATH or move PATH N.
 line 2: E1
   |  remove /net:more
-  a line begins with create, replace or remove.
-  The line isn't an edit. Write create PATH VALUE, replace PATH VALUE or remove PATH.
+  a line begins with create, replace, remove or move.
+  The line isn't an edit. Write create PATH VALUE, replace PATH VALUE, remove PATH or move PATH N.
 line 4: E1
   | remove /net:host[name=a]
   \"net:host[name=a]\" is no step of a path: a key's text stands in quotes, as in [name='..'].
-  The line isn't an edit. Write create PATH VALUE, replace PATH VALUE or remove PATH.
+  The line isn't an edit. Write create PATH VALUE, replace PATH VALUE, remove PATH or move PATH N.
 line 5: E1
   | create /net:more/item \\xff
   the line isn't UTF-8.
-  The line isn't an edit. Write create PATH VALUE, replace PATH VALUE or remove PATH.
+  The line isn't an edit. Write create PATH VALUE, replace PATH VALUE, remove PATH or move PATH N.
 line 6: E3
   | replace /net:host/speed 9
   net:host is a list: write net:host[name='..'] or net:host[1].
-  A predicate is missing, out of place or of another kind than its node wants. Give a list entry [position] or a [key='value'] for each key, an item [position], and nothing to others, nor to the last step of create.
+  A predicate is missing, out of place or of another kind than its node wants; or what is moved is no entry or item. Give a list entry [position] or a [key='value'] for each key, an item [position], and nothing to others, nor to the last step of create. Move entries and items alone.
 line 7: E9
   | create /net:host[1]/uplink a
   a isn't JSON; a text stands in double quotes.
@@ -386,7 +393,7 @@ line 8: E10 J5
 line 9: E1
   | remove /net:host\\x1b[2J
   \"net:host\\x1b[2J\" is no step of a path: a step is a name, and behind it perhaps [1], or [name='..'] for each key.
-  The line isn't an edit. Write create PATH VALUE, replace PATH VALUE or remove PATH.
+  The line isn't an edit. Write create PATH VALUE, replace PATH VALUE, remove PATH or move PATH N.
 {\"net:host\":[{\"name\":\"a\",\"speed\":1}]}
 ==
 yanglive edit --dump good refused n.yang

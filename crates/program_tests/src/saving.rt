@@ -88,13 +88,14 @@ fn nothing_saved_behind_a_failure(rt: HostRuntime) {
     }
 }
 
-/// Keeps the last file that it was given, or fails.
+/// Keeps the last file that it was given, or fails for a cause.
 #[derive(Drop)]
 struct Last {
     alloc: Global,
-    is_failing: bool,
+    failing: Option<Unsaved>,
     text: String,
     count: CallCount,
+    cause: Option<Unsaved>,
 }
 
 impl Shelf for Last {
@@ -102,34 +103,54 @@ impl Shelf for Last {
 
     ghost failures = { λ s. s.count.calls };
 
+    ghost cause = { λ s. s.cause };
+
     fn save(&mut self, file: &SavedFile) -> Result<(), Unsaved> {
         let copy = [file.name.as_str(), " ", file.text.as_str()].concat(self.alloc);
-        match (self.is_failing, copy) {
-            (false, Ok(text)) => {
+        match (self.failing, copy) {
+            (None, Ok(text)) => {
                 self.text = text;
+                self.cause = None;
                 Ok(())
             }
-            _ => {
+            (failing, _) => {
+                let cause = failing.unwrap_or(Unsaved::Other);
                 self.count.rise();
-                Err(Unsaved)
+                self.cause = Some(cause);
+                Err(cause)
             }
         }
     }
 }
 
+/// The cause of a word.
+fn cause_of(word: &str) -> Option<Unsaved> {
+    match word {
+        "part" => Some(Unsaved::PartThere),
+        "target" => Some(Unsaved::TargetPartThere),
+        "folder" => Some(Unsaved::NoFolder),
+        "permission" => Some(Unsaved::NoPermission),
+        "file" => Some(Unsaved::NoRegularFile),
+        "other" => Some(Unsaved::Other),
+        _ => None,
+    }
+}
+
 /// Whether a run that ends with a status and perhaps with a file comes to that: the row is the status, whether there is a
-/// file, whether it can't be written, the status then, what is kept, and what is said.
+/// file, the cause for which it can't be written, whether reasons are wanted, the status then, what is kept, and what is said.
 fn is_saved(alloc: Global, row: &str) -> Option<bool> {
     let (before, rest) = row.split_once('|')?;
     let (is_there, rest) = rest.split_once('|')?;
-    let (is_failing, rest) = rest.split_once('|')?;
+    let (failing, rest) = rest.split_once('|')?;
+    let (wanted, rest) = rest.split_once('|')?;
     let (after, rest) = rest.split_once('|')?;
     let (kept, said) = rest.split_once('|')?;
     let mut shelf = Last {
         alloc,
-        is_failing: is_failing == "failing",
+        failing: cause_of(failing),
         text: String::new(alloc),
         count: CallCount::new(),
+        cause: None,
     };
     let file = SavedFile {
         name: String::from_str(alloc, "o.json").ok()?,
@@ -138,12 +159,11 @@ fn is_saved(alloc: Global, row: &str) -> Option<bool> {
     let ended = Ended {
         status: before.parse::<u8>().ok()?,
         saved: if is_there == "file" { Some(file) } else { None },
-        with_reasons: false,
+        with_reasons: wanted == "reasons",
     };
-    let mut errors = Cut::new(alloc, 100, 7, None).ok()?;
+    let mut errors = Cut::new(alloc, 200, 7, None).ok()?;
     let status = save(&ended, &mut shelf, &mut errors);
-    let is_told = errors.bytes() == said.as_bytes()
-        || errors.bytes().strip_suffix(b"\n") == Some(said.as_bytes());
+    let is_told = errors.bytes() == said.as_bytes();
     Some(is_told && status == after.parse::<u8>().ok()? && shelf.text.as_str() == kept)
 }
 
@@ -169,12 +189,33 @@ fn output_that_is_not_written_out(rt: HostRuntime) {
 
 #[test]
 fn files_in_their_place(rt: HostRuntime) {
-    let rows = "0|file|whole|0|o.json {}|
-1|file|whole|1|o.json {}|
-0|file|failing|4||cannot write o.json
-1|none|failing|1||
-4|none|whole|4||";
-    for row in rows.lines() {
+    let rows = "0|file|-|plain|0|o.json {}|==
+1|file|-|reasons|1|o.json {}|==
+1|none|part|reasons|1||==
+4|none|-|plain|4||==
+0|file|part|plain|4||cannot write o.json
+==
+1|file|other|plain|4||cannot write o.json
+==
+0|file|part|reasons|4||cannot write o.json
+  o.json.part is there already: another run may be writing it; remove it if none is.
+==
+0|file|target|reasons|4||cannot write o.json
+  a .part is there already beside the file to which it leads: another run may be writing it; remove it if none is.
+==
+0|file|folder|reasons|4||cannot write o.json
+  no such folder.
+==
+1|file|permission|reasons|4||cannot write o.json
+  permission is denied.
+==
+0|file|file|reasons|4||cannot write o.json
+  it is no regular file.
+==
+0|file|other|reasons|4||cannot write o.json
+  the system can't write it.
+";
+    for row in rows.split("==\n") {
         assert!(rt; is_saved(rt.alloc(), row) == Some(true), "{row}");
     }
 }

@@ -178,7 +178,23 @@ Example: yanglive edit
 ==
 yanglive help check
 errors 3
-'help'
+error: no command is called 'check'; the commands are compile, tree, validate, edit and explain
+==
+yanglive edit - - p.yang
+errors 3
+error: DATA and SCRIPT can't both be -: standard input is read once
+==
+yanglive edit --output - d.json s.txt p.yang
+errors 3
+error: '--output -' names no file: --dump prints the edited document
+==
+yanglive edit --output /dev/stdout d.json s.txt p.yang
+errors 3
+error: '--output /dev/stdout' names no file: --dump prints the edited document
+==
+yanglive tree --all
+errors 3
+<NAME>
 ==
 yanglive help edit d.json
 errors 3

@@ -5,6 +5,7 @@ use test_modules::{DEFAULT_CASE, ENTRIES, MODULE, NETWORK, STATE};
 use ycheck::{Fault, Info, LentInfo};
 use ylist::{Seen, Walk};
 use ylive::Live;
+use ypath::Edit;
 use yschema::compile;
 use ytext::parse;
 use ytree::{Step, read};
@@ -79,21 +80,46 @@ fn goes(live: &Live, codes: &str) -> Option<bool> {
     Some(is_all && gives(&mut walk, &faults, codes))
 }
 
-// `document => codes`
-fn goes_by(alloc: Global, module: &str, row: &str) -> Option<bool> {
-    let (document, codes) = row.split_once(" => ")?;
+fn live_under(alloc: Global, module: &str, document: &str) -> Option<Live> {
     let mut modules = Vec::new(alloc);
     modules.push(parse(alloc, module.as_bytes()).ok()?).ok()?;
     let schema = compile(alloc, &modules).ok()?;
     match read(alloc, &schema, document.as_bytes()) {
-        Ok(tree) => goes(&Live::open(alloc, schema, tree).ok()?, codes),
+        Ok(tree) => Live::open(alloc, schema, tree).ok(),
         Err(_) => None,
     }
+}
+
+// `document => codes`
+fn goes_by(alloc: Global, module: &str, row: &str) -> Option<bool> {
+    let (document, codes) = row.split_once(" => ")?;
+    goes(&live_under(alloc, module, document)?, codes)
+}
+
+// `document => edits, with a bar between them => codes`: all edits are done before the walk.
+fn goes_after(alloc: Global, module: &str, row: &str) -> Option<bool> {
+    let (document, row) = row.split_once(" => ")?;
+    let (lines, codes) = row.split_once(" => ")?;
+    let mut live = live_under(alloc, module, document)?;
+    for line in lines.split('|') {
+        let edit = Edit::parse(alloc, line).ok()??;
+        live.edit(&edit).ok()?;
+    }
+    goes(&live, codes)
 }
 
 fn first_wrong<'a>(alloc: Global, module: &str, rows: &'a str) -> Option<&'a str> {
     for row in rows.lines() {
         if goes_by(alloc, module, row) != Some(true) {
+            return Some(row);
+        }
+    }
+    None
+}
+
+fn first_wrong_after<'a>(alloc: Global, module: &str, rows: &'a str) -> Option<&'a str> {
+    for row in rows.lines() {
+        if goes_after(alloc, module, row) != Some(true) {
             return Some(row);
         }
     }
@@ -137,4 +163,21 @@ fn entries_and_items(rt: HostRuntime) {
     assert_eq!(rt; first_wrong(rt.alloc(), ENTRIES, rows), None);
     let rows = r#"{"w:c":{"tag":["b","a"]},"w:log":[{},{"at":"1"},{}]} => V3 V3"#;
     assert_eq!(rt; first_wrong(rt.alloc(), STATE, rows), None);
+}
+
+#[test]
+fn moved_entries_and_items(rt: HostRuntime) {
+    let rows =
+        r#"{"ex-net:net":{"host":[{"auto":[null],"name":"a","uplink":"c"},{"addr":"x","name":"b","use-port":81}]}} => move /ex-net:net/host[2] 1 => V11 V4 V11
+{"ex-net:net":{"host":[{"auto":[null],"name":"a","addr":"x","port":7},{"speed":"u","name":"a","addr":"x","port":7},{"speed":1,"name":"b","addr":"y"}]}} => move /ex-net:net/host[1] 3|move /ex-net:net/host[name='b'] 1 => V8 V9 V1 V8 V9
+{"ex-net:net":{"host":[{"auto":[null],"port":5000,"speed":1},{"auto":[null],"name":"123456789"},{"auto":[null]},{"auto":[null]}]}} => move /ex-net:net/host[1] 4 => V7 V1 V2 V2 V2 V1 V5"#;
+    assert_eq!(rt; first_wrong_after(rt.alloc(), NETWORK, rows), None);
+    let rows =
+        r#"{"v:e":[{"id":1,"in":{"x":"p"}},{"id":2,"in":{"x":"p"},"m":[4,5,4]},{"in":{}}]} => move /v:e[3] 2|move /v:e[id='2']/m[1] 2 => V9 V2 V9 V10 V10
+{"v:e":[{"id":1,"in":{"x":"p"}},{"id":2,"in":{"x":"p"},"m":[4,5,4]},{"id":2,"in":{}}]} => move /v:e[1] 3 => V8 V9 V10 V10 V8 V9
+{"v:e":[{"id":2,"in":{"x":"a"},"m":[1,1,300]},{"id":1}]} => move /v:e[1]/m[3] 1|move /v:e[id='1'] 1 => V1 V10 V10"#;
+    assert_eq!(rt; first_wrong_after(rt.alloc(), ENTRIES, rows), None);
+    let rows =
+        r#"{"w:c":{"tag":["b","a","b"]},"w:log":[{},{"at":"1"},{"at":"x"}]} => move /w:log[3] 1|move /w:c/tag[2] 3 => V10 V10 V1 V3"#;
+    assert_eq!(rt; first_wrong_after(rt.alloc(), STATE, rows), None);
 }

@@ -6,6 +6,7 @@ pub mod ScopeSamples
 pub mod ExpansionSamples
 pub mod AugmentSamples
 pub mod IdentitySamples
+pub mod MoveSamples
 pub mod TableSamples
 pub mod DiagramExamples
 pub mod CornerExamples

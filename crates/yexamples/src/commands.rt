@@ -2,8 +2,8 @@
 
 ghost use Rattle.std.specs.Prelude.{◌≡◌, ◌++◌, [], ◌∷◌, None, Some, codes, false, true};
 ghost use Rattle.yexamples.specs.CompilingSamples.{net_module, k_module, t_module, restricted_module};
-ghost use Rattle.yexamples.specs.Printing.{failed, found};
-ghost use Rattle.yprogram.specs.Output.{a_directory, as_dump, compile, edit, explain, outcome, plainly, printed, printed_with, told_as_json, validate};
+ghost use Rattle.yexamples.specs.Printing.{failed, found, printed_by};
+ghost use Rattle.yprogram.specs.Output.{a_directory, as_dump, compile, draw_all, edit, explain, outcome, plainly, printed, printed_with, told_as_json, validate};
 ghost use Rattle.ycodes.specs.Codes.{reason_of};
 ghost use Rattle.yprogram.specs.Script.{lines_of};
 ghost use Rattle.yexamples.specs.SchemaExamples.{hosts, one_host};
@@ -27,6 +27,12 @@ pub fn drawn_modules()
     ensures prefix { drawn_as (codes "ex") net_module ≡ failed 2 (codes "ex: no such module") }
     ensures refused { drawn_as (codes "a") (codes "module a { prefix \"x")
         ≡ failed 2 (codes "m.yang:1: L3") }
+    ensures one { printed_by (draw_all (codes "m.yang" ∷ [])) (Some module_p ∷ [])
+        ≡ drawn_as (codes "p") module_p }
+    ensures all { printed_by (draw_all (codes "m.yang" ∷ codes "n.yang" ∷ [])) (Some module_p ∷ Some (module_text (codes "q") (codes "  leaf a { type string; }\n")) ∷ [])
+        ≡ found 0 (codes "module: p\n  +--rw c\n     +--rw id      uint8\n     +--rw note?   string\n\nmodule: q\n  +--rw a?   string\n") }
+    ensures one_refused { printed_by (draw_all (codes "m.yang" ∷ codes "n.yang" ∷ [])) (Some module_p ∷ Some (codes "module a {") ∷ [])
+        ≡ failed 2 (codes "n.yang:1: L6") }
 {}
 
 /// Lines of scripts. A carriage return goes with its line feed alone.
@@ -181,8 +187,10 @@ pub fn reasons()
         ≡ failed 2 (codes "m.yang:1: C2\n  | module m {\n  A statement has too many or too few substatements of a kind. Leave one of them, or add the one that must be there: a leaf needs a type, a module its namespace and prefix.") }
     ensures of_a_code { printed false (outcome (explain (codes "V10" ∷ [])) [])
         ≡ found 0 (codes "V10: Another item of a configuration leaf-list has the same value.\n  Told: the item.\n  To do: Take one of them out.\n  Source: RFC 7950, 7.7.\n") }
-    ensures of_no_code { printed true (outcome (explain (codes "V10" ∷ codes "v1" ∷ [])) [])
-        ≡ failed 2 (codes "v1: no such code") }
+    ensures in_small_letters { printed false (outcome (explain (codes "v10" ∷ [])) [])
+        ≡ printed false (outcome (explain (codes "V10" ∷ [])) []) }
+    ensures of_no_code { printed true (outcome (explain (codes "V10" ∷ codes "v0" ∷ [])) [])
+        ≡ failed 2 (codes "v0: no such code") }
 {}
 
 /// What is said of faults, where that is asked for: their places by keys, and what stands there.
@@ -351,7 +359,7 @@ pub fn explained_edits()
     ensures value { edited_with_reasons (codes "replace /p:c/id []")
         ≡ faulty (line_with_reasons (codes "line 1: E10 J5") (codes "replace /p:c/id []") (codes "an array stands where a leaf's value is due.") (codes "J5")) (codes "{\"p:c\":{\"id\":1}}\n") }
     ensures no_edit { edited_with_reasons (codes "add /p:c/note \"x\"")
-        ≡ faulty (line_with_reasons (codes "line 1: E1") (codes "add /p:c/note \"x\"") (codes "no edit is called \"add\": write create, replace or remove.") (codes "E1")) (codes "{\"p:c\":{\"id\":1}}\n") }
+        ≡ faulty (line_with_reasons (codes "line 1: E1") (codes "add /p:c/note \"x\"") (codes "no edit is called \"add\": write create, replace, remove or move.") (codes "E1")) (codes "{\"p:c\":{\"id\":1}}\n") }
     ensures predicate { edited_with_reasons (codes "remove /p:c/id[1]")
         ≡ faulty (line_with_reasons (codes "line 1: E3") (codes "remove /p:c/id[1]") (codes "id is a leaf: no predicate stands behind it.") (codes "E3")) (codes "{\"p:c\":{\"id\":1}}\n") }
     ensures no_json { edited_with_reasons (codes "create /p:c/note eth0")
@@ -372,4 +380,5 @@ pub fn members_given_twice()
     ensures values { strictly_edited
         (codes "replace /p:c {\"id\":2,\"id\":3}\nreplace /p:c/id 4\ncreate /p:x {\"id\":1,\"id\":1}\ncreate /p:c/note {")
         ≡ faulty (codes "line 1: E10 J8\nline 3: E10 J8\nline 4: E9\n") (codes "{\"p:c\":{\"id\":4}}\n") }
+    ensures moves { strictly_edited (codes "move /p:c 1") ≡ faulty (codes "line 1: E3\n") (codes "{\"p:c\":{\"id\":1}}\n") }
 {}

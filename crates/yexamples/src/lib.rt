@@ -12,5 +12,6 @@ pub mod groupings;
 pub mod identities;
 pub mod linking;
 pub mod modules;
+pub mod moves;
 pub mod scopes;
 pub mod scripts;

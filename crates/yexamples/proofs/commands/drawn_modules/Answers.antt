@@ -9,4 +9,7 @@ returns c = record {
   missing = refl;
   prefix = refl;
   refused = refl;
+  one = refl;
+  all = refl;
+  one_refused = refl;
 }

@@ -11,4 +11,5 @@ returns c = record {
   twice = refl;
   refused_before = refl;
   values = refl;
+  moves = refl;
 }

@@ -16,5 +16,6 @@ returns c = record {
   of_a_place = refl;
   of_a_rule = refl;
   of_a_code = refl;
+  in_small_letters = refl;
   of_no_code = refl;
 }
