@@ -4,6 +4,7 @@ use Rattle.std.proofs.lemmas.Bool.{eqb-true, ne_eqb, false≢true}
 use Rattle.std.proofs.lemmas.Bool.Decides.{nat_tests}
 use Rattle.std.specs.Prelude.{slice_range}
 use Rattle.std.specs.Option.{option_map_or}
+use Rattle.std.specs.List.{list_any}
 use Rattle.std.proofs.lemmas.List.{drop-drop, drop_all, take-append-drop}
 use Rattle.yspec.specs.text.Text.{Text, begins, line_feed, carriage_return, space, tab, backslash, is_blank, line_after}
 use Rattle.yspec.specs.text.Token.{joined_breaks, trimmed_ends, stripped_starts, escape, unescaped, bad_escape_line}
@@ -563,3 +564,46 @@ returned raw i e = (eqb-true (get_or raw i 0) 13 (and_left (get_or raw i 0 == ca
 
 pub reading_done : (width left line : ℕ) (text : Text) (raw : List ℕ) (i : ℕ) → length raw ≤ i → reading width left line text (drop i raw) ≡ Ok text
 reading_done width left line text raw i h = ap (reading width left line text) (drop_all i raw h) ∙ reading_none width left line text
+
+-- ---- a string in which no line breaks
+
+abbrev feeds : List ℕ → Bool
+feeds xs = list_any (λ y. y == line_feed) xs
+
+and_none : (a b : Bool) → b ≡ false → (a && b) ≡ false
+and_none true b e = e
+and_none false b e = refl
+
+no_front : (xs : List ℕ) → feeds xs ≡ false → begins line_feed xs ≡ false
+no_front [] e = refl
+no_front (x ∷ xs) e = or_left (x == line_feed) (feeds xs) e
+
+joined_whole : (xs : List ℕ) → feeds xs ≡ false → joined_breaks xs ≡ xs
+joined_whole [] e = joined_none
+joined_whole (x ∷ xs) e =
+    let rest = or_right (x == line_feed) (feeds xs) e in
+    joined_kept x xs (and_none (x == carriage_return) (begins line_feed xs) (no_front xs rest)) ∙ ap (λ (ys : List ℕ). x ∷ ys) (joined_whole xs rest)
+
+trimmed_whole : (xs : List ℕ) → feeds xs ≡ false → trimmed_ends xs ≡ xs
+unfolding trimmed_ends
+trimmed_whole [] e = refl
+trimmed_whole (x ∷ xs) e =
+    let rest = or_right (x == line_feed) (feeds xs) e in
+    ap (λ (ys : List ℕ). cond (is_blank x && begins line_feed ys) ys (x ∷ ys)) (trimmed_whole xs rest)
+    ∙ ap (λ (b : Bool). cond b xs (x ∷ xs)) (and_none (is_blank x) (begins line_feed xs) (no_front xs rest))
+
+stripped_alike : (width other left : ℕ) (xs : List ℕ) → feeds xs ≡ false → stripped_starts width left xs ≡ stripped_starts other left xs
+unfolding stripped_starts
+stripped_alike width other left [] e = refl
+stripped_alike width other left (x ∷ xs) e =
+    let feed = or_left (x == line_feed) (feeds xs) e in
+    let rest = or_right (x == line_feed) (feeds xs) e in
+    rw (feed, stripped_alike width other (left - 1) xs rest, stripped_alike width other (left - 8) xs rest, stripped_alike width other 0 xs rest) refl
+
+pub width_unasked : (width other line : ℕ) (text : Text) (raw : List ℕ) → list_any (λ y. y == line_feed) raw ≡ false
+    → reading width 0 line text raw ≡ reading other 0 line text raw
+unfolding reading said
+width_unasked width other line text raw e =
+    let same : trimmed_ends (joined_breaks raw) ≡ raw = ap trimmed_ends (joined_whole raw e) ∙ trimmed_whole raw e in
+    ap (λ (ys : List ℕ). option_map_or (λ bad. slip 4 bad) (bad_escape_line false line raw) (Ok (text ++ unescaped false ys)))
+    (ap (stripped_starts width 0) same ∙ stripped_alike width other 0 raw e ∙ ap (stripped_starts other 0) (sym same))

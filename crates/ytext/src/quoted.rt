@@ -333,6 +333,20 @@ fn push_next(text: &mut String, raw: &str, width: usize, place: Place) -> Result
     })
 }
 
+/// How many columns are stripped from the lines of a string whose opening quote stands in a line behind these bytes.
+/// Where no line breaks in the string nothing asks for them, and that line isn't looked at.
+fn strip_width(before: &[u8], raw: &str) -> usize
+    requires { 8 * length before.now < 2 ^ 63 }
+    ensures { (line : ℕ) (text : List ℕ) → reading result 0 line text raw.now
+        ≡ reading (column_behind 1 before.now) 0 line text raw.now }
+{
+    if raw.as_bytes().contains(&b'\n') {
+        column_behind(before)
+    } else {
+        0
+    }
+}
+
 /// Adds what a double-quoted string says, its opening quote standing in a line behind these bytes: its lines
 /// stripped, and its escapes replaced.
 pub(crate) fn push_double(
@@ -346,7 +360,7 @@ pub(crate) fn push_double(
     ensures { Gives (λ _. string_bytes text.new) told_by result
         (reading (column_behind 1 before.now) 0 line (string_bytes text.old) raw.now) }
 {
-    let width = column_behind(before);
+    let width = strip_width(before, raw);
     let mut place = Place {
         at: 0,
         line,

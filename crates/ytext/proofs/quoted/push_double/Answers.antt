@@ -1,6 +1,5 @@
-use Rattle.std.proofs.Common.{ℕ, refl, sym, ap, ◌∙◌, arith, string_bytes}
+use Rattle.std.proofs.Common.{ℕ, refl, sym, ◌∙◌, arith, string_bytes}
 use Rattle.std.proofs.lemmas.Str.{IsCharBoundary-start}
-use Rattle.ytext.specs.Quoted.{reading}
 use Rattle.ytext.proofs.QuotedLemmas.{reading_done}
 use Rattle.ytext.proofs.quoted.push_double.Goals as goal
 
@@ -13,7 +12,7 @@ loop-place-init c = record {
 
 pub returns : goal.returns
 returns c =
-    let width : ℕ = c.column_behind-width.result in
-    ap (λ (w : ℕ). reading w 0 c.args.line (string_bytes c.args.text.now) c.args.raw.now) (sym c.column_behind-width.ensures)
+    let width : ℕ = c.strip_width-width.result in
+    sym (c.strip_width-width.ensures c.args.line (string_bytes c.args.text.now))
     ∙ sym c.loop-place.invariant.rest
     ∙ reading_done width c.loop-place.place.left c.loop-place.place.line (string_bytes c.loop-place.text) c.args.raw.now c.loop-place.place.at (omega (arith, c.loop-place-test.false))
