@@ -53,6 +53,24 @@ pub(crate) fn hang(
     }
 }
 
+// Hangs a node in a row at a place among those of its schema node.
+#[tactic(auto, using(ystore::proofs::CallerLemmas::room_is_there))]
+fn hang_at(
+    counted: &mut Counted<'_>,
+    row: Row,
+    schema: SchemaId,
+    node: NodeId,
+    place: usize,
+) -> Option<()> {
+    match counted.reserve_child(row) {
+        Ok(()) => {
+            counted.add_child_at(row, schema, node, place);
+            Some(())
+        }
+        Err(_) => None,
+    }
+}
+
 // Adds a node to those that hold an item's value.
 #[tactic(auto, using(ystore::proofs::CallerLemmas::node_is_awaited))]
 pub(crate) fn hold(counted: &mut Counted<'_>, value: &Val, node: NodeId) -> Option<()> {
@@ -107,6 +125,35 @@ pub(crate) fn rows(alloc: Global) -> Option<bool> {
     counted.remove(first);
     let gone = counted.count_of(row, FIRST) == 1 && counted.schema(first) == None;
     Some(made && moved && put && gone && counted.node_count() == 3)
+}
+
+// The last node of a schema node is taken out of a row, and none where there is none; one that comes back stands at its place.
+pub(crate) fn last_children(alloc: Global) -> Option<bool> {
+    let mut nodes = Nodes::new(alloc);
+    let mut counted = nodes.counted();
+    counted.reserve_nodes(3).ok()?;
+    let first = insert(&mut counted, FIRST, None, Row::Top, 0)?;
+    let other = insert(&mut counted, FIRST, None, Row::Top, 0)?;
+    let second = insert(&mut counted, SECOND, None, Row::Top, 0)?;
+    hang(&mut counted, Row::Top, SECOND, second)?;
+    hang(&mut counted, Row::Top, FIRST, first)?;
+    hang_at(&mut counted, Row::Top, FIRST, other, 0)?;
+    let before = counted.child(Row::Top, 0) == Some(other)
+        && counted.child(Row::Top, 1) == Some(first)
+        && counted.child(Row::Top, 2) == Some(second);
+    counted.take_last_child(Row::Top, FIRST);
+    let taken = counted.child(Row::Top, 0) == Some(other)
+        && counted.child(Row::Top, 1) == Some(second)
+        && counted.child(Row::Top, 2) == None;
+    hang_at(&mut counted, Row::Top, FIRST, first, 7)?;
+    let behind = counted.child(Row::Top, 1) == Some(first)
+        && counted.child(Row::Top, 2) == Some(second);
+    counted.take_last_child(Row::Top, CONTAINER);
+    counted.take_last_child(Row::Top, FIRST);
+    counted.take_last_child(Row::Top, FIRST);
+    counted.take_last_child(Row::Top, FIRST);
+    let left = counted.child(Row::Top, 0) == Some(second) && counted.child(Row::Top, 1) == None;
+    Some(before && taken && behind && left)
 }
 
 // What is told is kept at its node, and a view shows it.
@@ -177,6 +224,7 @@ pub(crate) fn keys(alloc: Global) -> Option<bool> {
 fn all_calls(rt: HostRuntime) {
     let alloc = rt.alloc();
     assert!(rt; rows(alloc) == Some(true));
+    assert!(rt; last_children(alloc) == Some(true));
     assert!(rt; told(alloc) == Some(true));
     assert!(rt; keys(alloc) == Some(true));
 }

@@ -15,6 +15,7 @@ use Rattle.ystore.specs.declared.row.NodeId.{NodeId}
 use Rattle.ystore.specs.declared.row.Row.{Row}
 use Rattle.ystore.specs.declared.row.Row.TheVariants.{Top}
 use Rattle.ystore.specs.declared.nodes.Nodes.{Nodes}
+use Rattle.ystore.proofs.CallerLemmas.{added_is_last}
 use Rattle.yshape.specs.Hanging.{Numbered, Branches, tree_of, child_of, children_of, Keeps, is_number, times}
 use Rattle.yshape.specs.Ways.{Way, around, end_of}
 use Rattle.yshape.specs.Changes.{put_at, with_node_at}
@@ -46,14 +47,6 @@ parted (suc p) n below (node m under after) =
 
 none_first : (k : ℕ) (f g : Branches) → times k (join f g) ≡ 0 → times k f ≡ 0
 none_first k f g none = let both = weigh_join (is_number k) f g in omega (arith, both, none)
-
-pub added_back : (n : Numbered) (below f : Branches) → times n.id.0 f ≡ 0
-    → rows.taken (child_of n) (rows.added (child_of n) (children_of f)) ≡ children_of f
-added_back n below f none =
-    let p = parted (rows.end_place n.schema (children_of f)) n below f in
-    ap (rows.taken (child_of n)) (sym (children_put (rows.end_place n.schema (children_of f)) n below f) ∙ ap children_of p.now)
-    ∙ (list_taken p.before p.after n below (none_first n.id.0 p.before p.after (ap (times n.id.0) (sym p.was) ∙ none))
-    ∙ ap children_of (sym p.was))
 
 pub put_back : (first rest : Branches) (m : Numbered) (under : Branches) (n : Numbered) (below : Branches) → m.schema ≡ n.schema
     → times m.id.0 first ≡ 0 → times n.id.0 first ≡ 0
@@ -151,16 +144,16 @@ brought_back at first rest m under sorted none =
     ∙ (ap (λ f. children_of (with_node_at place m under f)) (sym p.was)
     ∙ ap children_of (same_place first rest m under sorted)))
 
-pub taken_back : (first rest : Branches) (m : Numbered) (under : Branches) → IsSorted (tree_of (join first (node m under rest))) → times m.id.0 (join first rest) ≡ 0
+pub taken_back : (first rest : Branches) (m : Numbered) (under : Branches) → IsSorted (tree_of (join first (node m under rest)))
     → times m.id.0 first ≡ 0
-    → rows.moved (child_of m) (instances_in (tree_of first) m.schema.0) (rows.added (child_of m) (rows.taken (child_of m) (children_of (join first (node m under rest)))))
+    → rows.brought (child_of m) (instances_in (tree_of first) m.schema.0) (rows.taken (child_of m) (children_of (join first (node m under rest))))
     ≡ children_of (join first (node m under rest))
-taken_back first rest m under sorted none before =
+taken_back first rest m under sorted before =
     let place = instances_in (tree_of first) m.schema.0 in
-    let at = rows.end_place m.schema (children_of (join first rest)) in
-    ap (λ cs. rows.moved (child_of m) place (rows.added (child_of m) cs)) (list_taken first rest m under before)
-    ∙ (ap (rows.moved (child_of m) place) (sym (children_put at m under (join first rest)))
-    ∙ brought_back at first rest m under sorted none)
+    let at = rows.first_place m.schema (children_of (join first rest)) + min place (length (rows.of_schema m.schema (children_of (join first rest)))) in
+    ap (rows.brought (child_of m) place) (list_taken first rest m under before)
+    ∙ (sym (children_put at m under (join first rest))
+    ∙ ap children_of (same_place first rest m under sorted))
 
 pub moved_back : (to : ℕ) (first rest : Branches) (m : Numbered) (under : Branches) → IsSorted (tree_of (join first (node m under rest))) → times m.id.0 (join first rest) ≡ 0
     → times m.id.0 first ≡ 0
@@ -241,12 +234,8 @@ module _ (above : Row) (way : Way) (at : end_of Top way ≡ above) where
   restored : (nodes : Nodes) (f loose g left : Branches) (schema : SchemaId) (change : Change) → Swaps schema change f loose g left → IsSorted (tree_of f)
       → Keeps nodes (around way f) above loose → swapped_back schema change (swapped schema change (children_of f)) ≡ children_of f
   restored nodes f loose g left schema (Add new) a sorted keeps =
-      subst (λ (c : Child). rows.taken c (rows.added c (children_of f)) ≡ children_of f) (child_is a.label schema new a.is_schema a.is_new)
-      (added_back a.label a.below f
-      (let most = once_there nodes f loose keeps a.label.id.0 in
-      let beside = ap (times a.label.id.0) a.beside in
-      let here = is_itself a.label in
-      omega (arith, most, beside, here)))
+      subst (λ (c : Child). rows.without_last c.0 (rows.added c (children_of f)) ≡ children_of f) (child_is a.label schema new a.is_schema a.is_new)
+      (added_is_last (child_of a.label) (children_of f))
   restored nodes f loose g left schema (Put old new) p sorted keeps =
       let parts = weigh_join (is_number p.from.id.0) p.before (node p.from p.under p.after) in
       let was = ap (times p.from.id.0) p.was in
@@ -265,17 +254,16 @@ module _ (above : Row) (way : Way) (at : end_of Top way ≡ above) where
       (subst (λ (s : SchemaId). rows.put (child_of p.to) p.from.id (rows.put (s, p.from.id) p.to.id (children_of (join p.before (node p.from p.under p.after)))) ≡ children_of (join p.before (node p.from p.under p.after))) p.is_schema back))))
   restored nodes f loose g left schema (Take old place) t sorted keeps =
       let parts = weigh_join (is_number t.from.id.0) t.before (node t.from t.under t.after) in
-      let both = weigh_join (is_number t.from.id.0) t.before t.after in
       let was = ap (times t.from.id.0) t.was in
       let most = once_there nodes f loose keeps t.from.id.0 in
       let here = is_itself t.from in
       let back = taken_back t.before t.after t.from t.under (subst (λ (h : Branches). IsSorted (tree_of h)) t.was sorted)
-      (omega (arith, parts, both, was, most, here)) (omega (arith, parts, was, most, here)) in
+      (omega (arith, parts, was, most, here)) in
       let place_is : instances_in (tree_of t.before) t.from.schema.0 ≡ place = ap (λ (s : SchemaId). instances_in (tree_of t.before) s.0) t.is_schema ∙ t.is_place in
-      subst (λ (cs : List Child). rows.moved (schema, old) place (rows.added (schema, old) (rows.taken (schema, old) cs)) ≡ cs) (ap children_of (sym t.was))
-      (subst (λ (c : Child). rows.moved c place (rows.added c (rows.taken c (children_of (join t.before (node t.from t.under t.after))))) ≡ children_of (join t.before (node t.from t.under t.after)))
+      subst (λ (cs : List Child). rows.brought (schema, old) place (rows.taken (schema, old) cs) ≡ cs) (ap children_of (sym t.was))
+      (subst (λ (c : Child). rows.brought c place (rows.taken c (children_of (join t.before (node t.from t.under t.after)))) ≡ children_of (join t.before (node t.from t.under t.after)))
       (child_is t.from schema old t.is_schema t.is_old)
-      (subst (λ (k : ℕ). rows.moved (child_of t.from) k (rows.added (child_of t.from) (rows.taken (child_of t.from) (children_of (join t.before (node t.from t.under t.after))))) ≡ children_of (join t.before (node t.from t.under t.after)))
+      (subst (λ (k : ℕ). rows.brought (child_of t.from) k (rows.taken (child_of t.from) (children_of (join t.before (node t.from t.under t.after)))) ≡ children_of (join t.before (node t.from t.under t.after)))
       place_is back))
   restored nodes f loose g left schema (Move id from to) m sorted keeps =
       let parts = weigh_join (is_number m.label.id.0) m.before (node m.label m.under m.after) in

@@ -3,7 +3,7 @@ use Rattle.std.specs.Prelude.{◌≡◌, ℕ, List}
 use Rattle.yspec.specs.Forest.{end, node, join}
 use Rattle.yspec.specs.document.Document.{instances_in}
 use Rattle.ymodel.specs.declared.node.SchemaId.{SchemaId}
-use Rattle.ystore.specs.Rows.{Child, added, put, taken, moved}
+use Rattle.ystore.specs.Rows.{Child, added, put, taken, brought, moved, without_last}
 use Rattle.ystore.specs.declared.row.NodeId.{NodeId}
 use Rattle.yshape.specs.Hanging.{Numbered, Branches, tree_of}
 use Rattle.yshape.specs.Changes.{with_node, with_node_at}
@@ -18,9 +18,9 @@ swapped schema (Take old place) row = taken (schema, old) row
 swapped schema (Move id from to) row = moved (schema, id) to row
 
 abbrev pub swapped_back : SchemaId → Change → List Child → List Child
-swapped_back schema (Add new) row = taken (schema, new) row
+swapped_back schema (Add new) row = without_last schema row
 swapped_back schema (Put old new) row = put (schema, new) old row
-swapped_back schema (Take old place) row = moved (schema, old) place (added (schema, old) row)
+swapped_back schema (Take old place) row = brought (schema, old) place row
 swapped_back schema (Move id from to) row = moved (schema, id) from row
 
 -- what is asked of a change that takes a node out

@@ -85,11 +85,10 @@ impl Swap {
         ensures same_reference { lent counted.new ≡ lent counted.old }
     {
         match self.change {
-            Change::Add { new } => counted.take_child(self.above, self.schema, new),
+            Change::Add { .. } => counted.take_last_child(self.above, self.schema),
             Change::Put { old, new } => counted.put_child(self.above, self.schema, new, old),
             Change::Take { old, place } => {
-                counted.add_child(self.above, self.schema, old);
-                counted.move_child(self.above, self.schema, old, place);
+                counted.add_child_at(self.above, self.schema, old, place)
             }
             Change::Move { node, from, .. } => {
                 counted.move_child(self.above, self.schema, node, from)

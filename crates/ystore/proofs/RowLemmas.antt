@@ -1,8 +1,8 @@
 -- Rows whose schema numbers ascend.
-use Rattle.std.proofs.Common.{◌≡◌, ℕ, zero, suc, ◌+◌, ◌-◌, ◌<◌, ◌≤◌, Bool, true, false, cond, List, [], ◌∷◌, length, get_or, set, take, drop, refl, sym, ap, ◌∙◌, arith, ltb, leb, eqb, filter, insert, remove, min, not, slice_get, option_map, Some, None, zero-add, suc-add, one-add, length-drop}
+use Rattle.std.proofs.Common.{◌≡◌, ℕ, zero, suc, ◌+◌, ◌-◌, ◌<◌, ◌≤◌, Bool, true, false, cond, List, [], ◌∷◌, length, get_or, set, take, drop, refl, sym, subst, ap, ◌∙◌, arith, ltb, leb, eqb, map, filter, insert, remove, min, not, slice_get, option_map, Some, None, zero-add, suc-add, one-add, length-drop}
 use Rattle.std.specs.List.{list_all, prefix_len}
 use Rattle.std.specs.List.Sorted.{IsNonDecreasingBy, IsPartitionPoint}
-use Rattle.std.proofs.lemmas.Bool.{and_parts, and_from, leb-true, leb-false, ltb-true, ltb-false, le-leb, le-ltb, eq-eqb, ne_eqb, eqb-true}
+use Rattle.std.proofs.lemmas.Bool.{and_parts, and_from, leb-true, leb-false, ltb-true, ltb-false, le-leb, le-ltb, lt-ltb, eq-eqb, ne_eqb, eqb-true, eqb-false}
 use Rattle.std.proofs.lemmas.List.Sums.{prefix_len_is, prefix_len-le-length, passes_at_first}
 use Rattle.std.proofs.lemmas.List.{length-take-le, length-map}
 use Rattle.std.proofs.lemmas.Option.{slice_get-map, slice_get_past, none-some, same_Some}
@@ -296,3 +296,88 @@ none_yet node ids p before here k less held = by (ltb k p) refl
         let past = ltb-false k p e in
         let same : k ≡ p = omega (arith, past, less) in
         here (ap (slice_get ids) (sym same) ∙ held)
+
+-- ---- the place of a child
+
+at_start : (l n : ℕ) → 0 ≡ cond (ltb 0 (suc l)) (0 + 0) n
+at_start l n = sym (ap (λ b. cond b (0 + 0) n) (lt-ltb 0 (suc l) (omega arith)))
+
+one_more : (b : Bool) (f k n : ℕ) → 1 + cond b (f + k) n ≡ cond b ((1 + f) + k) (suc n)
+one_more true f k n = omega arith
+one_more false f k n = one-add n
+
+one_further : (k l n : ℕ) → 1 + cond (ltb k l) (0 + k) n ≡ cond (ltb (1 + k) (suc l)) (0 + (1 + k)) (suc n)
+one_further k l n = by (ltb k l) refl
+  where
+    by : (b : Bool) → ltb k l ≡ b → 1 + cond (ltb k l) (0 + k) n ≡ cond (ltb (1 + k) (suc l)) (0 + (1 + k)) (suc n)
+    by true less = let under = ltb-true k l less in rw (less, lt-ltb (1 + k) (suc l) (omega (arith, under))) (omega arith)
+    by false less = let over = ltb-false k l less in rw (less, le-ltb (1 + k) (suc l) (omega (arith, over))) (one-add n)
+
+none_there : (node : NodeId) (f n : ℕ) (ids : List NodeId) → ids ≡ []
+    → 1 + cond (ltb (entries.place_of node ids) (length ids)) (f + entries.place_of node ids) n
+    ≡ cond (ltb (entries.place_of node ids) (length ids)) (0 + entries.place_of node ids) (suc n)
+none_there node f n ids none =
+    subst (λ (xs : List NodeId). 1 + cond (ltb (entries.place_of node xs) (length xs)) (f + entries.place_of node xs) n
+    ≡ cond (ltb (entries.place_of node xs) (length xs)) (0 + entries.place_of node xs) (suc n)) (sym none) (one-add n)
+
+-- a child that stands in the row stands behind those of lower schema nodes and those of its own before it
+pub place_in_row : (child : Child) (row : List Child) → ascends row ≡ true
+    → place_of child row ≡ cond (ltb (entries.place_of child.1 (of_schema child.0 row)) (length (of_schema child.0 row)))
+    (first_place child.0 row + entries.place_of child.1 (of_schema child.0 row)) (length row)
+place_in_row child [] all = refl
+place_in_row child (c ∷ cs) all =
+    by (place_in_row child cs parts.1) (eqb (number c) (number child)) refl (eqb c.1.0 child.1.0) refl (ltb (number c) (number child)) refl
+  where
+    parts : (follow c cs ≡ true) × (ascends cs ≡ true)
+    parts = and_parts (follow c cs) (ascends cs) all
+
+    index : ℕ
+    index = entries.place_of child.1 (of_schema child.0 cs)
+
+    count : ℕ
+    count = length (of_schema child.0 cs)
+
+    first : ℕ
+    first = first_place child.0 cs
+
+    by : place_of child cs ≡ cond (ltb index count) (first + index) (length cs)
+        → (is_same : Bool) → eqb (number c) (number child) ≡ is_same → (is_node : Bool) → eqb c.1.0 child.1.0 ≡ is_node
+        → (is_less : Bool) → ltb (number c) (number child) ≡ is_less
+        → place_of child (c ∷ cs) ≡ cond (ltb (entries.place_of child.1 (of_schema child.0 (c ∷ cs))) (length (of_schema child.0 (c ∷ cs))))
+        (first_place child.0 (c ∷ cs) + entries.place_of child.1 (of_schema child.0 (c ∷ cs))) (length (c ∷ cs))
+    by later false same is_node node true less =
+        rw (same, less) (ap (λ n. 1 + n) later ∙ one_more (ltb index count) first index (length cs))
+    by later false same is_node node false less =
+        let above = ltb-false (number c) (number child) less in
+        let none = none_above child.0 c cs (omega (arith, above, eqb-false (number c) (number child) same)) parts.0 in
+        rw (same, less) (ap (λ n. 1 + n) later ∙ none_there child.1 first (length cs) (of_schema child.0 cs) (ap (map (λ c. c.1)) none))
+    by later true same is_node node true less =
+        absurd (omega (arith, ltb-true (number c) (number child) less, eqb-true (number c) (number child) same))
+    by later true same true node false less = rw (same, node, less) (at_start count (suc (length cs)))
+    by later true same false node false less =
+        let start = first_is_start child.0 cs (follow_from (number child) c cs (omega (arith, eqb-true (number c) (number child) same)) parts.0) in
+        rw (same, node, less) (ap (λ n. 1 + n) (later ∙ ap (λ f. cond (ltb index count) (f + index) (length cs)) start) ∙ one_further index count (length cs))
+
+entry_within : (node : NodeId) (ids : List NodeId) → entries.place_of node ids ≤ length ids
+entry_within node ids = prefix_len-le-length (λ n. not (eqb n.0 node.0)) ids
+
+-- no child of a row stands behind those of its schema node
+pub within_end : (child : Child) (row : List Child) → ascends row ≡ true
+    → first_place child.0 row + entries.place_of child.1 (of_schema child.0 row) ≤ end_place child.0 row
+within_end child row all =
+    omega (arith, entry_within child.1 (of_schema child.0 row), count_is child.0 row all, first_before_end child.0 row)
+
+-- the place that is found among those of its schema node
+pub place_is : (child : Child) (row : List Child) → ascends row ≡ true
+    → (first_place child.0 row + entries.place_of child.1 (of_schema child.0 row) < end_place child.0 row
+    → first_place child.0 row + entries.place_of child.1 (of_schema child.0 row) ≡ place_of child row)
+    × (end_place child.0 row ≤ first_place child.0 row + entries.place_of child.1 (of_schema child.0 row) → length row ≡ place_of child row)
+place_is child row all =
+    let index = entries.place_of child.1 (of_schema child.0 row) in
+    let count = length (of_schema child.0 row) in
+    let many = count_is child.0 row all in
+    let order = first_before_end child.0 row in
+    let is = place_in_row child row all in (
+      λ within. sym (is ∙ ap (λ b. cond b (first_place child.0 row + index) (length row)) (lt-ltb index count (omega (arith, many, order, within)))),
+      λ past. sym (is ∙ ap (λ b. cond b (first_place child.0 row + index) (length row)) (le-ltb index count (omega (arith, many, order, past)))),
+    )

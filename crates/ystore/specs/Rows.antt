@@ -1,5 +1,5 @@
 -- Rows of nodes with their schema nodes, and what is made of one.
-use Rattle.std.specs.Prelude.{ℕ, ltb, leb, eqb, ◌+◌, ◌&&◌, min, Bool, true, List, [], ◌∷◌, length, map, slice_set, if◌then◌else◌}
+use Rattle.std.specs.Prelude.{ℕ, ltb, leb, eqb, ◌+◌, ◌-◌, ◌&&◌, min, Bool, true, List, [], ◌∷◌, length, map, slice_set, if◌then◌else◌}
 use Rattle.std.specs.List.{list_all, prefix_len, position_or_len, filter, insert, remove}
 use Rattle.ymodel.specs.declared.node.SchemaId.{SchemaId}
 use Rattle.ystore.specs.declared.row.NodeId.{NodeId}
@@ -43,6 +43,10 @@ put child node row = slice_set row (place_of child row) (child.0, node)
 -- without a child
 abbrev pub taken : Child → List Child → List Child
 taken child row = remove row (place_of child row)
+
+-- without the last of a schema node, if there is one
+abbrev pub without_last : SchemaId → List Child → List Child
+without_last schema row = if ltb (first_place schema row) (end_place schema row) then remove row (end_place schema row - 1) else row
 
 -- with a child at a place among those of its schema node, or behind them
 abbrev pub brought : Child → ℕ → List Child → List Child

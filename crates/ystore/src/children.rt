@@ -68,15 +68,9 @@ impl Children {
         ensures place { result ≡ rows.place_of child (nodes_of self.now) }
         ensures within { result ≤ length (nodes_of self.now) }
     {
-        let mut place = 0;
-        while place < self.nodes.len() {
-            let (schema, node) = self.nodes[place];
-            if schema.0 == child.0.0 && node.0 == child.1.0 {
-                return place;
-            }
-            place += 1;
-        }
-        place
+        let end = self.end_place(child.0);
+        let place = self.first_place(child.0) + self.index_of(child.0, child.1);
+        if place < end { place } else { self.nodes.len() }
     }
 
     /// How many are of a schema node.
@@ -157,6 +151,16 @@ impl Children {
         let _ = self.nodes.insert(place, child);
     }
 
+    /// Adds a child at a place among those of its schema node, or behind them, where there is room for one.
+    pub fn add_at(&mut self, child: (SchemaId, NodeId), place: usize)
+        requires { length (nodes_of self.old) < room_of self.old }
+        ensures nodes { nodes_of self.new ≡ rows.brought child place (nodes_of self.old) }
+        ensures room { room_of self.new ≡ room_of self.old }
+    {
+        let place = self.place_among(child.0, place);
+        let _ = self.nodes.insert(place, child);
+    }
+
     /// Puts another node of the same schema node in the place of a child, if it is there.
     pub fn put(&mut self, child: (SchemaId, NodeId), node: NodeId)
         ensures nodes { nodes_of self.new ≡ rows.put child node (nodes_of self.old) }
@@ -176,6 +180,17 @@ impl Children {
         let place = self.place_of(child);
         if place < self.nodes.len() {
             self.nodes.remove(place);
+        }
+    }
+
+    /// Takes the last of a schema node away, if there is one.
+    pub fn take_last(&mut self, schema: SchemaId)
+        ensures nodes { nodes_of self.new ≡ rows.without_last schema (nodes_of self.old) }
+        ensures room { room_of self.new ≡ room_of self.old }
+    {
+        let end = self.end_place(schema);
+        if self.first_place(schema) < end {
+            self.nodes.remove(end - 1);
         }
     }
 

@@ -316,6 +316,18 @@ impl<'a> Counted<'a> {
         }
     }
 
+    /// Adds a node to a row, at a place among those of its schema node, or behind them. There is room for it.
+    pub fn add_child_at(&mut self, row: Row, schema: SchemaId, child: NodeId, place: usize)
+        requires { store.has_room (store_of self.old) row }
+        ensures store { ChangesRow row (option_map (store.with_children (rows.brought (schema, child) place)))
+            (store_of self.old) (store_of self.new) }
+        ensures same_reference { lent self.new ≡ lent self.old }
+    {
+        if let Some(record) = self.nodes.record_mut(row) {
+            record.children.add_at((schema, child), place);
+        }
+    }
+
     /// Puts a node in the place of one of the same schema node, if that is in the row.
     pub fn put_child(&mut self, row: Row, schema: SchemaId, old: NodeId, new: NodeId)
         ensures store { ChangesRow row (option_map (store.with_children (rows.put (schema, old) new)))
@@ -335,6 +347,17 @@ impl<'a> Counted<'a> {
     {
         if let Some(record) = self.nodes.record_mut(row) {
             record.children.take((schema, child));
+        }
+    }
+
+    /// Takes the last node of a schema node out of a row, if there is one.
+    pub fn take_last_child(&mut self, row: Row, schema: SchemaId)
+        ensures store { ChangesRow row (option_map (store.with_children (rows.without_last schema)))
+            (store_of self.old) (store_of self.new) }
+        ensures same_reference { lent self.new ≡ lent self.old }
+    {
+        if let Some(record) = self.nodes.record_mut(row) {
+            record.children.take_last(schema);
         }
     }
 
