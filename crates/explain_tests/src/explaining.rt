@@ -62,7 +62,7 @@ fn are_lines(alloc: Global, text: &str, lines: &str) -> Option<bool> {
 
 const ROWS: &str =
     r#"{"net:host":[{"name":"a","speed":1},{"name":"b","speed":70000}]} => /net:host[name='b']/speed: 70000 isn't a value of uint16: it takes an integer without quotes in 0..65535.|
-{"net:host":[{"name":"a","speed":1,"tag":["x",5]}]} => /net:host[name='a']/tag[.='5']: 5 isn't a value of string: it takes a text in quotes.|
+{"net:host":[{"name":"a","speed":1,"tag":["x",5]}]} => /net:host[name='a']/tag[2]: 5 isn't a value of string: it takes a text in quotes.|
 {"net:host":[{"speed":"x"}]} => /net:host[1]: its key name is missing.|/net:host[1]/speed: "x" isn't a value of uint16: it takes an integer without quotes in 0..65535.|
 {"net:host":[{"name":"b"}]} => /net:host[name='b']: speed is missing.|
 {"net:more":{"item":[1,2]}} => /net:more: no case of the choice how is there.|
@@ -74,13 +74,18 @@ const ROWS: &str =
 {"net:host":[{"name":"a","speed":1},{"name":"b","speed":1},{"name":"a","speed":1}]} => /net:host[1]: its key name='a' is that of /net:host[3].|/net:host[3]: its key name='a' is that of /net:host[1].|
 {"net:pairs":{"pair":[{"a":"x","b":true},{"a":"x","b":false},{"a":"x","b":true}]}} => /net:pairs/pair[1]: its keys a='x' and b='true' are those of /net:pairs/pair[3].|/net:pairs/pair[3]: its keys a='x' and b='true' are those of /net:pairs/pair[1].|
 {"net:pairs":{"pair":[{"a":"it's","b":true,"v":300}]}} => /net:pairs/pair[a="it's"][b='true']/v: 300 isn't a value of uint8: it takes an integer without quotes in 0..255.|
-{"net:pairs":{"pair":[{"a":"two\nlines","b":true,"v":-1}]}} => /net:pairs/pair[a="two\nlines"][b='true']/v: -1 isn't a value of uint8: it takes an integer without quotes in 0..255.|
+{"net:pairs":{"pair":[{"a":"two\nlines","b":true,"v":-1}]}} => /net:pairs/pair[1]/v: -1 isn't a value of uint8: it takes an integer without quotes in 0..255.|
+{"net:pairs":{"pair":[{"a":"it's \"both\"","b":true,"v":300}]}} => /net:pairs/pair[1]/v: 300 isn't a value of uint8: it takes an integer without quotes in 0..255.|
+{"net:pairs":{"pair":[{"a":"q\"q\\","b":false,"v":300}]}} => /net:pairs/pair[a='q"q\'][b='false']/v: 300 isn't a value of uint8: it takes an integer without quotes in 0..255.|
+{"net:pairs":{"pair":[{"a":"\u009b31m","b":true,"v":"\u007f\u0080\u001b"}]}} => /net:pairs/pair[1]/v: "\u007f\u0080\u001b" isn't a value of uint8: it takes an integer without quotes in 0..255.|
+{"net:pairs":{"pair":[{"a":"x\u007f","b":true},{"a":"x\u007f","b":true}]}} => /net:pairs/pair[1]: its keys a='x\u007f' and b='true' are those of /net:pairs/pair[2].|/net:pairs/pair[2]: its keys a='x\u007f' and b='true' are those of /net:pairs/pair[1].|
+{"net:pairs":{"pair":[{"a":"x","b":"true","v":1}]}} => /net:pairs/pair[1]/b: "true" isn't a value of boolean: it takes true or false without quotes.|
 {"net:host":[{"name":"a","speed":1,"port":5},{"name":"b","speed":1},{"name":"c","speed":1,"port":5}]} => /net:host[name='a']: its port 5 is that of /net:host[3].|/net:host[name='c']: its port 5 is that of /net:host[1].|
 {"net:host":[{"name":"a","speed":1,"tag":["x","y","x","x"]}]} => /net:host[1]/tag[1]: its value "x" is that of /net:host[1]/tag[3].|/net:host[1]/tag[3]: its value "x" is that of /net:host[1]/tag[1].|/net:host[1]/tag[4]: its value "x" is that of /net:host[1]/tag[1].|
 {"net:host":[{"name":"a","speed":1,"uplink":"b"}]} => /net:host[name='a']/uplink: no instance of /net:host/name is "b".|
 {"net:host":[{"name":"core","speed":1},{"name":"edge","speed":1,"uplink":"cora"}]} => /net:host[name='edge']/uplink: no instance of /net:host/name is "cora"; near it: "core".|
 {"net:host":[{"name":"a","speed":1,"added:in":{"port":[{"number":4},{"number":400}]}}]} => /net:host[name='a']/added:in/port[2]/number: 400 isn't a value of int8: it takes an integer without quotes in -128..127.|
-{"net:host":[{"name":"a","speed":1,"added:in":{"port":[{"number":4}]}}],"net:more":{"rate":1,"item":[3,4],"added:of":[4,6]}} => /net:more/added:of[.='6']: no instance of /net:host/added:in/port/number is 6.|
+{"net:host":[{"name":"a","speed":1,"added:in":{"port":[{"number":4}]}}],"net:more":{"rate":1,"item":[3,4],"added:of":[4,6]}} => /net:more/added:of[2]: no instance of /net:host/added:in/port/number is 6.|
 {"net:site":[{"name":"a","at":{"ip":"x"}},{"name":"b","port":80,"at":{"ip":"x"}},{"name":"c","at":{"ip":"y"}}]} => /net:site[name='a']: its at/ip "x" and port by default are those of /net:site[2].|/net:site[name='b']: its at/ip "x" and port 80 are those of /net:site[1].|
 "#;
 

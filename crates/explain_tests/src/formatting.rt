@@ -58,9 +58,18 @@ const ROWS: &str = r#"{"net:host":[{"name":"a","speed":1}]}
 {"yanglive:faults":2}
 ==
 {"net:host":[{"name":"a","speed":1,"tag":["x","x"]}]}
-{"error-message":"its value \"x\" is that of /net:host[1]/tag[2].","error-path":"/net:host[name='a']/tag[.='x']","error-tag":"operation-failed","error-type":"application","yanglive:code":"V10","yanglive:path":"/net:host[1]/tag[1]"}
-{"error-message":"its value \"x\" is that of /net:host[1]/tag[1].","error-path":"/net:host[name='a']/tag[.='x']","error-tag":"operation-failed","error-type":"application","yanglive:code":"V10","yanglive:path":"/net:host[1]/tag[2]"}
+{"error-message":"its value \"x\" is that of /net:host[1]/tag[2].","error-path":"/net:host[name='a']/tag[1]","error-tag":"operation-failed","error-type":"application","yanglive:code":"V10","yanglive:path":"/net:host[1]/tag[1]"}
+{"error-message":"its value \"x\" is that of /net:host[1]/tag[1].","error-path":"/net:host[name='a']/tag[2]","error-tag":"operation-failed","error-type":"application","yanglive:code":"V10","yanglive:path":"/net:host[1]/tag[2]"}
 {"yanglive:faults":2}
+==
+{"net:host":[{"name":"a","speed":1},{"name":"a","speed":1}]}
+{"error-message":"its key name='a' is that of /net:host[2].","error-path":"/net:host[1]","error-tag":"operation-failed","error-type":"application","yanglive:code":"V8","yanglive:path":"/net:host[1]"}
+{"error-message":"its key name='a' is that of /net:host[1].","error-path":"/net:host[2]","error-tag":"operation-failed","error-type":"application","yanglive:code":"V8","yanglive:path":"/net:host[2]"}
+{"yanglive:faults":2}
+==
+{"net:host":[{"name":"\u007f\u009b"}]}
+{"error-message":"speed is missing.","error-path":"/net:host[1]/speed","error-tag":"data-missing","error-type":"application","yanglive:code":"V3","yanglive:path":"/net:host[1]/speed"}
+{"yanglive:faults":1}
 ==
 {"net:limits":{"small":9,"word":"abc"}}
 {"error-app-tag":"too big","error-message":"9 isn't a value of uint8: it takes an integer without quotes in 1..5 | 7.","error-path":"/net:limits/small","error-tag":"invalid-value","error-type":"application","yanglive:code":"V1","yanglive:path":"/net:limits/small"}

@@ -1,5 +1,5 @@
 -- The first instance of a schema node, the last step to a place, and rows in order.
-use Rattle.std.proofs.Common.{◌≡◌, ℕ, zero, suc, Bool, true, false, cond, List, [], ◌∷◌, ◌++◌, Option, Some, refl, ap, ◌∙◌}
+use Rattle.std.proofs.Common.{◌≡◌, ℕ, zero, suc, Bool, true, false, cond, List, [], ◌∷◌, ◌++◌, Option, Some, None, refl, ap, ◌∙◌}
 use Rattle.std.proofs.lemmas.List.{map-append}
 use Rattle.std.specs.Prelude.{◌==◌, option_map}
 use Rattle.std.specs.Option.{option_map_or}
@@ -18,6 +18,12 @@ first_instance m (node s below after) = by (s.schema_number == m) (first_instanc
         → option_map (λ (found : Stored × Tree). found.0) (cond b (Some (s, below)) (nth_instance m 0 after)) ≡ cond b (Some s) (stored_in m after)
     by true h = refl
     by false h = h
+
+-- as something that is seen so is the first
+pub first_seen : {A : Type 0} (see : A → Stored × Tree) (o : Option A) (m : ℕ) (t : Tree) → option_map see o ≡ nth_instance m 0 t
+    → option_map (λ x. (see x).0) o ≡ stored_in m t
+first_seen see (Some x) m t is = ap (option_map (λ (found : Stored × Tree). found.0)) is ∙ first_instance m t
+first_seen see None m t is = ap (option_map (λ (found : Stored × Tree). found.0)) is ∙ first_instance m t
 
 -- ---- the last step
 

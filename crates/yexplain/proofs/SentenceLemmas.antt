@@ -14,7 +14,7 @@ use Rattle.ycheck.specs.View.{code_view}
 use Rattle.ycheck.specs.declared.fault.FaultCode.{FaultCode}
 use Rattle.ycheck.specs.declared.fault.FaultCode.TheVariants as words
 use Rattle.yexplain.specs.Places.{row_at, steps_above}
-use Rattle.yexplain.specs.Sentences.{sentence, sentence_at, sentence_to, message_to, own_message}
+use Rattle.yexplain.specs.Sentences.{plain_sentence, sentence_at, sentence_to, message_to, own_message}
 use Rattle.yexplain.proofs.PlaceLemmas.{last_seen, above_seen}
 
 module _ (schema : Schema) (tree row : Tree) (info : Info) (steps above : List code.Step) (step : code.Step) (k v : FaultCode)
@@ -49,7 +49,7 @@ module _ (schema : Schema) (tree row : Tree) (steps above : List code.Step) (ste
 
 module _ (schema : Schema) (tree : Tree) (info : Info) (steps : List Step) where
   pub said_of_others : (k : FaultCode) → (k ≡ words.V4 → ⊥) → (k ≡ words.V5 → ⊥)
-      → sentence_to schema tree steps info (code_view k) ≡ sentence schema tree steps info (code_view k)
+      → sentence_to schema tree steps info (code_view k) ≡ plain_sentence schema tree steps info (code_view k)
   said_of_others words.V1 not_four not_five = refl
   said_of_others words.V2 not_four not_five = refl
   said_of_others words.V3 not_four not_five = refl

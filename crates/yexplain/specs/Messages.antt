@@ -1,9 +1,10 @@
 -- What a module says itself of a value that one of its restrictions excludes (RFC 7950, 7.5.4.1).
-use Rattle.std.specs.Prelude.{ℕ, ◌++◌, [], codes, map, Option, Some, None, option_and_then, if◌then◌else◌, nat_lt}
+use Rattle.std.specs.Prelude.{ℕ, ◌++◌, [], codes, map, Option, Some, None, option_and_then, if◌then◌else◌}
 use Rattle.std.specs.Str.{chars, encode_utf8_all}
 use Rattle.yspec.specs.text.Text.{Text, space}
 use Rattle.yspec.specs.types.Types.{Raw, message_of}
 use Rattle.yspec.specs.schema.Schema.{Schema, LeafType, type_in, node_at}
+use Rattle.yhint.specs.Control.{is_control}
 
 abbrev pub type_at : Schema → ℕ → Option LeafType
 type_at schema number = option_and_then (λ n. type_in n.kind) (node_at schema number)
@@ -15,9 +16,9 @@ message_by type value = option_and_then (message_of type.type) value
 abbrev pub message_at : Schema → ℕ → Option Raw → Option Text
 message_at schema number value = option_and_then (λ t. message_by t value) (type_at schema number)
 
--- a control character would break a line
+-- a control character would break a line, or be obeyed by a terminal
 abbrev pub printed_character : ℕ → ℕ
-printed_character c = if nat_lt c space then space else c
+printed_character c = if is_control c then space else c
 
 abbrev pub on_one_line : Text → Text
 on_one_line t = encode_utf8_all (map printed_character (chars t))

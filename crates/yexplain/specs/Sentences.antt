@@ -9,6 +9,7 @@ use Rattle.yspec.specs.document.Document.{Tree, Step, step_to, instances_in}
 use Rattle.yspec.specs.document.FaultCode.{FaultCode, V1, V2, V3, V4, V5, V6, V7, V8, V9, V10, V11, V12}
 use Rattle.yspec.specs.document.Fault.{Fault, Info, choice_name, unique_number}
 use Rattle.yspec.specs.document.Path.{path_text, module_after}
+use Rattle.yhint.specs.Control.{visible}
 use Rattle.yhint.specs.Near.{nearest}
 use Rattle.yexplain.specs.Places.{instance_to, row_to, row_at, last_step, steps_above}
 use Rattle.yexplain.specs.Values.{value_text}
@@ -192,10 +193,14 @@ abbrev pub sentence_to : Schema → Tree → List Step → Info → FaultCode �
 sentence_to schema tree steps info code = option_map_or
     (sentence_at schema tree (row_at tree (steps_above steps)) (steps_above steps) info code) (last_step steps) []
 
+abbrev pub plain_sentence : Schema → Tree → List Step → Info → FaultCode → Text
+plain_sentence schema tree steps info V4 = no_case (choice_in info)
+plain_sentence schema tree steps info V5 = several_cases schema tree steps (choice_in info)
+plain_sentence schema tree steps info code = sentence_to schema tree steps info code
+
+-- a terminal obeys nothing of it
 abbrev pub sentence : Schema → Tree → List Step → Info → FaultCode → Text
-sentence schema tree steps info V4 = no_case (choice_in info)
-sentence schema tree steps info V5 = several_cases schema tree steps (choice_in info)
-sentence schema tree steps info code = sentence_to schema tree steps info code
+sentence schema tree steps info code = visible (plain_sentence schema tree steps info code)
 
 -- ---- the message that a fault carries of its module (RFC 7950, 7.5.4.1)
 
@@ -203,6 +208,13 @@ abbrev pub own_message : Schema → Tree → List Step → FaultCode → Option 
 own_message schema tree steps V1 =
     option_and_then (message_to schema (row_at tree (steps_above steps))) (last_step steps)
 own_message schema tree steps _ = None
+
+-- ---- places
+
+-- Where it is told, as an edit's path names it: an entry that isn't the only one of its keys, by positions.
+abbrev pub fault_path : Schema → Tree → FaultCode → List Step → Text
+fault_path schema tree V8 steps = path_text schema steps
+fault_path schema tree _ steps = keyed_path schema tree steps
 
 -- ---- lines
 

@@ -6,9 +6,9 @@ use Rattle.yspec.specs.types.Types.{Raw}
 use Rattle.yspec.specs.schema.Schema.{Schema, Kind, list, Tuples, LeafPath, node_at}
 use Rattle.yspec.specs.document.Document.{Tree, step_to}
 use Rattle.yexplain.specs.Joining.{joined}
-use Rattle.yexplain.specs.KeyedPath.{name_of, leaf_in, key_words}
+use Rattle.yexplain.specs.KeyedPath.{name_of, leaf_in}
 use Rattle.yexplain.specs.Places.{row_to}
-use Rattle.yexplain.specs.Values.{value_text}
+use Rattle.yexplain.specs.Values.{bare_text, quoted, value_text}
 
 -- ---- what the schema says of a list
 
@@ -50,6 +50,10 @@ abbrev pub leaf_words : Schema → Tree → LeafPath → Text
 leaf_words schema row path = path_name schema path ++ (codes " " ++ found_words (leaf_at row path))
 
 -- ---- what is said of them
+
+-- `name='value'`
+abbrev pub key_words : Schema → Tree → ℕ → Text
+key_words schema row key = name_of schema key ++ (codes "=" ++ quoted (bare_text (leaf_in row key)))
 
 abbrev pub key_noun : ℕ → Text
 key_noun n = if n == 1 then codes "key " else codes "keys "

@@ -20,6 +20,7 @@ use crate::sentences::{
 };
 use std::alloc::{AllocError, Global};
 use ycheck::{Fault, FaultCode, Info};
+use yhint::visible;
 use ymodel::Schema;
 use youtput::{Sink, write_all};
 use ytree::{Step, Tree};
@@ -105,7 +106,27 @@ fn sentence_at(
     }
 }
 
-/// What is said of a fault of a document whose rows stand in the order of its schema: what stands there or is missing.
+fn plain_sentence(
+    alloc: Global,
+    schema: &Schema,
+    tree: &Tree,
+    fault: &Fault,
+) -> Result<String, AllocError>
+    ensures { let t = document_view.tree_view tree.now in let f = fault_view.view fault.now in
+        IsSorted t → IfOk result (λ text. string_bytes text
+        ≡ spec.plain_sentence (schema_view.view schema.now) t f.steps f.info f.code) }
+{
+    match fault.code {
+        FaultCode::V4 => no_case(alloc, choice_in(&fault.info)),
+        FaultCode::V5 => {
+            several_cases(alloc, schema, tree, &fault.steps, choice_in(&fault.info))
+        }
+        code => sentence_at(alloc, schema, tree, &fault.steps, &fault.info, code),
+    }
+}
+
+/// What is said of a fault of a document whose rows stand in the order of its schema: what stands there or is missing. A
+/// terminal obeys nothing of it.
 pub fn sentence(
     alloc: Global,
     schema: &Schema,
@@ -116,12 +137,24 @@ pub fn sentence(
         IsSorted t → IfOk result (λ text. string_bytes text
         ≡ spec.sentence (schema_view.view schema.now) t f.steps f.info f.code) }
 {
+    let said = plain_sentence(alloc, schema, tree, fault)?;
+    visible(alloc, said.as_str())
+}
+
+/// The path of the place of a fault, as an edit names it.
+pub fn fault_path(
+    alloc: Global,
+    schema: &Schema,
+    tree: &Tree,
+    fault: &Fault,
+) -> Result<String, AllocError>
+    ensures { let f = fault_view.view fault.now in IfOk result (λ text. string_bytes text
+        ≡ spec.fault_path (schema_view.view schema.now) (document_view.tree_view tree.now) f.code
+        f.steps) }
+{
     match fault.code {
-        FaultCode::V4 => no_case(alloc, choice_in(&fault.info)),
-        FaultCode::V5 => {
-            several_cases(alloc, schema, tree, &fault.steps, choice_in(&fault.info))
-        }
-        code => sentence_at(alloc, schema, tree, &fault.steps, &fault.info, code),
+        FaultCode::V8 => position_path(alloc, schema, &fault.steps),
+        _ => keyed_path(alloc, schema, tree, &fault.steps),
     }
 }
 

@@ -18,7 +18,7 @@ mod target;
 mod tuples;
 mod values;
 
-pub use explanation::{explanation_of, own_message, sentence, write_fault_explanation};
+pub use explanation::{explanation_of, fault_path, own_message, sentence, write_fault_explanation};
 pub use fault::ExplanationFault;
 pub use laws::{fellow_is_another, repeated_has_fellow};
 pub use path::{keyed_path, position_path};

@@ -7,6 +7,7 @@ ghost use Rattle.ymodel.specs.View as schema_view;
 ghost use Rattle.yexplain.specs.Messages as spec;
 
 use std::alloc::{AllocError, Global};
+use yhint::is_control;
 use ymodel::{LeafType, Schema, SchemaId};
 use ytype::Raw;
 
@@ -52,7 +53,11 @@ pub(crate) fn message_at(
 fn printed_character(character: char) -> char
     ensures { result ≡ spec.printed_character character }
 {
-    if character < ' ' { ' ' } else { character }
+    if is_control(character) {
+        ' '
+    } else {
+        character
+    }
 }
 
 fn on_one_line(alloc: Global, text: &str) -> Result<String, AllocError>

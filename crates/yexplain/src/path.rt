@@ -1,8 +1,9 @@
 //! The texts of paths.
 
-ghost use Rattle.std.specs.Prelude.{◌≡◌, ◌++◌, codes, IfOk, OnOk, option_and_then, option_map, string_bytes};
-ghost use Rattle.std.specs.List.{flat_map};
+ghost use Rattle.std.specs.Prelude.{◌≡◌, ◌++◌, Some, IfOk, OnOk, option_and_then, option_map, string_bytes, unwrap_or};
+ghost use Rattle.yspec.specs.document.Document.{stored_in};
 ghost use Rattle.yspec.specs.document.Path as path;
+ghost use Rattle.yspec.specs.edit.Editing.{text_of};
 ghost use Rattle.ytype.specs.View as held;
 ghost use Rattle.ymodel.specs.Layout.{numbers_of};
 ghost use Rattle.ymodel.specs.View as schema_view;
@@ -11,9 +12,10 @@ ghost use Rattle.yexplain.specs.KeyedPath as spec;
 ghost use Rattle.yexplain.specs.Places.{last_step};
 
 use crate::place::{instance_to, nth_instance, row_to};
-use crate::values::{bare_text, quoted};
 use itoa::Buffer;
 use std::alloc::{AllocError, Global};
+use ycheck::value_of;
+use yhint::has_control;
 use ymodel::{Kind, Schema, SchemaId};
 use ytree::{Step, Stored, Tree};
 use ytype::Raw;
@@ -28,40 +30,88 @@ pub(crate) fn name_of(schema: &Schema, id: SchemaId) -> &str
     }
 }
 
+/// The first instance of a leaf in a row.
+fn stored_leaf(row: &[Stored], id: SchemaId) -> Option<&Stored>
+    ensures { option_map (λ s. (document_view.view s.now).0) result
+        ≡ stored_in id.0 (document_view.row_view row.entry.now) }
+{
+    nth_instance(row, id, 0)
+}
+
 /// The value of a leaf in the row below an entry.
 pub(crate) fn leaf_in(row: &[Stored], id: SchemaId) -> Option<&Raw>
     ensures { option_map (λ raw. held.raw_of raw.now) result
         ≡ spec.leaf_in (document_view.row_view row.entry.now) id.0 }
 {
-    nth_instance(row, id, 0)?.value()
+    stored_leaf(row, id)?.value()
 }
 
-/// Whether there are keys, and all are stored.
-fn has_keys(row: &[Stored], keys: &[SchemaId]) -> bool
-    ensures { result
-        ≡ spec.has_keys (document_view.row_view row.now) (numbers_of keys.now) }
+// ---- predicates, as an edit's path has them
+
+fn has_byte(text: &str, byte: u8) -> bool
+    ensures { result ≡ spec.has_byte byte text.now }
 {
-    for key in keys {
-        if leaf_in(row, *key).is_none() {
-            return false;
-        }
-    }
-    !keys.is_empty()
+    text.as_bytes().iter().any(|x| *x == byte)
 }
 
-/// The name of a key and its value, as predicates have them.
-pub(crate) fn key_words(
+/// The quotes around a text in a path, where it can stand there.
+fn quotes_for(text: &str) -> Option<&'static str>
+    ensures { option_map (λ quotes. quotes.now) result ≡ spec.quotes_for text.now }
+{
+    if has_control(text) {
+        None
+    } else if !has_byte(text, b'\'') {
+        Some("'")
+    } else if !has_byte(text, b'"') {
+        Some("\"")
+    } else {
+        None
+    }
+}
+
+fn in_quotes(alloc: Global, text: &str) -> Result<Option<String>, AllocError>
+    ensures { IfOk result (λ quoted. option_map string_bytes quoted ≡ spec.in_quotes text.now) }
+{
+    let Some(quotes) = quotes_for(text) else {
+        return Ok(None);
+    };
+    let mut quoted = String::from_str(alloc, quotes)?;
+    quoted.push_str(text)?;
+    quoted.push_str(quotes)?;
+    Ok(Some(quoted))
+}
+
+/// The canonical text of the valid value of a stored leaf.
+fn text_of(alloc: Global, schema: &Schema, stored: &Stored) -> Result<Option<String>, AllocError>
+    ensures { IfOk result (λ text. option_map string_bytes text
+        ≡ text_of (schema_view.view schema.now) (document_view.view stored.now).0) }
+{
+    let Some(node) = schema.kind(stored.id()) else {
+        return Ok(None);
+    };
+    let Some(leaf_type) = node.kind.leaf_type() else {
+        return Ok(None);
+    };
+    match value_of(alloc, schema, stored)? {
+        Some(value) => Ok(Some(value.canonical(alloc, &leaf_type.value_type)?)),
+        None => Ok(None),
+    }
+}
+
+/// The canonical text of a key in the row below an entry.
+fn key_text(
     alloc: Global,
     schema: &Schema,
     row: &[Stored],
     key: SchemaId,
-) -> Result<String, AllocError>
-    ensures { IfOk result (λ text. string_bytes text
-        ≡ spec.key_words (schema_view.view schema.now) (document_view.row_view row.now) key.0) }
+) -> Result<Option<String>, AllocError>
+    ensures { IfOk result (λ text. option_map string_bytes text
+        ≡ spec.key_text (schema_view.view schema.now) (document_view.row_view row.now) key.0) }
 {
-    let bare = bare_text(alloc, leaf_in(row, key))?;
-    let value = quoted(alloc, bare.as_str())?;
-    [name_of(schema, key), "=", value.as_str()].concat(alloc)
+    match stored_leaf(row, key) {
+        Some(stored) => text_of(alloc, schema, stored),
+        None => Ok(None),
+    }
 }
 
 fn key_predicate(
@@ -69,39 +119,57 @@ fn key_predicate(
     schema: &Schema,
     row: &[Stored],
     key: SchemaId,
-) -> Result<String, AllocError>
-    ensures { IfOk result (λ text. string_bytes text
-        ≡ spec.key_predicate (schema_view.view schema.now) (document_view.row_view row.now) key.0) }
+) -> Result<Option<String>, AllocError>
+    ensures { IfOk result (λ text. option_map string_bytes text
+        ≡ spec.key_predicate (schema_view.view schema.now) (document_view.row_view row.now)
+        key.0) }
 {
-    let words = key_words(alloc, schema, row, key)?;
-    ["[", words.as_str(), "]"].concat(alloc)
+    let Some(text) = key_text(alloc, schema, row, key)? else {
+        return Ok(None);
+    };
+    let Some(quoted) = in_quotes(alloc, text.as_str())? else {
+        return Ok(None);
+    };
+    let predicate = ["[", name_of(schema, key), "=", quoted.as_str(), "]"].concat(alloc)?;
+    Ok(Some(predicate))
 }
 
+/// The predicates of some keys, where each has one.
+fn all_predicates(
+    alloc: Global,
+    schema: &Schema,
+    row: &[Stored],
+    keys: &[SchemaId],
+) -> Result<Option<String>, AllocError>
+    ensures { IfOk result (λ text. option_map string_bytes text
+        ≡ spec.all_predicates (schema_view.view schema.now) (document_view.row_view row.now)
+        (numbers_of keys.now)) }
+{
+    let mut text = String::new(alloc);
+    for key in keys {
+        match key_predicate(alloc, schema, row, *key)? {
+            Some(predicate) => text.push_str(predicate.as_str())?,
+            None => return Ok(None),
+        }
+    }
+    Ok(Some(text))
+}
+
+/// Those of the keys of a list, where there are any.
 fn key_predicates(
     alloc: Global,
     schema: &Schema,
     row: &[Stored],
     keys: &[SchemaId],
-) -> Result<String, AllocError>
-    ensures { let s = schema_view.view schema.now in let t = document_view.row_view row.now in
-        IfOk result (λ text. string_bytes text
-        ≡ flat_map (spec.key_predicate s t) (numbers_of keys.now)) }
+) -> Result<Option<String>, AllocError>
+    ensures { IfOk result (λ text. option_map string_bytes text
+        ≡ spec.key_predicates (schema_view.view schema.now) (document_view.row_view row.now)
+        (numbers_of keys.now)) }
 {
-    let mut text = String::new(alloc);
-    for key in keys {
-        let predicate = key_predicate(alloc, schema, row, *key)?;
-        text.push_str(predicate.as_str())?;
+    match keys.split_first() {
+        Some(_) => all_predicates(alloc, schema, row, keys),
+        None => Ok(None),
     }
-    Ok(text)
-}
-
-fn item_predicate(alloc: Global, raw: &Raw) -> Result<String, AllocError>
-    ensures { IfOk result (λ text. string_bytes text
-        ≡ spec.item_predicate (held.raw_of raw.now)) }
-{
-    let bare = bare_text(alloc, Some(raw))?;
-    let value = quoted(alloc, bare.as_str())?;
-    ["[.=", value.as_str(), "]"].concat(alloc)
 }
 
 fn position_text(alloc: Global, position: Option<usize>) -> Result<String, AllocError>
@@ -116,27 +184,40 @@ fn position_text(alloc: Global, position: Option<usize>) -> Result<String, Alloc
     }
 }
 
+/// The predicates of the keys of an entry, else its position.
+fn entry_predicate(
+    alloc: Global,
+    schema: &Schema,
+    row: &[Stored],
+    keys: &[SchemaId],
+    position: usize,
+) -> Result<String, AllocError>
+    ensures { IfOk result (λ text. string_bytes text
+        ≡ unwrap_or (spec.key_predicates (schema_view.view schema.now)
+        (document_view.row_view row.now) (numbers_of keys.now)) (path.position_text (Some position))) }
+{
+    match key_predicates(alloc, schema, row, keys)? {
+        Some(text) => Ok(text),
+        None => position_text(alloc, Some(position)),
+    }
+}
+
 /// What stands behind the name of a list or leaf-list for one of its instances.
 fn instance_predicate(
     alloc: Global,
     schema: &Schema,
     kind: &Kind,
-    stored: &Stored,
+    below: &[Stored],
     position: usize,
 ) -> Result<String, AllocError>
-    ensures { let s = document_view.view stored.now in
-        IfOk result (λ text. string_bytes text
+    ensures { IfOk result (λ text. string_bytes text
         ≡ spec.instance_predicate (schema_view.view schema.now) (schema_view.kind_view kind.now)
-        s.0 s.1 position) }
+        (document_view.row_view below.now) position) }
 {
     match kind {
-        Kind::List { tuples, .. } if has_keys(stored.below(), &tuples.keys) => {
-            key_predicates(alloc, schema, stored.below(), &tuples.keys)
+        Kind::List { tuples, .. } => {
+            entry_predicate(alloc, schema, below, &tuples.keys, position)
         }
-        Kind::LeafList { .. } => match stored.value() {
-            Some(raw) => item_predicate(alloc, raw),
-            None => position_text(alloc, Some(position)),
-        },
         _ => position_text(alloc, Some(position)),
     }
 }
@@ -158,7 +239,7 @@ fn predicate(
     };
     match schema.kind(step.id) {
         Some(node) => match instance_to(row, step) {
-            Some(found) => instance_predicate(alloc, schema, &node.kind, found, position),
+            Some(found) => instance_predicate(alloc, schema, &node.kind, found.below(), position),
             None => position_text(alloc, step.position),
         },
         None => position_text(alloc, step.position),
@@ -226,8 +307,9 @@ pub(crate) fn module_at(schema: &Schema, steps: &[Step]) -> Option<usize>
     }
 }
 
-/// The path of the place to which steps lead, with keys and values in place of positions: `/module:list[key='value']`,
-/// `/module:items[.='value']`, and `[n]` where keys are missing (RFC 7951, 6.11).
+/// The path of the place to which steps lead, with keys in place of positions where an edit finds an entry by them:
+/// `/module:list[key='text']`, and `[n]` for items, and where keys are missing, invalid or can't stand in a path (RFC 7951,
+/// 6.11).
 pub fn keyed_path(
     alloc: Global,
     schema: &Schema,

@@ -9,9 +9,9 @@ ghost use Rattle.ytree.specs.View as document_view;
 ghost use Rattle.yexplain.specs.TupleWords as spec;
 
 use crate::joining::joined;
-use crate::path::{key_words, leaf_in, name_of};
+use crate::path::{leaf_in, name_of};
 use crate::place::row_to;
-use crate::values::value_text;
+use crate::values::{bare_text, quoted, value_text};
 use std::alloc::{AllocError, Global};
 use ymodel::{Kind, Schema, SchemaId, Tuples};
 use ytree::{Step, Stored};
@@ -143,6 +143,21 @@ fn that_of(count: usize) -> &'static str
     } else {
         " are those of "
     }
+}
+
+/// The name of a key and its value.
+fn key_words(
+    alloc: Global,
+    schema: &Schema,
+    row: &[Stored],
+    key: SchemaId,
+) -> Result<String, AllocError>
+    ensures { IfOk result (λ text. string_bytes text
+        ≡ spec.key_words (schema_view.view schema.now) (document_view.row_view row.now) key.0) }
+{
+    let bare = bare_text(alloc, leaf_in(row, key))?;
+    let value = quoted(alloc, bare.as_str())?;
+    [name_of(schema, key), "=", value.as_str()].concat(alloc)
 }
 
 /// The keys of an entry, given the row below it; they are those of another.

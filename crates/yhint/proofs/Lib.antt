@@ -1,3 +1,4 @@
+pub mod ControlLemmas
 pub mod LineLemmas
 pub mod NearLemmas
 pub mod EditLemmas

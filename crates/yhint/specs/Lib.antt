@@ -1,4 +1,5 @@
 pub mod Line
+pub mod Control
 pub mod Near
 pub mod Edits
 pub mod Word

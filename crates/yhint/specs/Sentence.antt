@@ -6,20 +6,22 @@ use Rattle.yspec.specs.text.Text.{Text}
 use Rattle.yspec.specs.text.Statement.{Statement}
 use Rattle.yspec.specs.linking.Keyword.{keyword_named, type_word}
 use Rattle.yspec.specs.linking.StatementBreaks.{has_keyword, is_prefixed, is_type_outside}
+use Rattle.yhint.specs.Line.{shown}
 use Rattle.yhint.specs.Near.{nearest}
 use Rattle.yhint.specs.Word.{is_unread, yang_words}
 
 -- ---- of a word
 
+-- a word of the module's is shown as a line of it is
 abbrev pub unknown_word : Text → Option Text → Text
-unknown_word word None = codes "no statement is called " ++ (word ++ codes ".")
-unknown_word word (Some near) = codes "no statement is called " ++ (word ++ (codes "; near it: " ++ (near ++ codes ".")))
+unknown_word word None = codes "no statement is called " ++ (shown word ++ codes ".")
+unknown_word word (Some near) = codes "no statement is called " ++ (shown word ++ (codes "; near it: " ++ (near ++ codes ".")))
 
 abbrev pub unread_word : Text → Text
 unread_word word = word ++ codes " is YANG 1.1, and this program doesn't read it."
 
 abbrev pub misplaced_word : Text → Text
-misplaced_word word = word ++ codes " can't stand here."
+misplaced_word word = shown word ++ codes " can't stand here."
 
 -- of a word that is no keyword which is read
 abbrev pub of_word : Text → Text

@@ -1,6 +1,7 @@
 //! What the definitions say of single words, names and lines.
 
 ghost use Rattle.std.specs.Prelude.{◌≡◌, ◌++◌, ◌∷◌, [], true, false, codes, replicate, Some, None};
+ghost use Rattle.yhint.specs.Control.{visible};
 ghost use Rattle.yhint.specs.Line.{shown_line};
 ghost use Rattle.yhint.specs.Near.{is_near, nearest};
 ghost use Rattle.yhint.specs.Sentence.{of_word};
@@ -40,6 +41,8 @@ pub fn words()
         ≡ codes "pattern is YANG 1.1, and this program doesn't read it." }
     ensures near_unread { of_word (codes "patern")
         ≡ codes "no statement is called patern; near it: pattern." }
+    ensures control { of_word (codes "le" ++ (194 ∷ 155 ∷ codes "af"))
+        ≡ codes "no statement is called le\\xc2\\x9baf; near it: leaf." }
     ensures read_first { nearest (codes "wher") (codes "where" ∷ yang_words) ≡ Some (codes "where") }
 {}
 
@@ -48,8 +51,24 @@ pub fn statements()
     ensures misplaced { said 2 (codes "leaf") None ≡ codes "leaf can't stand here." }
     ensures foreign_type { said 2 (codes "type") (Some (codes "binary"))
         ≡ codes "the type binary is YANG 1.1, and this program doesn't read it." }
+    ensures prefixed_control { said 2 (codes "x:" ++ (127 ∷ [])) None
+        ≡ codes "x:\\x7f can't stand here." }
     ensures prefixed { said 2 (codes "x:leaf") None ≡ codes "x:leaf can't stand here." }
     ensures elsewhere { said 3 (codes "leaf") None ≡ [] }
+{}
+
+/// Texts of which a terminal shows all.
+pub fn visibly()
+    ensures letters { visible (codes "it's" ++ (195 ∷ 169 ∷ [])) ≡ codes "it's" ++ (195 ∷ 169 ∷ []) }
+    ensures first { visible (0 ∷ []) ≡ codes "\\u0000" }
+    ensures escape { visible (27 ∷ codes "[2J") ≡ codes "\\u001b[2J" }
+    ensures last_of_few { visible (31 ∷ codes " ") ≡ codes "\\u001f " }
+    ensures delete { visible (codes "a" ++ (127 ∷ codes "b")) ≡ codes "a\\u007fb" }
+    ensures before_delete { visible (codes "~") ≡ codes "~" }
+    ensures above_delete { visible (194 ∷ 128 ∷ []) ≡ codes "\\u0080" }
+    ensures introducer { visible (194 ∷ 155 ∷ codes "31m") ≡ codes "\\u009b31m" }
+    ensures last { visible (194 ∷ 159 ∷ []) ≡ codes "\\u009f" }
+    ensures above { visible (194 ∷ 160 ∷ []) ≡ 194 ∷ 160 ∷ [] }
 {}
 
 /// Lines as they are shown.

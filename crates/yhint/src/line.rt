@@ -102,7 +102,7 @@ fn are_shown(text: &str) -> bool
     text.chars().all(is_shown)
 }
 
-fn hex_digit(number: u8) -> char
+pub(crate) fn hex_digit(number: u8) -> char
     requires { number < 16 }
     ensures { result ≡ spec.hex_digit number }
 {

@@ -1,6 +1,6 @@
 //! What is said of the statements of a line in which one isn't known, isn't read or can't stand.
 
-ghost use Rattle.std.specs.Prelude.{◌≡◌, ◌++◌, IfOk, OnOk, find, option_map, string_bytes, ◌∷◌, [], Some, false};
+ghost use Rattle.std.specs.Prelude.{◌≡◌, ◌++◌, IfOk, OnOk, find, option_map, string_bytes, ◌∷◌, [], Some, None, false};
 ghost use Rattle.std.specs.Option.{option_map_or};
 ghost use Rattle.yspec.specs.linking.Keyword.{type_word};
 ghost use Rattle.yspec.specs.linking.StatementBreaks.{has_keyword, is_prefixed, is_type_outside};
@@ -10,6 +10,7 @@ ghost use Rattle.yhint.specs.Near.{nearest};
 ghost use Rattle.yhint.specs.Word.{yang_words};
 ghost use Rattle.yhint.specs.Labels.{label, labels};
 
+use crate::line::shown;
 use crate::word::{is_unread, nearest_word};
 use std::alloc::{AllocError, Global};
 use ytext::{Module, Stmt, offset_of};
@@ -29,7 +30,22 @@ fn unread_word(alloc: Global, before: &str, word: &str) -> Result<String, AllocE
 fn unknown_near(alloc: Global, word: &str, near: &str) -> Result<String, AllocError>
     ensures { IfOk result (λ text. string_bytes text ≡ spec.unknown_word word.now (Some near.now)) }
 {
-    ["no statement is called ", word, "; near it: ", near, "."].concat(alloc)
+    let seen = shown(alloc, word.as_bytes())?;
+    [
+        "no statement is called ",
+        seen.as_str(),
+        "; near it: ",
+        near,
+        ".",
+    ]
+    .concat(alloc)
+}
+
+fn unknown_far(alloc: Global, word: &str) -> Result<String, AllocError>
+    ensures { IfOk result (λ text. string_bytes text ≡ spec.unknown_word word.now None) }
+{
+    let seen = shown(alloc, word.as_bytes())?;
+    ["no statement is called ", seen.as_str(), "."].concat(alloc)
 }
 
 fn unknown_word(alloc: Global, word: &str) -> Result<String, AllocError>
@@ -38,7 +54,7 @@ fn unknown_word(alloc: Global, word: &str) -> Result<String, AllocError>
 {
     match nearest_word(word) {
         Some(near) => unknown_near(alloc, word, near),
-        None => ["no statement is called ", word, "."].concat(alloc),
+        None => unknown_far(alloc, word),
     }
 }
 
@@ -119,7 +135,8 @@ fn misplaced_word(alloc: Global, statement: &Stmt) -> Result<String, AllocError>
     ensures { IfOk result (λ text. string_bytes text
         ≡ spec.misplaced_word (label statement.now).keyword) }
 {
-    [statement.keyword(), " can't stand here."].concat(alloc)
+    let seen = shown(alloc, statement.keyword().as_bytes())?;
+    [seen.as_str(), " can't stand here."].concat(alloc)
 }
 
 fn of_misplaced(alloc: Global, statements: &[&Stmt]) -> Result<String, AllocError>

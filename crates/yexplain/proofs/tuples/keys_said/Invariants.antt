@@ -2,7 +2,7 @@ use Rattle.std.proofs.Common.{◌≡◌, ◌++◌, drop, map, string_bytes}
 use Rattle.ymodel.specs.Layout.{numbers_of}
 use Rattle.ymodel.specs.View.{view}
 use Rattle.ytree.specs.View.{row_view}
-use Rattle.yexplain.specs.KeyedPath.{key_words}
+use Rattle.yexplain.specs.TupleWords.{key_words}
 use Rattle.yexplain.proofs.tuples.keys_said.Given as goal
 
 -- what was said so far, and what is of the keys that are left

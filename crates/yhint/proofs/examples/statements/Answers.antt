@@ -10,6 +10,7 @@ unfolding yspec_on_literals is_near nearest of_line shown_line
 returns c = record {
   misplaced = refl;
   foreign_type = refl;
+  prefixed_control = refl;
   prefixed = refl;
   elsewhere = refl;
 }

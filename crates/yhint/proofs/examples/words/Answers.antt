@@ -12,5 +12,6 @@ returns c = record {
   far = refl;
   unread = refl;
   near_unread = refl;
+  control = refl;
   read_first = refl;
 }

@@ -4,7 +4,7 @@ use Rattle.ymodel.specs.View as schema_view
 use Rattle.ytree.specs.View as document_view
 use Rattle.yexplain.specs.Sentences.{sentence_to}
 use Rattle.yexplain.proofs.SentenceLemmas.{said_as, said_of_others}
-use Rattle.yexplain.proofs.explanation.sentence.Goals as goal
+use Rattle.yexplain.proofs.explanation.plain_sentence.Goals as goal
 
 pub returns-in_default : goal.returns-in_default
 returns-in_default c sorted =
