@@ -7,12 +7,12 @@ use Rattle.std.proofs.lemmas.List.{append-nil, length-append, length-map, map-ap
 use Rattle.yspec.specs.Forest.{Forest, end, node, join}
 use Rattle.yspec.specs.text.Statement.{Statement, Slip, module_of}
 use Rattle.yspec.specs.text.Text.{Text}
-use Rattle.yprogram.specs.Output.{Outcome, Request, files_of, outcome, performed, with_files, with_module, with_modules}
+use Rattle.yprogram.specs.Output.{Outcome, Request, files_of, found_of, performed, with_files, with_module, with_modules}
 use Rattle.yspec.proofs.ForestLemmas.{join_end, join_assoc}
 use Rattle.ytext.specs.View.{view, modules_view}
 use Rattle.ytext.specs.declared.statement.Module.{Module}
 use Rattle.yapp.specs.Failing.{FailsWith, FromFile, LeadsTo, outcome_of, reported}
-use Rattle.yapp.specs.Files.{Answered, Contents, FileAnswers, IsOutcome, IsTold, ReadsAll, Store, WasCut, WereRead, came_to, failed_reads, unread_in}
+use Rattle.yapp.specs.Files.{Answered, Contents, FileAnswers, IsFound, IsTold, ReadsAll, Store, WasCut, WereRead, came_to, failed_reads, unread_in}
 use Rattle.yapp.specs.declared.failure.Failure.{Failure}
 use Rattle.yapp.specs.declared.failure.Failure.TheVariants as failures
 use Rattle.yapp.specs.declared.files.FileFault.{FileFault}
@@ -201,10 +201,10 @@ pub memory_reads : {X : Type 0} (see : X → List (List ℕ)) (before after : St
 memory_reads see before after names (Ok x) e cut = absurd e
 memory_reads see before after names (Err f) e cut = inr (cut, e)
 
--- what is returned is the outcome, or there was no memory
+-- what is returned is what is found, or there was no memory
 came_of_answer : (before after : Store) (request : Request) (answers : FileAnswers) (r : Result Report Failure)
-    → WereRead before after (files_of request) answers → after.failures ≡ before.failures → LeadsTo (outcome request answers) reported r
-    → IsOutcome before after request (came_to r)
+    → WereRead before after (files_of request) answers → after.failures ≡ before.failures → LeadsTo (found_of request answers) reported r
+    → IsFound before after request (came_to r)
 came_of_answer before after request answers (Ok report) read same is = inl (answers, read, sym is)
 came_of_answer before after request answers (Err (failures.Unread name cause)) read same is = inl (answers, read, sym is)
 came_of_answer before after request answers (Err (failures.Text name code line hint)) read same is = inl (answers, read, sym is)
@@ -220,8 +220,7 @@ came_of_answer before after request answers (Err failures.Memory) read same is =
 -- a request after its files were read
 pub came_of_texts : (before after : Store) (request : Request) (files : List Text) (texts : List (List ℕ)) (r : Result Report Failure)
     → files ≡ files_of request → WereRead before after files (map Some texts) → LeadsTo (performed request texts) reported r
-    → IsOutcome before after request (came_to r)
-unfolding outcome
+    → IsFound before after request (came_to r)
 came_of_texts before after request files texts r e read is =
     let told : WereRead before after (files_of request) (map Some texts) = subst (λ ns. WereRead before after ns (map Some texts)) e read in
     let none : after.failures ≡ before.failures = omega (arith, read.failures, none_unread texts) in
@@ -230,14 +229,10 @@ came_of_texts before after request files texts r e read is =
 
 -- a request whose files couldn't all be read
 pub came_of_reading : (before after : Store) (request : Request) (files : List Text) (f : Failure) → files ≡ files_of request
-    → ReadsNot before after files f → IsOutcome before after request (outcome_of f)
-unfolding outcome
+    → ReadsNot before after files f → IsFound before after request (outcome_of f)
 came_of_reading before after request files f e (inl read) = inl (
   read.0,
   subst (λ ns. WereRead before after ns read.0) e read.1,
   sym (subst (λ ns. with_files ns read.0 (performed request) ≡ outcome_of f) e (read.2 (performed request))),
 )
 came_of_reading before after request files f e (inr none) = inr (subst (WasCut before after) e none.0, ap outcome_of none.1)
-
-pub outcome_same : (before after : Store) (asked request : Request) (o : Outcome) → asked ≡ request → IsOutcome before after asked o → IsOutcome before after request o
-outcome_same before after asked request o e is = subst (λ (r : Request). IsOutcome before after r o) e is

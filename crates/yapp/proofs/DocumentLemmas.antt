@@ -115,7 +115,7 @@ none_refused lines = ap (λ (n : ℕ). n == 0) (length-map lines refused_part)
 
 abbrev outcome_with : Option SavedFile → List Part → List Part → Bool → Bool → Outcome
 outcome_with saved output errors no_fault none_refused =
-    record { output = output; errors = errors; status = if no_fault && none_refused then 0 else 1; saved = saved; aside = nothing }
+    record { output = output; errors = errors; status = if no_fault && none_refused then 0 else 1; saved = saved; aside = nothing; told = None }
 
 text_shown : (text : Option (String Global)) (instead : Option Text) (shown : List Part) → option_map string_bytes text ≡ instead
     → option_map_or (λ t. text_parts (string_bytes t)) text shown ≡ option_map_or text_parts instead shown
@@ -127,17 +127,17 @@ text_shown text instead shown is = by_text text ∙ ap (λ (o : Option Text). op
 
 pub report_is : (options : Options) (s s' : spec.Schema) (t t' : Tree) (found : List Fault) (refused : List RefusedLine) (text : Option (String Global)) (saved : Option SavedFile)
     → record { schema = s'; tree = t'; faults = views found } ≡ inspected options.of_configuration s t
-    → option_map string_bytes text ≡ text_instead options s t (record { schema = s'; tree = t'; faults = views found }) → saved ≡ saved_by options s t
+    → option_map string_bytes text ≡ text_instead options s t (refused_parts refused) (record { schema = s'; tree = t'; faults = views found }) → saved ≡ saved_by options s t
     → outcome_with saved (option_map_or (λ t. text_parts (string_bytes t)) text (report s' t' (views found))) (refused_parts refused) (length found == 0) (length refused == 0)
     ≡ left options s t (refused_parts refused)
 report_is options s s' t t' found refused text saved same is saved_is =
     let made = outcome_with (saved_by options s t) in
     let parts = refused_parts refused in
     let i : Inspected = record { schema = s'; tree = t'; faults = views found } in
-    let shown : Inspected → List Part = λ i. option_map_or text_parts (text_instead options s t i) (report i.schema i.tree i.faults) in
+    let shown : Inspected → List Part = λ i. option_map_or text_parts (text_instead options s t parts i) (report i.schema i.tree i.faults) in
     ap (λ (o : Option SavedFile). outcome_with o (option_map_or (λ t. text_parts (string_bytes t)) text (report s' t' (views found))) parts (length found == 0) (length refused == 0)) saved_is
     ∙ (ap (λ (b : Bool). made (option_map_or (λ t. text_parts (string_bytes t)) text (report s' t' (views found))) parts (length found == 0) b) (sym (none_refused refused))
-    ∙ (ap (λ (o : List Part). made o parts (length found == 0) (length parts == 0)) (text_shown text (text_instead options s t i) (report s' t' (views found)) is)
+    ∙ (ap (λ (o : List Part). made o parts (length found == 0) (length parts == 0)) (text_shown text (text_instead options s t parts i) (report s' t' (views found)) is)
     ∙ (ap (λ (n : ℕ). made (shown i) parts (n == 0) (length parts == 0)) (sym (length-map found view))
     ∙ ap (λ (j : Inspected). made (shown j) parts (length j.faults == 0) (length parts == 0)) same)))
 

@@ -1,6 +1,6 @@
 -- A run that writes to one side alone.
 use Rattle.std.proofs.Common.{◌≡◌, inl, inr, codes, ℕ, Bool, true, false, List, [], ◌∷◌, ◌++◌, ap, ap₂, sym, ◌∙◌, refl, subst, append_assoc, length, take}
-use Rattle.yprogram.specs.Output.{Aside, Besides, Outcome, Printed, SavedFile, aside_where, nothing, printed, printed_with}
+use Rattle.yprogram.specs.Output.{Aside, Besides, Outcome, Printed, Request, SavedFile, as_json_of, aside_where, found_of, nothing, object_parts, outcome, printed, printed_with, told_too}
 use Rattle.std.proofs.lemmas.List.{append-nil}
 use Rattle.yprogram.specs.Part.{Part, plain, spelled, spelled_part}
 use Rattle.std.specs.Prelude.{Result, Ok, Err, IsErr, is_ok, if◌then◌else◌}
@@ -9,11 +9,15 @@ use Rattle.ycommand.specs.Running.{Brings, End, Ends, WritesBoth, broken, ended,
 use Rattle.std.specs.Prelude.{Option, Some, None, decimal, option_map}
 use Rattle.std.specs.Option.{option_map_or}
 use Rattle.yprogram.specs.Script.{telling_code}
+use Rattle.yprogram.specs.RefusalData.{object_line}
+use Rattle.yformat.specs.RefusalData.{Refused, refused_text}
+use Rattle.yspec.specs.text.Text.{Text}
 use Rattle.yapp.specs.Asked.{refusal_of, value_number}
 use Rattle.yapp.specs.declared.script.Refusal.{Refusal}
 use Rattle.yapp.specs.declared.script.ValueCode.{ValueCode}
-use Rattle.yapp.specs.Failing.{besides_in, outcome_of, reported}
-use Rattle.yapp.specs.Files.{came_to, said_besides}
+use Rattle.yapp.specs.Failing.{besides_in, outcome_of, reported, unsaid}
+use Rattle.yapp.specs.Files.{IsFound, IsOutcome, Store, came_to, said_besides}
+use Rattle.yapp.specs.Telling.{Tells, object_bytes, printed_so}
 use Rattle.yapp.specs.declared.failure.Failure.{Failure}
 use Rattle.yapp.specs.declared.report.Report.{Report}
 use Rattle.yapp.specs.declared.report.Report.TheVariants as reports
@@ -87,16 +91,6 @@ reported_alike besides with_reasons output output_after errors errors_after r en
 
 -- ---- what is told
 
-no_output : (with_reasons : Bool) (failure : Failure) → (printed with_reasons (outcome_of failure)).output ≡ []
-no_output with_reasons (failures.Unread name cause) = refl
-no_output with_reasons (failures.Text name code line hint) = refl
-no_output with_reasons (failures.Compile name code line hint) = refl
-no_output with_reasons (failures.Document name schema code place hint stop) = refl
-no_output with_reasons (failures.Repeated name schema place hint) = refl
-no_output with_reasons (failures.NoModule name) = refl
-no_output with_reasons (failures.NoCode word) = refl
-no_output with_reasons failures.Memory = refl
-
 no_file : (failure : Failure) → (outcome_of failure).saved ≡ None
 no_file (failures.Unread name cause) = refl
 no_file (failures.Text name code line hint) = refl
@@ -107,17 +101,6 @@ no_file (failures.NoModule name) = refl
 no_file (failures.NoCode word) = refl
 no_file failures.Memory = refl
 
--- a failure that is told ends a run without a file
-pub on_failure : {X E : Type 0} → (with_reasons : Bool) (output errors errors_after : Side) (failure : Failure) (end : End) (r : Result X E)
-    → let o = printed_with (besides_in failure) with_reasons (outcome_of failure) in
-    Writes errors errors_after o.errors r → end ≡ (if is_ok r then with_status o.status else broken) → Brings output output errors errors_after o end
-on_failure with_reasons output errors errors_after failure end (Ok x) w is =
-    let o = printed_with (besides_in failure) with_reasons (outcome_of failure) in
-    on_errors output errors errors_after o o.status end (no_output with_reasons failure) (no_file failure) (inl (w, refl)) is
-on_failure with_reasons output errors errors_after failure end (Err x) w is =
-    let o = printed_with (besides_in failure) with_reasons (outcome_of failure) in
-    on_errors output errors errors_after o 4 end (no_output with_reasons failure) (no_file failure) (inr (w, refl)) is
-
 -- both sides are written, the error side first
 pub both_end : {X E : Type 0} → (output output_after errors errors_after : Side) (o : Printed) (end : End) (r : Result X E)
     → WritesBoth output output_after errors errors_after o r → end ≡ (if is_ok r then well o else broken)
@@ -126,11 +109,6 @@ both_end output output_after errors errors_after o end (Ok x) w e = inl (w.0, w.
 both_end output output_after errors errors_after o end (Err x) (inl w) e = inr (inl (length o.errors, w.0, wrote_same errors errors_after o.errors (take (length o.errors) o.errors) (sym (take-length o.errors)) w.1, e))
 both_end output output_after errors errors_after o end (Err x) (inr w) e =
     inr (inr (0, subst (λ side. Wrote output side []) (sym w.0) (wrote_none output), w.1, e))
-
--- an end without a file
-pub unsaved_end : {X E : Type 0} → (end : End) (status due : ℕ) (r : Result X E)
-    → end ≡ (if is_ok r then with_status status else broken) → status ≡ due → end ≡ (if is_ok r then with_status due else broken)
-unsaved_end end status due r is status_is = is ∙ ap (λ (s : ℕ). if is_ok r then with_status s else broken) status_is
 
 -- the end of what was told
 pub end_is : {X E : Type 0} → (o : Printed) (end : End) (status : ℕ) (saved : Option SavedFile) (r : Result X E)
@@ -157,12 +135,6 @@ pub both_broken : {X E : Type 0} → (output errors errors_after : Side) (o : Pr
 both_broken output errors errors_after o (Ok x) failed broken = cc
 both_broken output errors errors_after o (Err x) failed broken = inr (refl, broken)
 
-pub told_of : (with_reasons : Bool) (output output_after errors errors_after : Side) (found given : Result Report Failure) (end : End) → found ≡ given
-    → Brings output output_after errors errors_after (printed_with (said_besides given) with_reasons (came_to given)) end
-    → Brings output output_after errors errors_after (printed_with (said_besides found) with_reasons (came_to found)) end
-told_of with_reasons output output_after errors errors_after found given end is brings =
-    subst (λ (r : Result Report Failure). Brings output output_after errors errors_after (printed_with (said_besides r) with_reasons (came_to r)) end) (sym is) brings
-
 -- ---- parts
 
 -- a part alone
@@ -186,11 +158,108 @@ pub memory_either : (besides : Besides) (with_reasons : Bool) (output output_aft
 memory_either besides true output output_after errors errors_after end brings = brings
 memory_either besides false output output_after errors errors_after end brings = brings
 
-pub reasons_same : (besides : Besides) (output output_after errors errors_after : Side) (given asked : Bool) (o : Outcome) (end : End) → given ≡ asked
-    → Brings output output_after errors errors_after (printed_with besides given o) end
-    → Brings output output_after errors errors_after (printed_with besides asked o) end
-reasons_same besides output output_after errors errors_after given asked o end is brings =
-    subst (λ (b : Bool). Brings output output_after errors errors_after (printed_with besides b o) end) is brings
+-- ---- objects
+
+object_printed : (with_reasons : Bool) (told : Option Refused) → object_bytes (option_map refused_text told) ≡ spelled with_reasons (object_parts told ++ [])
+object_printed with_reasons None = refl
+object_printed with_reasons (Some r) = one_plain with_reasons (object_line r)
+
+no_parts : (failure : Failure) → (outcome_of failure).output ≡ []
+no_parts (failures.Unread name cause) = refl
+no_parts (failures.Text name code line hint) = refl
+no_parts (failures.Compile name code line hint) = refl
+no_parts (failures.Document name schema code place hint stop) = refl
+no_parts (failures.Repeated name schema place hint) = refl
+no_parts (failures.NoModule name) = refl
+no_parts (failures.NoCode word) = refl
+no_parts failures.Memory = refl
+
+-- a failure prints its object, where that is wanted, and nothing else on the output
+failure_printed : (with_reasons as_json : Bool) (failure : Failure)
+    → printed_so with_reasons failure (if as_json then option_map refused_text (outcome_of failure).told else None)
+    ≡ printed_with (besides_in failure) with_reasons (told_too as_json (outcome_of failure))
+failure_printed with_reasons false failure = let p = printed_with (besides_in failure) with_reasons (outcome_of failure) in
+    ap (λ (output : List ℕ). record p { output = output }) (ap (spelled with_reasons) (sym (no_parts failure)))
+failure_printed with_reasons true failure =
+    let o = outcome_of failure in
+    let p = printed_with (besides_in failure) with_reasons o in
+    ap (λ (output : List ℕ). record p { output = output })
+    (object_printed with_reasons o.told ∙ ap (λ (parts : List Part). spelled with_reasons (object_parts o.told ++ parts)) (sym (no_parts failure)))
+
+-- a failure that is written with the object that was made of it
+pub failure_tells : {X E : Type 0} → (with_reasons as_json : Bool) (output output_after errors errors_after : Side) (failure : Failure) (object : Option Text)
+    (status : ℕ) (end : End) (r : Result X E) → object ≡ (if as_json then option_map refused_text (outcome_of failure).told else None)
+    → WritesBoth output output_after errors errors_after (printed_so with_reasons failure object) r
+    → end ≡ (if is_ok r then with_status status else broken) → status ≡ (outcome_of failure).status
+    → Tells output output_after errors errors_after with_reasons as_json (besides_in failure) (outcome_of failure) end
+failure_tells with_reasons as_json output output_after errors errors_after failure object status end r made writes is status_is =
+    let o = printed_so with_reasons failure object in
+    inl (subst (λ (p : Printed). Brings output output_after errors errors_after p end)
+    (ap (printed_so with_reasons failure) made ∙ failure_printed with_reasons as_json failure)
+    (both_end output output_after errors errors_after o end r writes (end_is o end status None r is status_is (sym (no_file failure)))))
+
+-- a report has no object
+report_told : (as_json : Bool) (r : Report) → told_too as_json (reported r) ≡ reported r
+report_told false r = refl
+report_told true (reports.Explanations explanations) = refl
+report_told true (reports.Nodes count) = refl
+report_told true (reports.Diagram schema shown) = refl
+report_told true (reports.Diagrams schema) = refl
+report_told true (reports.Document r) = refl
+report_told true (reports.Edited e) = refl
+
+pub report_tells : (with_reasons as_json : Bool) (output output_after errors errors_after : Side) (besides : Besides) (r : Report) (end : End)
+    → Brings output output_after errors errors_after (printed with_reasons (reported r)) end
+    → Tells output output_after errors errors_after with_reasons as_json besides (reported r) end
+report_tells with_reasons as_json output output_after errors errors_after besides r end brings =
+    inl (subst (λ (o : Outcome). Brings output output_after errors errors_after (printed_with besides with_reasons o) end) (sym (report_told as_json r))
+    (reported_alike besides with_reasons output output_after errors errors_after r end brings))
+
+pub told_of : (with_reasons as_json : Bool) (output output_after errors errors_after : Side) (found given : Result Report Failure) (end : End) → found ≡ given
+    → Tells output output_after errors errors_after with_reasons as_json (said_besides given) (came_to given) end
+    → Tells output output_after errors errors_after with_reasons as_json (said_besides found) (came_to found) end
+told_of with_reasons as_json output output_after errors errors_after found given end is tells =
+    subst (λ (r : Result Report Failure). Tells output output_after errors errors_after with_reasons as_json (said_besides r) (came_to r) end) (sym is) tells
+
+-- ---- what a run comes to
+
+memory_alone : (as_json : Bool) → told_too as_json without_memory ≡ without_memory
+memory_alone true = refl
+memory_alone false = refl
+
+-- an outcome of a request that goes out on the two sides
+abbrev Comes : Store → Store → Request → Side → Side → Side → Side → Bool → End → Type 0
+Comes before after request output output_after errors errors_after with_reasons end =
+    (o : Outcome) × (besides : Besides) × IsOutcome before after request o × Brings output output_after errors errors_after (printed_with besides with_reasons o) end
+
+comes_so : (before after : Store) (request : Request) (output output_after errors errors_after : Side) (with_reasons as_json : Bool) (besides : Besides) (o : Outcome) (end : End)
+    → as_json ≡ as_json_of request → IsFound before after request o → Tells output output_after errors errors_after with_reasons as_json besides o end
+    → Comes before after request output output_after errors errors_after with_reasons end
+unfolding outcome
+comes_so before after request output output_after errors errors_after with_reasons as_json besides o end same (inl found) (inl brings) = (
+  told_too as_json o,
+  besides,
+  inl (found.0, found.1, ap (told_too as_json) found.2 ∙ ap (λ (b : Bool). told_too b (found_of request found.0)) same),
+  brings,
+)
+comes_so before after request output output_after errors errors_after with_reasons as_json besides o end same (inr none) (inl brings) =
+    (told_too as_json o, besides, inr (inl none.0, ap (told_too as_json) none.1 ∙ memory_alone as_json), brings)
+comes_so before after request output output_after errors errors_after with_reasons as_json besides o end same (inl found) (inr lacks) = (
+  without_memory,
+  unsaid,
+  inr (inr (sym same ∙ lacks.0, (found.0, found.1)), refl),
+  memory_either unsaid with_reasons output output_after errors errors_after end lacks.1,
+)
+comes_so before after request output output_after errors errors_after with_reasons as_json besides o end same (inr none) (inr lacks) =
+    (without_memory, unsaid, inr (inl none.0, refl), memory_either unsaid with_reasons output output_after errors errors_after end lacks.1)
+
+pub run_comes : (before after : Store) (asked request : Request) (output output_after errors errors_after : Side) (given wanted as_json : Bool) (besides : Besides) (o : Outcome) (end : End)
+    → asked ≡ request → given ≡ wanted → as_json ≡ as_json_of asked → IsFound before after asked o
+    → Tells output output_after errors errors_after given as_json besides o end → Comes before after request output output_after errors errors_after wanted end
+run_comes before after asked request output output_after errors errors_after given wanted as_json besides o end e reasons same found tells =
+    comes_so before after request output output_after errors errors_after wanted as_json besides o end (same ∙ ap as_json_of e)
+    (subst (λ (r : Request). IsFound before after r o) e found)
+    (subst (λ (b : Bool). Tells output output_after errors errors_after b as_json besides o end) reasons tells)
 
 -- ---- the code that says most of a refused line
 

@@ -1,5 +1,5 @@
 -- What a report or a failure comes to, as the outcome that it prints.
-use Rattle.std.specs.Prelude.{◌≡◌, ◌++◌, ◌==◌, ◌&&◌, List, [], ◌∷◌, length, map, option_map, codes, decimal, string_bytes, Result, Ok, Err, if◌then◌else◌}
+use Rattle.std.specs.Prelude.{◌≡◌, ◌++◌, ◌==◌, ◌&&◌, List, [], ◌∷◌, length, map, None, option_map, codes, decimal, string_bytes, Result, Ok, Err, if◌then◌else◌}
 use Rattle.std.specs.List.{flat_map}
 use Rattle.std.specs.Option.{option_map_or}
 use Rattle.ytext.specs.Told.{number_of}
@@ -9,9 +9,10 @@ use Rattle.ytree.specs.Told as document
 use Rattle.ytree.specs.View.{place_view, tree_view}
 use Rattle.ycheck.specs.View.{views}
 use Rattle.yspec.specs.schema.Diagram.{diagram}
-use Rattle.yprogram.specs.Output.{Besides, Outcome, all_diagrams, another_cause, failed, failed_with, found, left, nothing, plainly, refusal_part, refused_document, report, unread}
+use Rattle.yprogram.specs.Output.{Besides, Outcome, all_diagrams, another_cause, failed, failed_with, found, left, nothing, plainly, refusal_part, refused_document, report, unread, with_object}
 use Rattle.yprogram.specs.Hint.{hinted}
 use Rattle.yprogram.specs.Part.{Part, plain}
+use Rattle.yprogram.specs.RefusalData.{module_object, module_tag, text_tag}
 use Rattle.ycodes.specs.Codes.{explained}
 use Rattle.ycodes.specs.View.{explanation_view}
 use Rattle.yspec.specs.text.Text.{Text}
@@ -31,10 +32,11 @@ use Rattle.yapp.specs.declared.report.DocumentReport.{DocumentReport}
 
 abbrev pub outcome_of : Failure → Outcome
 outcome_of (failures.Unread name cause) = unread name.now
-outcome_of (failures.Text name code line hint) =
-    failed_with 2 (hinted (string_bytes hint) (refusal_part name.now line (codes "L") (number_of code)))
+outcome_of (failures.Text name code line hint) = with_object (module_object text_tag name.now line (codes "L" ++ decimal (number_of code)))
+    (failed_with 2 (hinted (string_bytes hint) (refusal_part name.now line (codes "L") (number_of code))))
 outcome_of (failures.Compile name code line hint) =
-    failed_with 2 (hinted (string_bytes hint) (refusal_part name.now line (codes "C") (code_number code)))
+    with_object (module_object (module_tag (code_number code)) name.now line (codes "C" ++ decimal (code_number code)))
+    (failed_with 2 (hinted (string_bytes hint) (refusal_part name.now line (codes "C") (code_number code))))
 outcome_of (failures.Document name schema code place hint stop) = refused_document (string_bytes hint) (schema_view.view schema) name.now
     (record { code = document.code_number code; place = place_view place.items })
 outcome_of (failures.Repeated name schema place hint) =
@@ -60,6 +62,7 @@ reported (reports.Document r) = record {
   status = if length r.faults.items == 0 && length r.refused.items == 0 then 0 else 1;
   saved = option_map saved_view r.saved;
   aside = nothing;
+  told = None;
 }
 reported (reports.Edited e) = left plainly (live_of e).schema (live_of e).tree (refused_in e)
 

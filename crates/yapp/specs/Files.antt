@@ -1,6 +1,6 @@
 -- What files contain, as far as that is told, how often one was read, and how often that failed.
-use Rattle.std.specs.Prelude.{◌≡◌, ◌⊎◌, ℕ, ◌+◌, ◌≤◌, List, [], ◌∷◌, length, map, Option, Some, None, Result, Ok, Err}
-use Rattle.yprogram.specs.Output.{Besides, Outcome, Request, files_of, outcome, with_files}
+use Rattle.std.specs.Prelude.{◌≡◌, ◌⊎◌, ℕ, ◌+◌, ◌≤◌, true, List, [], ◌∷◌, length, map, Option, Some, None, Result, Ok, Err}
+use Rattle.yprogram.specs.Output.{Besides, Outcome, Request, as_json_of, files_of, found_of, outcome, with_files}
 use Rattle.yspec.specs.text.Text.{Text}
 use Rattle.yapp.specs.Failing.{besides_in, outcome_of, reported, unsaid}
 use Rattle.ycommand.specs.Running.{without_memory}
@@ -72,11 +72,23 @@ ReadsAll see before after names (Err failure) = ((answers : FileAnswers) × Were
     × ((next : List (List ℕ) → Outcome) → with_files names answers next ≡ outcome_of failure))
     ⊎ (WasCut before after names × (failure ≡ Memory))
 
+-- The outcome is what is found of the request for what its files answered, of which so many reads failed. Or memory was
+-- wanting.
+abbrev pub IsFound : Store → Store → Request → Outcome → Type 0
+IsFound before after request o =
+    ((answers : FileAnswers) × WereRead before after (files_of request) answers × (o ≡ found_of request answers))
+    ⊎ (WasCut before after (files_of request) × (o ≡ without_memory))
+
+-- memory was wanting for the object that was to tell what was found for some answers
+abbrev pub Lacked : Store → Store → Request → Type 0
+Lacked before after request =
+    (as_json_of request ≡ true) × ((answers : FileAnswers) × WereRead before after (files_of request) answers)
+
 -- The outcome is that of the request for what its files answered, of which so many reads failed. Or memory was wanting.
 abbrev pub IsOutcome : Store → Store → Request → Outcome → Type 0
 IsOutcome before after request o =
     ((answers : FileAnswers) × WereRead before after (files_of request) answers × (o ≡ outcome request answers))
-    ⊎ (WasCut before after (files_of request) × (o ≡ without_memory))
+    ⊎ ((WasCut before after (files_of request) ⊎ Lacked before after request) × (o ≡ without_memory))
 
 -- what was found, or why nothing was, as an outcome
 abbrev pub came_to : Result Report Failure → Outcome

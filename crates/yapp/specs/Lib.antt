@@ -4,4 +4,5 @@ pub mod Explained
 pub mod Failing
 pub mod Files
 pub mod Saving
+pub mod Telling
 pub mod Unread

@@ -1,5 +1,5 @@
 -- Files that are written, and what comes of one that is due.
-use Rattle.std.specs.Prelude.{◌≡◌, ◌⊎◌, ℕ, ◌+◌, ◌++◌, Bool, List, [], ◌∷◌, codes, Option, Some, None, Result, Ok, Err, option_map, string_bytes, if◌then◌else◌}
+use Rattle.std.specs.Prelude.{◌≡◌, ◌⊎◌, ℕ, ◌+◌, ◌++◌, Bool, true, false, List, [], ◌∷◌, codes, Option, Some, None, Result, Ok, Err, option_map, string_bytes, if◌then◌else◌}
 use Rattle.yprogram.specs.Output as spec
 use Rattle.youtput.specs.Writing.{Side, Wrote}
 use Rattle.ycommand.specs.Running.{End, Ends, ended}
@@ -7,7 +7,7 @@ use Rattle.yspec.specs.text.Text.{Text}
 use Rattle.yapp.specs.declared.saving.SavedFile.{SavedFile}
 use Rattle.yapp.specs.declared.saving.Ended.{Ended}
 use Rattle.yapp.specs.declared.saving.Unsaved.{Unsaved}
-use Rattle.yapp.specs.declared.saving.Unsaved.TheVariants.{PartThere, TargetPartThere, NoFolder, NoPermission, NoRegularFile, Other}
+use Rattle.yapp.specs.declared.saving.Unsaved.TheVariants.{PartThere, TargetPartThere, NoFolder, NoPermission, NoRegularFile, Other, Memory}
 
 abbrev pub saved_view : SavedFile → spec.SavedFile
 saved_view f = record { name = string_bytes f.name; text = string_bytes f.text }
@@ -55,6 +55,7 @@ words_of NoFolder = codes "no such folder"
 words_of NoPermission = codes "permission is denied"
 words_of NoRegularFile = codes "it is no regular file"
 words_of Other = codes "the system can't write it"
+words_of Memory = codes "memory ran out"
 
 -- the name of the file, where they are said of what stands beside it
 abbrev pub subject_of : Unsaved → Text → Text
@@ -68,16 +69,24 @@ abbrev pub cause_where : Bool → Unsaved → Text → List ℕ
 cause_where with_reasons cause name = if with_reasons then cause_line cause name else []
 
 -- the line that says so, and, where reasons are wanted, one below it why
-abbrev pub unsaved_text : Bool → Unsaved → Text → List ℕ
-unsaved_text with_reasons cause name =
+abbrev pub unwritten_text : Bool → Unsaved → Text → List ℕ
+unwritten_text with_reasons cause name =
     (codes "cannot write " ++ (name ++ codes "\n")) ++ cause_where with_reasons cause name
+
+abbrev pub is_memory : Unsaved → Bool
+is_memory Memory = true
+is_memory _ = false
+
+-- the same; of want of memory the line of that
+abbrev pub unsaved_text : Bool → Unsaved → Text → List ℕ
+unsaved_text with_reasons cause name = if is_memory cause then codes "memory\n" else unwritten_text with_reasons cause name
 
 -- what is said where the output couldn't be written out
 abbrev pub unwritten_line : Bool → List ℕ
 unwritten_line with_reasons = if with_reasons then codes "write failed\n" else []
 
 -- A file that is due is written, and the status stays. Or it can't be: then a line says so, and the status too; where reasons
--- are wanted, a second line says the cause that the shelf told.
+-- are wanted, a second line says the cause that the shelf told. Where that is want of memory, the line of that is all.
 abbrev pub Saves : Bool → Option spec.SavedFile → ℕ → Shelf → Shelf → Side → Side → ℕ → Type 0
 Saves with_reasons None status before after errors errors_after result =
     (after ≡ before) × (errors_after ≡ errors) × (result ≡ status)

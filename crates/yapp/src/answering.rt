@@ -7,7 +7,7 @@ ghost use Rattle.ymodel.specs.View as schema_view;
 ghost use Rattle.ycommand.specs.Command.{options_view, view};
 ghost use Rattle.yapp.specs.Explained.{HasNoDocument, IsExplained};
 ghost use Rattle.yapp.specs.Failing.{LeadsTo, reported};
-ghost use Rattle.yapp.specs.Files.{IsOutcome, came_to, store};
+ghost use Rattle.yapp.specs.Files.{IsFound, came_to, store};
 
 use crate::contents::{names_of, read_files};
 use crate::document::{edit_document, read_document, report_on, report_on_edited};
@@ -175,7 +175,7 @@ pub fn answer<'a, F: Files>(
     with_reasons: bool,
     files: &mut F,
 ) -> Result<Report, Failure<'a>>
-    ensures outcome { IsOutcome (store F.contents F.reads F.failures files.old)
+    ensures found { IsFound (store F.contents F.reads F.failures files.old)
         (store F.contents F.reads F.failures files.new)
         (view request.now) (came_to result) }
     ensures explained { IfOk result (IsExplained with_reasons) }

@@ -1,20 +1,21 @@
 //! Documents: read, edited, and reported on.
 
-ghost use Rattle.std.specs.Prelude.{◌≡◌, [], ℕ, List, IfOk, map, option_map, string_bytes, Option, Some, None, false, true, if◌then◌else◌};
+ghost use Rattle.std.specs.Prelude.{◌≡◌, ◌++◌, [], ℕ, List, IfOk, map, option_map, string_bytes, Option, Some, None, false, true, if◌then◌else◌};
 ghost use Rattle.yspec.specs.document.Document as document_spec;
 ghost use Rattle.yspec.specs.document.Reading.{document_of};
 ghost use Rattle.yspec.specs.document.Writing.{written_text};
 ghost use Rattle.yprogram.specs.Output.{Outcome, dump, first_file, left, not_read, plainly, repeated_document, saved_by, text_instead, unless_repeated, with_document, with_tree};
-ghost use Rattle.yprogram.specs.Part.{Part};
+ghost use Rattle.yprogram.specs.Part.{Part, objects};
 ghost use Rattle.yprogram.specs.Script.{after_lines, lines_of, refused_lines};
 ghost use Rattle.yspec.specs.schema.Schema as schema_spec;
 ghost use Rattle.yexplain.specs.Sentences.{explained_fault};
+ghost use Rattle.yformat.specs.FaultData as format;
 ghost use Rattle.ycheck.specs.View.{view, views};
 ghost use Rattle.ymodel.specs.View as schema_view;
 ghost use Rattle.ytree.specs.Told.{code_number};
 ghost use Rattle.ytree.specs.View.{place_view};
 ghost use Rattle.ylive.specs.View as live_view;
-ghost use Rattle.yapp.specs.Asked.{edits_in, kinds_in};
+ghost use Rattle.yapp.specs.Asked.{edits_in, kinds_in, refused_parts};
 ghost use Rattle.yconfig.specs.Inspecting.{inspection_view};
 ghost use Rattle.yapp.specs.Edited.{IsEdited, IsOf, IsRun, IsSound, IsWhole, live_of, refused_in, refused_of, schema_of, tree_of};
 ghost use Rattle.yapp.specs.Explained.{IsExplained};
@@ -27,6 +28,7 @@ use crate::edited::EditedDocument;
 use crate::failure::{Failure, Stop};
 use crate::hint::{refusal_hint, repeated_hint};
 use crate::modules::compile_contents;
+use crate::object::line_objects;
 use crate::report::{DocumentReport, Report};
 use crate::saving::SavedFile;
 use crate::script::{RefusedLine, Script};
@@ -158,7 +160,9 @@ fn document_failure<'a>(
     ensures { FailsWith result (not_read (schema_view.view schema) name.entry.now bytes.now
         (record { code = code_number code; place = place_view place.items })) }
 {
-    let stop = stop_of(alloc, bytes, code);
+    let Ok(stop) = stop_of(alloc, bytes, code) else {
+        return Failure::Memory;
+    };
     match refusal_hint(alloc, &schema, bytes, code, &place) {
         Ok(hint) => Failure::Document {
             name,
@@ -173,16 +177,17 @@ fn document_failure<'a>(
 }
 
 /// Where the reader stops in bytes that aren't JSON (J1); at the beginning of all others.
-fn stop_of(alloc: Global, bytes: &[u8], code: DocCode) -> Stop {
+fn stop_of(alloc: Global, bytes: &[u8], code: DocCode) -> Result<Stop, AllocError> {
     match code {
         DocCode::J1 => match Value::from_slice(alloc, bytes) {
-            Ok(_) => Stop { line: 1, column: 1 },
-            Err(error) => Stop {
+            Ok(_) => Ok(Stop { line: 1, column: 1 }),
+            Err(error) if error.is_memory() => Err(AllocError),
+            Err(error) => Ok(Stop {
                 line: error.line(),
                 column: error.column(),
-            },
+            }),
         },
-        _ => Stop { line: 1, column: 1 },
+        _ => Ok(Stop { line: 1, column: 1 }),
     }
 }
 
@@ -348,7 +353,7 @@ pub(crate) fn report_on(
         refused,
     } = document;
     let inspection = inspect(alloc, schema, tree, options.of_configuration)?;
-    let text = text_instead(alloc, whole, &inspection, options)?;
+    let text = text_instead(alloc, whole, &refused, &inspection, options)?;
     let explanations = explanations_of(alloc, &inspection, with_reasons & text.is_none())?;
     Ok(Report::Document(DocumentReport {
         schema: inspection.schema,
@@ -451,29 +456,46 @@ fn whole_text(
 }
 
 /// What stands in place of the lines of the faults of what is looked at: the text of the whole document where it is to be
-/// dumped, or these as JSON.
+/// dumped, or these as JSON behind the lines of a script that were refused.
 fn text_instead(
     alloc: Global,
     whole: Option<String>,
+    refused: &[RefusedLine],
     inspection: &Inspection,
     options: Options<'_>,
 ) -> Result<Option<String>, AllocError>
     requires { let i = inspection_view inspection.now in IsSound i.schema i.tree }
     ensures { (s : schema_spec.Schema) (t : document_spec.Tree) → option_map string_bytes whole
         ≡ (if options.entry.is_dump then Some (written_text s t) else None)
-        → IfOk result (λ text. option_map string_bytes text
-        ≡ text_instead (options_view options.entry) s t (inspection_view inspection.now)) }
+        → IfOk result (λ text. option_map string_bytes text ≡ text_instead (options_view options.entry) s t
+        (refused_parts refused.now) (inspection_view inspection.now)) }
 {
     if options.is_dump {
         return Ok(whole);
     }
     if options.as_json {
-        let Inspection {
-            schema,
-            tree,
-            faults,
-        } = inspection;
-        return Ok(Some(json_text(alloc, schema, tree, faults)?));
+        return Ok(Some(json_of(alloc, refused, inspection)?));
     }
     Ok(None)
+}
+
+/// The lines of a script that were refused, and the faults of what is looked at, as lines of JSON.
+fn json_of(
+    alloc: Global,
+    refused: &[RefusedLine],
+    inspection: &Inspection,
+) -> Result<String, AllocError>
+    requires { let i = inspection_view inspection.now in IsSound i.schema i.tree }
+    ensures { let i = inspection_view inspection.now in IfOk result (λ text. string_bytes text
+        ≡ objects (refused_parts refused.now) ++ format.json_text i.schema i.tree i.faults) }
+{
+    let Inspection {
+        schema,
+        tree,
+        faults,
+    } = inspection;
+    let mut text = line_objects(alloc, refused)?;
+    let told = json_text(alloc, schema, tree, faults)?;
+    text.push_str(told.as_str())?;
+    Ok(text)
 }

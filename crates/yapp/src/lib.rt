@@ -9,6 +9,7 @@ mod failure;
 mod files;
 mod hint;
 mod modules;
+mod object;
 mod program;
 mod reason;
 mod report;

@@ -1,22 +1,26 @@
 //! A run of the program.
 
-ghost use Rattle.std.specs.Prelude.{◌≡◌, ◌⊎◌, [], IfOk, is_ok, if◌then◌else◌, map, string_bytes};
+ghost use Rattle.std.specs.Prelude.{◌≡◌, ◌⊎◌, [], IfOk, OnErr, is_ok, if◌then◌else◌, map, None, option_map, string_bytes, true};
+ghost use Rattle.yapp.specs.Failing.{besides_in, outcome_of};
 ghost use Rattle.yapp.specs.Saving.{end_of};
-ghost use Rattle.yprogram.specs.Output.{Besides, Outcome, Printed, printed_with};
-ghost use Rattle.ycommand.specs.Command.{asks_reasons, refusals, request_of};
+ghost use Rattle.yapp.specs.Telling.{Tells, object_bytes, printed_so};
+ghost use Rattle.yformat.specs.RefusalData.{refused_text};
+ghost use Rattle.yprogram.specs.Output.{Besides, Outcome, Printed, as_json_of, printed_with};
+ghost use Rattle.ycommand.specs.Command.{asks_reasons, refusals, request_of, view};
 ghost use Rattle.yapp.specs.Explained.{IsExplained};
 ghost use Rattle.yapp.specs.Files.{IsOutcome, came_to, said_besides, store};
-ghost use Rattle.ycommand.specs.Running.{AnswersWords, Brings, Ends, memory_told, refused};
-ghost use Rattle.youtput.specs.Writing.{side};
+ghost use Rattle.ycommand.specs.Running.{AnswersWords, Brings, Ends, WritesBoth, memory_told, refused};
+ghost use Rattle.youtput.specs.Writing.{Writes, side};
 
 use crate::answering::answer;
 use crate::failure::Failure;
 use crate::files::Files;
+use crate::object::failure_object;
 use crate::report::Report;
 use crate::saving::{Ended, ended_after};
 use crate::status::{FAILED, GOOD, MISUSED};
-use std::alloc::Global;
-use ycommand::{NoRequest, read_words};
+use std::alloc::{AllocError, Global};
+use ycommand::{NoRequest, Request, read_words};
 use youtput::{Sink, SinkFault, write_texts};
 
 /// The exit status after something was to be written: another one where a write failed.
@@ -53,18 +57,106 @@ fn show<O: Sink>(text: &str, output: &mut O) -> u8
     status_after(write_texts(output, &[text]), GOOD)
 }
 
-/// Tells what was found, or why nothing was; where that is wanted, with the reasons. Answers how the run ends.
+/// Whether what is told is to be told as JSON.
+fn is_json(request: &Request<'_>) -> bool
+    ensures { result ≡ as_json_of (view request.now) }
+{
+    match request {
+        Request::Explain { .. }
+        | Request::Compile { .. }
+        | Request::Tree { .. }
+        | Request::Trees { .. } => false,
+        Request::Validate { options, .. } | Request::Edit { options, .. } => options.as_json,
+    }
+}
+
+/// The object that tells a failure too, where that is wanted.
+fn object_where(
+    alloc: Global,
+    failure: &Failure<'_>,
+    is_wanted: bool,
+) -> Result<Option<String>, AllocError>
+    ensures ok { IfOk result (λ text. option_map string_bytes text ≡ (if is_wanted then option_map
+        refused_text (outcome_of failure.now).told else None)) }
+    ensures err { OnErr result (is_wanted ≡ true) }
+{
+    if is_wanted {
+        failure_object(alloc, failure)
+    } else {
+        Ok(None)
+    }
+}
+
+/// Writes an object in a line, if there is one.
+fn write_object<S: Sink>(object: &Option<String>, sink: &mut S) -> Result<(), SinkFault>
+    ensures { Writes (side S.taken S.failures sink.old) (side S.taken S.failures sink.new)
+        (object_bytes (option_map string_bytes object.now)) result }
+{
+    match object {
+        Some(text) => write_texts(sink, &[text.as_str(), "\n"]),
+        None => Ok(()),
+    }
+}
+
+/// Writes a failure on the error side, and then the object that tells it too, if there is one.
+fn write_failure<O: Sink, E: Sink>(
+    failure: &Failure<'_>,
+    object: &Option<String>,
+    with_reasons: bool,
+    output: &mut O,
+    errors: &mut E,
+) -> Result<(), SinkFault>
+    ensures { WritesBoth (side O.taken O.failures output.old) (side O.taken O.failures output.new)
+        (side E.taken E.failures errors.old) (side E.taken E.failures errors.new)
+        (printed_so with_reasons failure.now (option_map string_bytes object.now)) result }
+{
+    failure.write(with_reasons, errors)?;
+    write_object(object, output)
+}
+
+/// Tells why nothing was found; where that is wanted, with the reasons, and by an object too, which is made before anything is
+/// written. Answers how the run ends.
+fn tell_failure<O: Sink, E: Sink>(
+    alloc: Global,
+    failure: &Failure<'_>,
+    with_reasons: bool,
+    as_json: bool,
+    output: &mut O,
+    errors: &mut E,
+) -> Ended
+    ensures reasons { result.with_reasons ≡ with_reasons }
+    ensures tells { Tells (side O.taken O.failures output.old) (side O.taken O.failures output.new)
+        (side E.taken E.failures errors.old) (side E.taken E.failures errors.new)
+        with_reasons as_json (besides_in failure.now) (outcome_of failure.now) (end_of result) }
+{
+    match object_where(alloc, failure, as_json) {
+        Ok(object) => {
+            let written = write_failure(failure, &object, with_reasons, output, errors);
+            ended_after(written, failure.status(), None, with_reasons)
+        }
+        Err(_) => Ended {
+            status: tell_memory(errors),
+            saved: None,
+            with_reasons,
+        },
+    }
+}
+
+/// Tells what was found, or why nothing was; where that is wanted, with the reasons, and by an object too. Answers how the run
+/// ends.
 fn tell<O: Sink, E: Sink>(
+    alloc: Global,
     found: Result<Report, Failure<'_>>,
     with_reasons: bool,
+    as_json: bool,
     output: &mut O,
     errors: &mut E,
 ) -> Ended
     requires { IfOk found (IsExplained with_reasons) }
     ensures reasons { result.with_reasons ≡ with_reasons }
-    ensures brings { Brings (side O.taken O.failures output.old) (side O.taken O.failures output.new)
+    ensures tells { Tells (side O.taken O.failures output.old) (side O.taken O.failures output.new)
         (side E.taken E.failures errors.old) (side E.taken E.failures errors.new)
-        (printed_with (said_besides found.entry) with_reasons (came_to found.entry)) (end_of result) }
+        with_reasons as_json (said_besides found.entry) (came_to found.entry) (end_of result) }
 {
     match found {
         Ok(report) => {
@@ -72,10 +164,7 @@ fn tell<O: Sink, E: Sink>(
             let status = report.status();
             ended_after(written, status, report.into_saved(), with_reasons)
         }
-        Err(failure) => {
-            let written = failure.write(with_reasons, errors);
-            ended_after(written, failure.status(), None, with_reasons)
-        }
+        Err(failure) => tell_failure(alloc, &failure, with_reasons, as_json, output, errors),
     }
 }
 
@@ -106,8 +195,10 @@ pub fn run<F: Files, O: Sink, E: Sink>(
 {
     match read_words(alloc, words) {
         Ok(line) => tell(
+            alloc,
             answer(alloc, &line.request, line.with_reasons, files),
             line.with_reasons,
+            is_json(&line.request),
             output,
             errors,
         ),

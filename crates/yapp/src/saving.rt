@@ -5,7 +5,7 @@ ghost use Rattle.yprogram.specs.Output as spec;
 ghost use Rattle.youtput.specs.Writing.{Writes, side};
 ghost use Rattle.ycommand.specs.Running.{Ends, broken, ended};
 ghost use Rattle.yapp.specs.Saving as view;
-ghost use Rattle.yapp.specs.Saving.{Saves, cause_line, end_of, saved_view, unsaved_text, unwritten_line};
+ghost use Rattle.yapp.specs.Saving.{Saves, cause_line, end_of, saved_view, unsaved_text, unwritten_line, unwritten_text};
 
 use crate::status::FAILED;
 use thiserror::Error;
@@ -48,11 +48,14 @@ pub enum Unsaved {
     /// The system says another cause.
     #[error("the system can't write it")]
     Other,
+    /// Memory ran out.
+    #[error("memory ran out")]
+    Memory,
 }
 
 impl Unsaved {
     ghost use Rattle.std.specs.Prelude.{◌≡◌};
-    ghost use Rattle.yapp.specs.Saving.{subject_of, words_of};
+    ghost use Rattle.yapp.specs.Saving.{is_memory, subject_of, words_of};
 
     /// The cause in words, behind what they are said of.
     pub fn words<'a>(self) -> &'a str
@@ -69,6 +72,22 @@ impl Unsaved {
             Unsaved::NoPermission => "permission is denied",
             Unsaved::NoRegularFile => "it is no regular file",
             Unsaved::Other => "the system can't write it",
+            Unsaved::Memory => "memory ran out",
+        }
+    }
+
+    /// Whether memory ran out.
+    fn is_memory(self) -> bool
+        ensures { result ≡ is_memory self }
+    {
+        match self {
+            Unsaved::Memory => true,
+            Unsaved::PartThere
+            | Unsaved::TargetPartThere
+            | Unsaved::NoFolder
+            | Unsaved::NoPermission
+            | Unsaved::NoRegularFile
+            | Unsaved::Other => false,
         }
     }
 
@@ -82,7 +101,8 @@ impl Unsaved {
             | Unsaved::NoFolder
             | Unsaved::NoPermission
             | Unsaved::NoRegularFile
-            | Unsaved::Other => "",
+            | Unsaved::Other
+            | Unsaved::Memory => "",
         }
     }
 }
@@ -182,7 +202,7 @@ fn tell_failure<E: Sink>(errors: &mut E) -> u8
 }
 
 /// Writes the file that is due at the end of a run, once its output is out, and answers the exit status. Where it can't be
-/// written a line says so, and, where reasons are wanted, one below it why.
+/// written a line says so, and, where reasons are wanted, one below it why; where memory ran out the line of that.
 pub fn save<S: Shelf, E: Sink>(ended: &Ended, shelf: &mut S, errors: &mut E) -> u8
     ensures { Saves ended.now.with_reasons (end_of ended.now).saved ended.now.status
         (view.shelf S.written S.failures S.cause shelf.old) (view.shelf S.written S.failures S.cause shelf.new)
@@ -208,7 +228,8 @@ fn tell_unsaved<E: Sink>(name: &str, cause: Unsaved, with_reasons: bool, errors:
     }
 }
 
-/// Writes the line of a file that wasn't written, and, where reasons are wanted, the one below it.
+/// Writes the line of a file that wasn't written, and, where reasons are wanted, the one below it; of want of memory the line
+/// of that.
 fn write_unsaved<S: Sink>(
     name: &str,
     cause: Unsaved,
@@ -217,6 +238,23 @@ fn write_unsaved<S: Sink>(
 ) -> Result<(), SinkFault>
     ensures { Writes (side S.taken S.failures sink.old) (side S.taken S.failures sink.new)
         (unsaved_text with_reasons cause name.now) result }
+{
+    if cause.is_memory() {
+        write_texts(sink, &["memory\n"])
+    } else {
+        write_unwritten(name, cause, with_reasons, sink)
+    }
+}
+
+/// Writes the line of a file that wasn't written, and, where reasons are wanted, the one below it.
+fn write_unwritten<S: Sink>(
+    name: &str,
+    cause: Unsaved,
+    with_reasons: bool,
+    sink: &mut S,
+) -> Result<(), SinkFault>
+    ensures { Writes (side S.taken S.failures sink.old) (side S.taken S.failures sink.new)
+        (unwritten_text with_reasons cause name.now) result }
 {
     write_texts(sink, &["cannot write ", name, "\n"])?;
     if with_reasons {

@@ -27,7 +27,7 @@ pub struct Options<'a> {
     pub is_strict: bool,
     /// Its configuration alone is looked at.
     pub of_configuration: bool,
-    /// Faults are told as JSON.
+    /// Faults and refusals are told as JSON.
     pub as_json: bool,
     /// The document is printed in place of its faults.
     pub is_dump: bool,
@@ -120,7 +120,7 @@ Example: yanglive tree net net.yang";
 
 /// What `validate` says at the end of its help.
 const VALIDATE_HELP: &str =
-    "Prints a line for each fault, and then how many there are, as `0 faults`. The line has the code (V1 to V11, with --config V12), error-tag, error-app-tag, path, and the choice (V4, V5) or the number of the unique (V9), or - for none; [N] in a path is the position of an entry or item, from 1. With --format json a fault is an object on a line of its own, in the words of RESTCONF (RFC 8040, 7.1), and so is their number; what is refused stays a line on the error side.
+    "Prints a line for each fault, and then how many there are, as `0 faults`. The line has the code (V1 to V11, with --config V12), error-tag, error-app-tag, path, and the choice (V4, V5) or the number of the unique (V9), or - for none; [N] in a path is the position of an entry or item, from 1. With --format json a fault is an object on a line of its own, in the words of RESTCONF (RFC 8040, 7.1), and so are their number and what is refused, which stays a line on the error side too.
 With --config the nodes of state (config false) are left out: none is wanted, and what is stored of one is told as V12, once for each schema node and row.
 A refused module is told as FILE:LINE: CODE (L1 to L8, C1 to C18), a refused document as FILE: CODE PATH (J1 to J7, with --strict J8); `yanglive explain CODE` says what it means.
 

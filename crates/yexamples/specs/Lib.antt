@@ -1,4 +1,5 @@
 pub mod RunExamples
+pub mod RefusalExamples
 pub mod SchemaExamples
 pub mod LinkingSamples
 pub mod CompilingSamples

@@ -159,3 +159,9 @@ and_saved p text = record p { saved = Some (record { name = codes "o.json"; text
 -- what is printed on both sides where there is a fault, or a refused edit
 abbrev pub faulty : Text → Text → Printed
 faulty errors output = record { output = output; errors = errors; status = 1; saved = None }
+
+-- lists by a number and by a text, a leaf-list, and a message with characters that a terminal obeys
+abbrev pub keyed_module : Text
+keyed_module = module_text (codes "k") (codes "  list n { key a; leaf a { type uint64; } leaf v { type uint8; mandatory true; } }\n"
+    ++ (codes "  list t { key a; leaf a { type string; } leaf v { type uint8; mandatory true; } }\n  leaf-list i { type uint8; }\n"
+    ++ (codes "  leaf m { type uint8 { range \"0..9\" { error-message \"Too" ++ (127 ∷ (194 ∷ 155 ∷ codes "great.\"; } } }\n")))))

@@ -8,7 +8,7 @@ ghost use Rattle.ycodes.specs.Codes.{reason_of};
 ghost use Rattle.yprogram.specs.Script.{lines_of};
 ghost use Rattle.yexamples.specs.SchemaExamples.{hosts, one_host};
 ghost use Rattle.yspec.specs.edit.Examples.{module_p, module_text};
-ghost use Rattle.yexamples.specs.RunExamples.{and_saved, configured, counted, drawn_as, dumped, edited_configuration, edited_with_reasons, faulty, line_with_reasons, of_configuration, refused_alone, refused_beside, saved_by, scripted, shown, shown_as_json, shown_of_configuration, shown_of_two, state_module, without_faults, one_with_reasons, refused_with_reasons, shown_with_reasons, strictly_edited, strictly_shown, with_reasons};
+ghost use Rattle.yexamples.specs.RunExamples.{and_saved, configured, counted, drawn_as, dumped, edited_configuration, edited_with_reasons, faulty, keyed_module, line_with_reasons, of_configuration, refused_alone, refused_beside, saved_by, scripted, shown, shown_as_json, shown_of_configuration, shown_of_two, state_module, without_faults, one_with_reasons, refused_with_reasons, shown_with_reasons, strictly_edited, strictly_shown, with_reasons};
 
 /// How many nodes modules define.
 pub fn counts()
@@ -226,6 +226,33 @@ pub fn explained_faults()
         (Some module_p ∷ Some (codes "{\"p:c\":{\"id\":1}}")
         ∷ Some (codes "replace /p:c/id 300") ∷ []))
         ≡ one_with_reasons (codes "V1 invalid-value - /p:c/id -") (codes "/p:c/id: 300 isn't a value of uint8: it takes an integer without quotes in 0..255.") (codes "V1") }
+{}
+
+/// The paths of faults, which an edit takes: keys by their canonical texts, in quotes that these don't have, else positions;
+/// a terminal obeys nothing of what is said.
+pub fn paths_of_faults()
+    ensures canonical { shown_with_reasons keyed_module (codes "{\"k:n\":[{\"a\":\"007\"}]}")
+        ≡ one_with_reasons (codes "V3 data-missing - /k:n[1]/v -") (codes "/k:n[a='7']: v is missing.") (codes "V3") }
+    ensures taken { scripted keyed_module (codes "{\"k:n\":[{\"a\":\"007\"}]}")
+        (codes "create /k:n[a='7']/v 1") ≡ without_faults }
+    ensures invalid { shown_with_reasons keyed_module (codes "{\"k:n\":[{\"a\":\"x\",\"v\":1}]}")
+        ≡ one_with_reasons (codes "V1 invalid-value - /k:n[1]/a -") (codes "/k:n[1]/a: \"x\" isn't a value of uint64: it takes an integer in quotes in 0..18446744073709551615.") (codes "V1") }
+    ensures single_quote { shown_with_reasons keyed_module (codes "{\"k:t\":[{\"a\":\"it's\"}]}")
+        ≡ one_with_reasons (codes "V3 data-missing - /k:t[1]/v -") (codes "/k:t[a=\"it's\"]: v is missing.") (codes "V3") }
+    ensures double_quote { shown_with_reasons keyed_module (codes "{\"k:t\":[{\"a\":\"q\\\"q\\\\\"}]}")
+        ≡ one_with_reasons (codes "V3 data-missing - /k:t[1]/v -") (codes "/k:t[a='q\"q\\']: v is missing.") (codes "V3") }
+    ensures both_quotes { shown_with_reasons keyed_module (codes "{\"k:t\":[{\"a\":\"it's \\\"\"}]}")
+        ≡ one_with_reasons (codes "V3 data-missing - /k:t[1]/v -") (codes "/k:t[1]: v is missing.") (codes "V3") }
+    ensures control { shown_with_reasons keyed_module (codes "{\"k:t\":[{\"a\":\"" ++ (194 ∷ 155 ∷ codes "31m\"}]}"))
+        ≡ one_with_reasons (codes "V3 data-missing - /k:t[1]/v -") (codes "/k:t[1]: v is missing.") (codes "V3") }
+    ensures item { shown_with_reasons keyed_module (codes "{\"k:i\":[\"x" ++ (127 ∷ (194 ∷ 155 ∷ codes "31m\"]}")))
+        ≡ one_with_reasons (codes "V1 invalid-value - /k:i[1] -") (codes "/k:i[1]: \"x\\u007f\\u009b31m\" isn't a value of uint8: it takes an integer without quotes in 0..255.") (codes "V1") }
+    ensures message { shown_with_reasons keyed_module (codes "{\"k:m\":10}")
+        ≡ one_with_reasons (codes "V1 invalid-value - /k:m -") (codes "/k:m: 10 isn't a value of uint8: it takes an integer without quotes in 0..9. Its module says: Too  great.") (codes "V1") }
+    ensures by_position { shown_as_json keyed_module (codes "{\"k:n\":[{\"a\":\"1\",\"v\":1},{\"a\":\"01\",\"v\":1}]}")
+        ≡ found 1 (codes "{\"error-message\":\"its key a='1' is that of /k:n[2].\",\"error-path\":\"/k:n[1]\",\"error-tag\":\"operation-failed\",\"error-type\":\"application\",\"yanglive:code\":\"V8\",\"yanglive:path\":\"/k:n[1]\"}\n"
+        ++ (codes "{\"error-message\":\"its key a='01' is that of /k:n[1].\",\"error-path\":\"/k:n[2]\",\"error-tag\":\"operation-failed\",\"error-type\":\"application\",\"yanglive:code\":\"V8\",\"yanglive:path\":\"/k:n[2]\"}\n"
+        ++ codes "{\"yanglive:faults\":2}\n")) }
 {}
 
 /// Faults as objects of JSON: their members in order, what is left out, and the last line; a document that is dumped stands

@@ -13,5 +13,6 @@ pub mod identities;
 pub mod linking;
 pub mod modules;
 pub mod moves;
+pub mod refusals;
 pub mod scopes;
 pub mod scripts;

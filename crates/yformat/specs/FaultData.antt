@@ -9,8 +9,7 @@ use Rattle.yspec.specs.document.Document.{Tree}
 use Rattle.yspec.specs.document.Fault.{Fault, Info, no_info, choice_name, unique_number}
 use Rattle.yspec.specs.document.FaultCode.{FaultCode, fault_number}
 use Rattle.yspec.specs.document.Path.{path_text}
-use Rattle.yexplain.specs.KeyedPath.{keyed_path}
-use Rattle.yexplain.specs.Sentences.{own_message, sentence}
+use Rattle.yexplain.specs.Sentences.{fault_path, own_message, sentence}
 
 abbrev pub code_text : FaultCode → Text
 code_text code = codes "V" ++ decimal (fault_number code)
@@ -40,11 +39,11 @@ abbrev pub message : Schema → Tree → Fault → Text
 message schema tree f =
     unwrap_or (own_message schema tree f.steps f.code) (sentence schema tree f.steps f.info f.code)
 
--- its path by keys, and its message
+-- the path of its place, and its message
 abbrev pub with_message : Schema → Tree → Fault → Members → Members
 with_message schema tree f members =
     with_text (codes "error-message") (message schema tree f)
-    (with_text (codes "error-path") (keyed_path schema tree f.steps) members)
+    (with_text (codes "error-path") (fault_path schema tree f.code f.steps) members)
 
 -- what its line of text has
 abbrev pub with_line : Schema → Fault → Members → Members

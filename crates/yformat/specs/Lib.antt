@@ -1,1 +1,3 @@
 pub mod FaultData
+pub mod RefusalData
+pub mod RefusalView

@@ -13,7 +13,7 @@ use itoa::Buffer;
 use serde_json::{Map, Value};
 use std::alloc::{AllocError, Global};
 use ycheck::{ErrorTag, Fault, FaultCode, Info};
-use yexplain::{keyed_path, own_message, position_path, sentence};
+use yexplain::{fault_path, own_message, position_path, sentence};
 use ymodel::Schema;
 use ytree::Tree;
 
@@ -68,7 +68,7 @@ pub(crate) fn put_value(
 }
 
 /// Puts in a member whose value is a text.
-fn put_text(
+pub(crate) fn put_text(
     alloc: Global,
     name: &str,
     text: &str,
@@ -127,7 +127,7 @@ fn message_of(
     }
 }
 
-/// Puts in the path of a fault by keys, and its message.
+/// Puts in the path of a fault's place, and its message.
 pub(crate) fn put_message(
     alloc: Global,
     schema: &Schema,
@@ -140,7 +140,7 @@ pub(crate) fn put_message(
         ≡ spec.with_message (schema_view.view schema.now) t (fault_view.view fault.now)
         (json.members_view members.old.entries)) }
 {
-    let path = keyed_path(alloc, schema, tree, &fault.steps)?;
+    let path = fault_path(alloc, schema, tree, fault)?;
     let message = message_of(alloc, schema, tree, fault)?;
     put_text(alloc, "error-path", path.as_str(), members)?;
     put_text(alloc, "error-message", message.as_str(), members)

@@ -10,7 +10,7 @@ use Rattle.yspec.specs.document.StateData.{Inspected}
 use Rattle.yrepeated.specs.Repeated.{repeated_in}
 use Rattle.yprogram.specs.Part.{Part}
 use Rattle.yprogram.specs.Script.{after_lines, lines_of, refused_lines}
-use Rattle.yprogram.specs.Output.{Options, Outcome, Request, edit, edited, first_file, nothing, other_files, outcome, performed, repeated_document, report, saved_by, text_instead, text_parts, unless_repeated, validate, with_document, with_files, with_first, with_tree}
+use Rattle.yprogram.specs.Output.{Options, Outcome, Request, edit, edited, first_file, found_of, nothing, other_files, outcome, performed, repeated_document, report, saved_by, text_instead, text_parts, told_too, unless_repeated, validate, with_document, with_files, with_first, with_tree}
 use Rattle.yprogram.proofs.RunLemmas.{IsReport, is_compiled}
 use Rattle.ylaws.specs.Stateless.{Give, HasNoState, IsGiven, looking}
 use Rattle.ylaws.proofs.ConfigurationLemmas.{same_inspected}
@@ -62,11 +62,12 @@ module _ (schema : Schema) where
   -- what is made of what is looked at
   abbrev made_of : Options → Tree → List Part → Inspected → Outcome
   made_of options tree refused i = record {
-    output = option_map_or text_parts (text_instead options schema tree i) (report i.schema i.tree i.faults);
+    output = option_map_or text_parts (text_instead options schema tree refused i) (report i.schema i.tree i.faults);
     errors = refused;
     status = if length i.faults == 0 && length refused == 0 then 0 else 1;
     saved = saved_by options schema tree;
     aside = nothing;
+    told = None;
   }
 
   module _ (options : Options) (all : HasNoState schema) where
@@ -90,14 +91,15 @@ module _ (schema : Schema) where
       validated_same : outcome (validate (looking true options) document names) (map Some (contents ++ more))
           ≡ outcome (validate (looking false options) document names) (map Some (contents ++ more))
       unfolding outcome
-      validated_same = same_outcome (validate (looking true options) document names) (validate (looking false options) document names)
-          names (document ∷ []) contents more count (same_performed (λ files. []))
+      validated_same = ap (told_too options.as_json) (same_outcome (validate (looking true options) document names)
+          (validate (looking false options) document names) names (document ∷ []) contents more count (same_performed (λ files. [])))
 
       edited_same : (script : Text) → outcome (edit (looking true options) document script names) (map Some (contents ++ more))
           ≡ outcome (edit (looking false options) document script names) (map Some (contents ++ more))
       unfolding outcome
-      edited_same script = same_outcome (edit (looking true options) document script names) (edit (looking false options) document script names)
-          names (document ∷ script ∷ []) contents more count (same_performed (λ files. lines_of (first_file files)))
+      edited_same script = ap (told_too options.as_json) (same_outcome (edit (looking true options) document script names)
+          (edit (looking false options) document script names) names (document ∷ script ∷ []) contents more count
+          (same_performed (λ files. lines_of (first_file files))))
 
 -- ---- modules under which a run reports
 
@@ -109,12 +111,19 @@ given_by options document names contents (bytes ∷ more) count shown =
     let code = is_compiled names contents (bytes ∷ []) (with_first options.is_strict document next) count shown in
     (code.schema, (code.top, code.compiles), code.is)
 
+-- what is told besides leaves the status
+report_alone : (as_json : Bool) (o : Outcome) → IsReport (told_too as_json o) → IsReport o
+report_alone true o shown = shown
+report_alone false o shown = shown
+
 pub given_where_reported : (options : Options) (document : Text) (names : List Text) (contents more : List (List ℕ)) → length contents ≡ length names
     → IsReport (outcome (validate options document names) (map Some (contents ++ more))) → IsGiven names contents
 unfolding outcome
 given_where_reported options document names contents more count shown =
+    let request = validate options document names in
     given_by options document names contents more count
-    (subst IsReport (all_read names (document ∷ []) contents more (performed (validate options document names)) count) shown)
+    (subst IsReport (all_read names (document ∷ []) contents more (performed request) count)
+    (report_alone options.as_json (found_of request (map Some (contents ++ more))) shown))
 
 pub same_validated : (options : Options) (document : Text) (names : List Text) (contents more : List (List ℕ)) (schema : Schema)
     → length contents ≡ length names → Give names contents schema → HasNoState schema

@@ -2,3 +2,4 @@ pub mod ProgramLiterals
 pub mod ScriptLemmas
 pub mod RunLemmas
 pub mod DumpLemmas
+pub mod FormatLemmas

@@ -20,9 +20,11 @@ use Rattle.yspec.specs.document.Path.{path_text}
 use Rattle.yspec.specs.document.Writing.{written_text}
 use Rattle.yexplain.specs.Sentences.{explained_fault}
 use Rattle.yformat.specs.FaultData.{json_text}
+use Rattle.yformat.specs.RefusalData.{Refused}
 use Rattle.yrepeated.specs.Repeated.{repeated_in}
 use Rattle.yprogram.specs.Hint.{break_hint, hinted, refusal_hint, repeated_hint, slip_hint}
-use Rattle.yprogram.specs.Part.{Part, count_part, line_about, plain, spelled}
+use Rattle.yprogram.specs.Part.{Part, count_part, line_about, objects, plain, spelled}
+use Rattle.yprogram.specs.RefusalData.{document_object, module_object, module_tag, object_line, text_tag, unread_object}
 use Rattle.yprogram.specs.Script.{after_lines, lines_of, refused_lines}
 
 -- how a document is taken, and what is made of it
@@ -31,7 +33,7 @@ pub record Options : Type 0 where
   pub is_strict : Bool
   -- its configuration alone is looked at
   pub of_configuration : Bool
-  -- faults are told as JSON
+  -- faults and refusals are told as JSON
   pub as_json : Bool
   -- the document is printed in place of its faults
   pub is_dump : Bool
@@ -82,6 +84,8 @@ pub record Outcome : Type 0 where
   pub status : ℕ
   pub saved : Option SavedFile
   pub aside : Aside
+  -- the object that tells what the error side does, where it has one
+  pub told : Option Refused
 
 -- both sides' bytes, the exit status, and that file
 pub record Printed : Type 0 where
@@ -133,13 +137,26 @@ printed_with besides with_reasons o = let p = printed with_reasons o in
     record p { errors = p.errors ++ aside_where with_reasons besides o.aside }
 
 abbrev pub found : ℕ → List ℕ → Outcome
-found status output = record { output = plain output ∷ []; errors = []; status = status; saved = None; aside = nothing }
+found status output = record { output = plain output ∷ []; errors = []; status = status; saved = None; aside = nothing; told = None }
 
 abbrev pub failed_with : ℕ → Part → Outcome
-failed_with status part = record { output = []; errors = part ∷ []; status = status; saved = None; aside = nothing }
+failed_with status part = record { output = []; errors = part ∷ []; status = status; saved = None; aside = nothing; told = None }
 
 abbrev pub failed : ℕ → List ℕ → Outcome
 failed status line = failed_with status (plain (line ++ codes "\n"))
+
+abbrev pub with_object : Refused → Outcome → Outcome
+with_object r o = record o { told = Some r }
+
+-- the line of an object, where there is one
+abbrev pub object_parts : Option Refused → List Part
+object_parts None = []
+object_parts (Some r) = plain (object_line r) ∷ []
+
+-- an outcome whose object the output tells first, where that is wanted
+abbrev pub told_too : Bool → Outcome → Outcome
+told_too false o = o
+told_too true o = record o { output = object_parts o.told ++ o.output }
 
 -- ---- the files
 
@@ -153,7 +170,7 @@ files_of (validate options document modules) = modules ++ document ∷ []
 files_of (edit options document script modules) = modules ++ document ∷ script ∷ []
 
 abbrev pub unread : Text → Outcome
-unread name = record (failed 4 (codes "cannot read " ++ name)) { aside = cause }
+unread name = with_object (unread_object name) (record (failed 4 (codes "cannot read " ++ name)) { aside = cause })
 
 abbrev pub with_contents : Text → Option (List ℕ) → (List ℕ → Outcome) → Outcome
 with_contents name None next = unread name
@@ -174,11 +191,13 @@ refusal_part name line letter number = let code = letter ++ decimal number in
     line_about code (name ++ (codes ":" ++ (decimal line ++ (codes ": " ++ code))))
 
 abbrev pub slipped : Text → List ℕ → Slip → Outcome
-slipped name bytes s = failed_with 2 (hinted (slip_hint s.line bytes) (refusal_part name s.line (codes "L") s.code))
+slipped name bytes s = with_object (module_object text_tag name s.line (codes "L" ++ decimal s.code))
+    (failed_with 2 (hinted (slip_hint s.line bytes) (refusal_part name s.line (codes "L") s.code)))
 
 abbrev pub broken : List Text → List (List ℕ) → Forest Statement → Break → Outcome
-broken names contents modules b = failed_with 2 (hinted (break_hint contents modules b)
-    (refusal_part (unwrap_or (slice_get names b.module_number) []) b.line (codes "C") b.code))
+broken names contents modules b = let name = unwrap_or (slice_get names b.module_number) [] in
+    with_object (module_object (module_tag b.code) name b.line (codes "C" ++ decimal b.code))
+    (failed_with 2 (hinted (break_hint contents modules b) (refusal_part name b.line (codes "C") b.code)))
 
 abbrev pub with_module : Text → List ℕ → Result (Forest Statement) Slip → (Forest Statement → Outcome) → Outcome
 with_module name bytes (Err s) next = slipped name bytes s
@@ -213,7 +232,8 @@ aside_of name code = if code == 1 then stop_of name else nothing
 
 -- a document is refused, of which this is said besides
 abbrev pub refused_document : Text → Schema → Text → Refusal → Outcome
-refused_document hint schema name r = record (failed_with 2 (hinted hint (document_part schema name r))) { aside = aside_of name r.code }
+refused_document hint schema name r = with_object (document_object name (path_text schema r.place) r.code)
+    (record (failed_with 2 (hinted hint (document_part schema name r))) { aside = aside_of name r.code })
 
 abbrev pub not_read : Schema → Text → List ℕ → Refusal → Outcome
 not_read schema name bytes r = refused_document (refusal_hint schema bytes r) schema name r
@@ -281,6 +301,7 @@ fault_part schema tree f = record {
   text = line_of schema f;
   reason = explained_fault schema tree f ++ reason_of (codes "V" ++ decimal (fault_number f.code));
   bare = [];
+  object = [];
 }
 
 -- a line for each fault of a document, and then how many there are
@@ -291,10 +312,10 @@ report schema tree faults = map (fault_part schema tree) faults ++ count_part (l
 abbrev pub dump : Schema → Tree → List ℕ
 dump schema tree = written_text schema tree ++ codes "\n"
 
--- what stands in place of the lines of its faults: the document as a whole, or its faults as JSON
-abbrev pub text_instead : Options → Schema → Tree → Inspected → Option Text
-text_instead options schema tree i = if options.is_dump then Some (written_text schema tree)
-    else (if options.as_json then Some (json_text i.schema i.tree i.faults) else None)
+-- what stands in place of the lines of its faults: the document as a whole, or what was refused and its faults as JSON
+abbrev pub text_instead : Options → Schema → Tree → List Part → Inspected → Option Text
+text_instead options schema tree refused i = if options.is_dump then Some (written_text schema tree)
+    else (if options.as_json then Some (objects refused ++ json_text i.schema i.tree i.faults) else None)
 
 -- a text that ends with a line feed
 abbrev pub text_parts : Text → List Part
@@ -307,11 +328,12 @@ saved_by options schema tree = option_map (λ name. record { name = name; text =
 -- a document after edits, of which the refused ones are told in these lines
 abbrev pub left : Options → Schema → Tree → List Part → Outcome
 left options schema tree refused = let i = inspected options.of_configuration schema tree in record {
-  output = option_map_or text_parts (text_instead options schema tree i) (report i.schema i.tree i.faults);
+  output = option_map_or text_parts (text_instead options schema tree refused i) (report i.schema i.tree i.faults);
   errors = refused;
   status = if length i.faults == 0 && length refused == 0 then 0 else 1;
   saved = saved_by options schema tree;
   aside = nothing;
+  told = None;
 }
 
 -- a document after the lines of a script
@@ -357,6 +379,19 @@ performed (draw_all names) contents = drawing_all names contents
 performed (validate options document names) contents = validation options document names contents
 performed (edit options document script names) contents = edition options document names contents
 
--- the outcome of a request, where the files answered so, in order and up to the first failure
+-- whether what is told is to be told as JSON
+abbrev pub as_json_of : Request → Bool
+as_json_of (explain names) = false
+as_json_of (compile modules) = false
+as_json_of (draw name modules) = false
+as_json_of (draw_all modules) = false
+as_json_of (validate options document modules) = options.as_json
+as_json_of (edit options document script modules) = options.as_json
+
+-- what is found of a request, where the files answered so, in order and up to the first failure
+abbrev pub found_of : Request → List (Option (List ℕ)) → Outcome
+found_of request answers = with_files (files_of request) answers (performed request)
+
+-- the outcome of a request for these answers
 unfoldable pub outcome : Request → List (Option (List ℕ)) → Outcome
-outcome request answers = with_files (files_of request) answers (performed request)
+outcome request answers = told_too (as_json_of request) (found_of request answers)

@@ -1,5 +1,5 @@
 -- Scripts of edits, one a line, and what they do to a document.
-use Rattle.std.specs.Prelude.{ℕ, ◌+◌, ◌==◌, ◌&&◌, ◌++◌, Bool, false, List, [], ◌∷◌, codes, decimal, Option, Some, None, Result, Ok, Err, if◌then◌else◌}
+use Rattle.std.specs.Prelude.{ℕ, ◌+◌, ◌==◌, ◌&&◌, ◌++◌, Bool, false, List, [], ◌∷◌, codes, decimal, Option, Some, None, option_map, Result, Ok, Err, if◌then◌else◌}
 use Rattle.std.specs.List.{slice_split}
 use Rattle.std.specs.Option.{option_map_or}
 use Rattle.std.specs.Str.{is_utf8}
@@ -10,8 +10,10 @@ use Rattle.yspec.specs.document.Document.{Tree}
 use Rattle.yspec.specs.edit.EditText.{Edit, create, replace, remove, move_to, is_passed_over}
 use Rattle.yspec.specs.edit.Editing.{EditRefusal, applied, edit_asked, refused, tree_or, value_refused}
 use Rattle.yrepeated.specs.Repeated.{has_repeated}
+use Rattle.yformat.specs.RefusalData.{Refused}
 use Rattle.yprogram.specs.Hint.{hinted, script_hint}
 use Rattle.yprogram.specs.Part.{Part, line_about}
+use Rattle.yprogram.specs.RefusalData.{cause_of, edit_tag, object_line}
 
 -- ---- lines
 
@@ -75,9 +77,22 @@ code_text e = codes "E" ++ (decimal e.code ++ document_code_text e.document_code
 abbrev pub telling_code : EditRefusal → Text
 telling_code e = option_map_or (λ code. codes "J" ++ decimal code) e.document_code (codes "E" ++ decimal e.code)
 
+-- a refused line as an object
+abbrev pub line_object : ℕ → EditRefusal → Refused
+line_object number e = record {
+  code = Some (codes "E" ++ decimal e.code);
+  value_code = option_map (λ code. codes "J" ++ decimal code) e.document_code;
+  tag = edit_tag e.code;
+  message = cause_of (telling_code e);
+  file = None;
+  line = Some number;
+  path = None;
+}
+
 -- `line K: CODE`, of a refused line
 abbrev pub refused_line : ℕ → EditRefusal → Part
-refused_line number e = line_about (telling_code e) (codes "line " ++ (decimal number ++ (codes ": " ++ code_text e)))
+refused_line number e = record (line_about (telling_code e) (codes "line " ++ (decimal number ++ (codes ": " ++ code_text e))))
+    { object = object_line (line_object number e) }
 
 -- the edit that a line asks for, if it asks for one
 abbrev pub edit_in : Result (Option Edit) EditRefusal → Option Edit

@@ -1,12 +1,15 @@
-use Rattle.std.proofs.Common.{Bool, Some, None, map, ap, ◌∙◌}
+use Rattle.std.proofs.Common.{Bool, List, Some, None, map, ap, ◌∙◌}
 use Rattle.std.specs.Prelude.{if◌then◌else◌, ◌&&◌, option_map}
 use Rattle.ymodel.specs.View as schema_view
 use Rattle.ytree.specs.View.{tree_view}
 use Rattle.yexplain.specs.Sentences.{explained_fault}
 use Rattle.ycommand.specs.Command.{options_view}
 use Rattle.yconfig.specs.Inspecting.{inspection_view}
+use Rattle.yprogram.specs.Output.{text_instead}
+use Rattle.yapp.specs.Asked.{refused_parts}
 use Rattle.yapp.specs.Edited.{schema_of, tree_of}
 use Rattle.yapp.specs.Saving.{saved_view}
+use Rattle.yapp.specs.declared.script.RefusedLine.{RefusedLine}
 use Rattle.yapp.proofs.DocumentLemmas.{report_is}
 use Rattle.yapp.proofs.ExplainedLemmas.{none_so}
 use Rattle.yapp.proofs.document.report_on.Goals as goal
@@ -17,7 +20,10 @@ returns-clause-reported c =
     let t = tree_of c.args.document in
     let i = c.in_ok-inspection.inspection in
     report_is (options_view c.args.options) s (schema_view.view i.schema) t (tree_view i.tree) i.faults.items c.args.document.refused.items c.in_ok-text.text
-    (option_map saved_view c.in_ok-saved.saved) c.in_ok-inspection.ensures.inspected (c.in_ok-text.ensures s t c.in_ok-whole.ensures) c.in_ok-saved.ensures
+    (option_map saved_view c.in_ok-saved.saved) c.in_ok-inspection.ensures.inspected
+    (c.in_ok-text.ensures s t c.in_ok-whole.ensures
+    ∙ ap (λ (lines : List RefusedLine). text_instead (options_view c.args.options) s t (refused_parts lines) (inspection_view i)) c.deref.ensures.value)
+    c.in_ok-saved.ensures
 
 pub returns-clause-explained : goal.returns-clause-explained
 returns-clause-explained c =

@@ -1,21 +1,16 @@
 use Rattle.std.proofs.Common.{arith, inl, inr, refl, ap, ◌∙◌, map, string_bytes, false, true}
 use Rattle.yapp.specs.Failing.{unsaid}
 use Rattle.yapp.specs.Files.{came_to, said_besides}
-use Rattle.yapp.proofs.ContentsLemmas.{outcome_same}
 use Rattle.ycommand.specs.Command.{Declines, asks_reasons, refusals}
 use Rattle.ycommand.specs.declared.command.NoRequest.TheVariants as none
 use Rattle.ycommand.specs.Running.{End, memory_told, refused, shown, without_memory}
 use Rattle.ycommand.proofs.CommandLemmas.{asked_help, text_is}
-use Rattle.yapp.proofs.RunningLemmas.{four, memory_either, on_output, on_errors, reasons_same}
+use Rattle.yapp.proofs.RunningLemmas.{four, memory_either, on_output, on_errors, run_comes}
 use Rattle.yapp.proofs.program.run.Goals as goal
 
 pub returns-in-Ok-clause-taken : goal.returns-in-Ok-clause-taken
-returns-in-Ok-clause-taken g c = λ taken. (
-  came_to c.answer.result,
-  said_besides c.answer.result,
-  outcome_same _ _ _ _ _ c.in-Ok.ensures.1 c.answer.ensures.outcome,
-  reasons_same (said_besides c.answer.result) _ _ _ _ _ _ _ _ c.in-Ok.ensures.2 c.tell.ensures.brings,
-)
+returns-in-Ok-clause-taken g c = λ taken. run_comes _ _ _ _ _ _ _ _ _ _ c.is_json.result (said_besides c.answer.result) (came_to c.answer.result) _
+    c.in-Ok.ensures.1 c.in-Ok.ensures.2 c.is_json.ensures c.answer.ensures.found c.tell.ensures.tells
 
 pub returns-in-Ok-clause-reasons : goal.returns-in-Ok-clause-reasons
 returns-in-Ok-clause-reasons g c = λ taken. inl (c.tell.ensures.reasons ∙ c.in-Ok.ensures.2)
@@ -56,7 +51,7 @@ returns-in-Err-Memory g c = record {
   taken = λ taken. (
     without_memory,
     unsaid,
-    inr (record { failures = refl; reads = omega arith }, refl),
+    inr (inl (record { failures = refl; reads = omega arith }), refl),
     memory_either unsaid (asks_reasons (map string_bytes c.args.words.now)) _ _ _ _ _ (on_errors _ _ _ memory_told _ _ refl refl c.tell_memory.ensures c.with_status-in-Err-Memory.ensures.end),
   );
   words = λ not_taken. (memory_told, inl refl, on_errors _ _ _ memory_told _ _ refl refl c.tell_memory.ensures c.with_status-in-Err-Memory.ensures.end);

@@ -1,7 +1,7 @@
 use Rattle.std.proofs.Common.{Bool, ap}
 use Rattle.youtput.proofs.WritingLemmas.{left_all, left_after, left_failed, left_last, left_none, left_same}
 use Rattle.yapp.specs.Saving.{cause_where}
-use Rattle.yapp.proofs.saving.write_unsaved.Goals as goal
+use Rattle.yapp.proofs.saving.write_unwritten.Goals as goal
 
 pub returns-in_err-write_texts : goal.returns-in_err-write_texts
 returns-in_err-write_texts g c = left_failed _ _ _ _ _ _ c.from_residual.result c.from_residual.ensures.0 (left_all _ _) c.in_err-write_texts.ensures
