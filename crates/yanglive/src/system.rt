@@ -2,10 +2,11 @@
 
 ghost use Rattle.std.specs.Prelude.{None};
 
-use std::fs::{File, OpenFile, Permissions};
+use std::fs::{File, Metadata, OpenOptions, Permissions, TryLockError};
 use std::io::{BufWriter, ErrorKind, Write};
+use std::os::unix::fs::{MetadataExt, OpenOptionsExt, PermissionsExt};
 use std::path::AsPath;
-use std::{fs, io, rt};
+use std::{fs, io};
 use yapp::{FileFault, Files, SavedFile, Shelf, Unreadable, Unsaved};
 use ytext::{CallCount, Sink, SinkFault};
 
@@ -25,6 +26,7 @@ fn cause_of(kind: ErrorKind) -> Unreadable {
 /// Why a file can't be written.
 fn unsaved_by(kind: ErrorKind) -> Unsaved {
     match kind {
+        ErrorKind::OutOfMemory => Unsaved::Memory,
         ErrorKind::NotFound | ErrorKind::NotADirectory => Unsaved::NoFolder,
         ErrorKind::PermissionDenied => Unsaved::NoPermission,
         ErrorKind::IsADirectory => Unsaved::NoRegularFile,
@@ -35,19 +37,25 @@ fn unsaved_by(kind: ErrorKind) -> Unsaved {
 /// What stands behind the name of a file that isn't in its place yet.
 const BESIDE: &str = ".part";
 
+/// The bits of a mode that say who may read, write and run a file.
+const WHO_MAY: u32 = 0o777;
+
+/// The mode of a new file, of which the system takes what the user's mask excludes.
+const NEW_FILE: u32 = 0o666;
+
 /// The system's files; `-` is its standard input.
 #[derive(Drop)]
-pub struct FileSystem<'a, R> {
-    runtime: &'a R,
+pub struct FileSystem<'a> {
+    runtime: &'a HostRuntime,
     reads: CallCount,
     count: CallCount,
     unsaved: CallCount,
     cause: Option<Unsaved>,
 }
 
-impl<'a, R> FileSystem<'a, R> {
-    /// The files that a runtime reaches.
-    pub fn new(runtime: &'a R) -> FileSystem<'a, R> {
+impl<'a> FileSystem<'a> {
+    /// The files that the runtime reaches.
+    pub fn new(runtime: &'a HostRuntime) -> FileSystem<'a> {
         FileSystem {
             runtime,
             reads: CallCount::new(),
@@ -58,7 +66,7 @@ impl<'a, R> FileSystem<'a, R> {
     }
 }
 
-impl<R: rt::Files + AllocGlobal> FileSystem<'_, R> {
+impl FileSystem<'_> {
     /// Writes a file into its place: where that is a link, into the place of its target, and with the permissions of the
     /// file that is there. What is there and is no regular file stays as it is.
     fn put(&self, file: &SavedFile) -> Result<(), Unsaved> {
@@ -99,19 +107,21 @@ impl<R: rt::Files + AllocGlobal> FileSystem<'_, R> {
         }
     }
 
-    /// Writes a file beside its place, under a name that nothing has, and then puts it there.
+    /// Writes a file beside its place, as a part that no other run holds, and then puts it there.
     fn put_at(&self, place: &str, bytes: &[u8], like: Option<Permissions>) -> Result<(), Unsaved> {
-        let Ok(beside) = [place, BESIDE].concat(self.runtime.alloc()) else {
+        if !self.takes_files_of(bytes.len()) {
             return Err(Unsaved::Other);
+        }
+        let Ok(beside) = [place, BESIDE].concat(self.runtime.alloc()) else {
+            return Err(Unsaved::Memory);
         };
-        let part = match File::create_new(self.runtime, beside.as_str()) {
-            Ok(part) => part,
-            Err(error) if error.kind() == ErrorKind::AlreadyExists => {
-                return Err(Unsaved::PartThere);
-            }
-            Err(error) => return Err(unsaved_by(error.kind())),
+        let mode = match &like {
+            Some(permissions) => permissions.mode() & WHO_MAY,
+            None => NEW_FILE,
         };
-        let written = fill(part, bytes, like);
+        let mut part = self.part(beside.as_str(), mode)?;
+        let written = fill(&mut part, bytes, like);
+        // The part is held until it is in its place.
         match written.and_then(|()| fs::rename(self.runtime, beside.as_str(), place)) {
             Ok(()) => Ok(()),
             Err(error) => {
@@ -121,14 +131,90 @@ impl<R: rt::Files + AllocGlobal> FileSystem<'_, R> {
             }
         }
     }
+
+    /// Whether the system lets the program write a file of so many bytes: a write beyond the limit that it tells would end the
+    /// program by a signal.
+    fn takes_files_of(&self, size: usize) -> bool {
+        match fs::read(self.runtime, LIMITS) {
+            Ok(limits) => match file_limit(&limits) {
+                Some(limit) => size as u64 <= limit,
+                None => true,
+            },
+            Err(_) => true,
+        }
+    }
+
+    /// The part of a name, held by this run: a new one, or one that was left and that nobody holds.
+    fn part(&self, beside: &str, mode: u32) -> Result<File, Unsaved> {
+        match new_file(self.runtime, beside, mode) {
+            Ok(part) => match part.try_lock() {
+                Err(TryLockError::WouldBlock) => Err(Unsaved::PartThere),
+                // There are file systems that can't lock.
+                Ok(()) | Err(TryLockError::Error(_)) => self.new_part(part, beside),
+            },
+            Err(error) if error.kind() == ErrorKind::AlreadyExists => self.left_part(beside),
+            Err(error) => Err(unsaved_by(error.kind())),
+        }
+    }
+
+    /// A part that was left by a run which ended before it was put into its place.
+    fn left_part(&self, beside: &str) -> Result<File, Unsaved> {
+        let Ok(part) = OpenOptions::new().write(true).open(self.runtime, beside) else {
+            return Err(Unsaved::PartThere);
+        };
+        if part.try_lock().is_err() {
+            return Err(Unsaved::PartThere);
+        }
+        let part = self.own_part(part, beside)?;
+        match part.set_len(0) {
+            Ok(()) => Ok(part),
+            Err(error) => Err(unsaved_by(error.kind())),
+        }
+    }
+
+    /// A new part that is held. It goes away where nothing is known of it.
+    fn new_part(&self, part: File, beside: &str) -> Result<File, Unsaved> {
+        match self.own_part(part, beside) {
+            Ok(part) => Ok(part),
+            Err(Unsaved::PartThere) => Err(Unsaved::PartThere),
+            Err(cause) => {
+                let _ = fs::remove_file(self.runtime, beside);
+                Err(cause)
+            }
+        }
+    }
+
+    /// A part that is held, if it is what its name says: a regular file that has no other name.
+    fn own_part(&self, part: File, beside: &str) -> Result<File, Unsaved> {
+        match (part.metadata(), fs::symlink_metadata(self.runtime, beside)) {
+            (Ok(held), Ok(named)) if is_same(&held, &named) => Ok(part),
+            (Ok(_), Ok(_)) => Err(Unsaved::PartThere),
+            (Ok(_), Err(error)) if error.kind() == ErrorKind::NotFound => Err(Unsaved::PartThere),
+            (Err(error), _) | (Ok(_), Err(error)) => Err(unsaved_by(error.kind())),
+        }
+    }
+}
+
+/// Whether both are of one regular file that has one name.
+fn is_same(one: &Metadata, other: &Metadata) -> bool {
+    one.is_file()
+        && one.nlink() == 1
+        && one.dev() == other.dev()
+        && one.ino() == other.ino()
+        && !other.is_symlink()
+}
+
+/// A new file for writing, with a mode.
+fn new_file(runtime: &HostRuntime, name: &str, mode: u32) -> io::Result<File> {
+    OpenOptions::new()
+        .write(true)
+        .create_new(true)
+        .mode(mode)
+        .open(runtime, name)
 }
 
 /// Fills a new file, with the permissions of another one where there is one, down to the device.
-fn fill<F: OpenFile + Write + Drop>(
-    mut file: F,
-    bytes: &[u8],
-    like: Option<Permissions>,
-) -> io::Result<()> {
+fn fill(file: &mut File, bytes: &[u8], like: Option<Permissions>) -> io::Result<()> {
     if let Some(permissions) = like {
         file.set_permissions(permissions)?;
     }
@@ -136,7 +222,21 @@ fn fill<F: OpenFile + Write + Drop>(
     file.sync_all()
 }
 
-impl<R: rt::Files + AllocGlobal> Shelf for FileSystem<'_, R> {
+/// Where the system tells how large files may be.
+const LIMITS: &str = "/proc/self/limits";
+
+/// How large a file may be, in bytes, in the system's table of limits; nothing where it sets none.
+fn file_limit(limits: &[u8]) -> Option<u64> {
+    let text = str::from_utf8(limits).ok()?;
+    for line in text.lines() {
+        if let Some(rest) = line.strip_prefix("Max file size") {
+            return rest.split_whitespace().next()?.parse::<u64>().ok();
+        }
+    }
+    None
+}
+
+impl Shelf for FileSystem<'_> {
     ghost written = { λ _. None };
 
     ghost failures = { λ s. s.unsaved.calls };
@@ -158,7 +258,7 @@ impl<R: rt::Files + AllocGlobal> Shelf for FileSystem<'_, R> {
     }
 }
 
-impl<R: rt::Files + AllocGlobal> Files for FileSystem<'_, R> {
+impl Files for FileSystem<'_> {
     ghost contents = { λ _ _. None };
 
     ghost reads = { λ s. s.reads.calls };
