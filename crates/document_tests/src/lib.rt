@@ -8,6 +8,8 @@ mod building;
 #[cfg(test)]
 mod compiling;
 #[cfg(test)]
+mod cutting;
+#[cfg(test)]
 mod documents;
 #[cfg(test)]
 mod edits;

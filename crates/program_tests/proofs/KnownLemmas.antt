@@ -1,8 +1,10 @@
 -- From the run of any files to that of known ones.
-use Rattle.std.proofs.Common.{◌≡◌, inl, inr, false, ℕ, List, [], ◌∷◌, codes, Some, None, refl, sym, subst, ap, ◌∙◌, arith}
-use Rattle.yprogram.specs.Output.{Outcome, Request, files_of, outcome, plainly, validate}
+use Rattle.std.proofs.Common.{◌≡◌, inl, inr, Bool, false, ℕ, List, [], ◌∷◌, codes, Some, None, refl, sym, subst, ap, ◌∙◌, arith}
+use Rattle.yprogram.specs.Output.{Besides, Outcome, Request, files_of, outcome, plainly, printed_with, validate}
+use Rattle.youtput.specs.Writing.{Side}
 use Rattle.clap.proofs.OnLiterals.{clap_on_literals}
 use Rattle.ycommand.specs.Command.{asks_reasons, refusals, request_of}
+use Rattle.ycommand.specs.Running.{Brings, End}
 use Rattle.yapp.specs.Files.{Answered, Contents, FileAnswers, IsOutcome, Store, WereRead, unread_in}
 use Rattle.program_tests.specs.Known.{IsKnown, contents_in, told_in, validate_words}
 use Rattle.yspec.specs.text.Text.{Text}
@@ -40,3 +42,9 @@ is_known before after request names texts o tells same asked (inl came) =
     inl (came.2 ∙ ap (λ (r : Request). outcome r came.0) asked
     ∙ ap (outcome (validate plainly (codes "d.json") (codes "p.yang" ∷ []))) (known_answers names texts came.0 answered none))
 is_known before after request names texts o tells same asked (inr none) = inr none.1
+
+pub reasons_same : (besides : Besides) (output output_after errors errors_after : Side) (given asked : Bool) (o : Outcome) (end : End) → given ≡ asked
+    → Brings output output_after errors errors_after (printed_with besides given o) end
+    → Brings output output_after errors errors_after (printed_with besides asked o) end
+reasons_same besides output output_after errors errors_after given asked o end is brings =
+    subst (λ (b : Bool). Brings output output_after errors errors_after (printed_with besides b o) end) is brings

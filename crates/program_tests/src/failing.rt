@@ -23,11 +23,40 @@ fn failing_reads(rt: HostRuntime) {
 yanglive compile p.yang k.yang|2|k.yang
 yanglive validate d.json p.yang|1|p.yang
 yanglive validate d.json p.yang|2|d.json
+yanglive edit d.json s.txt net.yang|1|net.yang
+yanglive edit d.json s.txt net.yang|2|d.json
+yanglive edit d.json s.txt net.yang|3|s.txt
 yanglive edit d.json s.txt p.yang k.yang|2|k.yang
 yanglive edit d.json s.txt p.yang k.yang|3|d.json
 yanglive edit --dump d.json s.txt p.yang k.yang|4|s.txt";
     for row in rows.lines() {
         assert!(rt; is_told_unread(rt.alloc(), row) == Some(true), "{row}");
+    }
+}
+
+/// Whether the read of a number is told by an object too: the row is the words, the number and the file's name.
+fn is_told_as_json(alloc: Global, row: &str) -> Option<bool> {
+    let (line, rest) = row.split_once('|')?;
+    let (failing, name) = rest.split_once('|')?;
+    let failing = failing.parse::<u64>().ok()?;
+    let files = InMemory::new(alloc, &[], Some(failing));
+    let shown = shown_by(alloc, line, files, WHOLLY, WHOLLY).ok()?;
+    let told = format!(in alloc; "cannot read {name}\n").ok()?;
+    let front =
+        "{\"error-message\":\"The file can't be read.\",\"error-tag\":\"operation-failed\",\"error-type\":\"application\",\"yanglive:file\":\"";
+    let object = [front, name, "\"}\n"].concat(alloc).ok()?;
+    let is_told = shown.errors.bytes() == told.as_bytes()
+        && shown.output.bytes() == object.as_str().as_bytes();
+    Some(is_told && shown.status == 4 && shown.reads == failing)
+}
+
+#[test]
+fn failing_reads_as_json(rt: HostRuntime) {
+    let rows = "yanglive validate --format json d.json p.yang|1|p.yang
+yanglive validate --format json d.json p.yang|2|d.json
+yanglive edit --dump --format json d.json s.txt p.yang|3|s.txt";
+    for row in rows.lines() {
+        assert!(rt; is_told_as_json(rt.alloc(), row) == Some(true), "{row}");
     }
 }
 
@@ -128,6 +157,7 @@ fn is_tried_once(alloc: Global, row: &str) -> Option<bool> {
 fn sides_that_take_nothing(rt: HostRuntime) {
     let rows = "output|yanglive validate d.json p.yang
 output|yanglive compile p.yang
+output|yanglive tree p p.yang
 errors|yanglive edit d.json s.txt p.yang
 errors|yanglive edit --dump d.json s.txt p.yang
 output|yanglive edit --dump d.json empty.txt p.yang

@@ -1,4 +1,4 @@
-//! Faults told as JSON. Rows with lines of their own are parted by lines `==`.
+//! Faults and refusals told as JSON. Rows with lines of their own are parted by lines `==`.
 
 use crate::explaining::{NET, prints};
 use crate::running::file;
@@ -26,6 +26,7 @@ yanglive validate --format text good n.yang
 yanglive edit --format json good script n.yang
 1 1
 line 2: E7
+{\"error-message\":\"What is to be replaced, removed or moved isn't stored.\",\"error-tag\":\"data-missing\",\"error-type\":\"application\",\"yanglive:code\":\"E7\",\"yanglive:line\":2}
 {\"error-app-tag\":\"data-not-unique\",\"error-message\":\"its port 5 is that of /net:host[2].\",\"error-path\":\"/net:host[name='a']\",\"error-tag\":\"operation-failed\",\"error-type\":\"application\",\"yanglive:code\":\"V9\",\"yanglive:info\":1,\"yanglive:path\":\"/net:host[1]\"}
 {\"error-app-tag\":\"data-not-unique\",\"error-message\":\"its port 5 is that of /net:host[1].\",\"error-path\":\"/net:host[name='b']\",\"error-tag\":\"operation-failed\",\"error-type\":\"application\",\"yanglive:code\":\"V9\",\"yanglive:info\":1,\"yanglive:path\":\"/net:host[2]\"}
 {\"yanglive:faults\":2}
@@ -34,6 +35,32 @@ yanglive edit --format json --dump good script n.yang
 1 1
 line 2: E7
 {\"net:host\":[{\"name\":\"a\",\"port\":5,\"speed\":1},{\"name\":\"b\",\"port\":5,\"speed\":2}]}
+==
+yanglive edit --format json good list n.yang
+1 1
+line 1: E10 J5
+{\"error-message\":\"A value is of another kind than its node: no object for a container or an entry, no array for a list or leaf-list.\",\"error-tag\":\"invalid-value\",\"error-type\":\"application\",\"yanglive:code\":\"E10\",\"yanglive:line\":1,\"yanglive:value-code\":\"J5\"}
+{\"yanglive:faults\":0}
+==
+yanglive validate --format json bare n.yang
+2 1
+bare: J4 /
+{\"error-message\":\"A name has a module where it must have none, or none where it must have one.\",\"error-tag\":\"unknown-namespace\",\"error-type\":\"application\",\"yanglive:code\":\"J4\",\"yanglive:file\":\"bare\",\"yanglive:path\":\"/\"}
+==
+yanglive validate --strict --format json twice n.yang
+2 1
+twice: J8 /net:host[1]/port
+{\"error-message\":\"A member is given twice in one object, which --strict refuses; without it the last one counts.\",\"error-tag\":\"bad-element\",\"error-type\":\"application\",\"yanglive:code\":\"J8\",\"yanglive:file\":\"twice\",\"yanglive:path\":\"/net:host[1]/port\"}
+==
+yanglive edit --dump --format json good script half.yang
+2 1
+half.yang:1: L6
+{\"error-message\":\"The text isn't one whole module: it ends within a statement, has a } too many, no statement, or a second one at the top.\",\"error-tag\":\"malformed-message\",\"error-type\":\"application\",\"yanglive:code\":\"L6\",\"yanglive:file\":\"half.yang\",\"yanglive:line\":1}
+==
+yanglive validate --format json good frob.yang
+2 1
+frob.yang:2: C1
+{\"error-message\":\"A statement or a built-in type isn't known, may not stand there, or isn't read by this program.\",\"error-tag\":\"operation-not-supported\",\"error-type\":\"application\",\"yanglive:code\":\"C1\",\"yanglive:file\":\"frob.yang\",\"yanglive:line\":2}
 ";
 
 #[test]
@@ -51,6 +78,17 @@ fn faults_as_json(rt: HostRuntime) {
         file(
             "script",
             "create /net:host {\"name\":\"b\",\"speed\":2,\"port\":5}\nremove /net:more\n",
+        ),
+        file("list", "replace /net:host[1] []\n"),
+        file("bare", "{\"host\":[]}"),
+        file(
+            "twice",
+            "{\"net:host\":[{\"name\":\"a\",\"speed\":1,\"port\":5,\"port\":6}]}",
+        ),
+        file("half.yang", "module p {"),
+        file(
+            "frob.yang",
+            "module p { yang-version 1.1; namespace \"urn:p\"; prefix p;\n  frob x; }",
         ),
     ];
     for row in ROWS.split("==\n") {

@@ -10,6 +10,8 @@ mod commands;
 #[cfg(test)]
 mod configuring;
 #[cfg(test)]
+mod cutting;
+#[cfg(test)]
 mod explaining;
 #[cfg(test)]
 mod failing;
@@ -19,6 +21,8 @@ mod formatting;
 mod groupings;
 #[cfg(test)]
 mod identities;
+#[cfg(test)]
+mod memory;
 #[cfg(test)]
 mod modules;
 #[cfg(test)]

@@ -132,6 +132,7 @@ fn cause_of(word: &str) -> Option<Unsaved> {
         "permission" => Some(Unsaved::NoPermission),
         "file" => Some(Unsaved::NoRegularFile),
         "other" => Some(Unsaved::Other),
+        "memory" => Some(Unsaved::Memory),
         _ => None,
     }
 }
@@ -214,6 +215,10 @@ fn files_in_their_place(rt: HostRuntime) {
 ==
 0|file|other|reasons|4||cannot write o.json
   the system can't write it.
+==
+0|file|memory|plain|4||memory
+==
+1|file|memory|reasons|4||memory
 ";
     for row in rows.split("==\n") {
         assert!(rt; is_saved(rt.alloc(), row) == Some(true), "{row}");
